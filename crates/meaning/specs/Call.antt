@@ -1,0 +1,135 @@
+-- Document 01, 'What the caller gets back': the call, its nine numbers in their order, and both buffers when it ends.
+use Prim.Native.Nat.{ℕ, zero, suc, _+_, min}
+use mathlib.Core.Bool.{Bool, true, false, _&&_}
+use mathlib.Core.List.{List, [], _∷_, _++_}
+use lib.Dec.{leb, ltb}
+use lib.ListN.{length, drop, replicate}
+use Rattle.meaning.specs.Bytes.{Bytes, if_then_else_}
+use Rattle.meaning.specs.Terms.{Job}
+use Rattle.meaning.specs.Items.{Refusal, no-item, occurrence-rule, figure, no-query, Reading, job, refused, reading, line, items-words}
+use Rattle.meaning.specs.State.{Room}
+use Rattle.meaning.specs.Run.{run, queries-fit}
+use Rattle.meaning.specs.Report.{report, report-words}
+
+-- What the call is given: the text, the budget, the room figures, scratch (64-bit words) and the report buffer.
+pub record Given : Type 0 where
+  pub text : Bytes
+  pub budget : ℕ
+  pub room : Room
+  pub scratch : List ℕ
+  pub buffer : Bytes
+
+-- The answer.
+pub data Answer : Type 0 where
+  ran : ℕ → Answer
+  out-of-range : Answer
+  scratch-short : Answer
+  text-long : Answer
+  no-items : ℕ → Answer
+  occurrence-broken : ℕ → Answer
+  figure-passed : ℕ → Answer
+  queries-pass-room : Answer
+  report-long : ℕ → Answer
+
+-- The paper's number, line and length for each answer.
+unfoldable pub number : Answer → ℕ
+number (ran length) = 0
+number out-of-range = 1
+number scratch-short = 2
+number text-long = 3
+number (no-items line) = 4
+number (occurrence-broken line) = 5
+number (figure-passed line) = 6
+number queries-pass-room = 7
+number (report-long length) = 8
+
+unfoldable pub line-of : Answer → ℕ
+line-of (ran length) = 0
+line-of out-of-range = 0
+line-of scratch-short = 0
+line-of text-long = 0
+line-of (no-items line) = line
+line-of (occurrence-broken line) = line
+line-of (figure-passed line) = line
+line-of queries-pass-room = 0
+line-of (report-long length) = 0
+
+unfoldable pub length-of : Answer → ℕ
+length-of (ran length) = length
+length-of out-of-range = 0
+length-of scratch-short = 0
+length-of text-long = 0
+length-of (no-items line) = 0
+length-of (occurrence-broken line) = 0
+length-of (figure-passed line) = 0
+length-of queries-pass-room = 0
+length-of (report-long length) = length
+
+-- The answer with the two buffers as they are when the call ends.
+pub record Outcome : Type 0 where
+  pub answer : Answer
+  pub buffer : Bytes
+  pub scratch : List ℕ
+
+-- "A budget (0 to 1,000,000), three room figures (each 1 to 65,535)."
+unfoldable pub in-range : ℕ → Room → Bool
+in-range budget room =
+    leb budget 1000000
+    && (leb 1 (room .pairs) && leb (room .pairs) 65535)
+    && (leb 1 (room .compounds) && leb (room .compounds) 65535)
+    && (leb 1 (room .goals) && leb (room .goals) 65535)
+
+-- 4, 5 and 6, with their lines; "0 for no query".
+unfoldable pub refusal : Bytes → Refusal → Answer
+refusal text (no-item place) = no-items (line text place)
+refusal text (occurrence-rule place) = occurrence-broken (line text place)
+refusal text (figure place) = figure-passed (line text place)
+refusal text no-query = figure-passed 0
+
+-- "Scratch is untouched on 1, 2, 3; otherwise the needed part is zero afterwards and any part beyond it is untouched."
+unfoldable pub untouched : Answer → Given → Outcome
+untouched answer given = record { answer = answer; buffer = given .buffer; scratch = given .scratch }
+
+unfoldable pub cleared : ℕ → List ℕ → List ℕ
+cleared need scratch = replicate need 0 ++ drop need scratch
+
+-- "On 1 to 8 the whole report buffer keeps its values."
+unfoldable pub refuses : ℕ → Answer → Given → Outcome
+refuses need answer given = record { answer = answer; buffer = given .buffer; scratch = cleared need (given .scratch) }
+
+-- "On 0 the report stands at the front of its buffer and the bytes behind it keep their values."
+unfoldable pub reports : ℕ → Bytes → Given → Outcome
+reports need written given =
+    record { answer = ran (length written); buffer = written ++ drop (length written) (given .buffer); scratch = cleared need (given .scratch) }
+
+-- "The report is longer than its buffer or than 16,777,216 bytes; the smaller of its length and 16,777,217 is returned."
+unfoldable pub delivered : ℕ → Bytes → Given → Outcome
+delivered need written given =
+    if leb (length written) (length (given .buffer)) && leb (length written) 16777216
+    then reports need written given
+    else refuses need (report-long (min (length written) 16777217)) given
+
+-- "Then 7; then 8."
+unfoldable pub runs : ℕ → Job → Given → Outcome
+runs need j given =
+    if queries-fit (given .room) (j .queries)
+    then delivered need (report (j .queries) (run j (given .budget) (given .room))) given
+    else refuses need queries-pass-room given
+
+unfoldable pub taken : ℕ → Reading → Given → Outcome
+taken need (job j) given = runs need j given
+taken need (refused r) given = refuses need (refusal (given .text) r) given
+
+-- "Order: 1, 2, 3; then the text item by item; then no query; then 7; then 8." The need is a formula over the room figures.
+unfoldable pub call : (Room → ℕ) → Given → Outcome
+call need given =
+    if in-range (given .budget) (given .room) then
+      (if leb (need (given .room)) (length (given .scratch)) then
+        (if leb (length (given .text)) 16384 then taken (need (given .room)) (reading (given .text)) given else untouched text-long given)
+      else untouched scratch-short given)
+    else untouched out-of-range given
+
+-- Every definition of document 01, for a statement that computes.
+unfoldable pub everything : Unit {0}
+unfolding items-words report-words number line-of length-of in-range refusal untouched cleared refuses reports delivered runs taken call
+everything = tt

@@ -1,0 +1,86 @@
+-- A case: one call, and what document 01 says comes of it. For statements that compute.
+use Prim.Native.Nat.{ℕ, zero, suc}
+use Prim.Native.String.{String}
+use mathlib.Core.Bool.{Bool, true, false, not, _&&_}
+use mathlib.Core.List.{List, [], _∷_, _++_, map}
+use lib.Dec.{leb, eqb}
+use lib.ListN.{length, drop, replicate}
+use Rattle.meaning.specs.Bytes.{Bytes, bytes-words, same, if_then_else_, those}
+use Rattle.meaning.specs.State.{Room}
+use Rattle.meaning.specs.Call.{Given, Answer, Outcome, number, line-of, length-of, cleared, call, everything}
+
+-- What is expected: a report; a refusal with its number and line; or number 8 with its length.
+pub data Expected : Type 0 where
+  prints : Bytes → Expected
+  refuses : ℕ → ℕ → Expected
+  too-long : ℕ → Expected
+
+-- A text with the figures of its call; of scratch and buffer the length.
+pub record Case : Type 0 where
+  pub label : String
+  pub text : Bytes
+  pub budget : ℕ
+  pub room : Room
+  pub scratch : ℕ
+  pub buffer : ℕ
+  pub expected : Expected
+
+-- In a case the need is so many words, scratch is lent full of sevens and the buffer full of full stops.
+unfoldable pub need : ℕ
+need = 4
+
+unfoldable pub lent-scratch : Case → List ℕ
+lent-scratch c = replicate (c .scratch) 7
+
+unfoldable pub lent-buffer : Case → Bytes
+lent-buffer c = replicate (c .buffer) 46
+
+unfoldable pub outcome : Case → Outcome
+outcome c =
+    call (λ room. need)
+    (record { text = c .text; budget = c .budget; room = c .room; scratch = lent-scratch c; buffer = lent-buffer c })
+
+unfoldable pub expected-number : Expected → ℕ
+expected-number (prints report) = 0
+expected-number (refuses number line) = number
+expected-number (too-long length) = 8
+
+unfoldable pub expected-line : Expected → ℕ
+expected-line (prints report) = 0
+expected-line (refuses number line) = line
+expected-line (too-long length) = 0
+
+unfoldable pub expected-length : Expected → ℕ
+expected-length (prints report) = length report
+expected-length (refuses number line) = 0
+expected-length (too-long length) = length
+
+unfoldable pub expected-buffer : Expected → Bytes → Bytes
+expected-buffer (prints report) lent = report ++ drop (length report) lent
+expected-buffer (refuses number line) lent = lent
+expected-buffer (too-long length) lent = lent
+
+unfoldable pub expected-scratch : Expected → List ℕ → List ℕ
+expected-scratch (prints report) lent = cleared need lent
+expected-scratch (refuses number line) lent = if leb number 3 then lent else cleared need lent
+expected-scratch (too-long length) lent = cleared need lent
+
+-- The call's outcome is the expected one: number, line, length, report buffer and scratch.
+unfoldable pub as-expected : Expected → Case → Outcome → Bool
+as-expected expected c o =
+    eqb (number (o .answer)) (expected-number expected)
+    && eqb (line-of (o .answer)) (expected-line expected)
+    && eqb (length-of (o .answer)) (expected-length expected)
+    && same (o .buffer) (expected-buffer expected (lent-buffer c))
+    && same (o .scratch) (expected-scratch expected (lent-scratch c))
+
+unfoldable pub holds : Case → Bool
+holds c = as-expected (c .expected) c (outcome c)
+
+-- The labels of the cases that do not hold.
+unfoldable pub failing : List Case → List String
+failing cases = map (λ c. c .label) (those (λ c. not (holds c)) cases)
+
+unfoldable pub case-words : Unit {0}
+unfolding everything need lent-scratch lent-buffer outcome expected-number expected-line expected-length expected-buffer expected-scratch as-expected holds failing
+case-words = tt

@@ -1,0 +1,343 @@
+-- Document 01, 'Job text' and 'What the caller gets back': items read from tokens, the figures, the occurrence rules, 4, 5 and 6.
+use Prim.Native.Nat.{ℕ, zero, suc, _+_, _-_, min}
+use Prim.Native.Char.{Char}
+use mathlib.Core.Bool.{Bool, true, false, not, _&&_, _||_}
+use mathlib.Core.List.{List, [], _∷_, _++_}
+use mathlib.Core.Option.{Option, none, some}
+use lib.Dec.{leb, ltb, eqb}
+use lib.ListN.{length, take}
+use Rattle.meaning.specs.Bytes.{Bytes, bytes-words, byte, same, if_then_else_, all, any, those, up-to}
+use Rattle.meaning.specs.Terms.{
+  Half,
+  writer,
+  reader,
+  Constant,
+  empty,
+  Functor,
+  cell,
+  Term,
+  Terms,
+  compound,
+  end,
+  more,
+  Named,
+  Clause,
+  Query,
+  Job,
+  goals-occurrences,
+  as-term,
+  terms-words,
+}
+use Rattle.meaning.specs.Tokens.{Token, name, variable, integer, sign, bad, Tokens, ends, token, tokens, tokens-words}
+
+-- What has been counted when a token is reached: the names of the text so far, the variables and the compounds of the item so far.
+pub record Counted : Type 0 where
+  pub names : List Bytes
+  pub variables : List Bytes
+  pub compounds : ℕ
+
+-- Reading goes on behind what was read, or stops: 4 at a place that cannot be continued, or 6 where a figure is passed.
+pub data Read (A : Type 0) : Type 0 where
+  read : A → Counted → Tokens → Read A
+  malformed : ℕ → Read A
+  passed : Read A
+
+abbrev pub Reader : Type 0 → Type 0
+Reader A = Counted → Tokens → Read A
+
+-- First the one, then the other, from what the first left.
+unfoldable pub read-on : {A B : Type 0} → Read A → (A → Reader B) → Read B
+read-on (read a counted rest) next = next a counted rest
+read-on (malformed place) next = malformed place
+read-on passed next = passed
+
+infixl 1 _>>=_ _>>_
+unfoldable pub _>>=_ : {A B : Type 0} → Reader A → (A → Reader B) → Reader B
+_>>=_ first next counted rest = read-on (first counted rest) next
+
+unfoldable pub _>>_ : {A B : Type 0} → Reader A → Reader B → Reader B
+_>>_ first next counted rest = read-on (first counted rest) (λ a. next)
+
+unfoldable pub give : {A : Type 0} → A → Reader A
+give a counted rest = read a counted rest
+
+-- "Of the first token that cannot continue": number 4 at this place.
+unfoldable pub cannot-stand : {A : Type 0} → ℕ → Reader A
+cannot-stand place counted rest = malformed place
+
+-- "A figure above is passed": number 6.
+unfoldable pub passes : {A : Type 0} → Reader A
+passes counted rest = passed
+
+-- The next token, with its place; at the end of the text nothing continues.
+unfoldable pub next : {A : Type 0} → (ℕ → Token → Reader A) → Reader A
+next on counted (ends place) = malformed place
+next on counted (token place t rest) = on place t counted rest
+
+-- A token is this sign.
+unfoldable pub is : Char → Token → Bool
+is c (name f) = false
+is c (variable h x) = false
+is c (integer i) = false
+is c (sign b) = eqb b (byte c)
+is c bad = false
+
+-- A token is a name; a token can begin a term.
+unfoldable pub is-name : Token → Bool
+is-name (name f) = true
+is-name (variable h x) = false
+is-name (integer i) = false
+is-name (sign b) = false
+is-name bad = false
+
+unfoldable pub begins-term : Token → Bool
+begins-term (name f) = true
+begins-term (variable h x) = true
+begins-term (integer i) = true
+begins-term (sign b) = eqb b (byte "[")
+begins-term bad = false
+
+-- The next token can stand here at all, or it is 4; it is not taken.
+unfoldable pub standing : (Token → Bool) → Reader (Unit {0})
+standing can counted (ends place) = malformed place
+standing can counted (token place t rest) = if can t then read tt counted (token place t rest) else malformed place
+
+-- This sign comes next.
+unfoldable pub expect : Char → Reader (Unit {0})
+expect c = next (λ place t. if is c t then give tt else cannot-stand place)
+
+-- One of two signs comes next: whether it is the first.
+unfoldable pub either : Char → Char → Reader Bool
+either c d = next (λ place t. if is c t then give true else if is d t then give false else cannot-stand place)
+
+-- If this sign comes next it is taken and the first reads on, else the second.
+unfoldable pub if-next : {A : Type 0} → Char → Reader A → Reader A → Reader A
+if-next c first second counted (ends place) = second counted (ends place)
+if-next c first second counted (token place t rest) =
+    if is c t then first counted rest else second counted (token place t rest)
+
+-- "256 distinct names, told apart by spelling alone."
+unfoldable pub count-name : Bytes → Reader (Unit {0})
+count-name f counted rest =
+    if any (same f) (counted .names) then read tt counted rest
+    else if ltb (length (counted .names)) 256
+    then read tt (record { names = counted .names ++ (f ∷ []); variables = counted .variables; compounds = counted .compounds }) rest
+    else passed
+
+-- The place of a spelling among the item's variables.
+unfoldable pub place-of : Bytes → List Bytes → Option ℕ
+place-of x [] = none
+place-of x (y ∷ ys) = elim (same x y) [ true ↦ some 0 | false ↦ elim (place-of x ys) [ none ↦ none | some n ↦ some (suc n) ] ]
+
+-- "Per item 16 variable pairs": a pair's number is its place in order of first occurrence of either half.
+unfoldable pub new-variable : Bytes → Option ℕ → Reader ℕ
+new-variable x (some n) counted rest = read n counted rest
+new-variable x none counted rest =
+    if ltb (length (counted .variables)) 16
+    then read (length (counted .variables)) (record { names = counted .names; variables = counted .variables ++ (x ∷ []); compounds = counted .compounds }) rest
+    else passed
+
+unfoldable pub count-variable : Bytes → Reader ℕ
+count-variable x counted rest = new-variable x (place-of x (counted .variables)) counted rest
+
+-- "32 compounds (head, goals and list cells counted)": a compound's number is its place.
+unfoldable pub count-compound : Reader ℕ
+count-compound counted rest =
+    if ltb (counted .compounds) 32
+    then read (counted .compounds) (record { names = counted .names; variables = counted .variables; compounds = counted .compounds + 1 }) rest
+    else passed
+
+-- "A compound `name(T,..)` with 1 to 6 arguments", of which so many may still come; the first token of the seventh passes the figure.
+unfoldable pub arguments : Reader Term → ℕ → Reader Terms
+arguments argument zero = standing begins-term >> passes
+arguments argument (suc left) = do
+  t ← argument
+  another ← either "," ")"
+  if another then (arguments argument left >>= λ ts. give (more t ts)) else give (more t end)
+
+-- A compound behind its opening parenthesis.
+unfoldable pub compound-of : Reader Term → Bytes → Reader Named
+compound-of argument f = do
+  n ← count-compound
+  ts ← arguments argument 6
+  give (record { number = n; name = f; arguments = ts })
+
+-- The tail behind an element: more elements, the term behind a `|`, or `[]`.
+unfoldable pub tail-of : Reader Term → Reader Term → ℕ → Token → Reader Term
+tail-of element elements place t =
+    if is "," t then elements
+    else if is "|" t then (element >>= λ tail. expect "]" >> give tail)
+    else if is "]" t then give (Term.constant empty)
+    else cannot-stand place
+
+-- "Each element of a list makes one list cell", counted at its first token; an item has no more than 32 of them.
+unfoldable pub elements : Reader Term → ℕ → Reader Term
+elements element zero = standing begins-term >> passes
+elements element (suc left) = do
+  standing begins-term
+  n ← count-compound
+  t ← element
+  tail ← next (tail-of element (elements element left))
+  give (compound n cell (more t (more tail end)))
+
+-- "A list `[T,..]` or `[T,..|T]`", or `[]`, behind its bracket.
+unfoldable pub list-of : Reader Term → Reader Term
+list-of element = if-next "]" (give (Term.constant empty)) (elements element 32)
+
+-- "A term is a writer, a reader, a constant, a compound or a list", by its first token and what may stand in a round or square bracket.
+unfoldable pub term-from : (Bytes → Reader Term) → Reader Term → ℕ → Token → Reader Term
+term-from round square place (name f) = count-name f >> if-next "(" (round f) (give (Term.constant (Constant.name f)))
+term-from round square place (variable h x) = count-variable x >>= λ n. give (Term.variable h n)
+term-from round square place (integer i) = give (Term.constant (Constant.integer i))
+term-from round square place (sign b) = if eqb b (byte "[") then square else cannot-stand place
+term-from round square place bad = cannot-stand place
+
+-- "16 brackets open at once, round and square together": a term inside which so many more may open.
+unfoldable pub term : ℕ → Reader Term
+term zero = next (term-from (λ f. passes) passes)
+term (suc left) = next (term-from (λ f. compound-of (term left) f >>= λ g. give (as-term g)) (list-of (term left)))
+
+-- "Heads and goals are compounds with a name"; the parenthesis is the first of the 16 brackets.
+unfoldable pub goal-from : ℕ → Token → Reader Named
+goal-from place (name f) = count-name f >> (expect "(" >> compound-of (term 15) f)
+goal-from place (variable h x) = cannot-stand place
+goal-from place (integer i) = cannot-stand place
+goal-from place (sign b) = cannot-stand place
+goal-from place bad = cannot-stand place
+
+unfoldable pub goal : Reader Named
+goal = next goal-from
+
+-- "8 body or query goals", up to the full stop; the ninth goal's name passes the figure.
+unfoldable pub goals : ℕ → Reader (List Named)
+goals zero = standing is-name >> passes
+goals (suc left) = do
+  g ← goal
+  another ← either "," "."
+  if another then (goals left >>= λ gs. give (g ∷ gs)) else give (g ∷ [])
+
+-- "An item is `head.`, `head :- goal,..,goal.` or `?- goal,..,goal.`": head and body, or the query's goals behind its `?-`.
+pub record Rule : Type 0 where
+  pub head : Named
+  pub body : List Named
+
+unfoldable pub rule : Reader Rule
+rule = do
+  head ← goal
+  implied ← either ":" "."
+  body ← if implied then goals 8 else give []
+  give (record { head = head; body = body })
+
+-- "No writer and no reader occurs twice" among these compounds, for each of so many pairs.
+unfoldable pub nothing-twice : ℕ → List Named → Bool
+nothing-twice pairs gs =
+    all (λ n. leb (goals-occurrences writer n gs) 1 && leb (goals-occurrences reader n gs) 1) (up-to pairs)
+
+-- "A writer occurs exactly if its reader does."
+unfoldable pub both-halves : ℕ → List Named → Bool
+both-halves pairs gs = all (λ n. eqb (goals-occurrences writer n gs) (goals-occurrences reader n gs)) (up-to pairs)
+
+-- Why a text is refused, with the place from which the line is computed: the token for 4, where the item begins for 5 and 6.
+pub data Refusal : Type 0 where
+  no-item : ℕ → Refusal
+  occurrence-rule : ℕ → Refusal
+  figure : ℕ → Refusal
+  no-query : Refusal
+
+-- What was counted over the text: its names, clauses and queries.
+pub record Told : Type 0 where
+  pub names : List Bytes
+  pub clauses : ℕ
+  pub queries : ℕ
+
+-- What a piece of the text is: nothing at all, a clause or a query with the text's names behind it, or refused.
+pub data Piece : Type 0 where
+  nothing : Piece
+  clause : Clause → List Bytes → Piece
+  query : Query → List Bytes → Piece
+  refused : Refusal → Piece
+
+-- 5 "is judged after the item's full stop".
+unfoldable pub clause-piece : ℕ → Read Rule → Piece
+clause-piece begins (read r counted rest) =
+    if nothing-twice (length (counted .variables)) (r .head ∷ r .body) && both-halves (length (counted .variables)) (r .head ∷ r .body)
+    then clause (record { head = r .head; body = r .body; pairs = length (counted .variables); compounds = counted .compounds }) (counted .names)
+    else refused (occurrence-rule begins)
+clause-piece begins (malformed place) = refused (no-item place)
+clause-piece begins passed = refused (figure begins)
+
+-- "In a query nothing occurs twice; either half may be missing."
+unfoldable pub query-piece : ℕ → Read (List Named) → Piece
+query-piece begins (read gs counted rest) =
+    if nothing-twice (length (counted .variables)) gs
+    then query (record { goals = gs; variables = counted .variables; compounds = counted .compounds }) (counted .names)
+    else refused (occurrence-rule begins)
+query-piece begins (malformed place) = refused (no-item place)
+query-piece begins passed = refused (figure begins)
+
+-- "Each item has its own variables."
+unfoldable pub fresh : List Bytes → Counted
+fresh names = record { names = names; variables = []; compounds = 0 }
+
+-- "128 clauses; 1 to 8 queries": the first token of the 129th clause or ninth query passes the figure.
+unfoldable pub item-from : Told → ℕ → Token → Tokens → Piece
+item-from told begins t rest =
+    if is-name t then
+      (if ltb (told .clauses) 128 then clause-piece begins (rule (fresh (told .names)) (token begins t rest)) else refused (figure begins))
+    else if is "?" t then (if ltb (told .queries) 8 then query-piece begins (goals 8 (fresh (told .names)) rest) else refused (figure begins))
+    else refused (no-item begins)
+
+-- The item that a piece of the text holds: "an item begins at its first token".
+unfoldable pub item : Told → Tokens → Piece
+item told (ends place) = nothing
+item told (token begins t rest) = item-from told begins t rest
+
+-- The tokens cut behind each full stop: "each item is read from the byte after the full stop before it".
+unfoldable pub onto : ℕ → Token → List Tokens → List Tokens
+onto place t [] = []
+onto place t (piece ∷ pieces) = token place t piece ∷ pieces
+
+unfoldable pub pieces : Tokens → List Tokens
+pieces (ends place) = ends place ∷ []
+pieces (token place t rest) =
+    if is "." t then token place t (ends place) ∷ pieces rest else onto place t (pieces rest)
+
+-- A text read: a job, or refused.
+pub data Reading : Type 0 where
+  job : Job → Reading
+  refused : Refusal → Reading
+
+unfoldable pub with-clause : Clause → Reading → Reading
+with-clause c (job j) = job (record { clauses = c ∷ j .clauses; queries = j .queries })
+with-clause c (refused r) = refused r
+
+unfoldable pub with-query : Query → Reading → Reading
+with-query q (job j) = job (record { clauses = j .clauses; queries = q ∷ j .queries })
+with-query q (refused r) = refused r
+
+-- "The text item by item, and the first refused item decides."
+unfoldable pub items : Told → List Tokens → Reading
+items told [] = job (record { clauses = []; queries = [] })
+items told (piece ∷ pieces) =
+    elim (item told piece) [
+      nothing ↦ items told pieces
+      | clause c names ↦ with-clause c (items (record { names = names; clauses = told .clauses + 1; queries = told .queries }) pieces)
+      | query q names ↦ with-query q (items (record { names = names; clauses = told .clauses; queries = told .queries + 1 }) pieces)
+      | refused r ↦ refused r
+    ]
+
+-- "Then no query."
+unfoldable pub asked : Reading → Reading
+asked (job j) = if leb 1 (length (j .queries)) then job j else refused no-query
+asked (refused r) = refused r
+
+unfoldable pub reading : Bytes → Reading
+reading text = asked (items (record { names = []; clauses = 0; queries = 0 }) (pieces (tokens text)))
+
+-- "Lines count from 1 and end at LF": the line of a place, and at the end of the text of its last byte.
+unfoldable pub line : Bytes → ℕ → ℕ
+line text place = 1 + length (those (λ c. eqb c (byte "\n")) (take (min place (length text - 1)) text))
+
+unfoldable pub items-words : Unit {0}
+unfolding terms-words tokens-words read-on _>>=_ _>>_ give cannot-stand passes next is is-name begins-term standing expect either if-next count-name place-of new-variable count-variable count-compound arguments compound-of tail-of elements list-of term-from term goal-from goal goals rule nothing-twice both-halves clause-piece query-piece fresh item-from item onto pieces with-clause with-query items asked reading line
+items-words = tt

@@ -1,0 +1,13 @@
+pub mod Bytes
+pub mod Terms
+pub mod Tokens
+pub mod Items
+pub mod State
+pub mod Compare
+pub mod Circle
+pub mod Trial
+pub mod Step
+pub mod Run
+pub mod Report
+pub mod Call
+pub mod Case

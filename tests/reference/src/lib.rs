@@ -1,0 +1,23 @@
+//! A reference implementation of document 01: a job text is read and checked, run under a budget and a room, and its
+//! report written.
+//!
+//! `read`, `run` and `write` are the three phases; `call` composes them and gives the nine numbers in their order.
+//! Read the modules as `text`, `job`, `items`, `machine` with `trial` and `circle`, `report`, `call`.
+
+#![forbid(unsafe_code)]
+
+mod call;
+mod circle;
+mod items;
+mod job;
+mod machine;
+mod report;
+mod text;
+mod trial;
+mod words;
+
+pub use call::{call, Answer, Figures};
+pub use items::{read, Refusal};
+pub use job::Job;
+pub use machine::{run, Finished, Room, Verdict};
+pub use report::{write, Written, LONGEST_REPORT};

@@ -1,0 +1,58 @@
+//! What the tests share: the rules of document 01's session, and the call with a few figures changed.
+
+#![allow(dead_code)]
+
+use reference::{call, Answer, Figures};
+
+pub const RULES: &str = "tag([H|T],[hit(H?)|R?]) :- tag(T?,R).
+tag([],[]).
+end([]).
+same(X,X?).
+two(1,1).
+w(1,2).
+";
+
+/// The program's figures, with the largest room and buffer.
+pub fn large() -> Figures {
+    Figures { budget: 1_000_000, pairs: 65_535, compounds: 65_535, goals: 65_535, buffer: 1 << 25, ..Figures::default() }
+}
+
+pub fn answer(text: &str) -> Answer {
+    call(text.as_bytes(), &Figures::default())
+}
+
+/// Number and line.
+pub fn refused(text: impl AsRef<[u8]>) -> (u8, u32) {
+    let answer = call(text.as_ref(), &Figures::default());
+    assert_eq!(answer.length == 0, answer.number != 0, "the length is 0 for 1 to 7");
+    (answer.number, answer.line)
+}
+
+pub fn report_with(text: &str, figures: &Figures) -> String {
+    let answer = call(text.as_bytes(), figures);
+    assert_eq!((answer.number, answer.line), (0, 0), "accepted: {text}");
+    let report = answer.report.expect("a report on 0");
+    assert_eq!(report.len(), answer.length as usize);
+    String::from_utf8(report).unwrap()
+}
+
+pub fn report(text: &str) -> String {
+    report_with(text, &Figures::default())
+}
+
+/// The report of a query under the session's rules.
+pub fn session(query: &str) -> String {
+    report(&format!("{RULES}{query}"))
+}
+
+/// Whether a line stands in the report, whole.
+pub fn shows(report: &str, line: &str) -> bool {
+    report.lines().any(|own| own == line)
+}
+
+#[track_caller]
+pub fn check(report: &str, lines: &[&str]) {
+    for line in lines {
+        assert!(shows(report, line), "no line `{line}` in\n{report}");
+    }
+}
