@@ -5,6 +5,7 @@ mod common;
 
 use std::collections::BTreeSet;
 
+use common::Dice;
 use reference::{call, Figures};
 
 #[derive(Clone, Debug, PartialEq)]
@@ -381,14 +382,11 @@ impl Machine {
 
 // Random jobs.
 
-struct Dice(u64);
+struct Jobs(Dice);
 
-impl Dice {
+impl Jobs {
     fn roll(&mut self, sides: u64) -> u64 {
-        self.0 ^= self.0 << 13;
-        self.0 ^= self.0 >> 7;
-        self.0 ^= self.0 << 17;
-        (self.0 >> 11) % sides
+        self.0.roll(sides)
     }
 
     /// A term with `#` for each variable.
@@ -462,8 +460,8 @@ impl Dice {
 
 #[test]
 fn random_jobs_run_as_the_plain_model_says() {
-    let (mut dice, mut accepted, mut reductions, mut longest) = (Dice(0x9e37_79b9_7f4a_7c15), 0, 0, 0);
-    let count = std::env::var("JOBS").map_or(if cfg!(debug_assertions) { 2_000 } else { 20_000 }, |n| n.parse().unwrap());
+    let (mut dice, mut accepted, mut reductions, mut longest) = (Jobs(Dice(0x9e37_79b9_7f4a_7c15)), 0, 0, 0);
+    let count = common::random_jobs(20_000) as usize;
     for _ in 0..count {
         let text = dice.job();
         let small = dice.roll(2) == 0;
@@ -487,4 +485,23 @@ fn random_jobs_run_as_the_plain_model_says() {
     }
     println!("{accepted} of {count} accepted, {reductions} reductions, {longest} at most");
     assert!(accepted * 2 > count && reductions > accepted);
+}
+
+/// Values whose written form doubles: what is copied instead of walked again is the same text.
+#[test]
+fn doubling_jobs_run_as_the_plain_model_says() {
+    for (make, meet) in [
+        ("f(C,C?)", "f(R?,S)"),
+        ("[C|C?]", "[R?|S]"),
+        ("[C?|C]", "[S|R?]"),
+        ("[1,C?,f([C|[]])]", "[1,S,f([R?])]"),
+        ("f([1|C?],[C,D],D?)", "f([1|S],[R?,2],2)"),
+    ] {
+        let text = format!("mk({make}).\np({meet}) :- mk(R), p(S?).\n?- mk(A), p(A?), mk(B).\n?- mk(A), no(A?).\n");
+        for budget in 0..26 {
+            let figures = Figures { budget, buffer: 1 << 24, ..Figures::default() };
+            let report = call(text.as_bytes(), &figures).report.expect(&text);
+            assert_eq!(String::from_utf8(report).unwrap(), plain_report(&text, &figures).0, "{text}");
+        }
+    }
 }

@@ -56,3 +56,21 @@ pub fn check(report: &str, lines: &[&str]) {
         assert!(shows(report, line), "no line `{line}` in\n{report}");
     }
 }
+
+/// How many random jobs a test makes: a tenth in an unoptimized build, or what the variable JOBS says.
+pub fn random_jobs(usual: u64) -> u64 {
+    let usual = if cfg!(debug_assertions) { usual / 10 } else { usual };
+    std::env::var("JOBS").map_or(usual, |jobs| jobs.parse().expect("a number of jobs"))
+}
+
+/// Numbers that are the same in each run of a test.
+pub struct Dice(pub u64);
+
+impl Dice {
+    pub fn roll(&mut self, sides: u64) -> u64 {
+        self.0 ^= self.0 << 13;
+        self.0 ^= self.0 >> 7;
+        self.0 ^= self.0 << 17;
+        (self.0 >> 11) % sides
+    }
+}

@@ -1,0 +1,49 @@
+-- The machine and the report: following, waiting and waking, circles, room, and how values are written.
+use Prim.Native.Nat.{ℕ}
+use mathlib.Core.List.{List, [], _∷_, _++_}
+use Rattle.meaning.specs.Case.{Case}
+use Rattle.meaning.proofs.Cases.Words.{text, ruled, with-budget, with-room, shows, words-words}
+
+unfoldable pub machine-cases : List Case
+machine-cases =
+    ruled "a trial waits on the reader that following reached" "?- same(B?,A), end(A?), same([],B)." (shows "run rest steps 4\nquery 1 tries 4 active 0 waiting 0 failed 0\nB = []\nA = []\n")
+    ∷ ruled "woken by an unassigned reader too, and behind the others when it waits again" "?- end(A?), w(C?,1), same(B?,A)." (shows "run rest steps 4\nquery 1 tries 4 active 0 waiting 2 failed 0\nA = _1?\nC = _2\nB = _1\nwaiting w(_2?,1)\nwaiting end(_1?)\n")
+    ∷ text "a goal waits on a reader of each clause that waits" "m(1,X,X?).\nm(X,2,X?).\ne(2).\n?- m(A?,B?,C), e(B)." (shows "run rest steps 3\nquery 1 tries 3 active 0 waiting 0 failed 0\nA = _1\nB = 2\nC = _1?\n")
+    ∷ with-room 9 9 2 (text "failed goals count in the goal figure" "d(1) :- e(1), e(1).\ne(1).\n?- e(2), d(1)." (shows "run room steps 1\nquery 1 tries 1 active 1 waiting 0 failed 1\nactive d(1)\nfailed e(2)\n"))
+    ∷ with-room 9 9 3 (text "as many goals as the figure" "d(1) :- e(1), e(1).\ne(1).\n?- e(2), d(1)." (shows "run rest steps 4\nquery 1 tries 4 active 0 waiting 0 failed 1\nfailed e(2)\n"))
+    ∷ with-room 9 9 2 (text "waiting goals count in the goal figure" "d(1) :- e(1), e(1).\ne(1).\n?- e(A?), d(1)." (shows "run room steps 1\nquery 1 tries 1 active 1 waiting 1 failed 0\nA = _1\nactive d(1)\nwaiting e(_1?)\n"))
+    ∷ with-room 9 9 1 (text "room is judged on the first clause that succeeds" "c(1) :- e(1), e(1).\nc(1).\ne(1).\n?- c(1)." (shows "run room steps 0\nquery 1 tries 0 active 1 waiting 0 failed 0\nactive c(1)\n"))
+    ∷ with-room 1 1 1 (text "waiting and failing need no room" "e(f(X,X?)).\n?- e(A?)." (shows "run rest steps 1\nquery 1 tries 1 active 0 waiting 1 failed 0\nA = _1\nwaiting e(_1?)\n"))
+    ∷ with-budget 1 (with-room 1 1 1 (text "budget before room" "e(1).\n?- e(1)." (shows "run room steps 0\nquery 1 tries 0 active 1 waiting 0 failed 0\nactive e(1)\n")))
+    ∷ with-budget 0 (with-room 1 1 1 (text "budget is seen before room" "e(1).\n?- e(1)." (shows "run budget steps 0\nquery 1 tries 0 active 1 waiting 0 failed 0\nactive e(1)\n")))
+    ∷ with-room 2 3 1 (text "the head is charged too" "d(X) :- e(X?).\ne(1).\n?- d(1)." (shows "run room steps 1\nquery 1 tries 1 active 1 waiting 0 failed 0\nactive e(1)\n"))
+    ∷ with-room 1 4 1 (text "the head is charged, and fits" "d(X) :- e(X?).\ne(1).\n?- d(1)." (shows "run rest steps 2\nquery 1 tries 2 active 0 waiting 0 failed 0\n"))
+    ∷ text "a circle fails the trial, and later clauses are tried" "c(X,X?).\nc(X,2) :- e(X?).\ne(2).\n?- c(A?,A)." (shows "run rest steps 2\nquery 1 tries 2 active 0 waiting 0 failed 0\nA = 2\n")
+    ∷ text "a circle through a structure" "c(X,f(X?)).\n?- c(A?,A)." (shows "run rest steps 1\nquery 1 tries 1 active 0 waiting 0 failed 1\nA = _1\nfailed c(_1?,_1)\n")
+    ∷ ruled "a circle over two steps" "?- same(B?,A), same(A?,B)." (shows "run rest steps 2\nquery 1 tries 2 active 0 waiting 0 failed 1\nB = _1\nA = _1?\nfailed same(_1?,_1)\n")
+    ∷ text "a procedure with no clause fails" "p(1).\n?- q(A)." (shows "run rest steps 1\nquery 1 tries 1 active 0 waiting 0 failed 1\nA = _1\nfailed q(_1)\n")
+    ∷ text "clauses are tried in text order" "p(A,1,A?).\np(A,2,A?).\n?- p(x,N,M)." (shows "run rest steps 1\nquery 1 tries 1 active 0 waiting 0 failed 0\nN = 1\nM = x\n")
+    ∷ text "the comparison stops at the first place that waits" "p(1,1).\n?- p(A?,2)." (shows "run rest steps 1\nquery 1 tries 1 active 0 waiting 1 failed 0\nA = _1\nwaiting p(_1?,2)\n")
+    ∷ text "the comparison stops at the first place that fails" "p(1,1).\n?- p(2,A?)." (shows "run rest steps 1\nquery 1 tries 1 active 0 waiting 0 failed 1\nA = _1\nfailed p(2,_1?)\n")
+    ∷ text "depth first: an inner place waits before an outer one fails" "p(f(1),1).\n?- p(f(A?),2)." (shows "run rest steps 1\nquery 1 tries 1 active 0 waiting 1 failed 0\nA = _1\nwaiting p(f(_1?),2)\n")
+    ∷ text "a list cell is no compound with a name, and f(1) no f(1,1)" "p([1]).\np(f(1)).\n?- p(f(1,1)), p(g(1)), p([1|x]), p(f(A)), p([B])." (shows "run rest steps 5\nquery 1 tries 5 active 0 waiting 0 failed 3\nA = 1\nB = 1\nfailed p(f(1,1))\nfailed p(g(1))\nfailed p([1|x])\n")
+    ∷ text "integers are equal by value and sign" "p(7).\np(-8).\n?- p(-7), p(7), p(-8), p(8)." (shows "run rest steps 4\nquery 1 tries 4 active 0 waiting 0 failed 2\nfailed p(-7)\nfailed p(8)\n")
+    ∷ with-budget 4 (text "one queue for all queries" "p(1) :- p(2).\np(2).\n?- p(1).\n?- p(1)." (shows "run rest steps 4\nquery 1 tries 2 active 0 waiting 0 failed 0\nquery 2 tries 2 active 0 waiting 0 failed 0\n"))
+    ∷ with-budget 3 (text "queries take turns" "p(1) :- p(2).\np(2).\n?- p(1).\n?- p(1)." (shows "run budget steps 3\nquery 1 tries 2 active 0 waiting 0 failed 0\nquery 2 tries 1 active 1 waiting 0 failed 0\nactive p(2)\n"))
+    ∷ []
+
+unfoldable pub report-cases : List Case
+report-cases =
+    ruled "a failed goal is written with what was assigned later" "?- same(C,A?), end(A)." (shows "run rest steps 2\nquery 1 tries 2 active 0 waiting 0 failed 1\nC = _1\nA = []\nfailed same(_1,[])\n")
+    ∷ ruled "a pair assigned a reader is written as the reader" "?- same(B?,A)." (shows "run rest steps 1\nquery 1 tries 1 active 0 waiting 0 failed 0\nB = _1\nA = _1?\n")
+    ∷ ruled "numbers in order of first appearance, the values' lines included" "?- same(f(B?,C?),A), end(D?)." (shows "run rest steps 2\nquery 1 tries 2 active 0 waiting 1 failed 0\nB = _1\nC = _2\nA = f(_1?,_2?)\nD = _3\nwaiting end(_3?)\n")
+    ∷ ruled "integers, names and nested lists" "?- same([-1,0,x,[],[[]],f([],[y|z])],A)." (shows "run rest steps 1\nquery 1 tries 1 active 0 waiting 0 failed 0\nA = [-1,0,x,[],[[]],f([],[y|z])]\n")
+    ∷ ruled "tails are followed" "?- same([1|B?],A), same([2|C?],B), same([],C)." (shows "run rest steps 3\nquery 1 tries 3 active 0 waiting 0 failed 0\nB = [2]\nA = [1,2]\nC = []\n")
+    ∷ ruled "a tail that is a constant or a compound" "?- same([1|B?],A), same(f(2),B)." (shows "run rest steps 2\nquery 1 tries 2 active 0 waiting 0 failed 0\nB = f(2)\nA = [1|f(2)]\n")
+    ∷ ruled "active, waiting and failed lines, each in the machine's order" "?- end(A?), end(1), w(B?,C), end(2)." (shows "run rest steps 4\nquery 1 tries 4 active 0 waiting 2 failed 2\nA = _1\nB = _2\nC = _3\nwaiting end(_1?)\nwaiting w(_2?,_3)\nfailed end(1)\nfailed end(2)\n")
+    ∷ with-budget 3 (ruled "a query's goals stand in its own section" "?- end(A?), end(1), end(B).\n?- end(2), end(C?)." (shows "run budget steps 3\nquery 1 tries 3 active 0 waiting 1 failed 1\nA = _1\nB = []\nwaiting end(_1?)\nfailed end(1)\nquery 2 tries 0 active 2 waiting 0 failed 0\nC = _1\nactive end(2)\nactive end(_1?)\n"))
+    ∷ []
+
+unfoldable pub runs-words : Unit {0}
+unfolding words-words machine-cases report-cases
+runs-words = tt
