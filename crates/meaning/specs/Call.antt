@@ -1,6 +1,6 @@
 -- Document 01, 'What the caller gets back': the call, its nine numbers in their order, and both buffers when it ends.
 use Prim.Native.Nat.{ℕ, zero, suc, _+_, min}
-use mathlib.Core.Bool.{Bool, true, false, _&&_}
+use mathlib.Core.Bool.{Bool, true, false, not, _&&_}
 use mathlib.Core.List.{List, [], _∷_, _++_}
 use lib.Dec.{leb, ltb}
 use lib.ListN.{length, drop, replicate}
@@ -19,7 +19,7 @@ pub record Given : Type 0 where
   pub scratch : List ℕ
   pub buffer : Bytes
 
--- The answer.
+-- The answer: the report's length where it ran or was too long, the line where the text was refused.
 pub data Answer : Type 0 where
   ran : ℕ → Answer
   out-of-range : Answer
@@ -33,37 +33,37 @@ pub data Answer : Type 0 where
 
 -- The paper's number, line and length for each answer.
 unfoldable pub number : Answer → ℕ
-number (ran length) = 0
+number (ran report) = 0
 number out-of-range = 1
 number scratch-short = 2
 number text-long = 3
-number (no-items line) = 4
-number (occurrence-broken line) = 5
-number (figure-passed line) = 6
+number (no-items at) = 4
+number (occurrence-broken at) = 5
+number (figure-passed at) = 6
 number queries-pass-room = 7
-number (report-long length) = 8
+number (report-long report) = 8
 
 unfoldable pub line-of : Answer → ℕ
-line-of (ran length) = 0
+line-of (ran report) = 0
 line-of out-of-range = 0
 line-of scratch-short = 0
 line-of text-long = 0
-line-of (no-items line) = line
-line-of (occurrence-broken line) = line
-line-of (figure-passed line) = line
+line-of (no-items at) = at
+line-of (occurrence-broken at) = at
+line-of (figure-passed at) = at
 line-of queries-pass-room = 0
-line-of (report-long length) = 0
+line-of (report-long report) = 0
 
 unfoldable pub length-of : Answer → ℕ
-length-of (ran length) = length
+length-of (ran report) = report
 length-of out-of-range = 0
 length-of scratch-short = 0
 length-of text-long = 0
-length-of (no-items line) = 0
-length-of (occurrence-broken line) = 0
-length-of (figure-passed line) = 0
+length-of (no-items at) = 0
+length-of (occurrence-broken at) = 0
+length-of (figure-passed at) = 0
 length-of queries-pass-room = 0
-length-of (report-long length) = length
+length-of (report-long report) = report
 
 -- The answer with the two buffers as they are when the call ends.
 pub record Outcome : Type 0 where
@@ -123,11 +123,10 @@ taken need (refused r) given = refuses need (refusal (given .text) r) given
 -- "Order: 1, 2, 3; then the text item by item; then no query; then 7; then 8." The need is a formula over the room figures.
 unfoldable pub call : (Room → ℕ) → Given → Outcome
 call need given =
-    if in-range (given .budget) (given .room) then
-      (if leb (need (given .room)) (length (given .scratch)) then
-        (if leb (length (given .text)) 16384 then taken (need (given .room)) (reading (given .text)) given else untouched text-long given)
-      else untouched scratch-short given)
-    else untouched out-of-range given
+    if not (in-range (given .budget) (given .room)) then untouched out-of-range given
+    else if ltb (length (given .scratch)) (need (given .room)) then untouched scratch-short given
+    else if ltb 16384 (length (given .text)) then untouched text-long given
+    else taken (need (given .room)) (reading (given .text)) given
 
 -- Every definition of document 01, for a statement that computes.
 unfoldable pub everything : Unit {0}

@@ -280,11 +280,19 @@ unfoldable pub fresh : List Bytes → Counted
 fresh names = record { names = names; variables = []; compounds = 0 }
 
 -- "128 clauses; 1 to 8 queries": the first token of the 129th clause or ninth query passes the figure.
+unfoldable pub clause-from : Told → ℕ → Tokens → Piece
+clause-from told begins piece =
+    if ltb (told .clauses) 128 then clause-piece begins (rule (fresh (told .names)) piece) else refused (figure begins)
+
+unfoldable pub query-from : Told → ℕ → Tokens → Piece
+query-from told begins behind =
+    if ltb (told .queries) 8 then query-piece begins (goals 8 (fresh (told .names)) behind) else refused (figure begins)
+
+-- A clause begins with a name, a query with `?-`.
 unfoldable pub item-from : Told → ℕ → Token → Tokens → Piece
 item-from told begins t rest =
-    if is-name t then
-      (if ltb (told .clauses) 128 then clause-piece begins (rule (fresh (told .names)) (token begins t rest)) else refused (figure begins))
-    else if is "?" t then (if ltb (told .queries) 8 then query-piece begins (goals 8 (fresh (told .names)) rest) else refused (figure begins))
+    if is-name t then clause-from told begins (token begins t rest)
+    else if is "?" t then query-from told begins rest
     else refused (no-item begins)
 
 -- The item that a piece of the text holds: "an item begins at its first token".
@@ -320,7 +328,7 @@ unfoldable pub items : Told → List Tokens → Reading
 items told [] = job (record { clauses = []; queries = [] })
 items told (piece ∷ pieces) =
     elim (item told piece) [
-      nothing ↦ items told pieces
+      | nothing ↦ items told pieces
       | clause c names ↦ with-clause c (items (record { names = names; clauses = told .clauses + 1; queries = told .queries }) pieces)
       | query q names ↦ with-query q (items (record { names = names; clauses = told .clauses; queries = told .queries + 1 }) pieces)
       | refused r ↦ refused r
@@ -339,5 +347,5 @@ unfoldable pub line : Bytes → ℕ → ℕ
 line text place = 1 + length (those (λ c. eqb c (byte "\n")) (take (min place (length text - 1)) text))
 
 unfoldable pub items-words : Unit {0}
-unfolding terms-words tokens-words read-on _>>=_ _>>_ give cannot-stand passes next is is-name begins-term standing expect either if-next count-name place-of new-variable count-variable count-compound arguments compound-of tail-of elements list-of term-from term goal-from goal goals rule nothing-twice both-halves clause-piece query-piece fresh item-from item onto pieces with-clause with-query items asked reading line
+unfolding terms-words tokens-words read-on _>>=_ _>>_ give cannot-stand passes next is is-name begins-term standing expect either if-next count-name place-of new-variable count-variable count-compound arguments compound-of tail-of elements list-of term-from term goal-from goal goals rule nothing-twice both-halves clause-piece query-piece fresh clause-from query-from item-from item onto pieces with-clause with-query items asked reading line
 items-words = tt

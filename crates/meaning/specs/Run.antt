@@ -44,7 +44,7 @@ onward (suc left) clauses figures state [] = ended rest state
 onward (suc left) clauses figures state (g ∷ others) =
     let taken = choice-for clauses state g in
     elim (fits figures taken state (without-front others (state .goals))) [
-      true ↦ (let after = step taken g others state in onward left clauses figures after (after .goals .queue))
+      | true ↦ (let after = step taken g others state in onward left clauses figures after (after .goals .queue))
       | false ↦ ended room state
     ]
 

@@ -89,7 +89,7 @@ start queries =
       pairs = query-pairs queries;
       compounds = query-compounds queries;
       goals = record { queue = all-goals 0 queries; waiting = []; failed = [] };
-      steps = 0
+      steps = 0;
     }
 
 -- What the state has of one query: its unit, and its goals in each of the three lists.
@@ -105,7 +105,7 @@ goals-of place goals =
     record {
       queue = those (of place) (goals .queue);
       waiting = those (λ w. of place (w .goal)) (goals .waiting);
-      failed = those (of place) (goals .failed)
+      failed = those (of place) (goals .failed);
     }
 
 unfoldable pub part-of : ℕ → State → Part

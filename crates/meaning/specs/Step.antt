@@ -32,7 +32,7 @@ goals-after (reduces clause given) unit g others =
     record {
       queue = others .queue ++ body-goals clause unit (g .query) ++ map (λ w. w .goal) (those (wakes (g .query) given) (others .waiting));
       waiting = those (λ w. not (wakes (g .query) given w)) (others .waiting);
-      failed = others .failed
+      failed = others .failed;
     }
 goals-after (joins-waiting readers) unit g others =
     record { queue = others .queue; waiting = others .waiting ++ (record { goal = g; readers = readers } ∷ []); failed = others .failed }
@@ -61,7 +61,7 @@ step choice g rest state =
       pairs = state .pairs + pairs-charged choice;
       compounds = state .compounds + compounds-charged choice;
       goals = goals-after choice (unit-at (g .query) (state .units)) g (without-front rest (state .goals));
-      steps = state .steps + 1
+      steps = state .steps + 1;
     }
 
 unfoldable pub step-words : Unit {0}

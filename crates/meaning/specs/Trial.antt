@@ -63,7 +63,7 @@ unfoldable pub choice-from : List ℕ → List Clause → QueryUnit → Named �
 choice-from readers [] unit goal = none-succeeds readers
 choice-from readers (clause ∷ clauses) unit goal =
     elim (trial clause unit goal) [
-      succeeds given ↦ reduces clause given
+      | succeeds given ↦ reduces clause given
       | waits others ↦ choice-from (readers ++ others) clauses unit goal
       | fails ↦ choice-from readers clauses unit goal
     ]

@@ -332,7 +332,7 @@ impl Texts {
 fn random_texts_are_answered_as_the_plain_model_says() {
     let mut texts = Texts { dice: Dice(88172645463325252), names: 0, variables: 0, arguments: 0, depth: 0 };
     let mut seen = [0; 7];
-    for _ in 0..common::random_jobs(200_000) {
+    for _ in 0..common::random_jobs(40_000) {
         let text = texts.text();
         let own = read(&text).map_or_else(|refusal| (refusal.number, refusal.line), |_| (0, 0));
         assert_eq!(own, plain_read(&text), "{}", String::from_utf8_lossy(&text));

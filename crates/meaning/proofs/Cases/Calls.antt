@@ -1,5 +1,6 @@
 -- The numbers 1, 2, 3, 7 and 8, each on its edge, and the order of all.
-use Prim.Native.Nat.{ℕ, _+_, _-_}
+use Prim.Native.Nat.{ℕ}
+use Prim.Native.String.{String}
 use mathlib.Core.List.{List, [], _∷_, _++_}
 use lib.ListN.{length, replicate}
 use Rattle.meaning.specs.Bytes.{Bytes, bytes}
@@ -7,49 +8,49 @@ use Rattle.meaning.specs.Case.{Case, Expected, refuses, too-long}
 use Rattle.meaning.proofs.Cases.Words.{text, ruled, of-bytes, with-budget, with-room, with-scratch, with-buffer, shows, times, words-words}
 
 -- A fact asked for, and its report of 61 bytes.
-unfoldable pub asked : Expected → Case
-asked expected = text "p(1) asked of p(1)" "p(1).\n?- p(1)." expected
+unfoldable pub asked : String → Expected → Case
+asked label expected = text label "p(1).\n?- p(1)." expected
 
 unfoldable pub done : Expected
 done = shows "run rest steps 1\nquery 1 tries 1 active 0 waiting 0 failed 0\n"
 
 -- Two pairs, three compounds and two goals.
-unfoldable pub small : Expected → Case
-small expected = text "two pairs, three compounds, two goals" "?- p([A]), q(B)." expected
+unfoldable pub small : String → Expected → Case
+small label expected = text label "?- p([A]), q(B)." expected
 
 unfoldable pub small-done : Expected
 small-done = shows "run rest steps 2\nquery 1 tries 2 active 0 waiting 0 failed 2\nA = _1\nB = _2\nfailed p([_1])\nfailed q(_2)\n"
 
 unfoldable pub calls-cases : List Case
 calls-cases =
-    with-budget 1000000 (with-room 65535 65535 65535 (asked done))
+    with-budget 1000000 (with-room 65535 65535 65535 (asked "the largest budget and room" done))
     ∷ with-room 1 1 1 (text "the smallest room" "?- p(A)." (shows "run rest steps 1\nquery 1 tries 1 active 0 waiting 0 failed 1\nA = _1\nfailed p(_1)\n"))
-    ∷ with-budget 1000001 (asked (refuses 1 0))
-    ∷ with-room 0 9 9 (asked (refuses 1 0))
-    ∷ with-room 65536 9 9 (asked (refuses 1 0))
-    ∷ with-room 9 0 9 (asked (refuses 1 0))
-    ∷ with-room 9 65536 9 (asked (refuses 1 0))
-    ∷ with-room 9 9 0 (asked (refuses 1 0))
-    ∷ with-room 9 9 65536 (asked (refuses 1 0))
-    ∷ with-scratch 4 (asked done)
-    ∷ with-scratch 3 (asked (refuses 2 0))
-    ∷ with-scratch 0 (asked (refuses 2 0))
+    ∷ with-budget 1000001 (asked "a budget above 1,000,000" (refuses 1 0))
+    ∷ with-room 0 9 9 (asked "no pairs" (refuses 1 0))
+    ∷ with-room 65536 9 9 (asked "pairs above 65,535" (refuses 1 0))
+    ∷ with-room 9 0 9 (asked "no compounds" (refuses 1 0))
+    ∷ with-room 9 65536 9 (asked "compounds above 65,535" (refuses 1 0))
+    ∷ with-room 9 9 0 (asked "no goals" (refuses 1 0))
+    ∷ with-room 9 9 65536 (asked "goals above 65,535" (refuses 1 0))
+    ∷ with-scratch 4 (asked "scratch of just its need" done)
+    ∷ with-scratch 3 (asked "scratch one word short" (refuses 2 0))
+    ∷ with-scratch 0 (asked "no scratch" (refuses 2 0))
     ∷ of-bytes "16,384 bytes" (bytes "p(1).\n?- p(1)." ++ replicate 16370 32) done
     ∷ of-bytes "16,384 bytes, unfinished" (bytes "p(1).\n?- p(1)" ++ replicate 16371 10) (refuses 4 16372)
     ∷ of-bytes "16,385 bytes" (bytes "p(1).\n?- p(1)." ++ replicate 16371 32) (refuses 3 0)
     ∷ with-scratch 3 (with-budget 1000001 (of-bytes "1 before 2 and 3" (replicate 16385 33) (refuses 1 0)))
     ∷ with-scratch 3 (of-bytes "2 before 3" (replicate 16385 33) (refuses 2 0))
     ∷ of-bytes "3 before 4" (replicate 16385 33) (refuses 3 0)
-    ∷ with-room 2 3 2 (small small-done)
-    ∷ with-room 1 3 2 (small (refuses 7 0))
-    ∷ with-room 2 2 2 (small (refuses 7 0))
-    ∷ with-room 2 3 1 (small (refuses 7 0))
+    ∷ with-room 2 3 2 (small "queries of just the room" small-done)
+    ∷ with-room 1 3 2 (small "queries of one pair too many" (refuses 7 0))
+    ∷ with-room 2 2 2 (small "queries of one compound too many" (refuses 7 0))
+    ∷ with-room 2 3 1 (small "queries of one goal too many" (refuses 7 0))
     ∷ with-room 1 3 2 (text "the queries together pass a figure" "?- p(A).\n?- p(A)." (refuses 7 0))
     ∷ with-room 1 1 1 (text "no query before 7" "p([A],A?)." (refuses 6 0))
-    ∷ with-buffer 0 (with-room 1 3 2 (small (refuses 7 0)))
-    ∷ with-buffer 61 (asked done)
-    ∷ with-buffer 60 (asked (too-long 61))
-    ∷ with-buffer 0 (asked (too-long 61))
+    ∷ with-buffer 0 (with-room 1 3 2 (small "7 before 8" (refuses 7 0)))
+    ∷ with-buffer 61 (asked "a buffer of just the report" done)
+    ∷ with-buffer 60 (asked "a buffer one byte short" (too-long 61))
+    ∷ with-buffer 0 (asked "no buffer" (too-long 61))
     ∷ []
 
 unfoldable pub calls-words : Unit {0}

@@ -14,7 +14,7 @@ machine-cases =
     ∷ with-room 9 9 2 (text "waiting goals count in the goal figure" "d(1) :- e(1), e(1).\ne(1).\n?- e(A?), d(1)." (shows "run room steps 1\nquery 1 tries 1 active 1 waiting 1 failed 0\nA = _1\nactive d(1)\nwaiting e(_1?)\n"))
     ∷ with-room 9 9 1 (text "room is judged on the first clause that succeeds" "c(1) :- e(1), e(1).\nc(1).\ne(1).\n?- c(1)." (shows "run room steps 0\nquery 1 tries 0 active 1 waiting 0 failed 0\nactive c(1)\n"))
     ∷ with-room 1 1 1 (text "waiting and failing need no room" "e(f(X,X?)).\n?- e(A?)." (shows "run rest steps 1\nquery 1 tries 1 active 0 waiting 1 failed 0\nA = _1\nwaiting e(_1?)\n"))
-    ∷ with-budget 1 (with-room 1 1 1 (text "budget before room" "e(1).\n?- e(1)." (shows "run room steps 0\nquery 1 tries 0 active 1 waiting 0 failed 0\nactive e(1)\n")))
+    ∷ with-budget 1 (with-room 1 1 1 (text "a reduction that does not fit ends the run" "e(1).\n?- e(1)." (shows "run room steps 0\nquery 1 tries 0 active 1 waiting 0 failed 0\nactive e(1)\n")))
     ∷ with-budget 0 (with-room 1 1 1 (text "budget is seen before room" "e(1).\n?- e(1)." (shows "run budget steps 0\nquery 1 tries 0 active 1 waiting 0 failed 0\nactive e(1)\n")))
     ∷ with-room 2 3 1 (text "the head is charged too" "d(X) :- e(X?).\ne(1).\n?- d(1)." (shows "run room steps 1\nquery 1 tries 1 active 1 waiting 0 failed 0\nactive e(1)\n"))
     ∷ with-room 1 4 1 (text "the head is charged, and fits" "d(X) :- e(X?).\ne(1).\n?- d(1)." (shows "run rest steps 2\nquery 1 tries 2 active 0 waiting 0 failed 0\n"))
