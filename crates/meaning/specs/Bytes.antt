@@ -2,7 +2,7 @@
 use Prim.Native.Nat.{ℕ, zero, suc, _+_, _/_, _%_}
 use Prim.Native.Char.{Char, code}
 use Prim.Native.String.{String}
-use mathlib.Core.Bool.{Bool, true, false, _&&_}
+use mathlib.Core.Bool.{Bool, true, false, _&&_, _||_}
 use mathlib.Core.List.{List, [], _∷_, _++_}
 use lib.Dec.{leb, ltb, eqb}
 
@@ -33,21 +33,26 @@ same (b ∷ bs) (c ∷ cs) = eqb b c && same bs cs
 -- A number is among these.
 unfoldable pub among : ℕ → List ℕ → Bool
 among n [] = false
-among n (m ∷ ms) = elim (eqb n m) [ true ↦ true | false ↦ among n ms ]
+among n (m ∷ ms) = eqb n m || among n ms
 
 -- All, or some, of a list pass a test.
 unfoldable pub all : {A : Type 0} → (A → Bool) → List A → Bool
 all test [] = true
-all test (a ∷ rest) = elim (test a) [ true ↦ all test rest | false ↦ false ]
+all test (a ∷ rest) = test a && all test rest
 
 unfoldable pub any : {A : Type 0} → (A → Bool) → List A → Bool
 any test [] = false
-any test (a ∷ rest) = elim (test a) [ true ↦ true | false ↦ any test rest ]
+any test (a ∷ rest) = test a || any test rest
 
 -- Those of a list that pass a test, in order.
 unfoldable pub those : {A : Type 0} → (A → Bool) → List A → List A
 those test [] = []
 those test (a ∷ rest) = if test a then a ∷ those test rest else those test rest
+
+-- Those numbers that are not among the seen ones, each once, in order of first occurrence.
+unfoldable pub each-once : List ℕ → List ℕ → List ℕ
+each-once seen [] = []
+each-once seen (n ∷ ns) = elim (among n seen) [ true ↦ each-once seen ns | false ↦ n ∷ each-once (n ∷ seen) ns ]
 
 -- The numbers from 0 up to n, without n.
 unfoldable pub up-to : ℕ → List ℕ
@@ -70,5 +75,5 @@ decimal n = digits n n []
 
 -- Everything above, for a statement that computes.
 unfoldable pub bytes-words : Unit {0}
-unfolding byte bytes if_then_else_ same among all any those up-to joined digits decimal
+unfolding byte bytes if_then_else_ same among all any those each-once up-to joined digits decimal
 bytes-words = tt

@@ -4,7 +4,7 @@ use mathlib.Core.Bool.{Bool, true, false}
 use mathlib.Core.List.{List, [], _∷_, _++_}
 use mathlib.Core.Option.{Option, none, some}
 use lib.ListN.{length}
-use Rattle.meaning.specs.Bytes.{among, any, up-to}
+use Rattle.meaning.specs.Bytes.{among, any, each-once, up-to}
 use Rattle.meaning.specs.Terms.{Term, pairs-of}
 use Rattle.meaning.specs.State.{Values, value, state-words}
 
@@ -17,18 +17,12 @@ unfoldable pub leans-on : Values → List ℕ → List ℕ
 leans-on values [] = []
 leans-on values (i ∷ is) = held (value values i) (leans-on values is)
 
--- Those that were not reached before, each once.
-unfoldable pub not-reached : List ℕ → List ℕ → List ℕ
-not-reached reached [] = []
-not-reached reached (j ∷ js) =
-    elim (among j reached) [ true ↦ not-reached reached js | false ↦ j ∷ not-reached (j ∷ reached) js ]
-
 -- "The test follows every pair it can reach": the pairs reached, and then those on which the last of them lean, through so many links more.
 unfoldable pub reach : ℕ → Values → List ℕ → List ℕ → List ℕ
 reach zero values reached last = reached
 reach (suc links) values reached [] = reached
 reach (suc links) values reached (i ∷ is) =
-    let new = not-reached reached (leans-on values (i ∷ is)) in
+    let new = each-once reached (leans-on values (i ∷ is)) in
     reach links values (new ++ reached) new
 
 -- "A pair would lean on itself through one or more links."
@@ -39,5 +33,5 @@ unfoldable pub circle : Values → Bool
 circle values = any (circle-at values) (up-to (length values))
 
 unfoldable pub circle-words : Unit {0}
-unfolding state-words held leans-on not-reached reach circle-at circle
+unfolding state-words held leans-on reach circle-at circle
 circle-words = tt

@@ -116,7 +116,7 @@ if-next c first second counted (ends place) = second counted (ends place)
 if-next c first second counted (token place t rest) =
     if is c t then first counted rest else second counted (token place t rest)
 
--- "256 distinct names, told apart by spelling alone."
+-- "256 distinct names, so-far apart by spelling alone."
 unfoldable pub count-name : Bytes → Reader (Unit {0})
 count-name f counted rest =
     if any (same f) (counted .names) then read tt counted rest
@@ -244,8 +244,8 @@ pub data Refusal : Type 0 where
   figure : ℕ → Refusal
   no-query : Refusal
 
--- What was counted over the text: its names, clauses and queries.
-pub record Told : Type 0 where
+-- What has been counted over the text so far: its names, clauses and queries.
+pub record SoFar : Type 0 where
   pub names : List Bytes
   pub clauses : ℕ
   pub queries : ℕ
@@ -280,25 +280,25 @@ unfoldable pub fresh : List Bytes → Counted
 fresh names = record { names = names; variables = []; compounds = 0 }
 
 -- "128 clauses; 1 to 8 queries": the first token of the 129th clause or ninth query passes the figure.
-unfoldable pub clause-from : Told → ℕ → Tokens → Piece
-clause-from told begins piece =
-    if ltb (told .clauses) 128 then clause-piece begins (rule (fresh (told .names)) piece) else refused (figure begins)
+unfoldable pub clause-from : SoFar → ℕ → Tokens → Piece
+clause-from so-far begins piece =
+    if ltb (so-far .clauses) 128 then clause-piece begins (rule (fresh (so-far .names)) piece) else refused (figure begins)
 
-unfoldable pub query-from : Told → ℕ → Tokens → Piece
-query-from told begins behind =
-    if ltb (told .queries) 8 then query-piece begins (goals 8 (fresh (told .names)) behind) else refused (figure begins)
+unfoldable pub query-from : SoFar → ℕ → Tokens → Piece
+query-from so-far begins behind =
+    if ltb (so-far .queries) 8 then query-piece begins (goals 8 (fresh (so-far .names)) behind) else refused (figure begins)
 
 -- A clause begins with a name, a query with `?-`.
-unfoldable pub item-from : Told → ℕ → Token → Tokens → Piece
-item-from told begins t rest =
-    if is-name t then clause-from told begins (token begins t rest)
-    else if is "?" t then query-from told begins rest
+unfoldable pub item-from : SoFar → ℕ → Token → Tokens → Piece
+item-from so-far begins t rest =
+    if is-name t then clause-from so-far begins (token begins t rest)
+    else if is "?" t then query-from so-far begins rest
     else refused (no-item begins)
 
 -- The item that a piece of the text holds: "an item begins at its first token".
-unfoldable pub item : Told → Tokens → Piece
-item told (ends place) = nothing
-item told (token begins t rest) = item-from told begins t rest
+unfoldable pub item : SoFar → Tokens → Piece
+item so-far (ends place) = nothing
+item so-far (token begins t rest) = item-from so-far begins t rest
 
 -- The tokens cut behind each full stop: "each item is read from the byte after the full stop before it".
 unfoldable pub onto : ℕ → Token → List Tokens → List Tokens
@@ -324,13 +324,13 @@ with-query q (job j) = job (record { clauses = j .clauses; queries = q ∷ j .qu
 with-query q (refused r) = refused r
 
 -- "The text item by item, and the first refused item decides."
-unfoldable pub items : Told → List Tokens → Reading
-items told [] = job (record { clauses = []; queries = [] })
-items told (piece ∷ pieces) =
-    elim (item told piece) [
-      | nothing ↦ items told pieces
-      | clause c names ↦ with-clause c (items (record { names = names; clauses = told .clauses + 1; queries = told .queries }) pieces)
-      | query q names ↦ with-query q (items (record { names = names; clauses = told .clauses; queries = told .queries + 1 }) pieces)
+unfoldable pub items : SoFar → List Tokens → Reading
+items so-far [] = job (record { clauses = []; queries = [] })
+items so-far (piece ∷ pieces) =
+    elim (item so-far piece) [
+      | nothing ↦ items so-far pieces
+      | clause c names ↦ with-clause c (items (record { names = names; clauses = so-far .clauses + 1; queries = so-far .queries }) pieces)
+      | query q names ↦ with-query q (items (record { names = names; clauses = so-far .clauses; queries = so-far .queries + 1 }) pieces)
       | refused r ↦ refused r
     ]
 

@@ -6,7 +6,7 @@ use mathlib.Core.List.{List, [], _∷_, _++_, map}
 use mathlib.Core.Option.{Option, none, some}
 use lib.Dec.{eqb}
 use lib.ListN.{length}
-use Rattle.meaning.specs.Bytes.{Bytes, bytes, decimal, joined, up-to}
+use Rattle.meaning.specs.Bytes.{Bytes, bytes, decimal, each-once, joined}
 use Rattle.meaning.specs.Terms.{
   Half,
   writer,
@@ -34,7 +34,6 @@ use Rattle.meaning.specs.Terms.{
   as-term,
 }
 use Rattle.meaning.specs.State.{Values, value, Goal, Waiting, State, Part, part-of}
-use Rattle.meaning.specs.Circle.{not-reached}
 use Rattle.meaning.specs.Run.{Verdict, rest, budget, room, Ended, run-words}
 
 -- "Values are written out with every assignment applied", over no more links than given.
@@ -134,7 +133,7 @@ pairs-shown [] = []
 pairs-shown (l ∷ ls) = pairs-of (l .shown) (pairs-shown ls)
 
 unfoldable pub unassigned-pairs : List Line → List ℕ
-unassigned-pairs ls = not-reached [] (pairs-shown ls)
+unassigned-pairs ls = each-once [] (pairs-shown ls)
 
 -- "Each line ends in LF."
 unfoldable pub line-bytes : List ℕ → Line → Bytes

@@ -34,7 +34,7 @@ pub fn text_of(random: &mut Random, items: &[Vec<Token>]) -> Vec<u8> {
         Layout::Remarked,
         Layout::Returns,
     ];
-    let layout = *random.pick(&layouts);
+    let layout = random.pick(&layouts);
     let mut text = Vec::new();
     for item in items {
         write_item(random, layout, item, &mut text);

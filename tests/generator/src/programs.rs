@@ -52,7 +52,7 @@ pub fn program(random: &mut Random) -> Vec<Vec<Token>> {
 /// One random clause, for texts that are to be broken.
 pub fn some_clause(random: &mut Random) -> Item {
     let procedures = procedures(random);
-    let procedure = random.pick(&procedures).clone();
+    let procedure = procedures[random.below(procedures.len())].clone();
     clause(random, &procedure, &procedures)
 }
 
@@ -81,7 +81,7 @@ fn modes(random: &mut Random, arity: usize) -> Vec<Mode> {
 fn clause(random: &mut Random, procedure: &Procedure, procedures: &[Procedure]) -> Item {
     let mut weaver = Weaver { random, pairs: Vec::new() };
     let head = weaver.head(procedure);
-    let count = *weaver.random.pick(&[0, 0, 0, 0, 1, 1, 1, 2, 2, 3]);
+    let count = weaver.random.pick(&[0, 0, 0, 0, 1, 1, 1, 2, 2, 3]);
     let goals = weaver.goals(procedures, count);
     weaver.closed(Item { head: Some(head), goals })
 }
@@ -122,7 +122,7 @@ impl Weaver<'_> {
         if self.random.chance(3) {
             return Term::Compound("undefined", vec![self.term(false, 1)]);
         }
-        let procedure = self.random.pick(procedures).clone();
+        let procedure = procedures[self.random.below(procedures.len())].clone();
         let arguments = procedure.modes.iter().map(|mode| self.goal_argument(*mode)).collect();
         Term::Compound(procedure.name, arguments)
     }
@@ -149,7 +149,7 @@ impl Weaver<'_> {
     }
 
     fn list(&mut self, writers: bool, depth: usize) -> Term {
-        let count = *self.random.pick(&[1, 1, 1, 2, 3]);
+        let count = self.random.pick(&[1, 1, 1, 2, 3]);
         let elements = (0..count).map(|_| self.term(writers, depth - 1)).collect();
         let tail = if self.random.chance(65) { Some(Box::new(self.leaf(writers))) } else { None };
         Term::List(elements, tail)
@@ -170,7 +170,7 @@ impl Weaver<'_> {
             .collect();
         let known = !waiting.is_empty() && self.random.chance(60);
         let pair = if known {
-            *self.random.pick(&waiting)
+            self.random.pick(&waiting)
         } else if self.pairs.len() < MOST_PAIRS {
             self.pairs.push(Halves::default());
             self.pairs.len() - 1

@@ -111,7 +111,7 @@ pub fn program(random: &mut Random) -> Vec<Vec<Token>> {
 /// Clauses of a kit that the goals of a job may need, now and then one missing, with 1 to 8 queries.
 fn job(random: &mut Random, kit: &[&str], goals: &dyn Fn(&mut Random) -> Vec<String>) -> Vec<Vec<Token>> {
     let mut queries = Vec::new();
-    let count = *random.pick(&[1, 1, 1, 1, 2, 2, 2, 3, 4, 8]);
+    let count = random.pick(&[1, 1, 1, 1, 2, 2, 2, 3, 4, 8]);
     let mut network = goals(random);
     while queries.len() < count {
         queries.push(query(random, &network));
@@ -226,7 +226,7 @@ fn source(random: &mut Random, next: &mut usize, goals: &mut Vec<String>) -> Str
 
 fn literal(random: &mut Random, end: &str) -> String {
     let elements: Vec<&str> =
-        (0..random.between(1, 3)).map(|_| *random.pick(&["1", "2", "a", "-7", "[]", "f(b)", "[c]"])).collect();
+        (0..random.between(1, 3)).map(|_| random.pick(&["1", "2", "a", "-7", "[]", "f(b)", "[c]"])).collect();
     format!("[{}{end}", elements.join(","))
 }
 

@@ -337,13 +337,14 @@ impl<'t> Items<'t> {
     /// The cells of the elements read, the last one first, so that each cell's block holds the cells behind it.
     fn cells(&mut self, first: usize, tail: Word) -> Word {
         let mut list = tail;
-        while self.parts.len() > first {
-            let (element, begin) = self.parts.pop().unwrap();
+        for part in (first..self.parts.len()).rev() {
+            let (element, begin) = self.parts[part];
             let cell = self.enter_functor(LIST_CELL, begin);
             self.enter_argument(element);
             self.enter_argument(list);
             list = cell;
         }
+        self.parts.truncate(first);
         list
     }
 

@@ -103,7 +103,7 @@ pub fn run<'j>(job: &'j Job, budget: u64, room: Room) -> Option<Finished<'j>> {
     }
     let mut machine = Machine::new(job, room);
     let first_pairs = machine.begin();
-    let verdict = machine.steps(budget);
+    let verdict = machine.take_steps(budget);
     Some(machine.finish(verdict, first_pairs))
 }
 
@@ -147,7 +147,7 @@ impl<'j> Machine<'j> {
 
     /// 'Before each step, in this order: queue empty, the run ends `rest`; steps equal the budget, `budget`; the step
     /// would be a reduction that doesn't fit, `room`.'
-    fn steps(&mut self, budget: u64) -> Verdict {
+    fn take_steps(&mut self, budget: u64) -> Verdict {
         loop {
             let Some(&goal) = self.queue.front() else {
                 return Verdict::Rest;

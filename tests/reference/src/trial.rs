@@ -84,9 +84,7 @@ impl Machine<'_> {
             (Reader, _) => Trial::Fails,
             (_, Reader) => Trial::Waits(goal.index()),
             (Constant, Constant) if head == goal => Trial::Succeeds,
-            (Compound, Compound) if self.same_functor(head, goal) => {
-                self.compare_arguments(head.index(), goal.index())
-            }
+            (Compound, Compound) if self.same_functor(head, goal) => self.compare_arguments(head.index(), goal.index()),
             _ => Trial::Fails,
         }
     }

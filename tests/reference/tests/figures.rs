@@ -176,7 +176,8 @@ fn integers_in_range() {
 
 #[test]
 fn names_by_spelling_and_arity() {
-    let report = report("p(p). p(p,p). q(Q,Q?). ?- p(p), p(p,p), p(p,p,p), q(p(1),A), q(p(1,2),B), q([1],C), q(a1_B,D).");
+    let report =
+        report("p(p). p(p,p). q(Q,Q?). ?- p(p), p(p,p), p(p,p,p), q(p(1),A), q(p(1,2),B), q([1],C), q(a1_B,D).");
     check(&report, &["run rest steps 7", "failed p(p,p,p)", "A = p(1)", "B = p(1,2)", "C = [1]", "D = a1_B"]);
 }
 

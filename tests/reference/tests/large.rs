@@ -163,8 +163,11 @@ fn runs_that_fill_the_room() {
     let text = "p(1) :- p(1),p(1),p(1),p(1),p(1),p(1),p(1). ?- p(1).";
     let report = timed(|| report_with(text, &large()));
     let steps = 65_534 / 8;
-    check(&report, &[
-        &format!("run room steps {steps}"),
-        &format!("query 1 tries {steps} active {} waiting 0 failed 0", 1 + 6 * steps),
-    ]);
+    check(
+        &report,
+        &[
+            &format!("run room steps {steps}"),
+            &format!("query 1 tries {steps} active {} waiting 0 failed 0", 1 + 6 * steps),
+        ],
+    );
 }

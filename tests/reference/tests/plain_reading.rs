@@ -38,7 +38,11 @@ fn tokens(text: &[u8]) -> Vec<Token> {
                 'a'..='z' if short => 'n',
                 'A'..='Z' if byte(at) == '?' => {
                     at += 1;
-                    if short { 'R' } else { 'x' }
+                    if short {
+                        'R'
+                    } else {
+                        'x'
+                    }
                 }
                 'A'..='Z' if short => 'W',
                 '-' | '0'..='9' if spelling.parse::<i32>().is_ok_and(|n| n.to_string() == spelling) => 'i',
@@ -91,7 +95,11 @@ enum Refused {
 }
 
 fn above(count: usize, figure: usize) -> Result<(), Refused> {
-    if count > figure { Err(Refused::Six) } else { Ok(()) }
+    if count > figure {
+        Err(Refused::Six)
+    } else {
+        Ok(())
+    }
 }
 
 fn plain_read(text: &[u8]) -> (u8, u32) {
@@ -114,7 +122,11 @@ fn plain_read(text: &[u8]) -> (u8, u32) {
             Ok(next) => expect = next,
         }
     }
-    if queries == 0 { (6, 0) } else { (0, 0) }
+    if queries == 0 {
+        (6, 0)
+    } else {
+        (0, 0)
+    }
 }
 
 fn broken(item: &Counts) -> bool {
@@ -288,8 +300,32 @@ impl Texts {
     /// Damage: a token too many, one too few, or one changed.
     fn damage(&mut self, out: &mut Vec<String>) {
         let odd = [
-            "(", ")", "[", "]", ",", "|", ".", ":-", "?-", "?", "-", ":", "_", "_a", "007", "-0", "12ab", "X", "X?", "a",
-            "2147483648", "nnnnnnnnnnnnnnnnnnnnnnnnnnnnnnnn", "VVVVVVVVVVVVVVVVVVVVVVVVVVVVVVVV?", "é", "% r", "p(a).",
+            "(",
+            ")",
+            "[",
+            "]",
+            ",",
+            "|",
+            ".",
+            ":-",
+            "?-",
+            "?",
+            "-",
+            ":",
+            "_",
+            "_a",
+            "007",
+            "-0",
+            "12ab",
+            "X",
+            "X?",
+            "a",
+            "2147483648",
+            "nnnnnnnnnnnnnnnnnnnnnnnnnnnnnnnn",
+            "VVVVVVVVVVVVVVVVVVVVVVVVVVVVVVVV?",
+            "é",
+            "% r",
+            "p(a).",
         ];
         let (at, token) = (self.dice.roll(out.len() as u64) as usize, odd[self.dice.roll(odd.len() as u64) as usize]);
         match self.dice.roll(4) {

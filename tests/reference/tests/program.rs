@@ -65,7 +65,15 @@ fn the_programs_figures() {
 
 #[test]
 fn bad_command_lines() {
-    for options in [&["--budget"][..], &["--budget", "x"], &["--pairs", "-1"], &["--goals", "+1"], &["--what"], &["1"], &["--need", "18446744073709551616"]] {
+    for options in [
+        &["--budget"][..],
+        &["--budget", "x"],
+        &["--pairs", "-1"],
+        &["--goals", "+1"],
+        &["--what"],
+        &["1"],
+        &["--need", "18446744073709551616"],
+    ] {
         assert_eq!(program(options, b"?- p(a)."), (String::new(), true, 2), "{options:?}");
     }
 }

@@ -274,7 +274,10 @@ fn r26_first_appearance_in_the_order_of_writing() {
 #[test]
 fn r27_goals_are_written_with_every_assignment_of_the_run() {
     check(&session("?- no(A?), w(B?,1), same(5,A)."), &["failed no(5)", "waiting w(_1?,1)"]);
-    check(&session("?- w([1|A?],B), tag(C?,[2|B?]), same([5],A)."), &["failed w([1,5],_1)", "waiting tag(_2?,[2|_1?])"]);
+    check(
+        &session("?- w([1|A?],B), tag(C?,[2|B?]), same([5],A)."),
+        &["failed w([1,5],_1)", "waiting tag(_2?,[2|_1?])"],
+    );
 }
 
 #[test]
@@ -296,7 +299,10 @@ fn rest_comes_before_budget() {
     let after = |budget| report_with("p(1). ?- p(1).", &Figures { budget, ..Figures::default() });
     check(&after(1), &["run rest steps 1"]);
     check(&after(0), &["run budget steps 0"]);
-    check(&report_with("p(1) :- p(1). ?- p(1).", &Figures { budget: 7, ..Figures::default() }), &["run budget steps 7"]);
+    check(
+        &report_with("p(1) :- p(1). ?- p(1).", &Figures { budget: 7, ..Figures::default() }),
+        &["run budget steps 7"],
+    );
 }
 
 #[test]
@@ -308,9 +314,10 @@ fn budget_comes_before_room() {
 
 #[test]
 fn lists_are_written_with_commas_and_one_bar() {
-    check(&report("?- p([a,b,c],[a,b|c],[[]|[]],[a|[b|[c]]],[[a|b]|f(X)])."), &[
-        "failed p([a,b,c],[a,b|c],[[]],[a,b,c],[[a|b]|f(_1)])",
-    ]);
+    check(
+        &report("?- p([a,b,c],[a,b|c],[[]|[]],[a|[b|[c]]],[[a|b]|f(X)])."),
+        &["failed p([a,b,c],[a,b|c],[[]],[a,b,c],[[a|b]|f(_1)])"],
+    );
     // A tail that is a pair is followed, also where its value has been written before.
     check(&session("?- same([2,3],T), same([1|T?],L)."), &["T = [2,3]", "L = [1,2,3]"]);
     check(&session("?- same([1|T?],L), same([2,3],T)."), &["T = [2,3]", "L = [1,2,3]"]);

@@ -18,10 +18,7 @@ fn k1_empty_text() {
 
 #[test]
 fn k2_rests_after_three_steps() {
-    assert_eq!(
-        session(K2),
-        "run rest steps 3\nquery 1 tries 3 active 0 waiting 0 failed 0\nA = []\nZ = [hit(3)]\n"
-    );
+    assert_eq!(session(K2), "run rest steps 3\nquery 1 tries 3 active 0 waiting 0 failed 0\nA = []\nZ = [hit(3)]\n");
 }
 
 #[test]

@@ -14,7 +14,14 @@ w(1,2).
 
 /// The program's figures, with the largest room and buffer.
 pub fn large() -> Figures {
-    Figures { budget: 1_000_000, pairs: 65_535, compounds: 65_535, goals: 65_535, buffer: 1 << 25, ..Figures::default() }
+    Figures {
+        budget: 1_000_000,
+        pairs: 65_535,
+        compounds: 65_535,
+        goals: 65_535,
+        buffer: 1 << 25,
+        ..Figures::default()
+    }
 }
 
 pub fn answer(text: &str) -> Answer {

@@ -1,0 +1,121 @@
+//! Jobs as cases of the definitions: what the proof checker is given to compute.
+//!
+//! A case is the record `Case` of the definitions, with the reference's answer as the expected one. Its text and its
+//! report are definitions of their own. A batch of cases is a list, and the statement over it is that no case fails.
+
+use std::fmt::Write;
+
+use reference::{Answer, Figures};
+
+use crate::Job;
+
+/// Runs of one byte at least so long are written by `replicate`.
+const LONG_RUN: usize = 40;
+
+/// A module with a statement for each batch of so many jobs; `first` is the place of the first job.
+pub fn module(jobs: &[(&Job, &Answer)], first: usize, batch: usize) -> String {
+    let mut text = String::from(
+        "-- Jobs, and the reference's answers to them.\n\
+         use Prim.Native.Nat.{ℕ}\n\
+         use Prim.Native.String.{String}\n\
+         use mathlib.Core.Path.{_≡_, refl}\n\
+         use mathlib.Core.List.{List, [], _∷_, _++_}\n\
+         use lib.ListN.{replicate}\n\
+         use Rattle.meaning.specs.Bytes.{Bytes, bytes}\n\
+         use Rattle.meaning.specs.State.{Room}\n\
+         use Rattle.meaning.specs.Case.{Case, Expected, prints, refuses, too-long, failing, case-words}\n",
+    );
+    for (place, (job, answer)) in jobs.iter().enumerate() {
+        write_case(&mut text, first + place, job, answer);
+    }
+    for (place, some) in jobs.chunks(batch).enumerate() {
+        write_statement(&mut text, first + place * batch, some.len());
+    }
+    text
+}
+
+/// The name of the statement over the batch whose first job has this place.
+pub fn statement(first: usize) -> String {
+    format!("agrees-{first}")
+}
+
+fn write_case(text: &mut String, place: usize, job: &Job, answer: &Answer) {
+    let Figures { budget, pairs, compounds, goals, buffer, scratch, .. } = job.figures;
+    let label = string(job.label.as_bytes());
+    let expected = expected(text, place, answer);
+    write_bytes(text, &format!("text-{place}"), &job.text);
+    let _ = write!(
+        text,
+        "\nunfoldable job-{place} : Case\n\
+         job-{place} = record {{ label = {label}; text = text-{place}; budget = {budget};\n  \
+         room = record {{ pairs = {pairs}; compounds = {compounds}; goals = {goals} }};\n  \
+         scratch = {scratch}; buffer = {buffer}; expected = {expected} }}\n"
+    );
+}
+
+/// The expected answer, its report as a definition before it.
+fn expected(text: &mut String, place: usize, answer: &Answer) -> String {
+    write_bytes(text, &format!("report-{place}"), answer.report.as_deref().unwrap_or(&[]));
+    match &answer.report {
+        Some(_) => format!("prints report-{place}"),
+        None if answer.number == 8 => format!("too-long {}", answer.length),
+        None => format!("refuses {} {}", answer.number, answer.line),
+    }
+}
+
+fn write_statement(text: &mut String, first: usize, count: usize) {
+    let name = statement(first);
+    let places = first..first + count;
+    let list: String = places.clone().map(|place| format!("job-{place} ∷ ")).collect();
+    let names: String = places.map(|place| format!(" text-{place} report-{place} job-{place}")).collect();
+    let _ = write!(text, "\n{name} : failing ({list}[]) ≡ []\nunfolding case-words{names}\n{name} = refl\n");
+}
+
+fn write_bytes(text: &mut String, name: &str, bytes: &[u8]) {
+    let _ = write!(text, "\nunfoldable {name} : Bytes\n{name} = {}\n", list(bytes));
+}
+
+/// Bytes as a list of antt: strings, and long runs of one byte by `replicate`.
+pub fn list(bytes: &[u8]) -> String {
+    let mut parts = Vec::new();
+    let mut plain = 0;
+    let mut at = 0;
+    while at < bytes.len() {
+        let run = bytes[at..].iter().take_while(|byte| **byte == bytes[at]).count();
+        if run >= LONG_RUN {
+            if plain < at {
+                parts.push(format!("bytes {}", string(&bytes[plain..at])));
+            }
+            parts.push(format!("replicate {run} {}", bytes[at]));
+            plain = at + run;
+        }
+        at += run;
+    }
+    if plain < bytes.len() {
+        parts.push(format!("bytes {}", string(&bytes[plain..])));
+    }
+    if parts.is_empty() {
+        return "[]".to_string();
+    }
+    parts.join(" ++ ")
+}
+
+/// Bytes as a string of antt, a character for each; `bytes` gives them back.
+pub fn string(bytes: &[u8]) -> String {
+    let mut text = String::from("\"");
+    for &byte in bytes {
+        match byte {
+            b'"' => text.push_str("\\\""),
+            b'\\' => text.push_str("\\\\"),
+            b'\n' => text.push_str("\\n"),
+            b'\t' => text.push_str("\\t"),
+            b'\r' => text.push_str("\\r"),
+            b' '..=b'~' => text.push(byte as char),
+            _ => {
+                let _ = write!(text, "\\u{{{byte:x}}}");
+            }
+        }
+    }
+    text.push('"');
+    text
+}

@@ -1,0 +1,149 @@
+//! The figures of a call: budget, room, buffer and scratch.
+//!
+//! A job is computed by a proof checker too, so its figures are chosen to keep it small: the budget is cut until the
+//! report is short. Edges of the room and of the buffer are found with the reference: the smallest figure with which
+//! the answer is still the same, or the queries still fit.
+
+use reference::{call, Answer, Figures};
+
+use crate::random::Random;
+
+pub const NEED: u64 = 4;
+const LONGEST_REPORT: u32 = 1_500;
+
+/// Room for nearly every job here.
+fn roomy() -> Figures {
+    Figures { budget: 60, pairs: 100, compounds: 220, goals: 40, buffer: 2_000, scratch: 6, need: NEED }
+}
+
+/// Figures for a text, with a word for the label.
+pub fn chosen(random: &mut Random, text: &[u8]) -> (&'static str, Figures) {
+    let mut figures = short(text, roomy());
+    figures.scratch = random.pick(&[6, 6, 6, 6, 5, 4]);
+    match random.below(20) {
+        0..=7 => ("roomy", figures),
+        8..=10 => {
+            figures.budget = figures.budget.min(random.between(0, 12) as u64);
+            ("budget", figures)
+        }
+        11..=13 => ("room", edge_of_room(random, text, figures)),
+        14 => ("queries", edge_of_queries(random, text, figures)),
+        15 => ("tight", tight(random, figures)),
+        16..=18 => ("buffer", edge_of_buffer(random, text, figures)),
+        _ => ("spoilt", spoilt(random, figures)),
+    }
+}
+
+/// Figures of which at least one is out of range or short, or just not.
+pub fn spoilt(random: &mut Random, mut figures: Figures) -> Figures {
+    for _ in 0..random.between(1, 2) {
+        match random.below(8) {
+            0 => figures.budget = random.pick(&[1_000_000, 1_000_001, 4_294_967_296]),
+            1 => figures.pairs = random.pick(&[0, 65_536, 65_535]),
+            2 => figures.compounds = random.pick(&[0, 65_536, 65_535]),
+            3 => figures.goals = random.pick(&[0, 65_536, 65_535]),
+            _ => figures.scratch = random.below(6) as u64,
+        }
+    }
+    figures
+}
+
+/// The usual figures for a text that is to be refused, with a spoilt one now and then.
+pub fn usual(random: &mut Random, text: &[u8]) -> Figures {
+    let figures = short(text, roomy());
+    if random.chance(4) { spoilt(random, figures) } else { figures }
+}
+
+/// The budget cut until the report is short.
+fn short(text: &[u8], mut figures: Figures) -> Figures {
+    while figures.budget > 0 && call(text, &figures).length > LONGEST_REPORT {
+        figures.budget /= 2;
+    }
+    figures
+}
+
+#[derive(Clone, Copy)]
+enum Figure {
+    Pairs,
+    Compounds,
+    Goals,
+}
+
+const ROOM: [Figure; 3] = [Figure::Pairs, Figure::Compounds, Figure::Goals];
+
+fn with(mut figures: Figures, figure: Figure, number: u64) -> Figures {
+    match figure {
+        Figure::Pairs => figures.pairs = number,
+        Figure::Compounds => figures.compounds = number,
+        Figure::Goals => figures.goals = number,
+    }
+    figures
+}
+
+fn number_of(figures: &Figures, figure: Figure) -> u64 {
+    match figure {
+        Figure::Pairs => figures.pairs,
+        Figure::Compounds => figures.compounds,
+        Figure::Goals => figures.goals,
+    }
+}
+
+/// The smallest number from 1 to `high` for which a test holds that holds of `high` and of all above the smallest.
+fn smallest(high: u64, holds: impl Fn(u64) -> bool) -> u64 {
+    let (mut low, mut high) = (1, high);
+    while low < high {
+        let middle = (low + high) / 2;
+        if holds(middle) {
+            high = middle;
+        } else {
+            low = middle + 1;
+        }
+    }
+    high
+}
+
+fn same(left: &Answer, right: &Answer) -> bool {
+    left.number == right.number && left.length == right.length && left.report == right.report
+}
+
+/// A room figure with which the run is just the same, or one less, or somewhere below that.
+fn edge_of_room(random: &mut Random, text: &[u8], figures: Figures) -> Figures {
+    let figure = random.pick(&ROOM);
+    let answer = call(text, &figures);
+    let edge =
+        smallest(number_of(&figures, figure), |number| same(&call(text, &with(figures, figure, number)), &answer));
+    let lowest = lowest_for_queries(text, figures, figure);
+    let number = match random.below(4) {
+        0 => edge,
+        1 | 2 => edge.saturating_sub(1).max(lowest),
+        _ => random.between(lowest as usize, edge.max(lowest) as usize) as u64,
+    };
+    short(text, with(figures, figure, number))
+}
+
+fn lowest_for_queries(text: &[u8], figures: Figures, figure: Figure) -> u64 {
+    smallest(number_of(&figures, figure), |number| call(text, &with(figures, figure, number)).number != 7)
+}
+
+/// A room figure that the queries alone just fill, or just pass.
+fn edge_of_queries(random: &mut Random, text: &[u8], figures: Figures) -> Figures {
+    let figure = random.pick(&ROOM);
+    let lowest = lowest_for_queries(text, figures, figure);
+    let number = random.pick(&[lowest, lowest - 1, lowest - 1]);
+    short(text, with(figures, figure, number.max(1)))
+}
+
+/// Small random room on all sides.
+fn tight(random: &mut Random, mut figures: Figures) -> Figures {
+    figures.pairs = random.between(1, 24) as u64;
+    figures.compounds = random.between(2, 60) as u64;
+    figures.goals = random.between(1, 10) as u64;
+    figures
+}
+
+/// A buffer of exactly the report's length, one less, one more, half of it, or none.
+fn edge_of_buffer(random: &mut Random, text: &[u8], mut figures: Figures) -> Figures {
+    let length = u64::from(call(text, &figures).length);
+    figures.buffer = random.pick(&[length, length, length.saturating_sub(1), length.saturating_sub(1), length + 1, length / 2, 0]);
+    figures
+}
