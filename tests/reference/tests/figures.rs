@@ -148,7 +148,7 @@ fn brackets_16_open() {
     assert_eq!(refused(square(16)), (6, 1));
     // Closed brackets no longer count, nor does one item's count go on in the next.
     assert_eq!(refused(format!("{0}{0}", round(16))), (0, 0));
-    assert_eq!(refused(format!("?- p({0}).", vec!["[[[[[[]]]]]]"; 3].join(","))), (0, 0));
+    assert_eq!(refused(format!("?- p({0}).", ["[[[[[[]]]]]]"; 3].join(","))), (0, 0));
 }
 
 #[test]

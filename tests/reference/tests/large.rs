@@ -60,7 +60,7 @@ fn a_circle_test_down_a_deep_value() {
          g([1|K],V,W?) :- dup(K?,K1,K2), g(K1?,V?,U), g(K2?,U?,W). g([],V,{}).",
         nested(14, "f(", "V?", ")")
     );
-    let list = vec!["1"; 10].join(",");
+    let list = ["1"; 10].join(",");
     let report = timed(|| report_with(&format!("{rules}?- g([{list}],A?,B)."), &large()));
     check(&report, &[&format!("B = {}", nested(14 << 10, "f(", "_1?", ")"))]);
 }

@@ -505,3 +505,32 @@ fn doubling_jobs_run_as_the_plain_model_says() {
         }
     }
 }
+
+/// Programs that keep going: streams, merges, copies, chains, and goals that wait on several readers.
+#[test]
+fn known_programs_run_as_the_plain_model_says() {
+    let streams = "ones([1|X?]) :- ones(X). twos([2|X?]) :- twos(X). list([a,b,c]).
+merge([X|Xs],Ys,[X?|Zs?]) :- merge(Ys?,Xs?,Zs). merge(Xs,[Y|Ys],[Y?|Zs?]) :- merge(Xs?,Ys?,Zs).
+merge([],Y,Y?). merge(X,[],X?). same(X,X?). link(X?) :- link(X).
+tag([H|T],[hit(H?)|R?]) :- tag(T?,R). tag([],[]).
+dup([X|Xs],[A?|As?],[B?|Bs?]) :- both(X?,A,B), dup(Xs?,As,Bs). dup([],[],[]). both(1,1,1). both(2,2,2). both(hit(X),hit(A?),hit(B?)) :- both(X?,A,B).
+rev([X|Xs],A,R?) :- rev(Xs?,[X?|A?],R). rev([],A,A?).
+wrap(X,g(X?)). loop(V) :- wrap(V?,U), loop(U?). reply([ask(X,Y?)|T]) :- same(X?,Y), reply(T?). reply([]).
+";
+    for queries in [
+        "?- ones(A), twos(B), merge(A?,B?,C).",
+        "?- merge(A?,B?,C), merge(C?,D?,E), ones(B), list(D), list(A). ?- list(A), merge(A?,[],B), tag(B?,C).",
+        "?- ones(A), dup(A?,B,C), tag(B?,D), merge(C?,D?,E), dup(E?,F,G).",
+        "?- list(A), rev(A?,[],B), rev([1,2,3|C?],[],D), list(C).",
+        "?- loop(A?), link(A). ?- loop(a). ?- loop(B?), same(f(C?),B), same(1,C).",
+        "?- reply(A?), same([ask(1,B),ask(C?,D),ask(D?,E)],A), same(7,C). ?- reply([ask(X?,X)]).",
+        "?- tag(A?,B), tag(B?,A). ?- merge(A?,B?,A). ?- tag([A|B?],B).",
+    ] {
+        let text = format!("{streams}{queries}");
+        for budget in (0..40).chain([60, 100, 200, 300]) {
+            let figures = Figures { budget, ..Figures::default() };
+            let report = call(text.as_bytes(), &figures).report.expect(&text);
+            assert_eq!(String::from_utf8(report).unwrap(), plain_report(&text, &figures).0, "{text}");
+        }
+    }
+}

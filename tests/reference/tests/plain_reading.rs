@@ -1,5 +1,5 @@
-//! Random and damaged texts, read twice: by the reference and by a plain model, a machine that takes one token after the
-//! other, keeps a stack of open brackets and counts every figure where document 01 says.
+//! Random and damaged texts, read twice: by the reference and by a plain model, a machine that takes one token after
+//! the other, keeps a stack of open brackets and counts every figure where document 01 says.
 
 mod common;
 

@@ -101,7 +101,7 @@ fn r09_heads_and_goals_are_compounds() {
 #[test]
 fn r11_an_elements_cell_is_counted_at_its_first_token() {
     // 31 compounds: p, one cell, f 29 times over; then a cell and, inside it, a compound.
-    let fs = vec!["f(a)"; 5].join(",");
+    let fs = ["f(a)"; 5].join(",");
     let g = format!("g({fs})");
     let text = |last: &str| format!("?- p({g},{g},{g},{g},[b,\n{last}])."); // 1 + 24 + 1 = 26
     assert_eq!(refused(text("f(f(f(f(f(a)))))")), (0, 0)); // 26 + 1 + 5 = 32
@@ -119,7 +119,7 @@ fn r12_the_comma_before_the_passing_token_can_stand() {
     assert_eq!(refused("\n?- p(1,2,3,4,5,6,\n7)."), (6, 2));
     assert_eq!(refused("\n?- p(1,2,3,4,5,6,\n)."), (4, 3));
     assert_eq!(refused("\n?- p(1,2,3,4,5,6,"), (4, 2));
-    let eight = vec!["p(a)"; 8].join(",");
+    let eight = ["p(a)"; 8].join(",");
     assert_eq!(refused(format!("\n?- {eight},\np")), (6, 2));
     assert_eq!(refused(format!("\n?- {eight},\nX")), (4, 3));
     assert_eq!(refused(format!("\n?- {eight},\n")), (4, 2));
