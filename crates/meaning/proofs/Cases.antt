@@ -1,4 +1,4 @@
--- The cases of document 01 as one computed statement over one list of them. `tests/failing-cases` names those that fail.
+-- The cases of document 01 as one computed statement over one list of them. `tests/cases` names those that fail, if any.
 use Prim.Native.String.{String}
 use mathlib.Core.Path.{_≡_, refl}
 use mathlib.Core.List.{List, [], _∷_, _++_}

@@ -159,9 +159,6 @@ const TOKENS: &[&str] = &[
     "007", "-0", "[]", "p(a)", "?- p(a).", "q(X).", "% x\n", "\n", "2147483648",
 ];
 
-/// How many corners there are before they come again.
-pub const KINDS: usize = CORNERS.len();
-
 /// A corner with lines before it, and sometimes others behind it.
 pub fn corner(random: &mut Random, kind: usize) -> Vec<u8> {
     let corner = CORNERS[kind % CORNERS.len()];

@@ -38,13 +38,13 @@ const EDGES: &[Edge] = &[
     Edge { name: "text-bytes", figure: 16_384, build: text_bytes },
 ];
 
-/// How many texts there are before they come again.
-pub const KINDS: usize = EDGES.len() * 3;
+/// How many kinds of text there are before they come again.
+const KINDS: usize = EDGES.len() * 3;
 
 /// The text of a kind, with its label: of three, one on the edge and two past it.
 pub fn text(random: &mut Random, kind: usize) -> (String, Vec<u8>) {
-    let edge = &EDGES[kind / 3 % EDGES.len()];
-    let past = kind % 3;
+    let edge = &EDGES[kind % KINDS / 3];
+    let past = kind % KINDS % 3;
     let number = if past == 0 { edge.figure } else { edge.figure + 1 };
     let built = (edge.build)(random, number);
     let long = edge.figure > 1_000;
@@ -54,14 +54,20 @@ pub fn text(random: &mut Random, kind: usize) -> (String, Vec<u8>) {
         1 => ("past", lined(random, built)),
         _ => disputed(random, &built),
     };
-    let text = text.replace(MARK, "");
-    (format!("{}-{how}", edge.name), if long { text.into_bytes() } else { introduced(random, text) })
+    let before = if long { "" } else { introduction(random, edge.figure < 100) };
+    (format!("{}-{how}", edge.name), format!("{before}{text}").replace(MARK, "").into_bytes())
 }
 
-/// Lines before the text, so that its lines do not begin at 1.
-fn introduced(random: &mut Random, text: String) -> Vec<u8> {
+/// A text of 16,385 bytes, or of a few more.
+pub fn too_long(random: &mut Random) -> Vec<u8> {
+    let more = random.pick(&[1, 1, 2, 300]);
+    text_bytes(random, 16_384 + more).into_bytes()
+}
+
+/// Lines before the text, so that its lines do not begin at 1; items only where they are not what is counted.
+fn introduction(random: &mut Random, items: bool) -> &'static str {
     let before = ["", "", "\n", "% r\n\n", "\r\n \t", "k(a).\n", "k(a). k(\nb).\n"];
-    format!("{}{text}", random.pick(&before)).into_bytes()
+    random.pick(if items { &before } else { &before[..5] })
 }
 
 /// The marked token on a line of its own: 4 has its line, 6 the item's.

@@ -16,42 +16,41 @@ fn roomy() -> Figures {
     Figures { budget: 60, pairs: 100, compounds: 220, goals: 40, buffer: 2_000, scratch: 6, need: NEED }
 }
 
-/// Figures for a text, with a word for the label.
-pub fn chosen(random: &mut Random, text: &[u8]) -> (&'static str, Figures) {
+/// Figures for a text that runs, of each kind in turn, with a word for the label.
+pub fn chosen(random: &mut Random, text: &[u8], turn: usize) -> (&'static str, Figures) {
     let mut figures = short(text, roomy());
     figures.scratch = random.pick(&[6, 6, 6, 6, 5, 4]);
-    match random.below(20) {
-        0..=7 => ("roomy", figures),
-        8..=10 => {
+    match turn % 10 {
+        0 | 3 | 6 | 8 => ("roomy", figures),
+        1 => {
             figures.budget = figures.budget.min(random.between(0, 12) as u64);
             ("budget", figures)
         }
-        11..=13 => ("room", edge_of_room(random, text, figures)),
-        14 => ("queries", edge_of_queries(random, text, figures)),
-        15 => ("tight", tight(random, figures)),
-        16..=18 => ("buffer", edge_of_buffer(random, text, figures)),
-        _ => ("spoilt", spoilt(random, figures)),
+        2 | 7 => ("room", edge_of_room(random, text, figures)),
+        4 => ("queries", edge_of_queries(random, text, figures)),
+        5 => ("tight", tight(random, text, figures)),
+        _ => ("buffer", edge_of_buffer(random, text, figures)),
     }
 }
 
-/// Figures of which at least one is out of range or short, or just not.
-pub fn spoilt(random: &mut Random, mut figures: Figures) -> Figures {
-    for _ in 0..random.between(1, 2) {
-        match random.below(8) {
-            0 => figures.budget = random.pick(&[1_000_000, 1_000_001, 4_294_967_296]),
-            1 => figures.pairs = random.pick(&[0, 65_536, 65_535]),
-            2 => figures.compounds = random.pick(&[0, 65_536, 65_535]),
-            3 => figures.goals = random.pick(&[0, 65_536, 65_535]),
-            _ => figures.scratch = random.below(6) as u64,
-        }
+/// Figures of which one is out of range, or just not, or scratch that is short, or just not.
+pub fn spoilt(random: &mut Random, mut figures: Figures, turn: usize) -> Figures {
+    match turn % 6 {
+        0 => figures.budget = random.pick(&[1_000_000, 1_000_001, 4_294_967_296]),
+        1 => figures.pairs = random.pick(&[0, 65_536, 65_535]),
+        2 => figures.compounds = random.pick(&[0, 65_536, 65_535]),
+        3 => figures.goals = random.pick(&[0, 65_536, 65_535]),
+        4 => figures.scratch = random.pick(&[0, 1, 2, 3, 3, 3]),
+        _ => figures.scratch = random.pick(&[3, 4, 5, 7]),
     }
     figures
 }
 
-/// The usual figures for a text that is to be refused, with a spoilt one now and then.
+/// The usual figures for a text that is to be refused.
 pub fn usual(random: &mut Random, text: &[u8]) -> Figures {
-    let figures = short(text, roomy());
-    if random.chance(4) { spoilt(random, figures) } else { figures }
+    let mut figures = short(text, roomy());
+    figures.scratch = random.pick(&[6, 6, 6, 6, 6, 6, 5, 4]);
+    figures
 }
 
 /// The budget cut until the report is short.
@@ -127,18 +126,21 @@ fn lowest_for_queries(text: &[u8], figures: Figures, figure: Figure) -> u64 {
 
 /// A room figure that the queries alone just fill, or just pass.
 fn edge_of_queries(random: &mut Random, text: &[u8], figures: Figures) -> Figures {
-    let figure = random.pick(&ROOM);
-    let lowest = lowest_for_queries(text, figures, figure);
+    let mut room = ROOM;
+    random.shuffle(&mut room);
+    let edges = room.map(|figure| (figure, lowest_for_queries(text, figures, figure)));
+    let (figure, lowest) = edges.into_iter().find(|(_, lowest)| *lowest > 1).unwrap_or(edges[0]);
     let number = random.pick(&[lowest, lowest - 1, lowest - 1]);
     short(text, with(figures, figure, number.max(1)))
 }
 
-/// Small random room on all sides.
-fn tight(random: &mut Random, mut figures: Figures) -> Figures {
-    figures.pairs = random.between(1, 24) as u64;
-    figures.compounds = random.between(2, 60) as u64;
-    figures.goals = random.between(1, 10) as u64;
-    figures
+/// All three figures near the queries' own.
+fn tight(random: &mut Random, text: &[u8], figures: Figures) -> Figures {
+    let tightened = ROOM.iter().fold(figures, |tight, &figure| {
+        let more = random.pick(&[0, 1, 2, 4, 8, 16]);
+        with(tight, figure, lowest_for_queries(text, figures, figure) + more)
+    });
+    short(text, tightened)
 }
 
 /// A buffer of exactly the report's length, one less, one more, half of it, or none.

@@ -45,7 +45,7 @@ enum Kind {
 }
 
 /// The round in which the kinds come.
-const ROUND: [Kind; 24] = [
+const ROUND: [Kind; 25] = [
     Kind::Program,
     Kind::Edge,
     Kind::Kit,
@@ -58,6 +58,7 @@ const ROUND: [Kind; 24] = [
     Kind::Program,
     Kind::Kit,
     Kind::Cut,
+    Kind::Corner,
     Kind::Kit,
     Kind::Edge,
     Kind::Corner,
@@ -72,52 +73,55 @@ const ROUND: [Kind; 24] = [
     Kind::Program,
 ];
 
+/// Whose turn it is among the edges, the corners and the figures: each goes round from a random beginning.
+struct Turns {
+    edge: usize,
+    corner: usize,
+    chosen: usize,
+    spoilt: usize,
+}
+
+impl Turns {
+    fn new(random: &mut Random) -> Self {
+        Turns { edge: random.below(1_000), corner: random.below(1_000), chosen: random.below(10), spoilt: random.below(7) }
+    }
+}
+
+/// The turn, which passes on.
+fn take(turn: &mut usize) -> usize {
+    *turn += 1;
+    *turn
+}
+
 /// So many jobs of a seed; fewer of the same seed are the first ones of them.
 pub fn jobs(seed: u64, count: usize) -> Vec<Job> {
     let mut random = Random::new(seed);
-    let mut edge = random.below(edges::KINDS);
-    let mut corner = random.below(corners::KINDS);
+    let mut turns = Turns::new(&mut random);
     (0..count)
         .map(|place| {
-            let kind = ROUND[place % ROUND.len()];
-            edge += usize::from(matches!(kind, Kind::Edge));
-            corner += usize::from(matches!(kind, Kind::Corner));
-            let (word, text, figures) = job(&mut random, kind, edge, corner);
+            let (word, text, figures) = job(&mut random, &mut turns, ROUND[place % ROUND.len()]);
             Job { label: format!("{place}-{word}"), text, figures }
         })
         .collect()
 }
 
-fn job(random: &mut Random, kind: Kind, edge: usize, corner: usize) -> (String, Vec<u8>, Figures) {
-    match kind {
-        Kind::Program | Kind::Kit => running(random, kind),
-        Kind::Edge => {
-            let (word, text) = edges::text(random, edge % edges::KINDS);
-            with_usual(random, word, text)
-        }
-        Kind::Corner => {
-            let text = corners::corner(random, corner);
-            with_usual(random, "corner".to_string(), text)
-        }
+fn job(random: &mut Random, turns: &mut Turns, kind: Kind) -> (String, Vec<u8>, Figures) {
+    let (word, text) = match kind {
+        Kind::Program => return running(random, turns, "program", programs::program),
+        Kind::Kit => return running(random, turns, "kit", streams::program),
+        Kind::Spoilt => return spoilt(random, turns),
+        Kind::Edge => edges::text(random, take(&mut turns.edge)),
+        Kind::Corner => ("corner".to_string(), corners::corner(random, take(&mut turns.corner))),
         Kind::Changed => {
             let items = some_items(random);
-            let text = corners::changed(random, &items);
-            with_usual(random, "changed".to_string(), text)
+            ("changed".to_string(), corners::changed(random, &items))
         }
         Kind::Cut => {
             let items = some_items(random);
-            let text = corners::cut(random, &items);
-            with_usual(random, "cut".to_string(), text)
+            ("cut".to_string(), corners::cut(random, &items))
         }
-        Kind::Broken => {
-            let text = corners::broken(random);
-            with_usual(random, "broken".to_string(), text)
-        }
-        Kind::Spoilt => spoilt(random, edge),
-    }
-}
-
-fn with_usual(random: &mut Random, word: String, text: Vec<u8>) -> (String, Vec<u8>, Figures) {
+        Kind::Broken => ("broken".to_string(), corners::broken(random)),
+    };
     let figures = figures::usual(random, &text);
     (word, text, figures)
 }
@@ -127,26 +131,38 @@ fn some_items(random: &mut Random) -> Vec<Vec<Token>> {
 }
 
 /// A program that runs, with figures chosen for it.
-fn running(random: &mut Random, kind: Kind) -> (String, Vec<u8>, Figures) {
-    let (word, items) = match kind {
-        Kind::Program => ("program", programs::program(random)),
-        _ => ("kit", streams::program(random)),
-    };
+fn running(
+    random: &mut Random,
+    turns: &mut Turns,
+    word: &str,
+    program: fn(&mut Random) -> Vec<Vec<Token>>,
+) -> (String, Vec<u8>, Figures) {
+    let items = program(random);
     let text = layout::text_of(random, &items);
-    let (how, figures) = figures::chosen(random, &text);
+    let (how, figures) = figures::chosen(random, &text, take(&mut turns.chosen));
     (format!("{word}-{how}"), text, figures)
 }
 
-/// Figures out of range or scratch short, with a good text, a bad one or one that is too long.
-fn spoilt(random: &mut Random, edge: usize) -> (String, Vec<u8>, Figures) {
+/// Figures out of range, scratch short or a text too long, on any text and now and then two of them at once.
+fn spoilt(random: &mut Random, turns: &mut Turns) -> (String, Vec<u8>, Figures) {
+    let turn = take(&mut turns.spoilt) % 7;
+    let long = turn == 6;
     let text = match random.below(3) {
-        0 => edges::text(random, edge % edges::KINDS).1,
-        1 => corners::corner(random, edge),
+        _ if long || random.chance(10) => edges::too_long(random),
+        0 => edges::text(random, turn).1,
+        1 => corners::corner(random, turn),
         _ => {
             let items = some_items(random);
             layout::text_of(random, &items)
         }
     };
-    let usual = figures::usual(random, &text);
-    ("spoilt".to_string(), text, figures::spoilt(random, usual))
+    let mut figures = figures::usual(random, &text);
+    if !long {
+        figures = figures::spoilt(random, figures, turn);
+    }
+    if random.chance(20) {
+        let other = random.below(6);
+        figures = figures::spoilt(random, figures, other);
+    }
+    ("spoilt".to_string(), text, figures)
 }

@@ -65,7 +65,7 @@ struct Item<'t> {
     twice: bool,
     compounds: usize,
     brackets: usize,
-    goals: Vec<u32>,
+    goals: usize,
 }
 
 type Reading<T> = Result<T, Refusal>;
@@ -166,9 +166,10 @@ impl<'t> Items<'t> {
             if self.token.sort != Sort::Name {
                 return self.cannot_continue();
             }
-            self.within(self.item.goals.len(), GOALS)?;
+            self.within(self.item.goals, GOALS)?;
+            self.item.goals += 1;
             let goal = self.named_compound()?;
-            self.item.goals.push(goal.index() as u32);
+            self.job.goals.push(goal.index() as u32);
             match self.token.sort {
                 Sort::Comma => self.advance(),
                 Sort::Stop => return Ok(self.whole_item(begin)),
@@ -178,10 +179,10 @@ impl<'t> Items<'t> {
     }
 
     /// The goals of the item, with what the whole item charges.
-    fn whole_item(&mut self, begin: usize) -> Goals {
+    fn whole_item(&self, begin: usize) -> Goals {
         Goals {
             block: begin..self.job.code.len(),
-            places: std::mem::take(&mut self.item.goals),
+            places: self.job.goals.len() - self.item.goals..self.job.goals.len(),
             pairs: self.item.variables.len(),
             compounds: self.item.compounds,
         }

@@ -17,6 +17,8 @@ pub struct Job {
     /// The clauses, one procedure after the other, each procedure's in text order.
     pub(crate) clauses: Vec<Clause>,
     pub(crate) queries: Vec<Query>,
+    /// The functor word of each body and query goal in the code, one item's after the other.
+    pub(crate) goals: Vec<u32>,
 }
 
 /// A name with a number of arguments; 'together they select the procedure'.
@@ -44,8 +46,8 @@ pub(crate) struct Query {
 #[derive(Debug, Default)]
 pub(crate) struct Goals {
     pub block: std::ops::Range<usize>,
-    /// The functor word of each goal in the code.
-    pub places: Vec<u32>,
+    /// Where the item's goals stand in the job's list of them.
+    pub places: std::ops::Range<usize>,
     pub pairs: usize,
     pub compounds: usize,
 }
@@ -59,6 +61,7 @@ impl Job {
             block_begins: Vec::with_capacity(text_length / 2),
             clauses: Vec::new(),
             queries: Vec::new(),
+            goals: Vec::new(),
         }
     }
 

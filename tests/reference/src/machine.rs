@@ -44,6 +44,16 @@ pub struct Finished<'j> {
     pub(crate) failed: Vec<Goal>,
 }
 
+impl Finished<'_> {
+    pub fn verdict(&self) -> Verdict {
+        self.verdict
+    }
+
+    pub fn steps(&self) -> u64 {
+        self.steps
+    }
+}
+
 /// A goal: the place of its functor word in `cells`, and the query that it comes from.
 #[derive(Clone, Copy, Debug)]
 pub(crate) struct Goal {
@@ -68,15 +78,18 @@ struct Wait {
     over: bool,
 }
 
+/// The state of a run. Marks are never cleared: a wait is over, a turn is past.
 pub(crate) struct Machine<'j> {
     pub job: &'j Job,
     room: Room,
+    /// All compounds and goals built so far, see `words`.
     pub cells: Vec<Word>,
     pub pairs: Vec<Pair>,
     charged_pairs: u64,
     charged_compounds: u64,
     queue: VecDeque<Goal>,
     waits: Vec<Wait>,
+    /// How many of the waits are not over.
     waiting: usize,
     failed: Vec<Goal>,
     steps: u64,
@@ -112,11 +125,11 @@ impl<'j> Machine<'j> {
         Machine {
             job,
             room,
-            cells: Vec::new(),
-            pairs: Vec::new(),
+            cells: Vec::with_capacity(256),
+            pairs: Vec::with_capacity(64),
             charged_pairs: 0,
             charged_compounds: 0,
-            queue: VecDeque::new(),
+            queue: VecDeque::with_capacity(16),
             waits: Vec::new(),
             waiting: 0,
             failed: Vec::new(),
@@ -264,7 +277,7 @@ impl<'j> Machine<'j> {
 
     fn add_goals(&mut self, item: &Goals, query: u32) {
         let distance = self.copy(item.block.clone());
-        for place in &item.places {
+        for place in &self.job.goals[item.places.clone()] {
             self.queue.push_back(Goal { place: place.wrapping_add(distance), query });
         }
     }

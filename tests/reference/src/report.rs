@@ -34,7 +34,7 @@ pub fn write(finished: &Finished, buffer: u64) -> Written {
 struct TooLong;
 type Writing = Result<(), TooLong>;
 
-/// Where a compound's text stands in the report: a list's without its brackets. No text begins at 0.
+/// Where a compound's text stands in the report: a list's without its brackets. No text is empty.
 #[derive(Clone, Copy, Default)]
 struct Span {
     begin: u32,
@@ -62,13 +62,12 @@ struct Report<'f> {
     finished: &'f Finished<'f>,
     /// Each pair's value, chains shortened as they are walked.
     values: Vec<Word>,
-    /// Each pair's number plus `numbered_before`, if it has one in this section.
+    /// Each pair's number, or 0, and the last number of the section. Queries share no pair and no compound, so what
+    /// stands here comes from the section at hand.
     numbers: Vec<u32>,
-    numbered_before: u32,
     numbered: u32,
-    /// For the place of each functor word: its text, if it begins in this section.
+    /// For the place of each functor word: its text, if it has been written.
     spans: Vec<Span>,
-    section_begin: usize,
     frames: Vec<Frame>,
     bytes: Vec<u8>,
     room: usize,
@@ -81,12 +80,10 @@ impl<'f> Report<'f> {
             finished,
             values: finished.pairs.iter().map(|pair| pair.value).collect(),
             numbers: vec![0; finished.pairs.len()],
-            numbered_before: 0,
             numbered: 0,
             spans: vec![Span::default(); finished.cells.len()],
-            section_begin: 0,
             frames: Vec::new(),
-            bytes: Vec::new(),
+            bytes: Vec::with_capacity(room.min(1_024)),
             room,
             length: 0,
         }
@@ -156,8 +153,6 @@ impl<'f> Report<'f> {
     /// the machine's order'.
     fn section(&mut self, query: usize) -> Writing {
         let finished = self.finished;
-        self.section_begin = self.length;
-        self.numbered_before += self.numbered;
         self.numbered = 0;
         let own = |goals: &'f [Goal]| goals.iter().filter(move |goal| goal.query as usize == query);
         self.put_count("query ", query as u64 + 1)?;
@@ -287,17 +282,16 @@ impl<'f> Report<'f> {
 
     fn span(&self, compound: Word) -> Option<Span> {
         let span = self.spans[compound.index()];
-        (span.length > 0 && span.begin as usize >= self.section_begin).then_some(span)
+        (span.length > 0).then_some(span)
     }
 
     /// 'An unassigned pair is `_1`, `_2`, .. in order of first appearance in the section, with `?` for its reader.'
     fn unassigned(&mut self, variable: Word) -> Writing {
-        if self.numbers[variable.index()] <= self.numbered_before {
+        if self.numbers[variable.index()] == 0 {
             self.numbered += 1;
-            self.numbers[variable.index()] = self.numbered_before + self.numbered;
+            self.numbers[variable.index()] = self.numbered;
         }
-        let number = self.numbers[variable.index()] - self.numbered_before;
-        self.put_count("_", number as u64)?;
+        self.put_count("_", self.numbers[variable.index()] as u64)?;
         match variable.kind() {
             Kind::Reader => self.put(b"?"),
             _ => Ok(()),

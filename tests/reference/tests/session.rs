@@ -3,7 +3,7 @@
 mod common;
 
 use common::*;
-use reference::{call, Figures};
+use reference::{call, read, run, write, Figures, Refusal, Room, Verdict};
 
 const K2: &str = "?- tag([3|A?],Z), end(A).";
 
@@ -91,6 +91,22 @@ fn a_query_wakes_only_its_own_goals() {
     assert_eq!(report, format!("run rest steps 2\n{first}{second}"));
 }
 
+/// The three phases one by one give what the call gives.
+#[test]
+fn phases_compose() {
+    let text = format!("{RULES}{K2}");
+    let job = read(text.as_bytes()).unwrap();
+    let room = Room { pairs: 1_024, compounds: 1_024, goals: 128 };
+    let finished = run(&job, 2, room).unwrap();
+    assert_eq!((finished.verdict(), finished.steps()), (Verdict::Budget, 2));
+    let written = write(&finished, 65_536);
+    let answer = call(text.as_bytes(), &Figures { budget: 2, ..Figures::default() });
+    assert_eq!((written.length, written.report), (answer.length, answer.report));
+    assert!(run(&job, 2, Room { goals: 1, ..room }).is_none());
+    assert_eq!(read(b"p(X).").unwrap_err(), Refusal { number: 5, line: 1 });
+    assert!(write(&finished, 10).report.is_none() && write(&finished, 10).length == written.length);
+}
+
 // Errors that look right.
 
 const MERGE: &str = "merge([X|Xs],Ys,[X?|Zs?]) :- merge(Ys?,Xs?,Zs).
@@ -131,9 +147,12 @@ fn reader_against_head_reader_fails() {
     check(&session("?- same(1,A?)."), &["failed same(1,_1?)"]);
 }
 
-/// The value of Z holds A's writer when A is reached through it; the circle runs over A's other half.
+/// Circles through compounds on the goal's and the head's side, over two pairs, and behind an assignment without one.
 #[test]
-fn circle_through_a_compound() {
+fn circles() {
+    check(&report("p(1,X,X?). ?- p(B,A?,A)."), &["B = _1", "failed p(_1,_2?,_2)"]);
+    check(&report("p(X,f(X?)). ?- p(A?,A)."), &["failed p(_1?,_1)"]);
+    check(&report("p(X,[1|f(X?)]). ?- p(g(A?),A)."), &["failed p(g(_1?),_1)"]);
     check(&session("?- same(f(A?),A)."), &["failed same(f(_1?),_1)"]);
     check(&session("?- same([1,g(A?)|B],A)."), &["failed same([1,g(_1?)|_2],_1)"]);
     let two = "x(X,X?,Y,Y?).";

@@ -19,7 +19,7 @@ const FOLDER: &str = "target/compare";
 const CRATES: usize = 2;
 /// Jobs to a module, and to a statement.
 const MODULE: usize = 40;
-const BATCH: usize = 4;
+const BATCH: usize = 1;
 /// From so many jobs on, everything must occur.
 const ENOUGH: usize = 200;
 

@@ -1,0 +1,378 @@
+//! A plain model of a run, which follows document 01 word for word: it gives every clause variable a pair, copies every
+//! term, tests all pairs for circles and writes values by recursion.
+
+use std::collections::BTreeSet;
+
+use reference::Figures;
+
+#[derive(Clone, Debug, PartialEq)]
+enum Term {
+    Writer(usize),
+    Reader(usize),
+    Constant(String),
+    /// The list cell's name is `.`, which no text can spell.
+    Compound(String, Vec<Term>),
+}
+use Term::*;
+
+#[derive(Clone, Debug, Default)]
+struct Item {
+    head: Option<Term>,
+    goals: Vec<Term>,
+    variables: Vec<String>,
+}
+
+// A reader of accepted texts.
+
+fn tokens(text: &str) -> Vec<String> {
+    let bytes: Vec<char> = text.chars().collect();
+    let mut out: Vec<String> = Vec::new();
+    let mut at = 0;
+    while at < bytes.len() {
+        let c = bytes[at];
+        let mut end = at + 1;
+        if c.is_alphanumeric() || c == '-' {
+            while end < bytes.len() && (bytes[end].is_alphanumeric() || bytes[end] == '_') {
+                end += 1;
+            }
+            if c.is_uppercase() && bytes.get(end) == Some(&'?') {
+                end += 1;
+            }
+        } else if c == ':' || c == '?' {
+            end += 1;
+        }
+        if !c.is_whitespace() {
+            out.push(bytes[at..end].iter().collect());
+        }
+        at = end;
+    }
+    out
+}
+
+struct Plain {
+    tokens: Vec<String>,
+    at: usize,
+}
+
+impl Plain {
+    fn next(&mut self) -> String {
+        self.at += 1;
+        self.tokens[self.at - 1].clone()
+    }
+    fn peek(&self) -> &str {
+        &self.tokens[self.at]
+    }
+    fn items(text: &str) -> Vec<Item> {
+        let mut plain = Plain { tokens: tokens(text), at: 0 };
+        let mut items = Vec::new();
+        while plain.at < plain.tokens.len() {
+            let mut item = Item::default();
+            if plain.peek() != "?-" {
+                item.head = Some(plain.term(&mut item.variables));
+            }
+            while plain.next() != "." {
+                let goal = plain.term(&mut item.variables);
+                item.goals.push(goal);
+            }
+            items.push(item);
+        }
+        items
+    }
+    fn term(&mut self, variables: &mut Vec<String>) -> Term {
+        let token = self.next();
+        if token == "[" {
+            return self.list(variables, true);
+        }
+        if token.chars().next().unwrap().is_uppercase() {
+            let name = token.trim_end_matches('?').to_string();
+            let known = variables.iter().position(|v| *v == name).unwrap_or_else(|| {
+                variables.push(name);
+                variables.len() - 1
+            });
+            return if token.ends_with('?') { Reader(known) } else { Writer(known) };
+        }
+        if self.peek() != "(" {
+            return Constant(token);
+        }
+        let mut arguments = Vec::new();
+        while self.next() != ")" {
+            arguments.push(self.term(variables));
+            if self.peek() == ")" {
+                self.next();
+                break;
+            }
+        }
+        Compound(token, arguments)
+    }
+    fn list(&mut self, variables: &mut Vec<String>, first: bool) -> Term {
+        match self.peek() {
+            "]" => {
+                self.next();
+                return Constant("[]".into());
+            }
+            "|" => {
+                self.next();
+                let tail = self.term(variables);
+                self.next();
+                return tail;
+            }
+            "," if !first => {
+                self.next();
+            }
+            _ => {}
+        }
+        let element = self.term(variables);
+        Compound(".".into(), vec![element, self.list(variables, false)])
+    }
+}
+
+fn compounds(term: &Term) -> u64 {
+    match term {
+        Compound(_, arguments) => 1 + arguments.iter().map(compounds).sum::<u64>(),
+        _ => 0,
+    }
+}
+
+fn renamed(term: &Term, first: usize) -> Term {
+    match term {
+        Writer(v) => Writer(v + first),
+        Reader(v) => Reader(v + first),
+        Constant(_) => term.clone(),
+        Compound(name, arguments) => Compound(name.clone(), arguments.iter().map(|a| renamed(a, first)).collect()),
+    }
+}
+
+// The machine.
+
+enum Trial {
+    Succeeds(Vec<(usize, Term)>),
+    Waits(usize),
+    Fails,
+}
+
+#[derive(Default)]
+struct Machine {
+    values: Vec<Option<Term>>,
+    charged_compounds: u64,
+    queue: Vec<(Term, usize)>,
+    waiting: Vec<(Term, usize, BTreeSet<usize>)>,
+    failed: Vec<(Term, usize)>,
+}
+
+impl Machine {
+    fn follow(&self, term: &Term) -> Term {
+        match term {
+            Writer(p) | Reader(p) => match &self.values[*p] {
+                Some(value) => self.follow(value),
+                None => term.clone(),
+            },
+            _ => term.clone(),
+        }
+    }
+
+    /// `Err` is a place that waits (some pair) or fails (none).
+    fn compare(&self, head: &Term, goal: &Term, new: &mut Vec<(usize, Term)>) -> Result<(), Option<usize>> {
+        match (head, self.follow(goal)) {
+            (Writer(_), Writer(_)) => return Err(None),
+            (Writer(x), goal) => new.push((*x, goal)),
+            (head, Writer(z)) => new.push((z, head.clone())),
+            (Reader(_), _) => return Err(None),
+            (_, Reader(p)) => return Err(Some(p)),
+            (Constant(a), Constant(b)) if *a == b => {}
+            (Compound(f, xs), Compound(g, ys)) if *f == g && xs.len() == ys.len() => {
+                for (x, y) in xs.iter().zip(&ys) {
+                    self.compare(x, y, new)?;
+                }
+            }
+            _ => return Err(None),
+        }
+        Ok(())
+    }
+
+    fn pairs_of(term: &Term, out: &mut Vec<usize>) {
+        match term {
+            Writer(p) | Reader(p) => out.push(*p),
+            Constant(_) => {}
+            Compound(_, arguments) => arguments.iter().for_each(|a| Self::pairs_of(a, out)),
+        }
+    }
+
+    /// Remove pairs that lean on none that is left; a circle is what remains.
+    fn circle(values: &[Option<Term>]) -> bool {
+        let mut leans: Vec<Vec<usize>> = vec![Vec::new(); values.len()];
+        for (pair, value) in values.iter().enumerate() {
+            if let Some(value) = value {
+                Self::pairs_of(value, &mut leans[pair]);
+            }
+        }
+        let mut left: BTreeSet<usize> = (0..values.len()).collect();
+        loop {
+            let free: Vec<usize> =
+                left.iter().copied().filter(|p| !leans[*p].iter().any(|q| left.contains(q))).collect();
+            if free.is_empty() {
+                return !left.is_empty();
+            }
+            free.iter().for_each(|p| {
+                left.remove(p);
+            });
+        }
+    }
+
+    fn trial(&self, clause: &Item, goal: &Term) -> Trial {
+        let first = self.values.len();
+        let mut new = Vec::new();
+        let head = renamed(clause.head.as_ref().unwrap(), first);
+        match self.compare(&head, goal, &mut new) {
+            Err(Some(pair)) => return Trial::Waits(pair),
+            Err(None) => return Trial::Fails,
+            Ok(()) => {}
+        }
+        let mut values = self.values.clone();
+        values.resize(first + clause.variables.len(), None);
+        for (pair, value) in &new {
+            assert!(values[*pair].is_none(), "a pair is assigned once");
+            values[*pair] = Some(value.clone());
+        }
+        if Self::circle(&values) {
+            return Trial::Fails;
+        }
+        Trial::Succeeds(new)
+    }
+}
+
+fn charge(item: &Item) -> (u64, u64) {
+    let terms = item.head.iter().chain(&item.goals);
+    (item.variables.len() as u64, terms.map(compounds).sum())
+}
+
+/// The report of an accepted job that the queries' charge lets begin, and how many of its steps were reductions.
+pub fn plain_report(text: &str, figures: &Figures) -> (String, usize) {
+    let items = Plain::items(text);
+    let (clauses, queries): (Vec<Item>, Vec<Item>) = items.into_iter().partition(|item| item.head.is_some());
+    let mut m = Machine::default();
+    let mut firsts = Vec::new();
+    for (number, query) in queries.iter().enumerate() {
+        let first = m.values.len();
+        firsts.push(first);
+        m.values.resize(first + query.variables.len(), None);
+        m.charged_compounds += charge(query).1;
+        m.queue.extend(query.goals.iter().map(|goal| (renamed(goal, first), number)));
+    }
+    let (mut steps, mut reductions, mut tries) = (0, 0, vec![0; queries.len()]);
+    let verdict = loop {
+        if m.queue.is_empty() {
+            break "rest";
+        }
+        if steps == figures.budget {
+            break "budget";
+        }
+        let (goal, query) = m.queue[0].clone();
+        let mut readers = BTreeSet::new();
+        let mut taken = None;
+        for clause in &clauses {
+            let same = match (clause.head.as_ref().unwrap(), &goal) {
+                (Compound(f, xs), Compound(g, ys)) => f == g && xs.len() == ys.len(),
+                _ => unreachable!(),
+            };
+            if !same {
+                continue;
+            }
+            match m.trial(clause, &goal) {
+                Trial::Succeeds(new) => {
+                    taken = Some((clause, new));
+                    break;
+                }
+                Trial::Waits(pair) => {
+                    readers.insert(pair);
+                }
+                Trial::Fails => {}
+            }
+        }
+        if let Some((clause, new)) = taken {
+            let (pairs, compounds) = charge(clause);
+            let goals = m.queue.len() + m.waiting.len() + m.failed.len() - 1 + clause.goals.len();
+            if m.values.len() as u64 + pairs > figures.pairs
+                || m.charged_compounds + compounds > figures.compounds
+                || goals as u64 > figures.goals
+            {
+                break "room";
+            }
+            let first = m.values.len();
+            m.charged_compounds += compounds;
+            m.values.resize(first + clause.variables.len(), None);
+            m.queue.remove(0);
+            m.queue.extend(clause.goals.iter().map(|goal| (renamed(goal, first), query)));
+            let assigned: BTreeSet<usize> = new.iter().map(|(pair, _)| *pair).collect();
+            for (pair, value) in new {
+                m.values[pair] = Some(value);
+            }
+            let (woken, still): (Vec<_>, Vec<_>) =
+                m.waiting.drain(..).partition(|(_, _, readers)| !readers.is_disjoint(&assigned));
+            m.waiting = still;
+            m.queue.extend(woken.into_iter().map(|(goal, query, _)| (goal, query)));
+            reductions += 1;
+        } else {
+            m.queue.remove(0);
+            match readers.is_empty() {
+                true => m.failed.push((goal, query)),
+                false => m.waiting.push((goal, query, readers)),
+            }
+        }
+        steps += 1;
+        tries[query] += 1;
+    };
+    let waiting: Vec<_> = m.waiting.iter().map(|(goal, query, _)| (goal.clone(), *query)).collect();
+    let mut out = format!("run {verdict} steps {steps}\n");
+    for (k, query) in queries.iter().enumerate() {
+        let own = |goals: &[(Term, usize)]| -> Vec<Term> {
+            goals.iter().filter(|(_, query)| *query == k).map(|(goal, _)| goal.clone()).collect()
+        };
+        let (active, waiting, failed) = (own(&m.queue), own(&waiting), own(&m.failed));
+        out += &format!("query {} tries {} ", k + 1, tries[k]);
+        out += &format!("active {} waiting {} failed {}\n", active.len(), waiting.len(), failed.len());
+        let mut numbers = Vec::new();
+        for (place, name) in query.variables.iter().enumerate() {
+            out += &format!("{name} = {}\n", m.written(&Writer(firsts[k] + place), &mut numbers));
+        }
+        for (label, goals) in [("active", active), ("waiting", waiting), ("failed", failed)] {
+            for goal in goals {
+                out += &format!("{label} {}\n", m.written(&goal, &mut numbers));
+            }
+        }
+    }
+    (out, reductions)
+}
+
+impl Machine {
+    fn written(&self, term: &Term, numbers: &mut Vec<usize>) -> String {
+        let mut number = |pair: usize| {
+            numbers.iter().position(|p| *p == pair).unwrap_or_else(|| {
+                numbers.push(pair);
+                numbers.len() - 1
+            }) + 1
+        };
+        match self.follow(term) {
+            Writer(p) => format!("_{}", number(p)),
+            Reader(p) => format!("_{}?", number(p)),
+            Constant(c) => c,
+            Compound(f, arguments) if f == "." => {
+                let mut out = format!("[{}", self.written(&arguments[0], numbers));
+                let mut tail = self.follow(&arguments[1]);
+                loop {
+                    match tail {
+                        Compound(f, cell) if f == "." => {
+                            out += &format!(",{}", self.written(&cell[0], numbers));
+                            tail = self.follow(&cell[1]);
+                        }
+                        Constant(c) if c == "[]" => return out + "]",
+                        other => return out + "|" + &self.written(&other, numbers) + "]",
+                    }
+                }
+            }
+            Compound(f, arguments) => {
+                let arguments: Vec<String> = arguments.iter().map(|a| self.written(a, numbers)).collect();
+                format!("{f}({})", arguments.join(","))
+            }
+        }
+    }
+}
