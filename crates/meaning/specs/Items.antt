@@ -116,7 +116,7 @@ if-next c first second counted (ends place) = second counted (ends place)
 if-next c first second counted (token place t rest) =
     if is c t then first counted rest else second counted (token place t rest)
 
--- "256 distinct names, so-far apart by spelling alone."
+-- "256 distinct names, told apart by spelling alone."
 unfoldable pub count-name : Bytes → Reader (Unit {0})
 count-name f counted rest =
     if any (same f) (counted .names) then read tt counted rest

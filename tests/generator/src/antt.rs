@@ -1,7 +1,7 @@
 //! Jobs as cases of the definitions: what the proof checker is given to compute.
 //!
 //! A case is the record `Case` of the definitions, with the reference's answer as the expected one. Its text and its
-//! report are definitions of their own. A batch of cases is a list, and the statement over it is that no case fails.
+//! report are definitions of their own. The statement over a list of one case is that none of its cases fails.
 
 use std::fmt::Write;
 
@@ -12,8 +12,8 @@ use crate::Job;
 /// Runs of one byte at least so long are written by `replicate`.
 const LONG_RUN: usize = 40;
 
-/// A module with a statement for each batch of so many jobs; `first` is the place of the first job.
-pub fn module(jobs: &[(&Job, &Answer)], first: usize, batch: usize) -> String {
+/// A module with a statement for each job; `first` is the place of the first one.
+pub fn module(jobs: &[(&Job, &Answer)], first: usize) -> String {
     let mut text = String::from(
         "-- Jobs, and the reference's answers to them.\n\
          use Prim.Native.Nat.{ℕ}\n\
@@ -27,16 +27,14 @@ pub fn module(jobs: &[(&Job, &Answer)], first: usize, batch: usize) -> String {
     );
     for (place, (job, answer)) in jobs.iter().enumerate() {
         write_case(&mut text, first + place, job, answer);
-    }
-    for (place, some) in jobs.chunks(batch).enumerate() {
-        write_statement(&mut text, first + place * batch, some.len());
+        write_statement(&mut text, first + place);
     }
     text
 }
 
-/// The name of the statement over the batch whose first job has this place.
-pub fn statement(first: usize) -> String {
-    format!("agrees-{first}")
+/// The name of the statement over the job with this place.
+pub fn statement(place: usize) -> String {
+    format!("agrees-{place}")
 }
 
 fn write_case(text: &mut String, place: usize, job: &Job, answer: &Answer) {
@@ -63,12 +61,14 @@ fn expected(text: &mut String, place: usize, answer: &Answer) -> String {
     }
 }
 
-fn write_statement(text: &mut String, first: usize, count: usize) {
-    let name = statement(first);
-    let places = first..first + count;
-    let list: String = places.clone().map(|place| format!("job-{place} ∷ ")).collect();
-    let names: String = places.map(|place| format!(" text-{place} report-{place} job-{place}")).collect();
-    let _ = write!(text, "\n{name} : failing ({list}[]) ≡ []\nunfolding case-words{names}\n{name} = refl\n");
+fn write_statement(text: &mut String, place: usize) {
+    let name = statement(place);
+    let _ = write!(
+        text,
+        "\n{name} : failing (job-{place} ∷ []) ≡ []\n\
+         unfolding case-words text-{place} report-{place} job-{place}\n\
+         {name} = refl\n"
+    );
 }
 
 fn write_bytes(text: &mut String, name: &str, bytes: &[u8]) {

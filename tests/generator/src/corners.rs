@@ -47,6 +47,20 @@ const CORNERS: &[&str] = &[
     "?- p(1,2,3,4,5,6,",
     "?- p(1,2,3,4,5,6,\n7).",
     "?- p(1,2,3,4,5,6,[).",
+    "?- p(1,2,3,4,5,6,\n:-).",
+    "?- p(1,2,3,4,5,6,\n|).",
+    "?- q(a),q(a),q(a),q(a),q(a),q(a),q(a),q(a),\n.",
+    "?- q(a),q(a),q(a),q(a),q(a),q(a),q(a),q(a),\nX.",
+    "?- q(a),q(a),q(a),q(a),q(a),q(a),q(a),q(a),\n[].",
+    "?- q(a),q(a),q(a),q(a),q(a),q(a),q(a),q(a),\nq.",
+    "?- q(a),q(a),q(a),q(a),q(a),q(a),q(a),q(a),\n",
+    "r(a) :- q(a),q(a),q(a),q(a),q(a),q(a),q(a),q(a),\n3.",
+    "?- p([[],[],[],[],[],[],[],[],[],[],[],[],[],[],[],[],[],[],[],[]]).",
+    "?- p([f(a),f(a),f(a),f(a),f(a),f(a),f(a),f(a)|f(a)],f(a),[a],[b],[c],[d]).",
+    "?- p([0,1,2,3,4,5,6,7,8,9,10,11,12,13,14,15,16,17,18,19,20,21,22,23,24,25,26,27,28,29,30,\n]).",
+    "?- p([0,1,2,3,4,5,6,7,8,9,10,11,12,13,14,15,16,17,18,19,20,21,22,23,24,25,26,27,28,29,f(\n_)]).",
+    "?- p([0,1,2,3,4,5,6,7,8,9,10,11,12,13,14,15,16,17,18,19,20,21,22,23,24,25,26,27,28,29,30|\nf(a)]).",
+    "?- p([0,1,2,3,4,5,6,7,8,9,10,11,12,13,14,15,16,17,18,19,20,21,22,23,24,25,26,27,28,29,30|\nX]).",
     "?- p(X?abc).",
     "?- p(X?Y).",
     "?- p(X??).",
@@ -147,6 +161,11 @@ const CORNERS: &[&str] = &[
     "\n\np(X,\nX) :- q(a).\n?- q(a",
     "p(X) :- q(X?).\n?- p(a), q(Y,Y).",
     "?- p(X,X). _",
+    "?- p(X,X) _",
+    "?- p(X,X,\n_).",
+    "p(X,X,\n",
+    "p(X) :- q(X?), q(X?,\n-0).",
+    "?- p(X,X,3,4,5,6,7).",
     "p(X).\n_",
     "p(X) _",
     "?- p(X,X)",
@@ -155,8 +174,37 @@ const CORNERS: &[&str] = &[
 
 const BYTES: &[u8] = b" \n\t\r%%()[],,||..??--::_aZ09XpA!\"'\\{}~\x00\x07\x7f\x80\xa0\xc3\xff";
 const TOKENS: &[&str] = &[
-    "(", ")", "[", "]", ",", "|", ".", ":-", "?-", "a", "p", "X", "X?", "Y", "Z?", "0", "-1", "7", "_", "?", "-", ":",
-    "007", "-0", "[]", "p(a)", "?- p(a).", "q(X).", "% x\n", "\n", "2147483648",
+    "(",
+    ")",
+    "[",
+    "]",
+    ",",
+    "|",
+    ".",
+    ":-",
+    "?-",
+    "a",
+    "p",
+    "X",
+    "X?",
+    "Y",
+    "Z?",
+    "0",
+    "-1",
+    "7",
+    "_",
+    "?",
+    "-",
+    ":",
+    "007",
+    "-0",
+    "[]",
+    "p(a)",
+    "?- p(a).",
+    "q(X).",
+    "% x\n",
+    "\n",
+    "2147483648",
 ];
 
 /// A corner with lines before it, and sometimes others behind it.
@@ -190,10 +238,12 @@ pub fn changed(random: &mut Random, items: &[Vec<Token>]) -> Vec<u8> {
     text
 }
 
-/// A text cut off at any byte.
+/// A text cut off at any byte, now and then with blanks or a remark behind the cut.
 pub fn cut(random: &mut Random, items: &[Vec<Token>]) -> Vec<u8> {
     let mut text = text_of(random, items);
     text.truncate(random.below(text.len() + 1));
+    let behind = random.pick(&["", "", "", "\n", "\n\n", " \n% x\n", "\n\t\r\n "]);
+    text.extend_from_slice(behind.as_bytes());
     text
 }
 
@@ -262,5 +312,9 @@ fn broken_item(random: &mut Random) -> Vec<Token> {
         1 => tokens[to].strip_suffix('?').map(str::to_string).unwrap_or(format!("{}?", tokens[to])),
         _ => "New".to_string(),
     };
+    if random.chance(15) {
+        let end = tokens.len() - 1;
+        tokens[end] = random.pick(&["_", "", ")", "!."]).to_string();
+    }
     tokens
 }

@@ -5,6 +5,7 @@
 //! stand in its place, the text cut off there. The mark is a byte that no text here has otherwise, and is taken out.
 
 use crate::random::Random;
+use crate::term::token_end;
 
 const MARK: char = '\u{1}';
 
@@ -84,17 +85,17 @@ fn disputed(random: &mut Random, text: &str) -> (&'static str, String) {
     let Some(at) = text.find(MARK) else { return ("past", text.to_string()) };
     let (before, from) = text.split_at(at);
     let from = &from[MARK.len_utf8()..];
-    let end = from.find(|c: char| !(c.is_ascii_alphanumeric() || c == '_' || c == '?')).unwrap_or(from.len()).max(1);
-    let (token, behind) = from.split_at(end.min(from.len()));
+    let (token, behind) = from.split_at(token_end(from.as_bytes(), 0));
     let bad = random.pick(&["_", "_x", "!", "007", "-0", "2147483648", "?", ":", "-", "\"", "@b"]);
     let sign = random.pick(&[")", ",", ".", "]", "|", ":-", "?-", ")."]);
-    match random.below(7) {
+    match random.below(8) {
         0 => ("bad-before", format!("{before}\n{bad} {from}")),
         1 => ("bad-behind", format!("{before}\n{token}\n{bad}{behind}")),
         2 => ("bad-instead", format!("{before}\n{bad}{behind}")),
         3 => ("sign-instead", format!("{before}\n{sign}{behind}")),
         4 => ("cut-before", before.to_string() + random.pick(&["", "\n", "\n% x\n"])),
         5 => ("cut-behind", format!("{before}\n{token}")),
+        6 => ("misplaced", format!("{before}1\n{from}")),
         _ => ("sign-behind", format!("{before}\n{token}\n{sign}{behind}")),
     }
 }
@@ -120,8 +121,8 @@ fn arguments(random: &mut Random, n: usize) -> String {
     match random.below(4) {
         0 => format!("?- p({terms})."),
         1 => format!("?- p(f({terms}))."),
-        2 => format!("p({same}).\n?- p({})."  , same.replace(MARK, "")),
-        _ => format!("q(a) :- p([{}|f({same})]).\n?- q(a).", "1,2"),
+        2 => format!("p({same}).\n?- p({}).", same.replace(MARK, "")),
+        _ => format!("q(a) :- p([1,2|f({same})]).\n?- q(a)."),
     }
 }
 
@@ -131,32 +132,29 @@ fn over(variables: &[String]) -> String {
     goals.join(", ")
 }
 
+/// One half of each pair, and now and then the other half of the first one behind them all.
 fn pairs_query(random: &mut Random, n: usize) -> String {
     let mut variables: Vec<String> = (0..n).map(|pair| format!("V{pair}{}", random.pick(&["", "?"]))).collect();
     variables[n - 1].insert(0, MARK);
-    let behind = random.pick(&["", ", q(V3)", ", q(V0?)"]);
-    let text = format!("?- {}", over(&variables));
-    let repeated = behind.trim_start_matches(", q(").trim_end_matches(')');
-    if behind.is_empty() || variables.iter().any(|variable| variable == repeated) {
-        format!("{text}.")
-    } else {
-        format!("{text}{behind}.")
-    }
+    let behind = match (random.chance(50), variables[0].ends_with('?')) {
+        (false, _) => "",
+        (true, true) => ", q(V0)",
+        (true, false) => ", q(V0?)",
+    };
+    format!("?- {}{behind}.", over(&variables))
 }
 
+/// All writers and then all readers, or some of both in the head.
 fn pairs_clause(random: &mut Random, n: usize) -> String {
     let mut writers: Vec<String> = (0..n).map(|pair| format!("V{pair}")).collect();
     let readers: Vec<String> = (0..n).map(|pair| format!("V{pair}?")).collect();
     writers[n - 1].insert(0, MARK);
-    let list = random.chance(50);
-    if list {
-        format!("p([{}]) :- q(f({})), {}.\n?- p(a).", writers[..8].join(","), readers[..6].join(","), {
-            let rest: Vec<String> = readers[6..8].iter().chain(&writers[8..]).chain(&readers[8..]).cloned().collect();
-            over(&rest)
-        })
-    } else {
-        format!("h(a) :- {}, {}.\n?- h(a).", over(&writers), over(&readers))
+    if random.chance(50) {
+        return format!("h(a) :- {}, {}.\n?- h(a).", over(&writers), over(&readers));
     }
+    let head = writers[..8].join(",");
+    let body = [&readers[..8], &writers[8..], &readers[8..]].concat();
+    format!("h([{head}]) :- {}.\n?- h(a).", over(&body))
 }
 
 fn compounds_round(_: &mut Random, n: usize) -> String {
@@ -182,8 +180,7 @@ fn compounds_list(random: &mut Random, n: usize) -> String {
     } else {
         let (first, second) = (random.between(1, 20), n - 2);
         let left: Vec<String> = (0..first).map(|place| place.to_string()).collect();
-        let right = marked((first..second).map(|_| random.pick(&["a", "[]", "X"]).to_string()));
-        let right = right.replace('X', "-5");
+        let right = marked((first..second).map(|_| random.pick(&["a", "[]", "-5"]).to_string()));
         format!("p([{}|a]) :- q([{right}]).\n?- p(b).", left.join(","))
     }
 }
@@ -199,7 +196,7 @@ fn compounds_nested(random: &mut Random, n: usize) -> String {
         count += 1;
         if count == n {
             elements.push(MARK);
-            elements.push_str(random.pick(&["a", "[]", "f(a)"]));
+            elements.push_str(random.pick(&["a", "[]", "f"]));
         } else if random.chance(60) {
             count += 1;
             elements.push('f');
@@ -210,9 +207,6 @@ fn compounds_nested(random: &mut Random, n: usize) -> String {
         } else {
             elements.push('7');
         }
-    }
-    if elements.ends_with("f(a)") {
-        elements.truncate(elements.len() - 3);
     }
     format!("?- p([{elements}]).")
 }
@@ -278,19 +272,24 @@ fn names(random: &mut Random, n: usize) -> String {
     let mut spelled: Vec<String> = (0..n - 1).map(spelled).collect();
     spelled[n - 2].insert(0, MARK);
     let last = spelled.pop().unwrap();
-    let items: Vec<String> = spelled.chunks(30).map(|chunk| format!("l([{}]).\n", chunk.join(","))).collect();
-    let shape = random.pick(&["?- l(NEW).", "?- NEW(1).", "?- l([1,[],l,NEW]).", "l(a) :- l(NEW(a)).?- l(aa)."]);
+    let items: Vec<String> = spelled.chunks(30).map(|chunk| format!("l([0,{}]).\n", chunk.join(","))).collect();
+    let shape =
+        random.pick(&["?- l(3,NEW).", "?- NEW(1).", "?- l([1,[],l,NEW]).", "l(X,X?) :- l(NEW(aa),-7).?- l([aa])."]);
     format!("{}{}", items.join(""), shape.replace("NEW", &last))
 }
 
 fn name_bytes(random: &mut Random, n: usize) -> String {
     let name = format!("{MARK}a{}", "bC_9".chars().cycle().take(n - 1).collect::<String>());
-    random.pick(&["?- p(NAME).", "?- NAME(a).", "?- p(NAME(a)).", "NAME(a).\n?- p(a).", "?- p([a|NAME])."]).replace("NAME", &name)
+    random
+        .pick(&["?- p(NAME).", "?- NAME(a).", "?- p(NAME(a)).", "NAME(a).\n?- p(a).", "?- p([a|NAME])."])
+        .replace("NAME", &name)
 }
 
 fn variable_bytes(random: &mut Random, n: usize) -> String {
     let name = format!("{MARK}A{}", "bC_9".chars().cycle().take(n - 1).collect::<String>());
-    random.pick(&["?- p(NAME).", "?- p(NAME?).", "?- p(NAME,NAME?).", "p([NAME]) :- q(NAME?).\n?- p(a)."]).replace("NAME", &name)
+    random
+        .pick(&["?- p(NAME).", "?- p(NAME?).", "?- p(NAME,NAME?).", "p([NAME]) :- q(NAME?).\n?- p(a)."])
+        .replace("NAME", &name)
 }
 
 /// A text padded to its length by one byte over and over.
@@ -304,4 +303,37 @@ fn text_bytes(random: &mut Random, n: usize) -> String {
         ("p(a).", "\t", "?- p(X)."),
     ]);
     format!("{front}{}{back}", byte.repeat(n - front.len() - back.len()))
+}
+
+#[cfg(test)]
+mod tests {
+    use super::*;
+    use reference::{call, Figures};
+
+    fn numbers(kind: usize) -> Vec<u8> {
+        let figures = Figures { scratch: 4, need: 4, ..Figures::default() };
+        (0..40).map(|seed| call(&text(&mut Random::new(seed), kind).1, &figures).number).collect()
+    }
+
+    #[test]
+    fn each_edge_is_where_it_is_said_to_be() {
+        for (place, edge) in EDGES.iter().enumerate() {
+            let past = match edge.name {
+                "text-bytes" => 3,
+                "name-bytes" | "variable-bytes" => 4,
+                _ => 6,
+            };
+            let may_break = edge.name == "text-bytes";
+            assert!(numbers(place * 3).iter().all(|n| *n == 0 || may_break && *n == 4), "{} on", edge.name);
+            assert!(numbers(place * 3 + 1).iter().all(|n| *n == past), "{} past", edge.name);
+        }
+    }
+
+    #[test]
+    fn disputes_end_in_either_number() {
+        for (place, edge) in EDGES.iter().enumerate().filter(|(_, edge)| edge.figure < 100 && edge.figure != 31) {
+            let numbers = numbers(place * 3 + 2);
+            assert!(numbers.contains(&4) && numbers.contains(&6), "{}: {numbers:?}", edge.name);
+        }
+    }
 }

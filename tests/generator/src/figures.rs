@@ -21,11 +21,8 @@ pub fn chosen(random: &mut Random, text: &[u8], turn: usize) -> (&'static str, F
     let mut figures = short(text, roomy());
     figures.scratch = random.pick(&[6, 6, 6, 6, 5, 4]);
     match turn % 10 {
-        0 | 3 | 6 | 8 => ("roomy", figures),
-        1 => {
-            figures.budget = figures.budget.min(random.between(0, 12) as u64);
-            ("budget", figures)
-        }
+        0 | 3 | 6 => ("roomy", figures),
+        1 => ("budget", edge_of_budget(random, text, figures)),
         2 | 7 => ("room", edge_of_room(random, text, figures)),
         4 => ("queries", edge_of_queries(random, text, figures)),
         5 => ("tight", tight(random, text, figures)),
@@ -34,16 +31,17 @@ pub fn chosen(random: &mut Random, text: &[u8], turn: usize) -> (&'static str, F
 }
 
 /// Figures of which one is out of range, or just not, or scratch that is short, or just not.
-pub fn spoilt(random: &mut Random, mut figures: Figures, turn: usize) -> Figures {
+pub fn spoilt(random: &mut Random, text: &[u8], mut figures: Figures, turn: usize) -> Figures {
     match turn % 6 {
-        0 => figures.budget = random.pick(&[1_000_000, 1_000_001, 4_294_967_296]),
-        1 => figures.pairs = random.pick(&[0, 65_536, 65_535]),
-        2 => figures.compounds = random.pick(&[0, 65_536, 65_535]),
-        3 => figures.goals = random.pick(&[0, 65_536, 65_535]),
+        0 => figures.budget = random.pick(&[1_000_000, 1_000_001, 1_000_001, 4_294_967_296]),
         4 => figures.scratch = random.pick(&[0, 1, 2, 3, 3, 3]),
-        _ => figures.scratch = random.pick(&[3, 4, 5, 7]),
+        5 => figures.scratch = random.pick(&[3, 4, 5, 7]),
+        room => {
+            figures = with(figures, ROOM[room - 1], random.pick(&[0, 65_536, 65_535]));
+            figures.budget = figures.budget.min(20);
+        }
     }
-    figures
+    short(text, figures)
 }
 
 /// The usual figures for a text that is to be refused.
@@ -105,6 +103,23 @@ fn same(left: &Answer, right: &Answer) -> bool {
     left.number == right.number && left.length == right.length && left.report == right.report
 }
 
+/// The steps that a run takes, one less, one more, or a few.
+fn edge_of_budget(random: &mut Random, text: &[u8], mut figures: Figures) -> Figures {
+    let taken = steps(&call(text, &figures));
+    let few = random.between(0, 12) as u64;
+    let budget = random.pick(&[taken, taken, taken.saturating_sub(1), taken.saturating_sub(1), taken + 1, few, few]);
+    figures.budget = budget.min(figures.budget);
+    short(text, figures)
+}
+
+/// The number in the report's first line.
+fn steps(answer: &Answer) -> u64 {
+    let report = answer.report.as_deref().unwrap_or_default();
+    let line = report.split(|byte| *byte == b'\n').next().unwrap_or_default();
+    let last = line.split(|byte| *byte == b' ').next_back().unwrap_or_default();
+    std::str::from_utf8(last).ok().and_then(|digits| digits.parse().ok()).unwrap_or(0)
+}
+
 /// A room figure with which the run is just the same, or one less, or somewhere below that.
 fn edge_of_room(random: &mut Random, text: &[u8], figures: Figures) -> Figures {
     let figure = random.pick(&ROOM);
@@ -146,6 +161,7 @@ fn tight(random: &mut Random, text: &[u8], figures: Figures) -> Figures {
 /// A buffer of exactly the report's length, one less, one more, half of it, or none.
 fn edge_of_buffer(random: &mut Random, text: &[u8], mut figures: Figures) -> Figures {
     let length = u64::from(call(text, &figures).length);
-    figures.buffer = random.pick(&[length, length, length.saturating_sub(1), length.saturating_sub(1), length + 1, length / 2, 0]);
+    let less = length.saturating_sub(1);
+    figures.buffer = random.pick(&[length, length, less, less, length + 1, length / 2, 0]).min(figures.buffer);
     figures
 }

@@ -9,8 +9,7 @@ use reference::Figures;
 pub fn framed(text: &[u8], figures: &Figures) -> Vec<u8> {
     let Figures { budget, pairs, compounds, goals, buffer, scratch, need } = *figures;
     let length = text.len();
-    let mut frame =
-        format!("{budget} {pairs} {compounds} {goals} {buffer} {scratch} {need} {length}\n").into_bytes();
+    let mut frame = format!("{budget} {pairs} {compounds} {goals} {buffer} {scratch} {need} {length}\n").into_bytes();
     frame.extend_from_slice(text);
     frame.push(b'\n');
     frame
@@ -22,8 +21,11 @@ pub fn unframed(mut frames: &[u8]) -> Result<Vec<(Vec<u8>, Figures)>, String> {
     while !frames.is_empty() {
         let end = frames.iter().position(|byte| *byte == b'\n').ok_or("a header line has no end")?;
         let header = std::str::from_utf8(&frames[..end]).map_err(|error| error.to_string())?;
-        let numbers: Vec<u64> =
-            header.split(' ').map(str::parse).collect::<Result<_, _>>().map_err(|error| format!("{header}: {error}"))?;
+        let numbers: Vec<u64> = header
+            .split(' ')
+            .map(str::parse)
+            .collect::<Result<_, _>>()
+            .map_err(|error| format!("{header}: {error}"))?;
         let &[budget, pairs, compounds, goals, buffer, scratch, need, length] = numbers.as_slice() else {
             return Err(format!("{header}: eight numbers are needed"));
         };

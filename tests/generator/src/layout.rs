@@ -73,7 +73,10 @@ fn runs_together(left: &str, right: &str) -> bool {
     let run = |byte: Option<&u8>| byte.is_some_and(|byte| byte.is_ascii_alphanumeric() || *byte == b'_');
     let last = left.as_bytes().last();
     let first = right.as_bytes().first();
-    (run(last) && (run(first) || first == Some(&b'?'))) || (last == Some(&b'-') && run(first)) || left == "?" || left == ":"
+    (run(last) && (run(first) || first == Some(&b'?')))
+        || (last == Some(&b'-') && run(first))
+        || left == "?"
+        || left == ":"
 }
 
 fn behind_item(random: &mut Random, layout: Layout) -> Vec<u8> {

@@ -45,32 +45,39 @@ enum Kind {
 }
 
 /// The round in which the kinds come.
-const ROUND: [Kind; 25] = [
+const ROUND: [Kind; 32] = [
     Kind::Program,
     Kind::Edge,
-    Kind::Kit,
-    Kind::Corner,
-    Kind::Program,
-    Kind::Changed,
-    Kind::Kit,
-    Kind::Edge,
-    Kind::Corner,
-    Kind::Program,
-    Kind::Kit,
-    Kind::Cut,
-    Kind::Corner,
-    Kind::Kit,
-    Kind::Edge,
-    Kind::Corner,
-    Kind::Changed,
-    Kind::Program,
-    Kind::Kit,
-    Kind::Broken,
     Kind::Spoilt,
+    Kind::Corner,
     Kind::Kit,
     Kind::Corner,
     Kind::Edge,
+    Kind::Kit,
+    Kind::Changed,
+    Kind::Corner,
     Kind::Program,
+    Kind::Kit,
+    Kind::Edge,
+    Kind::Corner,
+    Kind::Broken,
+    Kind::Kit,
+    Kind::Spoilt,
+    Kind::Program,
+    Kind::Edge,
+    Kind::Corner,
+    Kind::Kit,
+    Kind::Changed,
+    Kind::Corner,
+    Kind::Edge,
+    Kind::Program,
+    Kind::Cut,
+    Kind::Kit,
+    Kind::Corner,
+    Kind::Program,
+    Kind::Edge,
+    Kind::Kit,
+    Kind::Corner,
 ];
 
 /// Whose turn it is among the edges, the corners and the figures: each goes round from a random beginning.
@@ -83,7 +90,12 @@ struct Turns {
 
 impl Turns {
     fn new(random: &mut Random) -> Self {
-        Turns { edge: random.below(1_000), corner: random.below(1_000), chosen: random.below(10), spoilt: random.below(7) }
+        Turns {
+            edge: random.below(1_000),
+            corner: random.below(1_000),
+            chosen: random.below(10),
+            spoilt: random.below(7),
+        }
     }
 }
 
@@ -127,7 +139,11 @@ fn job(random: &mut Random, turns: &mut Turns, kind: Kind) -> (String, Vec<u8>, 
 }
 
 fn some_items(random: &mut Random) -> Vec<Vec<Token>> {
-    if random.chance(50) { programs::program(random) } else { streams::program(random) }
+    if random.chance(50) {
+        programs::program(random)
+    } else {
+        streams::program(random)
+    }
 }
 
 /// A program that runs, with figures chosen for it.
@@ -158,11 +174,11 @@ fn spoilt(random: &mut Random, turns: &mut Turns) -> (String, Vec<u8>, Figures) 
     };
     let mut figures = figures::usual(random, &text);
     if !long {
-        figures = figures::spoilt(random, figures, turn);
+        figures = figures::spoilt(random, &text, figures, turn);
     }
-    if random.chance(20) {
-        let other = random.below(6);
-        figures = figures::spoilt(random, figures, other);
+    if !matches!(turn, 4 | 6) && random.chance(20) {
+        let scratch = random.between(4, 5);
+        figures = figures::spoilt(random, &text, figures, scratch);
     }
     ("spoilt".to_string(), text, figures)
 }

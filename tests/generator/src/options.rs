@@ -1,4 +1,6 @@
 //! The options of both programs: `--seed S` and `--count N`.
+//!
+//! Without them it is always the same seed and 400 jobs. What is wrong with a command line is told in words.
 
 /// A seed, and how many of its jobs.
 #[derive(Clone, Copy, Debug)]
@@ -25,6 +27,9 @@ impl Options {
                 "--count" => options.count = value.parse().map_err(bad)?,
                 _ => return Err(format!("no such option: {argument}")),
             }
+        }
+        if options.count == 0 {
+            return Err("--count needs at least 1".to_string());
         }
         Ok(options)
     }

@@ -73,7 +73,11 @@ fn procedures(random: &mut Random) -> Vec<Procedure> {
 fn modes(random: &mut Random, arity: usize) -> Vec<Mode> {
     let mode = |random: &mut Random, last: bool| {
         let gives = if last { 65 } else { 20 };
-        if random.chance(gives) { Mode::Gives } else { Mode::Takes }
+        if random.chance(gives) {
+            Mode::Gives
+        } else {
+            Mode::Takes
+        }
     };
     (0..arity).map(|place| mode(random, place + 1 == arity)).collect()
 }
@@ -92,7 +96,11 @@ fn query(random: &mut Random, procedures: &[Procedure]) -> Item {
     let mut goals = weaver.goals(procedures, count);
     weaver.random.shuffle(&mut goals);
     let item = Item { head: None, goals };
-    if weaver.random.chance(50) { weaver.joined(item) } else { item }
+    if weaver.random.chance(50) {
+        weaver.joined(item)
+    } else {
+        item
+    }
 }
 
 /// Places the halves of an item's pairs, each at most once.

@@ -54,18 +54,14 @@ const WAKING: &[&str] = &[
     "some(1,Y,Y?).",
     "some(X,2,X?).",
     "some(3,3,3).",
+    "both(1,1).",
+    "both(2,X) :- one(X?).",
     "via(X?,X).",
     "late(1) :- one(1), two(2), one(1).",
 ];
 const DOUBLING: &[&str] = &["mk(f(C,C?)).", "p(f(R?,S)) :- mk(R), p(S?)."];
-const SESSION: &[&str] = &[
-    "tag([H|T],[hit(H?)|R?]) :- tag(T?,R).",
-    "tag([],[]).",
-    "end([]).",
-    "same(X,X?).",
-    "two(1,1).",
-    "w(1,2).",
-];
+const SESSION: &[&str] =
+    &["tag([H|T],[hit(H?)|R?]) :- tag(T?,R).", "tag([],[]).", "end([]).", "same(X,X?).", "two(1,1).", "w(1,2)."];
 
 /// Goals of the circle kit over the pairs at hand.
 const CIRCLE_GOALS: &[&str] = &[
@@ -98,12 +94,15 @@ const WAKING_GOALS: &[&str] = &[
 
 /// The items of a job over one of the kits.
 pub fn program(random: &mut Random) -> Vec<Vec<Token>> {
-    match random.below(12) {
-        0..=4 => job(random, STREAMS, &network),
+    match random.below(14) {
+        0..=3 => job(random, STREAMS, &network),
+        4 => job(random, STREAMS, &two_inputs),
         5 => job(random, CHANNELS, &dialogue),
         6 | 7 => job(random, CIRCLES, &|random| some_goals(random, CIRCLE_GOALS, 4)),
-        8 | 9 => job(random, WAKING, &|random| some_goals(random, WAKING_GOALS, 7)),
-        10 => job(random, DOUBLING, &|_| vec!["mk($0)".into(), "p($0?)".into()]),
+        8 => job(random, WAKING, &|random| some_goals(random, WAKING_GOALS, 7)),
+        9 | 10 => job(random, WAKING, &fan),
+        11 => job(random, WAKING, &either_input),
+        12 => job(random, DOUBLING, &|_| vec!["mk($0)".into(), "p($0?)".into()]),
         _ => job(random, SESSION, &session),
     }
 }
@@ -281,6 +280,53 @@ fn shifted(goal: &str, shift: usize) -> String {
         }
         text
     })
+}
+
+/// Goals that wait in a random order, then one that assigns their pairs in another: all are woken in one step.
+fn fan(random: &mut Random) -> Vec<String> {
+    let mut goals: Vec<String> = (0..3)
+        .map(|pair| match random.below(5) {
+            0 | 1 => format!("one(${pair}?)"),
+            2 => format!("two(${pair}?)"),
+            3 => format!("both(${pair}?,${}?)", pair + 4),
+            _ => format!("three(${pair}?,${})", pair + 4),
+        })
+        .collect();
+    random.shuffle(&mut goals);
+    let mut pairs = ["$0", "$1", "$2"];
+    random.shuffle(&mut pairs);
+    goals.push(format!("fan({})", pairs.join(",")));
+    if random.chance(30) {
+        goals.push(format!("one(${})", random.between(4, 6)));
+    }
+    goals
+}
+
+/// Goals that wait on two readers, one for each clause; then either pair is assigned, or both are.
+fn either_input(random: &mut Random) -> Vec<String> {
+    let mut goals = vec!["some($0?,$1?,$2)".to_string()];
+    if random.chance(40) {
+        goals.push("some($2?,$3?,$4)".to_string());
+        goals.push("two($3)".to_string());
+    }
+    goals.push(random.pick(&["one($0)", "two($1)", "via($0,$5?)", "via($1,$5?)", "one($1)"]).to_string());
+    if random.chance(40) {
+        goals.push(random.pick(&["one($5)", "two($1)", "one($0)", "two($5)"]).to_string());
+    }
+    goals
+}
+
+/// A merge that waits on both of its streams; then one of them comes, or both.
+fn two_inputs(random: &mut Random) -> Vec<String> {
+    let mut goals = vec![random.pick(&["mix($0?,$1?,$2)", "mix($1?,$0?,$2)"]).to_string()];
+    if random.chance(40) {
+        goals.push("tag($2?,$3)".to_string());
+    }
+    goals.push(random.pick(&["abc($0)", "abc($1)", "end($0)", "end($1)", "copy([1,2|$4?],$1)"]).to_string());
+    if random.chance(40) {
+        goals.push(random.pick(&["abc($1)", "end($0)", "one($1)", "end($4)"]).to_string());
+    }
+    goals
 }
 
 /// The queries of document 01's session.

@@ -1,6 +1,7 @@
 //! How often each number, verdict and kind of goal line occurs among the answers.
 //!
-//! A comparison says nothing of what never occurred, so a table can tell which counts are 0.
+//! A comparison says nothing of what never occurred, so a table can tell which counts are 0. Numbers are counted over
+//! all answers, verdicts and lines over the reports that were delivered.
 
 use std::fmt;
 

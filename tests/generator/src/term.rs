@@ -116,7 +116,8 @@ fn in_run(byte: u8) -> bool {
     byte.is_ascii_alphanumeric() || byte == b'_'
 }
 
-fn token_end(bytes: &[u8], at: usize) -> usize {
+/// Where the token that begins at a place ends.
+pub fn token_end(bytes: &[u8], at: usize) -> usize {
     let next = bytes.get(at + 1).copied();
     let first = bytes[at];
     let negative = first == b'-' && next.is_some_and(|byte| byte.is_ascii_digit());

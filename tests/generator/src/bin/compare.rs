@@ -1,8 +1,9 @@
 //! `compare --seed S --count N`, from the repository's root: the definitions compute every job, and the reference too.
 //!
-//! A small repository under target/compare/ has a copy of the definitions and crates whose statements say, of batches
-//! of jobs, that the definitions give the reference's answer: number, line, length, report buffer and scratch. The
-//! proof checker computes them. Exit status 0 if every job agreed and everything occurred, 1 if not, 2 for bad usage.
+//! A small repository under target/compare/ has a copy of the definitions, and crates whose statements say that the
+//! definitions give the reference's answer: number, line, length, report buffer and scratch. The proof checker
+//! computes them. One more crate has falsified answers, and the checker must refuse every statement of it.
+//! Exit status 0 if every job agreed and everything occurred, 1 if not, 2 for bad usage.
 
 use std::path::Path;
 use std::process::{Command, ExitCode};
@@ -15,13 +16,19 @@ use generator::{antt, call, frame, jobs, Answer, Job};
 
 const DEFINITIONS: &str = "crates/meaning";
 const FOLDER: &str = "target/compare";
-/// The crates that are proved side by side.
-const CRATES: usize = 2;
-/// Jobs to a module, and to a statement.
+/// The frames of the jobs that did not agree, to be run again.
+const REFUSED: &str = "target/compare/refused.jobs";
+/// The crates that are proved side by side, and the one that must not be proved.
+const AGREE: [&str; 2] = ["agree1", "agree2"];
+const DENIED: &str = "denied";
+/// Jobs to a module. A statement is of one job: the checker's limit of steps is then each job's own.
 const MODULE: usize = 40;
-const BATCH: usize = 1;
+/// How many jobs are falsified.
+const FALSIFIED: usize = 20;
 /// From so many jobs on, everything must occur.
 const ENOUGH: usize = 200;
+
+type Case<'a> = (&'a Job, &'a Answer);
 
 fn main() -> ExitCode {
     let options = match Options::read(std::env::args().skip(1)) {
@@ -44,12 +51,16 @@ fn compared(options: &Options) -> Result<(), String> {
     let begun = Instant::now();
     let jobs = jobs(options.seed, options.count);
     let answers: Vec<Answer> = jobs.iter().map(|job| call(&job.text, &job.figures)).collect();
-    let batches = Batches::new(&jobs, &answers);
-    write_repository(Path::new(FOLDER), &batches).map_err(|error| format!("{FOLDER}: {error}"))?;
-    let checked = check(Path::new(FOLDER))?;
+    let cases: Vec<Case> = jobs.iter().zip(&answers).collect();
+    let false_answers: Vec<Answer> = answers.iter().take(FALSIFIED).map(falsified).collect();
+    let false_cases: Vec<Case> = jobs.iter().zip(&false_answers).collect();
+    let folder = Path::new(FOLDER);
+    write_repository(folder, &cases, &false_cases).map_err(|error| format!("{FOLDER}: {error}"))?;
+    let checked = check(folder, &AGREE)?;
     if !checked.proved {
-        return Err(disagreement(&checked.output, &batches));
+        return Err(disagreement(&checked.output, &cases));
     }
+    denied(&check(folder, &[DENIED])?, &false_cases)?;
     let table = Table::of(&answers);
     print!("{table}");
     println!("seed {}, {:.1} s", options.seed, begun.elapsed().as_secs_f64());
@@ -61,58 +72,46 @@ fn compared(options: &Options) -> Result<(), String> {
     Ok(())
 }
 
-/// The jobs with their answers, by crate, module and statement.
-struct Batches<'a> {
-    cases: Vec<(&'a Job, &'a Answer)>,
-}
-
-impl<'a> Batches<'a> {
-    fn new(jobs: &'a [Job], answers: &'a [Answer]) -> Self {
-        Batches { cases: jobs.iter().zip(answers).collect() }
+/// An answer that is wrong in one place: a byte of the report, the length, or the line.
+fn falsified(answer: &Answer) -> Answer {
+    let mut wrong = answer.clone();
+    match &mut wrong.report {
+        Some(report) => {
+            let last = report.len() - 2;
+            report[last] ^= 1;
+        }
+        None if answer.number == 8 => wrong.length += 1,
+        None => wrong.line += 1,
     }
-
-    /// The modules of a crate: the number of each, and its text.
-    fn modules(&self, place: usize) -> Vec<(usize, String)> {
-        let modules = self.cases.chunks(MODULE).enumerate();
-        modules
-            .filter(|(number, _)| number % CRATES == place)
-            .map(|(number, cases)| (number, antt::module(cases, number * MODULE, BATCH)))
-            .collect()
-    }
-
-    /// The statements' names, each with its cases.
-    fn statements(&self) -> Vec<(String, &[(&'a Job, &'a Answer)])> {
-        let modules = self.cases.chunks(MODULE).enumerate();
-        modules
-            .flat_map(|(number, cases)| {
-                let statements = cases.chunks(BATCH).enumerate();
-                statements.map(move |(place, some)| (antt::statement(number * MODULE + place * BATCH), some))
-            })
-            .collect()
-    }
+    wrong
 }
 
 /// The repository anew, but for what was proved of the definitions.
-fn write_repository(folder: &Path, batches: &Batches) -> io::Result<()> {
+fn write_repository(folder: &Path, cases: &[Case], false_cases: &[Case]) -> io::Result<()> {
     let crates = folder.join("crates");
     if crates.exists() {
         fs::remove_dir_all(&crates)?;
     }
     fs::create_dir_all(&crates)?;
     copy(Path::new(DEFINITIONS), &crates.join("meaning"))?;
-    let mut list = String::from("meaning:\n");
-    for place in 0..CRATES {
-        list.push_str(&format!("{}: meaning\n", crate_name(place)));
-        write_crate(&crates.join(crate_name(place)), &batches.modules(place))?;
+    let modules = modules(cases);
+    for (place, name) in AGREE.iter().enumerate() {
+        let own: Vec<_> = modules.iter().filter(|(number, _)| number % AGREE.len() == place).collect();
+        write_crate(&crates.join(name), &own)?;
     }
-    fs::write(folder.join("crates.txt"), list)
+    write_crate(&crates.join(DENIED), &self::modules(false_cases).iter().collect::<Vec<_>>())?;
+    let names = AGREE.iter().chain([&DENIED]);
+    let list: String = names.map(|name| format!("{name}: meaning\n")).collect();
+    fs::write(folder.join("crates.txt"), format!("meaning:\n{list}"))
 }
 
-fn crate_name(place: usize) -> String {
-    format!("agree{}", place + 1)
+/// The modules of some cases: the number of each, and its text.
+fn modules(cases: &[Case]) -> Vec<(usize, String)> {
+    let modules = cases.chunks(MODULE).enumerate();
+    modules.map(|(number, some)| (number, antt::module(some, number * MODULE))).collect()
 }
 
-fn write_crate(folder: &Path, modules: &[(usize, String)]) -> io::Result<()> {
+fn write_crate(folder: &Path, modules: &[&(usize, String)]) -> io::Result<()> {
     let proofs = folder.join("proofs");
     fs::create_dir_all(folder.join("src"))?;
     fs::create_dir_all(&proofs)?;
@@ -145,41 +144,66 @@ struct Checked {
     output: String,
 }
 
-/// Everything proved, with no line of the checker's output cut.
-fn check(folder: &Path) -> Result<Checked, String> {
-    let names = (0..CRATES).map(crate_name);
+/// Crates proved or not, with no line of the checker's output cut.
+fn check(folder: &Path, names: &[&str]) -> Result<Checked, String> {
     let run = Command::new("rt").arg("check").args(names).env("RT_CUT", "0").current_dir(folder).output();
     let run = run.map_err(|error| format!("rt: {error}"))?;
     let output = format!("{}{}", String::from_utf8_lossy(&run.stdout), String::from_utf8_lossy(&run.stderr));
     Ok(Checked { proved: run.status.success(), output })
 }
 
-/// Why the batches did not check: each job that the checker names, or that is in a batch that it could not compute.
-fn disagreement(output: &str, batches: &Batches) -> String {
-    let mut message = String::new();
-    let mut count = 0;
-    for (name, cases) in batches.statements() {
-        if !output.contains(&format!("`{name}`")) {
-            continue;
-        }
-        let named: Vec<_> = cases.iter().filter(|(job, _)| output.contains(&format!("\"{}\"", job.label))).collect();
-        let word = if named.is_empty() { "in a batch that was not computed" } else { "disagrees" };
-        let shown = if named.is_empty() { cases.iter().collect() } else { named };
-        count += shown.len();
-        shown.iter().for_each(|(job, answer)| message.push_str(&told(word, job, answer)));
-    }
-    format!("the checker said:\n{output}\n{message}{count} jobs did not agree")
+/// What the checker says of the statement of a job, if it refuses it.
+fn complaint(output: &str, place: usize) -> Option<String> {
+    let refused = format!("error: `{}`", antt::statement(place));
+    let mut lines = output.lines().skip_while(|line| !line.contains(&refused));
+    let first = lines.next()?;
+    let others = lines.take_while(|line| line.starts_with(' '));
+    Some(std::iter::once(first).chain(others).collect::<Vec<_>>().join("\n"))
 }
 
-/// A job with the reference's answer, ready to be run again.
-fn told(word: &str, job: &Job, answer: &Answer) -> String {
+/// Each falsified answer was noticed.
+fn denied(checked: &Checked, cases: &[Case]) -> Result<(), String> {
+    let unnoticed: Vec<&str> = (0..cases.len())
+        .filter(|place| complaint(&checked.output, *place).is_none())
+        .map(|place| cases[place].0.label.as_str())
+        .collect();
+    if checked.proved || !unnoticed.is_empty() {
+        return Err(format!("{}\nfalsified answers were not noticed: {}", checked.output, unnoticed.join(" ")));
+    }
+    Ok(())
+}
+
+/// Every job whose statement was refused: another answer, or the checker's limit of steps. Their frames are kept.
+fn disagreement(output: &str, cases: &[Case]) -> String {
+    let mut message = String::from("not every job agreed\n");
+    let mut frames = Vec::new();
+    let mut count = 0;
+    for (place, case) in cases.iter().enumerate() {
+        let Some(complaint) = complaint(output, place) else { continue };
+        message.push_str(&told(&complaint, case));
+        frames.extend(frame::framed(&case.0.text, &case.0.figures));
+        count += 1;
+    }
+    if count == 0 {
+        return format!("the crates were not proved, and of no job:\n{output}");
+    }
+    let kept = match fs::write(REFUSED, frames) {
+        Ok(()) => format!("their frames are in {REFUSED}"),
+        Err(error) => format!("{REFUSED}: {error}"),
+    };
+    format!("{message}{count} of {} jobs did not agree; {kept}", cases.len())
+}
+
+/// A job with the reference's answer, and what the checker says of it.
+fn told(complaint: &str, (job, answer): &Case) -> String {
     let Answer { number, line, length, report } = answer;
     let report = report.as_deref().map(String::from_utf8_lossy).unwrap_or_default();
+    let limit = complaint.contains("step limit");
+    let why = if limit { "the checker reached its limit of steps" } else { "the definitions give another answer" };
     format!(
-        "---- {} {word}\nfigures {:?}\ntext {}\nframe:\n{}the reference: number {number} line {line} length {length}\n{report}\n",
+        "---- {}: {why}\n{:?}\ntext {}\nthe reference: number {number} line {line} length {length}\n{report}{complaint}\n",
         job.label,
         job.figures,
         antt::string(&job.text),
-        String::from_utf8_lossy(&frame::framed(&job.text, &job.figures)),
     )
 }
