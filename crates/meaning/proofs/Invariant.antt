@@ -20,7 +20,7 @@ Kept clauses figures P =
 
 -- What `onward` does where there is a goal and budget left: the step is taken, or it would be a reduction that does not fit.
 module _ (clauses : List Clause) (figures : Room) (left : ℕ) (state : State) (g : Goal) (others : List Goal) where
-  pub after : State
+  unfoldable pub after : State
   after = step (choice-for clauses state g) g others state
 
   pub onward-takes : fits figures (choice-for clauses state g) state (without-front others (state .goals)) ≡ true
