@@ -1,48 +1,23 @@
--- The length that the call returns never passes the ceiling: it is 0 on 1 to 7, below it on 0, and cut to it on 8.
--- No case can show this, since no report of 16,777,217 bytes is computed here.
-use Prim.Native.Nat.{ℕ, _≤_, min}
+-- The call: what one that ran left in its buffer; and the length that it returns never passes the ceiling: 0 on 1 to 7, below it on 0, cut to it on 8.
+-- No case can show the latter, since no report of 16,777,217 bytes is computed here.
+pub mod Delivered
+use Prim.Native.Nat.{ℕ, _≤_}
 use mathlib.Core.Path.{_≡_, refl}
-use mathlib.Core.Bool.{Bool, true, false, not, _&&_}
-use mathlib.Core.List.{List, [], _∷_, _++_}
+use mathlib.Core.Bool.{not, _&&_}
 use native.Mathlib.Omega.{arith}
-use lib.Dec.{T, leb, ltb, leb→le}
-use lib.ListN.{length, drop}
-use Rattle.meaning.specs.Bytes.{Bytes, if_then_else_}
+use lib.Dec.{leb, ltb}
+use lib.ListN.{length}
+use borrow.Author.Tests.{leb-true}
+use Rattle.meaning.specs.Bytes.{Bytes}
 use Rattle.meaning.specs.Terms.{Job}
 use Rattle.meaning.specs.Items.{Refusal, no-item, occurrence-rule, figure, no-query, Reading, job, refused, reading}
 use Rattle.meaning.specs.State.{Room}
 use Rattle.meaning.specs.Run.{run, queries-fit}
 use Rattle.meaning.specs.Report.{report}
-use Rattle.meaning.specs.Call.{
-  Given,
-  Answer,
-  Outcome,
-  report-long,
-  number,
-  length-of,
-  in-range,
-  refusal,
-  untouched,
-  refuses,
-  reports,
-  delivered,
-  runs,
-  taken,
-  call,
-}
-
--- What holds of both branches holds of the choice between them.
-pub if-both : {A : Type 0} (P : A → Type 0) (b : Bool) {x y : A} → (b ≡ true → P x) → (b ≡ false → P y) → P (if b then x else y)
-unfolding if_then_else_
-if-both P true px py = px refl
-if-both P false px py = py refl
-
-both-true : (a b : Bool) → (a && b) ≡ true → (a ≡ true) × (b ≡ true)
-both-true true b e = (refl, e)
-both-true false b e = let z : _≡_ {A = Bool} false true = e in (z, cc)
-
-le-of : (m n : ℕ) → leb m n ≡ true → m ≤ n
-le-of m n e = leb→le m n (rw e tt)
+use Rattle.meaning.specs.Call.{Given, Outcome, length-of, in-range, refusal, untouched, refuses, reports, delivered, runs, taken, call}
+use Rattle.meaning.proofs.Lists.{if-holds, and-right}
+-- A call that ran read a job from its text, returned the length of that job's report, and left it at the front of its buffer.
+pub use Delivered.{Ran, ran-read-a-job, ran-reports, report-is-run-line-and-sections, ran-returns-the-length, ran-shows-the-report}
 
 Within : Outcome → Type 0
 Within o = length-of (o .answer) ≤ 16777217
@@ -55,21 +30,17 @@ refusal-short text (figure place) = refl
 refusal-short text no-query = refl
 
 module _ (need : ℕ) (given : Given) where
-  refuses-within : (a : Answer) → length-of a ≤ 16777217 → Within (refuses need a given)
-  unfolding Within refuses
-  refuses-within a h = h
-
   delivered-within : (written : Bytes) → Within (delivered need written given)
   unfolding Within delivered reports refuses length-of
   delivered-within written =
-      if-both Within (leb (length written) (length (given .buffer)) && leb (length written) 16777216)
-      (λ e. omega (arith, le-of (length written) 16777216 (both-true (leb (length written) (length (given .buffer))) (leb (length written) 16777216) e .1)))
+      if-holds Within (leb (length written) (length (given .buffer)) && leb (length written) 16777216) _ _
+      (λ e. omega (arith, leb-true (length written) 16777216 (and-right (leb (length written) (length (given .buffer))) (leb (length written) 16777216) e)))
       (λ e. omega arith)
 
   runs-within : (j : Job) → Within (runs need j given)
   unfolding Within runs refuses length-of
   runs-within j =
-      if-both Within (queries-fit (given .room) (j .queries))
+      if-holds Within (queries-fit (given .room) (j .queries)) _ _
       (λ e. delivered-within (report (j .queries) (run j (given .budget) (given .room))))
       (λ e. omega arith)
 
@@ -82,7 +53,7 @@ module _ (need : ℕ) (given : Given) where
 pub length-at-most : (need : Room → ℕ) (given : Given) → length-of (call need given .answer) ≤ 16777217
 unfolding Within call untouched length-of
 length-at-most need given =
-    if-both Within (not (in-range (given .budget) (given .room))) (λ e. omega arith)
-    (λ e. if-both Within (ltb (length (given .scratch)) (need (given .room))) (λ e. omega arith)
-    (λ e. if-both Within (ltb 16384 (length (given .text))) (λ e. omega arith)
+    if-holds Within (not (in-range (given .budget) (given .room))) _ _ (λ e. omega arith)
+    (λ e. if-holds Within (ltb (length (given .scratch)) (need (given .room))) _ _ (λ e. omega arith)
+    (λ e. if-holds Within (ltb 16384 (length (given .text))) _ _ (λ e. omega arith)
     (λ e. taken-within (need (given .room)) given (reading (given .text)))))

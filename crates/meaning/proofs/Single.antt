@@ -1,13 +1,10 @@
 -- Single occurrence, of every state of every run: written out, the goals of a query hold no writer twice and no reader twice.
 -- Writing out is a flow from goals and live values, which hold no half twice; so is a chain from a waiting goal to a pair that it waits on.
-pub mod Results
 pub mod LiveValues
 pub mod Comparison
 pub mod WrittenOut
 pub mod Assigned
 pub mod Chains
-pub mod Renaming
-pub mod Chosen
 pub mod Balance
 pub mod Counting
 pub mod Step
@@ -15,8 +12,8 @@ pub mod Run
 use Prim.Native.Nat.{ℕ, _+_, _≤_, _<_}
 use mathlib.Core.Path.{_≡_, refl, ap, ap₂, sym, _∙_}
 use mathlib.Core.Bool.{Bool, true}
-use mathlib.Core.List.{List, [], _∷_, _++_, map, List·Memᴰ}
-use mathlib.Core.Option.{Option, none, some}
+use mathlib.Core.List.{List, [], _∷_, _++_, map}
+use mathlib.Core.Option.{none, some}
 use native.Mathlib.Omega.{arith}
 use lib.ListN.{length}
 use borrow.Author.Tests.{eq-eqb}
@@ -28,38 +25,36 @@ use Rattle.meaning.specs.Trial.{compared, reduces}
 use Rattle.meaning.specs.Step.{step}
 use Rattle.meaning.specs.Run.{choice-for, run}
 use Rattle.meaning.specs.Report.{applied}
-use Rattle.meaning.proofs.JobOk.{ClauseOk, JobOk}
-use Rattle.meaning.proofs.ListsSingle.{
+use Rattle.meaning.proofs.Lists.{
+  Each,
+  each-among,
+  each-implies,
+  each-in,
+  not-beyond,
+  each-split,
+  each-those,
+  each-zero,
   sum,
   sum-append,
   sum-map,
-  Each,
-  each-implies,
-  each-those,
-  each-split,
-  each-member,
-  each-zero,
-  each-among,
-  those-front,
   those-append,
+  those-in,
+  each-member,
+  in-sum,
+  In,
 }
-use Rattle.meaning.proofs.Single.LiveValues.{marks, flows-both, occurs-itself, no-writer-marks}
+use Rattle.meaning.proofs.Terms.{occurs-itself}
+use Rattle.meaning.proofs.Trial.{reduces-agrees}
+use Rattle.meaning.proofs.Runs.{run-placed}
+use Rattle.meaning.proofs.Circle.{run-no-circle, given-unassigned, step-values-stay}
+use Rattle.meaning.proofs.Reading.{ClauseOk, JobOk}
+use Rattle.meaning.proofs.Single.LiveValues.{marks, flows-both, no-writer-marks}
 use Rattle.meaning.proofs.Single.WrittenOut.{all-applied-flow}
-use Rattle.meaning.proofs.Single.Assigned.{not-beyond}
 use Rattle.meaning.proofs.Single.Chains.{Reaches, reaches-inside, chain-flows}
-use Rattle.meaning.proofs.Single.Chosen.{reduces-agrees}
-use Rattle.meaning.proofs.Single.Balance.{
-  Balanced,
-  balanced-less,
-  balanced-flow-once,
-  given-once,
-  given-unassigned,
-  given-inside,
-  given-values-inside,
-}
+use Rattle.meaning.proofs.Single.Balance.{Balanced, balanced-less, balanced-flow-once, given-once, given-inside, given-values-inside}
 use Rattle.meaning.proofs.Single.Counting.{together, count-of-own, sum-together}
-use Rattle.meaning.proofs.Single.Step.{arguments-of, Chained, SoundAt, balanced-front, step-values-stay}
-use Rattle.meaning.proofs.Single.Run.{run-sound, run-placed}
+use Rattle.meaning.proofs.Single.Step.{arguments-of, Chained, SoundAt, balanced-front}
+use Rattle.meaning.proofs.Single.Run.{run-sound}
 
 -- The goals of a query, active, waiting and failed, each as the term that it is.
 abbrev pub goal-terms : Part → List Term
@@ -87,7 +82,7 @@ pub record SingleOccurrence (part : Part) : Type 0 where
       → among p (v .readers) ≡ true → among p (w .readers) ≡ true
       → ⊥
 
--- The same over terms.
+-- To count over the terms is to count over the goals' arguments.
 terms-count : (h : Half) (n : ℕ) (gs : List Goal)
     → sum (λ t. occurrences h n t) (map (λ g. as-term (g .goal)) gs) ≡ sum (λ g. all-occurrences h n (g .goal .arguments)) gs
 unfolding as-term occurrences
@@ -192,8 +187,8 @@ no-two-wait-on-one-pair job ok limit figures p first between behind v w e same a
     let its : Waiting → Bool = λ u. of k (u .goal) in
     let places = each-split _ (first ++ v ∷ between) (w ∷ behind) (rw e at (run-placed job limit figures .waiting)) in
     let inside = each-split _ first (v ∷ between) (places .0) .1 .0 in
-    let from-v = those-front its v between (eq-eqb k k refl) in
-    let from-w = those-front its w behind (eq-eqb (w .goal .query) k (sym same)) in
+    let from-v = those-in its v between (eq-eqb k k refl) in
+    let from-w = those-in its w behind (eq-eqb (w .goal .query) k (sym same)) in
     let up-to-w = those-append its first (v ∷ between) ∙ ap (λ (l : List Waiting). those its first ++ l) from-v in
     let own = ap (those its) e ∙ those-append its (first ++ v ∷ between) (w ∷ behind) ∙ ap₂ _++_ up-to-w from-w in
     single-occurrence job ok limit figures k inside .waited-on-once p (those its first) (those its between) (those its behind) v w own at-v at-w
@@ -206,16 +201,6 @@ pub record AssignedOnce (values : Values) (pairs : ℕ) (given : List Assignment
       → ⊥
   pub pairs-in-range : Each (λ a. a .pair < length values + pairs) given
   pub values-in-range : (h : Half) (n : ℕ) → length values + pairs ≤ n → Each (λ a. occurrences h n (a .value) ≡ 0) given
-
-unassigned-each : (values : Values) (given : List Assignment) → ((n : ℕ) (t : Term) → value values n ≡ some t → marks writer writer n given ≡ 0)
-    → Each (λ a. value values (a .pair) ≡ none) given
-unassigned-each values [] before = tt
-unassigned-each values (a ∷ given) before =
-    (go (value values (a .pair)) refl, unassigned-each values given (λ n t e. omega (arith, before n t e)))
-  where
-    go : (o : Option Term) → value values (a .pair) ≡ o → value values (a .pair) ≡ none
-    go none e = e
-    go (some t) e = absurd (omega (arith, before (a .pair) t e, occurs-itself writer (a .pair)))
 
 distinct : (given : List Assignment) → ((n : ℕ) → marks writer writer n given ≤ 1) → (first between behind : List Assignment) (a b : Assignment)
     → given ≡ first ++ a ∷ between ++ b ∷ behind → a .pair ≡ b .pair → ⊥
@@ -232,16 +217,15 @@ distinct given once first between behind a b e same =
     )
 
 inside-each : (room : ℕ) (given : List Assignment) → ((n : ℕ) → room ≤ n → marks writer writer n given ≡ 0) → Each (λ a. a .pair < room) given
-inside-each room [] inside = tt
-inside-each room (a ∷ given) inside = (
-  not-beyond (a .pair) room (λ e. omega (arith, inside (a .pair) e, occurs-itself writer (a .pair))),
-  inside-each room given (λ n e. omega (arith, inside n e)),
-)
+inside-each room given inside =
+    each-member (λ a. a .pair < room) given
+    (λ a m. not-beyond (a .pair) room
+    (λ e. omega (arith, inside (a .pair) e, occurs-itself writer (a .pair), in-sum (λ b. occurrences writer (a .pair) (variable writer (b .pair))) m)))
 
 -- No trial assigns a pair that has a value, and none assigns a pair twice; whether the circle test then fails it or not.
 pub trial-assigns-once : (job : Job) → JobOk job → (limit : ℕ) (figures : Room) (g : Goal) (others : List Goal)
     → run job limit figures .state .goals .queue ≡ g ∷ others
-    → (clause : Clause) → List·Memᴰ clause (job .clauses)
+    → (clause : Clause) → In clause (job .clauses)
     → (given : List Assignment) → compared clause (unit-at (g .query) (run job limit figures .state .units)) (g .goal) ≡ succeeds given
     → AssignedOnce (unit-at (g .query) (run job limit figures .state .units) .values) (clause .pairs) given
 trial-assigns-once job ok limit figures g others front clause member given agrees =
@@ -249,9 +233,9 @@ trial-assigns-once job ok limit figures g others front clause member given agree
     let unit = unit-at (g .query) (state .units) in
     let s = run-sound job ok limit figures .sound (g .query) ((rw front at (run-placed job limit figures .queue)) .0) in
     let b = balanced-front (unit .values) g (state .goals) others front s in
-    let clause-ok = ok .clauses-ok clause member in
+    let clause-ok = each-in ClauseOk (ok .clauses-ok) member in
     record {
-      unassigned-before = unassigned-each (unit .values) given (given-unassigned unit clause (g .goal) given _ clause-ok agrees b);
+      unassigned-before = each-member _ given (given-unassigned clause unit (g .goal) given (run-no-circle job limit figures (g .query)) agrees);
       no-pair-twice = distinct given (given-once unit clause (g .goal) given _ clause-ok agrees b);
       pairs-in-range = inside-each _ given (given-inside unit clause (g .goal) given _ clause-ok agrees b);
       values-in-range = λ h n e.
@@ -266,8 +250,7 @@ pub reduction-assigns-once : (job : Job) → JobOk job → (limit : ℕ) (figure
 unfolding choice-for
 reduction-assigns-once job ok limit figures g others front clause given e =
     let unit = unit-at (g .query) (run job limit figures .state .units) in
-    let member = each-member (λ c. List·Memᴰ c (job .clauses)) (job .clauses) (λ c m. m) in
-    let its = reduces-agrees unit (g .goal) _ (job .clauses) clause given member e in
+    let its = reduces-agrees unit (g .goal) clause given (job .clauses) e in
     trial-assigns-once job ok limit figures g others front clause (its .0) given (its .1)
 
 -- And a value once given stays: whatever step follows, of whichever goal.
@@ -278,6 +261,4 @@ pub value-stays : (job : Job) → JobOk job → (limit : ℕ) (figures : Room) (
     → value (unit-at k (step (choice-for (job .clauses) (run job limit figures .state) g) g others (run job limit figures .state) .units) .values) n
     ≡ some t
 value-stays job ok limit figures g others front k inside n t e =
-    let sound = run-sound job ok limit figures in
-    let clauses-ok = each-member ClauseOk (job .clauses) (ok .clauses-ok) in
-    step-values-stay (job .clauses) clauses-ok (run job limit figures .state) g others front k (rw (sound .units) inside) (sound .sound k inside) n t e
+    step-values-stay (job .clauses) (run job limit figures .state) g others (run-no-circle job limit figures) k n t e

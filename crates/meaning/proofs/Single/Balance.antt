@@ -27,23 +27,13 @@ use Rattle.meaning.specs.Terms.{
 use Rattle.meaning.specs.State.{Values, value, QueryUnit}
 use Rattle.meaning.specs.Compare.{Assignment, succeeds}
 use Rattle.meaning.specs.Trial.{next-pair, compared, with-pairs, values-after}
-use Rattle.meaning.proofs.JobOk.{ClauseOk}
-use Rattle.meaning.proofs.ListsSingle.{sum-append, each-append, each-implies}
+use Rattle.meaning.proofs.Lists.{each-append, each-implies, sum-append}
+use Rattle.meaning.proofs.Terms.{goals-renamed-below, goals-renamed-once, goals-renamed-beyond}
+use Rattle.meaning.proofs.Trial.{assigned-below, value-with-pairs, length-with-pairs, length-values-after}
+use Rattle.meaning.proofs.Reading.{ClauseOk}
 use Rattle.meaning.proofs.Single.LiveValues.{Count, held, marks, Settled, Fair, Flow, Flows, no-writer-marks}
 use Rattle.meaning.proofs.Single.Comparison.{worth, places-flow}
-use Rattle.meaning.proofs.Single.Renaming.{goals-renamed-below, goals-renamed-once, goals-renamed-beyond}
-use Rattle.meaning.proofs.Single.Assigned.{
-  value-with-pairs,
-  length-with-pairs,
-  length-assigned,
-  value-beyond,
-  value-kept,
-  settled-after,
-  After,
-  before,
-  new,
-  value-after,
-}
+use Rattle.meaning.proofs.Single.Assigned.{value-kept, settled-after, After, before, new, value-after}
 
 -- Counted with some live values, each half is counted at most once, an assigned pair's writer not at all, its reader at most as often as the
 -- pair has a live value, and pairs beyond the unit's not at all; nor do these occur in any value.
@@ -112,7 +102,7 @@ module _ (unit : QueryUnit) (clause : Clause) (goal : Named) (given : List Assig
   unfolding compared
   comparison =
       places-flow (unit .values) (length (unit .values)) _ (goal .arguments) given agrees .from around (b .live) (b .settled)
-      (λ h n t e. omega (arith, b .fair h n t e, clause-below h n (value-beyond (unit .values) n t e)))
+      (λ h n t e. omega (arith, b .fair h n t e, clause-below h n (assigned-below (unit .values) n t e)))
 
   -- No pair is given a value twice.
   pub given-once : (n : ℕ) → marks writer writer n given ≤ 1
@@ -120,13 +110,13 @@ module _ (unit : QueryUnit) (clause : Clause) (goal : Named) (given : List Assig
       omega (arith, comparison .flow writer n, limits writer n, no-writer-marks n (b .live), no-writer-marks n (comparison .left))
 
   -- A pair given a value had none.
-  pub given-unassigned : (n : ℕ) (t : Term) → value (unit .values) n ≡ some t → marks writer writer n given ≡ 0
-  given-unassigned n t e =
+  pub assigned-not-given : (n : ℕ) (t : Term) → value (unit .values) n ≡ some t → marks writer writer n given ≡ 0
+  assigned-not-given n t e =
       omega (
         arith,
         comparison .flow writer n,
         b .fair writer n t e,
-        clause-below writer n (value-beyond (unit .values) n t e),
+        clause-below writer n (assigned-below (unit .values) n t e),
         no-writer-marks n (b .live),
         no-writer-marks n (comparison .left),
       )
@@ -151,13 +141,9 @@ module _ (unit : QueryUnit) (clause : Clause) (goal : Named) (given : List Assig
   pub values-kept : (n : ℕ) (t : Term) → value (unit .values) n ≡ some t → value (values-after clause given unit) n ≡ some t
   unfolding values-after
   values-kept n t e =
-      value-kept given (with-pairs (clause .pairs) (unit .values)) n (given-unassigned n t e)
+      value-kept given (with-pairs (clause .pairs) (unit .values)) n (assigned-not-given n t e)
       ∙ value-with-pairs (clause .pairs) (unit .values) n
       ∙ e
-
-  pub length-after : length (values-after clause given unit) ≡ length (unit .values) + clause .pairs
-  unfolding values-after
-  length-after = length-assigned given (with-pairs (clause .pairs) (unit .values)) ∙ length-with-pairs (clause .pairs) (unit .values)
 
   abbrev live-after : List Assignment
   live-after = comparison .left ++ given
@@ -185,7 +171,7 @@ module _ (unit : QueryUnit) (clause : Clause) (goal : Named) (given : List Assig
             marks-after h n,
             comparison .flow h n,
             b .fair h n t j,
-            clause-below h n (value-beyond (unit .values) n t j),
+            clause-below h n (assigned-below (unit .values) n t j),
           )
       go writer (new m less) =
           omega (
@@ -223,6 +209,6 @@ module _ (unit : QueryUnit) (clause : Clause) (goal : Named) (given : List Assig
             (settled-after given (with-pairs (clause .pairs) (unit .values)) given-once (λ n e. given-inside n (rw length-with-pairs at e)));
         once = once-after;
         fair = fair-after;
-        below = λ h n e. below-after h n (rw length-after at e);
-        values-below = λ m t e h n i. values-below-after m t e h n (rw length-after at i);
+        below = λ h n e. below-after h n (rw length-values-after at e);
+        values-below = λ m t e h n i. values-below-after m t e h n (rw length-values-after at i);
       }

@@ -8,6 +8,8 @@ use mathlib.Core.Option.{Option, none, some}
 use native.Mathlib.Omega.{arith}
 use lib.Dec.{eqb}
 use Rattle.meaning.specs.Terms.{
+  Named,
+  Clause,
   Half,
   writer,
   reader,
@@ -24,12 +26,13 @@ use Rattle.meaning.specs.Terms.{
   occurrences,
   all-occurrences,
 }
-use Rattle.meaning.specs.State.{Values, value}
-use Rattle.meaning.specs.Compare.{Result, succeeds, waits, fails, followed, gives, waits-on, with-assignments, and-then, place, places}
-use Rattle.meaning.proofs.Single.Results.{fails-not-waits, succeeds-not-waits, behind-test}
-use Rattle.meaning.proofs.ListsSingle.{Each, each-implies}
-use Rattle.meaning.proofs.Single.LiveValues.{in-term, in-terms, Flows, flows-to-less, flows-then, occurs-itself, occurs-within, link}
-use Rattle.meaning.proofs.Single.Assigned.{not-beyond}
+use Rattle.meaning.specs.State.{Values, value, QueryUnit}
+use Rattle.meaning.specs.Compare.{succeeds, waits, followed, gives, waits-on, place, places}
+use Rattle.meaning.specs.Trial.{compared, joins-waiting, choice}
+use Rattle.meaning.proofs.Lists.{Each, each-implies, not-beyond}
+use Rattle.meaning.proofs.Terms.{occurs-itself}
+use Rattle.meaning.proofs.Trial.{waits-on-each, fails-not-waits, succeeds-not-waits, behind-test, Either, the-one, the-other, either}
+use Rattle.meaning.proofs.Single.LiveValues.{in-term, in-terms, Flows, flows-to-less, flows-then, occurs-within, link}
 
 -- The terms hold the pair's reader, or a variable whose value does so in turn.
 pub data Reaches (values : Values) (p : ℕ) : Terms → Type 0 where
@@ -65,19 +68,6 @@ chain-flows values {p} {ts} (here m) = flows-to-less (occurs-within (in-terms ts
 chain-flows values {p} {ts} (through k q u m e further) =
     flows-then (link values (in-terms ts) k q u e m)
     (flows-then (flows-to-less (λ h n. omega arith)) (chain-flows values further))
-
--- The first place that does not agree waits: it is the first of two, or the first of them agrees.
-data Either (one two : Result) (readers : List ℕ) : Type 0 where
-  the-one : one ≡ waits readers → Either one two readers
-  the-other : two ≡ waits readers → Either one two readers
-
-either : (one two : Result) (readers : List ℕ) → and-then one two ≡ waits readers → Either one two readers
-unfolding and-then with-assignments
-either (succeeds first) (succeeds others) readers e = absurd (succeeds-not-waits e)
-either (succeeds first) (waits rs) readers e = the-other e
-either (succeeds first) fails readers e = absurd (fails-not-waits e)
-either (waits rs) two readers e = the-one e
-either fails two readers e = absurd (fails-not-waits e)
 
 module _ (values : Values) where
   followed-reaches : (p : ℕ) (links : ℕ) (t : Term) → Reaches values p (more (followed links values t) end) → Reaches values p (more t end)
@@ -145,3 +135,9 @@ module _ (values : Values) where
           go (the-one i) one other =
               each-implies _ _ (λ p r. reaches-more (more t ts) (λ h n. omega arith) (followed-reaches p links t r)) readers (one i)
           go (the-other i) one other = each-implies _ _ (λ p. reaches-more (more t ts) (λ h n. omega arith)) readers (other i)
+
+-- A goal that joins the waiting goals has a chain to each of its readers.
+pub waits-reach : (unit : QueryUnit) (goal : Named) (clauses : List Clause) (readers : List ℕ) → choice clauses unit goal ≡ joins-waiting readers
+    → Each (λ p. Reaches (unit .values) p (goal .arguments)) readers
+unfolding compared
+waits-reach unit goal = waits-on-each unit goal _ (λ clause others i. places-reach (unit .values) _ _ (goal .arguments) others i)

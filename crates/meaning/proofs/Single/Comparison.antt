@@ -1,7 +1,7 @@
 -- The table as arithmetic: where a head agrees with a goal, what both hold goes into the values given, and each pair given a value is one writer.
 -- Each agreeing row is an equality of counts; the goal's terms are followed by flows.
 use Prim.Native.Nat.{ℕ, _+_, _≤_}
-use mathlib.Core.Path.{_≡_, refl}
+use mathlib.Core.Path.{_≡_}
 use mathlib.Core.Bool.{_&&_}
 use mathlib.Core.List.{List, [], _∷_, _++_}
 use native.Mathlib.Omega.{arith}
@@ -23,41 +23,11 @@ use Rattle.meaning.specs.Terms.{
   occurrences,
   all-occurrences,
 }
-use Rattle.meaning.specs.State.{Values, value}
-use Rattle.meaning.specs.Compare.{
-  Assignment,
-  Result,
-  succeeds,
-  waits,
-  fails,
-  followed,
-  gives,
-  waits-on,
-  with-assignments,
-  and-then,
-  place,
-  places,
-}
-use Rattle.meaning.proofs.Single.Results.{fails-not-succeeds, waits-not-succeeds, behind-test}
-use Rattle.meaning.proofs.ListsSingle.{sum-append}
+use Rattle.meaning.specs.State.{Values}
+use Rattle.meaning.specs.Compare.{Assignment, succeeds, followed, gives, waits-on, place, places}
+use Rattle.meaning.proofs.Lists.{sum-append}
+use Rattle.meaning.proofs.Trial.{fails-not-succeeds, waits-not-succeeds, behind-test, both}
 use Rattle.meaning.proofs.Single.LiveValues.{in-term, Count, held, marks, Flows, flows-to-less, flows-then, flows-both, followed-flows}
-
--- All places agree exactly if the first does and the others do.
-pub record Both (one two : Result) (given : List Assignment) : Type 0 where
-  pub first : List Assignment
-  pub others : List Assignment
-  pub one-succeeds : one ≡ succeeds first
-  pub two-succeeds : two ≡ succeeds others
-  pub together : given ≡ first ++ others
-
-pub both : (one two : Result) (given : List Assignment) → and-then one two ≡ succeeds given → Both one two given
-unfolding and-then with-assignments
-both (succeeds first) (succeeds others) given e =
-    record { first = first; others = others; one-succeeds = refl; two-succeeds = refl; together = cc }
-both (succeeds first) (waits readers) given e = absurd (waits-not-succeeds e)
-both (succeeds first) fails given e = absurd (fails-not-succeeds e)
-both (waits readers) two given e = absurd (waits-not-succeeds e)
-both fails two given e = absurd (fails-not-succeeds e)
 
 -- What assignments hold, with a writer for each pair that is given a value.
 abbrev pub worth : List Assignment → Count

@@ -12,7 +12,7 @@ use Rattle.meaning.specs.State.{QueryUnit, Goal, Goals, goals-at, all-go
 use Rattle.meaning.specs.Compare.{Assignment}
 use Rattle.meaning.specs.Trial.{reduces, joins-waiting, joins-failed}
 use Rattle.meaning.specs.Step.{body-goals, wakes, goals-after, without-front}
-use Rattle.meaning.proofs.ListsSingle.{sum, sum-append, sum-map, sum-parted, sum-those}
+use Rattle.meaning.proofs.Lists.{sum, sum-append, sum-map, sum-parted, sum-those}
 use Rattle.meaning.proofs.Single.LiveValues.{Count}
 
 -- Active, waiting and failed goals together.

@@ -7,12 +7,13 @@ use mathlib.Core.List.{List, [], _∷_}
 use mathlib.Core.Option.{Option, none, some}
 use native.Mathlib.Omega.{arith}
 use lib.Dec.{eqb}
-use borrow.Author.Tests.{eqb-true, eqb-false, eq-eqb, ne-eqb}
+use borrow.Author.Tests.{eqb-true, eqb-false}
 use Rattle.meaning.specs.Bytes.{if_then_else_}
 use Rattle.meaning.specs.Terms.{Half, writer, reader, Term, Terms, variable, constant, compound, same-half, occurrences, all-occurrences}
 use Rattle.meaning.specs.State.{Values, value}
 use Rattle.meaning.specs.Compare.{Assignment, followed}
-use Rattle.meaning.proofs.ListsSingle.{sum, Each}
+use Rattle.meaning.proofs.Lists.{Each, sum}
+use Rattle.meaning.proofs.Terms.{occurs-itself, occurs-in-other}
 
 -- How often each half of each pair is counted.
 abbrev pub Count : Type 0
@@ -87,19 +88,6 @@ module _ {values : Values} where
               flow = λ h n. omega (arith, f .flow h n, g .flow h n);
             };
       }
-
--- One half of one pair.
-pub occurs-itself : (h : Half) (n : ℕ) → occurrences h n (variable h n) ≡ 1
-unfolding occurrences same-half if_then_else_
-occurs-itself writer n = rw (eq-eqb n n refl)
-occurs-itself reader n = rw (eq-eqb n n refl)
-
-pub occurs-in-other : (h k : Half) (n p : ℕ) → (n ≡ p → ⊥) → occurrences h n (variable k p) ≡ 0
-unfolding occurrences same-half if_then_else_
-occurs-in-other writer writer n p d = rw (ne-eqb n p d)
-occurs-in-other writer reader n p d = refl
-occurs-in-other reader writer n p d = refl
-occurs-in-other reader reader n p d = rw (ne-eqb n p d)
 
 pub occurs-within : (c : Count) (k : Half) (p : ℕ) → 1 ≤ c k p → (h : Half) (n : ℕ) → occurrences h n (variable k p) ≤ c h n
 unfolding occurrences same-half if_then_else_

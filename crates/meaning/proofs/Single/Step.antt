@@ -4,21 +4,19 @@ use Prim.Native.Nat.{ℕ, _+_, _<_}
 use mathlib.Core.Path.{_≡_, refl, sym}
 use mathlib.Core.Bool.{Bool, true, false}
 use mathlib.Core.List.{List, _∷_, map}
-use mathlib.Core.Option.{some}
 use native.Mathlib.Omega.{arith}
 use lib.Dec.{eqb}
-use lib.ListN.{length, set}
-use lib.Seq.{getD-set-same, getD-set-other}
+use lib.ListN.{length}
 use borrow.Author.Tests.{eqb-true, eqb-false, eq-eqb}
-use Rattle.meaning.specs.Terms.{Term, Terms, Clause, renamed-goal, all-occurrences}
-use Rattle.meaning.specs.State.{Values, value, QueryUnit, Goal, Waiting, Goals, State, no-unit, unit-at, of}
+use Rattle.meaning.specs.Terms.{Terms, Clause, renamed-goal, all-occurrences}
+use Rattle.meaning.specs.State.{Values, QueryUnit, Goal, Waiting, Goals, State, unit-at, of}
 use Rattle.meaning.specs.Trial.{next-pair, Choice, reduces, joins-waiting, joins-failed, choice}
 use Rattle.meaning.specs.Step.{unit-after, body-goals, goals-after, without-front, step}
 use Rattle.meaning.specs.Run.{choice-for}
-use Rattle.meaning.proofs.JobOk.{ClauseOk}
-use Rattle.meaning.proofs.ListsSingle.{Each, each-append, each-implies, each-of-those}
-use Rattle.meaning.proofs.Single.Chains.{Reaches, reaches-kept}
-use Rattle.meaning.proofs.Single.Chosen.{reduces-agrees, waits-reach}
+use Rattle.meaning.proofs.Lists.{Each, each-in, each-append, each-implies, each-of-those}
+use Rattle.meaning.proofs.Trial.{reduces-agrees, unit-at-set-same, unit-at-set-other}
+use Rattle.meaning.proofs.Reading.{ClauseOk}
+use Rattle.meaning.proofs.Single.Chains.{Reaches, reaches-kept, waits-reach}
 use Rattle.meaning.proofs.Single.Balance.{Balanced, balanced-less, balanced-after, values-kept}
 use Rattle.meaning.proofs.Single.Counting.{
   own-of,
@@ -44,14 +42,6 @@ pub record Sound (k : ℕ) (values : Values) (goals : Goals) : Type 0 where
   pub balanced : Balanced values (count-of k goals)
   pub chained : Each (λ w. of k (w .goal) ≡ true → Chained values w) (goals .waiting)
 
-unit-set : (units : List QueryUnit) (k : ℕ) (unit : QueryUnit) → k < length units → unit-at k (set units k unit) ≡ unit
-unfolding unit-at
-unit-set units k unit e = getD-set-same units k unit no-unit e
-
-unit-set-other : (units : List QueryUnit) (j k : ℕ) (unit : QueryUnit) → (k ≡ j → ⊥) → unit-at k (set units j unit) ≡ unit-at k units
-unfolding unit-at
-unit-set-other units j k unit d = getD-set-other units j k unit no-unit d
-
 -- The goal in front, counted apart from the others.
 pub balanced-front : (values : Values) (g : Goal) (goals : Goals) (others : List Goal) → goals .queue ≡ g ∷ others → Sound (g .query) values goals
     → Balanced values (λ h n. all-occurrences h n (g .goal .arguments) + count-of (g .query) (without-front others goals) h n)
@@ -73,7 +63,8 @@ module _ (clauses : List Clause) (ok : Each ClauseOk clauses) (unit : QueryUnit)
   unfolding unit-after goals-after without-front body-goals
   own-step s (reduces clause given) e =
       let k = g .query in
-      let its = reduces-agrees unit (g .goal) ClauseOk clauses clause given ok e in
+      let (member, agrees) = reduces-agrees unit (g .goal) clause given clauses e in
+      let clause-ok = each-in ClauseOk ok member in
       let b = balanced-front (unit .values) g goals others front s in
       record {
         balanced =
@@ -84,13 +75,13 @@ module _ (clauses : List Clause) (ok : Each ClauseOk clauses) (unit : QueryUnit)
               count-reduced k h n clause given unit g rest,
               entered k h n (map (renamed-goal (next-pair unit) (unit .compounds)) (clause .body)),
             ))
-            (balanced-after unit clause (g .goal) given (count-of k rest) (its .0) (its .1) b);
+            (balanced-after unit clause (g .goal) given (count-of k rest) clause-ok agrees b);
         chained =
             each-of-those _ _ (goals .waiting)
             (each-implies _ _
             (λ w chains its-own.
             each-implies _ _
-            (λ p. reaches-kept _ (values-kept unit clause (g .goal) given (count-of k rest) (its .0) (its .1) b))
+            (λ p. reaches-kept _ (values-kept unit clause (g .goal) given (count-of k rest) clause-ok agrees b))
             (w .readers) (chains its-own))
             (goals .waiting) (s .chained));
       }
@@ -110,16 +101,6 @@ module _ (clauses : List Clause) (ok : Each ClauseOk clauses) (unit : QueryUnit)
             (s .balanced);
         chained = s .chained;
       }
-
-  -- Whatever becomes of the goal, a value of its unit stays.
-  own-values-stay : Sound (g .query) (unit .values) goals → (c : Choice) → choice clauses unit (g .goal) ≡ c
-      → (n : ℕ) (t : Term) → value (unit .values) n ≡ some t → value (unit-after c unit .values) n ≡ some t
-  unfolding unit-after
-  own-values-stay s (reduces clause given) e n t i =
-      let its = reduces-agrees unit (g .goal) ClauseOk clauses clause given ok e in
-      values-kept unit clause (g .goal) given _ (its .0) (its .1) (balanced-front (unit .values) g goals others front s) n t i
-  own-values-stay s (joins-waiting readers) e n t i = i
-  own-values-stay s joins-failed e n t i = i
 
   -- A step on another query's goal.
   other-step : (k : ℕ) (values : Values) → (g .query ≡ k → ⊥) → Sound k values goals → (c : Choice)
@@ -174,28 +155,9 @@ step-sound clauses ok state g others front k inside s = go (eqb (g .query) k) re
     go : (b : Bool) → eqb (g .query) k ≡ b → SoundAt k (step (choice-for clauses state g) g others state)
     go true e =
         let same : g .query ≡ k = eqb-true (g .query) k e in
-        rw (← same, unit-set (state .units) (g .query) (unit-after (choice clauses unit (g .goal)) unit) (rw same inside))
+        rw (← same, unit-at-set-same (state .units) (g .query) (unit-after (choice clauses unit (g .goal)) unit) (rw same inside))
         (own-step clauses ok unit g (state .goals) others front (rw same s) (choice clauses unit (g .goal)) refl)
     go false e =
         let d : g .query ≡ k → ⊥ = eqb-false (g .query) k e in
-        rw (unit-set-other (state .units) (g .query) k (unit-after (choice clauses unit (g .goal)) unit) (λ i. d (sym i)))
+        rw (unit-at-set-other (state .units) (g .query) k (unit-after (choice clauses unit (g .goal)) unit) (λ i. d (sym i)))
         (other-step clauses ok unit g (state .goals) others front k _ d s (choice clauses unit (g .goal)))
-
--- After a step each value is still there.
-pub step-values-stay : (clauses : List Clause) → Each ClauseOk clauses → (state : State) (g : Goal) (others : List Goal)
-    → state .goals .queue ≡ g ∷ others → (k : ℕ) → k < length (state .units) → SoundAt k state
-    → (n : ℕ) (t : Term) → value (unit-at k (state .units) .values) n ≡ some t
-    → value (unit-at k (step (choice-for clauses state g) g others state .units) .values) n ≡ some t
-unfolding step choice-for
-step-values-stay clauses ok state g others front k inside s n t i = go (eqb (g .query) k) refl
-  where
-    unit : QueryUnit
-    unit = unit-at (g .query) (state .units)
-
-    go : (b : Bool) → eqb (g .query) k ≡ b → value (unit-at k (step (choice-for clauses state g) g others state .units) .values) n ≡ some t
-    go true e =
-        let same : g .query ≡ k = eqb-true (g .query) k e in
-        rw (← same, unit-set (state .units) (g .query) (unit-after (choice clauses unit (g .goal)) unit) (rw same inside))
-        (own-values-stay clauses ok unit g (state .goals) others front (rw same s) (choice clauses unit (g .goal)) refl n t (rw same i))
-    go false e =
-        rw (unit-set-other (state .units) (g .query) k (unit-after (choice clauses unit (g .goal)) unit) (λ j. eqb-false (g .query) k e (sym j))) i

@@ -21,7 +21,7 @@ use Rattle.meaning.specs.Terms.{
 }
 use Rattle.meaning.specs.State.{Values, value}
 use Rattle.meaning.specs.Report.{applied}
-use Rattle.meaning.proofs.ListsSingle.{sum}
+use Rattle.meaning.proofs.Lists.{sum}
 use Rattle.meaning.proofs.Single.LiveValues.{in-term, in-terms, Flows, flows-to-less, flows-then, flows-both, value-flows}
 
 module _ (values : Values) where
