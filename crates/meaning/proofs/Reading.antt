@@ -1,7 +1,12 @@
 -- Reading: every accepted text keeps the occurrence rules and the figures, and what an item is depends on its tokens alone.
 -- Two readers that stand beside each other on the same tokens read alike; each reader's law is put together like the reader itself.
+pub mod EachToken
 pub mod Rules
+pub mod Numbering
+pub mod NumberedTerms
+pub mod Brackets
 pub mod Figures
+pub mod TokensFit
 pub mod Alike
 pub mod Counting
 pub mod Readers
@@ -27,28 +32,30 @@ pub use Alike.{bare}
 pub use Items.{clause-pieces, query-pieces}
 -- Each clause and each query of an accepted text is read from the tokens of its own piece.
 pub use ItemByItem.{accepted-is-read}
+-- The names counted over the whole text.
+unfoldable pub use ItemByItem.{names-behind, names-of}
 
 -- Every item of an accepted text keeps the occurrence rules, and its variables are numbered below its number of pairs.
 pub accepted-keeps-the-occurrence-rules : (text : Bytes) (j : Job) → reading text ≡ job j → JobOk j
 accepted-keeps-the-occurrence-rules text j e =
     let r = accepted-is-read text j e in
     record {
-      clauses-ok = each-paired ClauseOk (clause-ok (r .names)) (r .clauses);
-      queries-ok = each-paired QueryOk (query-ok (r .names)) (r .queries);
+      clauses-ok = each-paired ClauseOk (clause-ok (names-of text)) (r .clauses);
+      queries-ok = each-paired QueryOk (query-ok (names-of text)) (r .queries);
     }
 
--- Every accepted text keeps document 01's figures.
-pub accepted-keeps-the-figures : (text : Bytes) (j : Job) → reading text ≡ job j → JobFits j
+-- Every accepted text keeps document 01's figures, its integers are in range, and its compounds are numbered in order.
+-- Its names are those counted over the text: at most 256, no two the same, and each name of the job is among them.
+pub accepted-keeps-the-figures : (text : Bytes) (j : Job) → reading text ≡ job j → JobFits (names-of text) j
 accepted-keeps-the-figures text j e =
     let r = accepted-is-read text j e in
     record {
-      names = r .names;
-      few-names = r .few-names;
+      names-fit = r .names-fit;
       few-clauses = r .few-clauses;
       some-queries = r .some-queries;
       few-queries = r .few-queries;
-      clauses = each-paired (ClauseFits (r .names)) (clause-fits (r .names)) (r .clauses);
-      queries = each-paired (QueryFits (r .names)) (query-fits (r .names)) (r .queries);
+      clauses = each-paired (ClauseFits (names-of text)) (clause-fits (names-of text)) (r .clauses);
+      queries = each-paired (QueryFits (names-of text)) (query-fits (names-of text)) (r .queries);
     }
 
 -- An accepted text has a clause for each of its clause pieces, and a query for each of its query pieces.

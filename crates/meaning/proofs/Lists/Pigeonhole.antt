@@ -3,16 +3,36 @@
 use Prim.Native.Nat.{ℕ, suc, _≤_, _<_, zero-le}
 use mathlib.Core.Path.{_≡_, refl, sym, ap, subst, _∙_}
 use mathlib.Core.Logic.{⊎-elim}
-use mathlib.Core.List.{List, [], _∷_}
+use mathlib.Core.List.{List, [], _∷_, _++_}
 use native.Mathlib.Omega.{arith}
 use lib.ListN.{length}
 use Rattle.meaning.specs.Bytes.{up-to}
-use Rattle.meaning.proofs.Lists.Among.{In, here, there, in-cons-cases, in-same, up-to-length, below-in-up-to}
+use Rattle.meaning.proofs.Lists.Among.{
+  In,
+  here,
+  there,
+  in-append-cases,
+  in-cons-cases,
+  in-none,
+  in-same,
+  in-single,
+  up-to-length,
+  below-in-up-to,
+}
 
 -- A list without repetition.
-unfoldable pub Distinct : List ℕ → Type 0
+unfoldable pub Distinct : {A : Type 0} → List A → Type 0
 Distinct [] = Unit {0}
-Distinct (n ∷ ns) = (In n ns → ⊥) × Distinct ns
+Distinct (a ∷ l) = (In a l → ⊥) × Distinct l
+
+-- One more behind it, that does not stand in it.
+pub distinct-last : {A : Type 0} (l : List A) (a : A) → Distinct l → (In a l → ⊥) → Distinct (l ++ (a ∷ []))
+unfolding Distinct
+distinct-last [] a d new = (in-none, tt)
+distinct-last (b ∷ l) a d new = (
+  λ m. ⊎-elim (d .0) (λ e. new (here (sym (in-single e)))) (in-append-cases l m),
+  distinct-last l a (d .1) (λ m. new (there m)),
+)
 
 -- A list without one that stands in it: it is one shorter, and holds all others.
 taken-out : {n : ℕ} {l : List ℕ} → In n l

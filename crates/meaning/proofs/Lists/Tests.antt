@@ -57,6 +57,16 @@ unfolding same
 same-refl [] = refl
 same-refl (b ∷ bs) = rw (eq-eqb b b refl, same-refl bs)
 
+-- Spellings that are the same are equal.
+pub same-true : (f g : Bytes) → same f g ≡ true → f ≡ g
+unfolding same
+same-true [] [] e = refl
+same-true [] (c ∷ cs) e = absurd (false-not-true false refl e)
+same-true (b ∷ bs) [] e = absurd (false-not-true false refl e)
+same-true (b ∷ bs) (c ∷ cs) e =
+    let first : b ≡ c = eqb-true b c (and-left (eqb b c) (same bs cs) e) in
+    cc (same-true bs cs (and-right (eqb b c) (same bs cs) e))
+
 -- A number that is not at or beyond another is below it.
 pub not-beyond : (m n : ℕ) → (n ≤ m → ⊥) → m < n
 not-beyond m n d = omega arith

@@ -78,9 +78,11 @@ module _ (names : List Bytes) (piece : Tokens) (c : Clause) (r : ClauseAmong nam
       let fits = rule-fits clause-item in
       let wider = names-widen (clause-item .counted) names (r .1) in
       rw (r .0 .made) (record {
-        few-pairs = fits .onward .figures .variables;
+        few-pairs = fits .onward .figures .variables .few;
         few-compounds = fits .onward .figures .compounds;
         few-goals = fits .holds .few-goals;
+        numbered = fits .holds .numbered;
+        nested = fits .holds .nested;
         head = named-widens wider (clause-item .value .head) (fits .holds .head);
         body = each-implies _ _ (named-widens wider) (clause-item .value .body) (fits .holds .body);
       })
@@ -95,8 +97,8 @@ module _ (names : List Bytes) (piece : Tokens) (q : Query) (r : QueryAmong names
       let b = bounds (query-item .counted) in
       let fits = goals-fit query-item in
       rw (r .0 .made) (record {
-        below = λ h n past. goals-below b h n past (query-item .value) (fits .holds .0);
-        once = once-for-all b (query-item .value) (fits .holds .0) (r .0 .not-twice);
+        below = λ h n past. goals-below b h n past (query-item .value) (fits .holds .fit);
+        once = once-for-all b (query-item .value) (fits .holds .fit) (r .0 .not-twice);
       })
 
   pub query-fits : QueryFits names q
@@ -105,9 +107,12 @@ module _ (names : List Bytes) (piece : Tokens) (q : Query) (r : QueryAmong names
       let fits = goals-fit query-item in
       let wider = names-widen (query-item .counted) names (r .1) in
       rw (r .0 .made) (record {
-        few-pairs = fits .onward .figures .variables;
+        few-pairs = fits .onward .figures .variables .few;
         few-compounds = fits .onward .figures .compounds;
-        some-goals = fits .holds .1;
-        few-goals = fits .holds .2;
-        goals = each-implies _ _ (named-widens wider) (query-item .value) (fits .holds .0);
+        some-goals = fits .holds .some-goals;
+        few-goals = fits .holds .few-goals;
+        variables = fits .onward .figures .variables;
+        numbered = fits .holds .numbered;
+        nested = fits .holds .nested;
+        goals = each-implies _ _ (named-widens wider) (query-item .value) (fits .holds .fit);
       })

@@ -26,7 +26,9 @@ use Rattle.meaning.specs.Items.{
   if-next,
 }
 use Rattle.meaning.proofs.Lists.{differ}
-use Rattle.meaning.proofs.Reading.Figures.{Bounds, Widens, widens-refl, widens-trans}
+use Rattle.meaning.proofs.Reading.EachToken.{EachToken}
+use Rattle.meaning.proofs.Reading.TokensFit.{TokenFits}
+use Rattle.meaning.proofs.Reading.Figures.{SpellingsFit, Bounds, Widens, widens-refl, widens-trans}
 
 -- The tokens of a piece of the text, without their places.
 unfoldable pub bare : Tokens → List Token
@@ -37,10 +39,10 @@ bare (token place t rest) = t ∷ bare rest
 abbrev pub bounds : Counted → Bounds
 bounds c = record { pairs = length (c .variables); compounds = c .compounds; names = c .names }
 
--- The figures are kept so far.
+-- The figures are kept so far, and names and variables are told apart.
 pub record Figures (c : Counted) : Type 0 where
-  pub names : length (c .names) ≤ 256
-  pub variables : length (c .variables) ≤ 16
+  pub names : SpellingsFit 256 (c .names)
+  pub variables : SpellingsFit 16 (c .variables)
   pub compounds : c .compounds ≤ 32
 
 -- Two places in two texts from which the same is read.
@@ -49,6 +51,7 @@ pub record Beside (c₁ c₂ : Counted) (s₁ s₂ : Tokens) : Type 0 where
   pub compounds : c₁ .compounds ≡ c₂ .compounds
   pub tokens : bare s₁ ≡ bare s₂
   pub figures : Figures c₁
+  pub fit : EachToken TokenFits s₁
 
 -- What two readings that began at c have read: the same, of which P holds, up to places beside one another.
 pub record Same {A : Type 0} (c : Counted) (P : Counted → A → Type 0) (a₁ a₂ : A) (c₁ c₂ : Counted) (s₁ s₂ : Tokens) : Type 0 where
@@ -69,11 +72,15 @@ Agree c P passed y = Unit {0}
 pub record ReadAlike {A : Type 0} (c : Counted) (P : Counted → A → Type 0) (r₁ r₂ : Reader A) : Type 0 where
   pub agree : (c₂ : Counted) (s₁ s₂ : Tokens) → Beside c c₂ s₁ s₂ → Agree c P (r₁ c s₁) (r₂ c₂ s₂)
 
--- The same tokens behind a first token.
+-- The same tokens behind a first token, which fits.
 pub first-tokens : {c₁ c₂ : Counted} {place₁ place₂ : ℕ} {t₁ t₂ : Token} {s₁ s₂ : Tokens}
-    → Beside c₁ c₂ (token place₁ t₁ s₁) (token place₂ t₂ s₂) → (t₂ ≡ t₁) × Beside c₁ c₂ s₁ s₂
+    → Beside c₁ c₂ (token place₁ t₁ s₁) (token place₂ t₂ s₂) → (t₂ ≡ t₁) × Beside c₁ c₂ s₁ s₂ × TokenFits t₁
 unfolding bare
-first-tokens b = (cc (b .tokens), record { variables = b .variables; compounds = b .compounds; tokens = cc (b .tokens); figures = b .figures })
+first-tokens b = (
+  cc (b .tokens),
+  record { variables = b .variables; compounds = b .compounds; tokens = cc (b .tokens); figures = b .figures; fit = b .fit .1 },
+  b .fit .0,
+)
 
 module _ {A : Type 0} (c : Counted) (P : Counted → A → Type 0) where
   agree-malformed : (x : Read A) (place : ℕ) → Agree c P x (malformed place)
@@ -117,14 +124,14 @@ module _ {A : Type 0} {c : Counted} {P : Counted → A → Type 0} where
   if-alike true first second = first refl
   if-alike false first second = second refl
 
-  module _ {on₁ on₂ : ℕ → Token → Reader A} (on : (place₁ place₂ : ℕ) (t : Token) → ReadAlike c P (on₁ place₁ t) (on₂ place₂ t)) where
+  module _ {on₁ on₂ : ℕ → Token → Reader A} (on : (place₁ place₂ : ℕ) (t : Token) → TokenFits t → ReadAlike c P (on₁ place₁ t) (on₂ place₂ t)) where
     next-agrees : (c₂ : Counted) (s₁ s₂ : Tokens) → Beside c c₂ s₁ s₂ → Agree c P (next on₁ c s₁) (next on₂ c₂ s₂)
     unfolding next Agree
     next-agrees c₂ (ends place₁) (ends place₂) b = tt
     next-agrees c₂ (ends place₁) (token place₂ t₂ s₂) b = tt
     next-agrees c₂ (token place₁ t₁ s₁) (ends place₂) b = agree-malformed c P (on₁ place₁ t₁ c s₁) place₂
     next-agrees c₂ (token place₁ t₁ s₁) (token place₂ t₂ s₂) b =
-        rw (first-tokens b .0) (on place₁ place₂ t₁ .agree c₂ s₁ s₂ (first-tokens b .1))
+        rw (first-tokens b .0) (on place₁ place₂ t₁ (first-tokens b .2) .agree c₂ s₁ s₂ (first-tokens b .1))
 
     pub next-alike : ReadAlike c P (next on₁) (next on₂)
     next-alike = record { agree = next-agrees }

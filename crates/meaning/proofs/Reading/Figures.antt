@@ -1,15 +1,18 @@
--- What document 01's figures say of an accepted item: its pairs', compounds' and arguments' numbers, and that its names are the text's.
+-- What document 01's figures say of an accepted item: its pairs, compounds, arguments and integers, and that its names are the text's.
 -- What fits within some bounds fits within wider ones; what fits holds no pair that the item does not have.
 use Prim.Native.Nat.{ℕ, _≤_, _<_}
 use mathlib.Core.Path.{_≡_, refl}
 use mathlib.Core.Bool.{Bool, true, false, _&&_}
-use mathlib.Core.List.{List, [], _∷_}
+use mathlib.Core.List.{List, [], _∷_, _++_}
 use native.Mathlib.Omega.{arith}
-use lib.ListN.{length}
+use lib.ListN.{length, length-append}
 use borrow.Author.Tests.{ne-eqb}
 use Rattle.meaning.specs.Bytes.{Bytes, if_then_else_, same, any}
 use Rattle.meaning.specs.Terms.{
   Half,
+  Integer,
+  plus,
+  minus,
   Constant,
   integer,
   name,
@@ -35,7 +38,9 @@ use Rattle.meaning.specs.Terms.{
   goals-occurrences,
   as-term,
 }
-use Rattle.meaning.proofs.Lists.{Each}
+use Rattle.meaning.proofs.Lists.{In, any-in, in-same, Each, each-append, Distinct, distinct-last, same-true}
+use Rattle.meaning.proofs.Reading.Numbering.{GoalsNumbered}
+use Rattle.meaning.proofs.Reading.Brackets.{GoalNested}
 
 -- So many pairs and compounds, and these names.
 pub record Bounds : Type 0 where
@@ -47,8 +52,42 @@ pub record Bounds : Type 0 where
 abbrev pub Known : Bounds → Bytes → Type 0
 Known b f = any (same f) (b .names) ≡ true
 
+-- It stands among them.
+pub known-in : (b : Bounds) (f : Bytes) → Known b f → In f (b .names)
+known-in b f e = let (g, m, is-same) = any-in (same f) (b .names) e in in-same (same-true f g is-same) m
+
+-- "1 to 31 bytes."
+pub record SpellingFits (f : Bytes) : Type 0 where
+  pub some : 1 ≤ length f
+  pub few : length f ≤ 31
+
+-- At most so many spellings, told apart.
+pub record SpellingsFit (most : ℕ) (l : List Bytes) : Type 0 where
+  pub few : length l ≤ most
+  pub distinct : Distinct l
+  pub spelled : Each SpellingFits l
+
+pub no-spellings-fit : (most : ℕ) → SpellingsFit most []
+unfolding Distinct
+no-spellings-fit most = record { few = omega arith; distinct = tt; spelled = tt }
+
+-- One more of them, where there is room.
+pub one-more-spelling : {most : ℕ} (l : List Bytes) (x : Bytes) → length l < most → SpellingFits x → (In x l → ⊥)
+    → SpellingsFit most l → SpellingsFit most (l ++ (x ∷ []))
+one-more-spelling l x room spelled new h =
+    record {
+      few = omega (arith, length-append l (x ∷ []));
+      distinct = distinct-last l x (h .distinct) new;
+      spelled = each-append SpellingFits l (x ∷ []) (h .spelled) (spelled, tt);
+    }
+
+-- "From -2147483648 to 2147483647", and there is no `-0`.
+unfoldable pub IntegerFits : Integer → Type 0
+IntegerFits (plus n) = n ≤ 2147483647
+IntegerFits (minus n) = (1 ≤ n) × (n ≤ 2147483648)
+
 unfoldable pub ConstantFits : Bounds → Constant → Type 0
-ConstantFits b (integer i) = Unit {0}
+ConstantFits b (integer i) = IntegerFits i
 ConstantFits b (name f) = Known b f
 ConstantFits b empty = Unit {0}
 
@@ -80,6 +119,8 @@ pub record ClauseFits (names : List Bytes) (c : Clause) : Type 0 where
   pub few-pairs : c .pairs ≤ 16
   pub few-compounds : c .compounds ≤ 32
   pub few-goals : length (c .body) ≤ 8
+  pub numbered : GoalsNumbered 0 (c .compounds) (c .head ∷ c .body)
+  pub nested : Each GoalNested (c .head ∷ c .body)
   pub head : NamedFits (record { pairs = c .pairs; compounds = c .compounds; names = names }) (c .head)
   pub body : Each (NamedFits (record { pairs = c .pairs; compounds = c .compounds; names = names })) (c .body)
 
@@ -88,12 +129,14 @@ pub record QueryFits (names : List Bytes) (q : Query) : Type 0 where
   pub few-compounds : q .compounds ≤ 32
   pub some-goals : 1 ≤ length (q .goals)
   pub few-goals : length (q .goals) ≤ 8
+  pub variables : SpellingsFit 16 (q .variables)
+  pub numbered : GoalsNumbered 0 (q .compounds) (q .goals)
+  pub nested : Each GoalNested (q .goals)
   pub goals : Each (NamedFits (record { pairs = length (q .variables); compounds = q .compounds; names = names })) (q .goals)
 
--- "128 clauses; 1 to 8 queries; 256 distinct names."
-pub record JobFits (j : Job) : Type 0 where
-  pub names : List Bytes
-  pub few-names : length names ≤ 256
+-- "128 clauses; 1 to 8 queries; 256 distinct names", of a job whose names are these.
+pub record JobFits (names : List Bytes) (j : Job) : Type 0 where
+  pub names-fit : SpellingsFit 256 names
   pub few-clauses : length (j .clauses) ≤ 128
   pub some-queries : 1 ≤ length (j .queries)
   pub few-queries : length (j .queries) ≤ 8
@@ -115,7 +158,7 @@ widens-trans v w = record { pairs = omega arith; compounds = omega arith; names 
 module _ {b c : Bounds} (w : Widens b c) where
   constant-widens : (k : Constant) → ConstantFits b k → ConstantFits c k
   unfolding ConstantFits
-  constant-widens (integer i) h = tt
+  constant-widens (integer i) h = h
   constant-widens (name f) h = w .names f h
   constant-widens empty h = tt
 

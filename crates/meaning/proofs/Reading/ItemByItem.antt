@@ -30,7 +30,10 @@ use Rattle.meaning.specs.Items.{
   asked,
   reading,
 }
-use Rattle.meaning.proofs.Lists.{Paired, done, pair, differ}
+use Rattle.meaning.proofs.Lists.{Each, Paired, done, pair, differ}
+use Rattle.meaning.proofs.Reading.Figures.{SpellingsFit, no-spellings-fit}
+use Rattle.meaning.proofs.Reading.EachToken.{EachToken}
+use Rattle.meaning.proofs.Reading.TokensFit.{TokenFits, tokens-fit}
 use Rattle.meaning.proofs.Reading.Items.{
   begins-with,
   clause-pieces,
@@ -44,6 +47,21 @@ use Rattle.meaning.proofs.Reading.Items.{
   item-says,
 }
 
+-- The names of the text behind these pieces, item by item as the text is read.
+unfoldable pub names-behind : SoFar → List Tokens → List Bytes
+names-behind so-far [] = so-far .names
+names-behind so-far (piece ∷ pieces) =
+    elim (item so-far piece) [
+      | nothing ↦ names-behind so-far pieces
+      | clause c names ↦ names-behind (record { names = names; clauses = so-far .clauses + 1; queries = so-far .queries }) pieces
+      | query q names ↦ names-behind (record { names = names; clauses = so-far .clauses; queries = so-far .queries + 1 }) pieces
+      | Piece.refused r ↦ so-far .names
+    ]
+
+-- All names of a text, in order of first occurrence.
+unfoldable pub names-of : Bytes → List Bytes
+names-of text = names-behind (record { names = []; clauses = 0; queries = 0 }) (pieces (tokens text))
+
 -- A piece reads as a clause, or as a query, whose names are among these.
 abbrev pub ClauseAmong : List Bytes → Tokens → Clause → Type 0
 ClauseAmong names piece c = (r : ClauseRead piece c) × Among (r .item .counted .names) names
@@ -54,7 +72,8 @@ QueryAmong names piece q = (r : QueryRead piece q) × Among (r .item .counted .n
 -- The pieces are read, each in its place, behind what has been counted so far; and the figures of the whole text are kept.
 pub record ReadInOrder (so-far : SoFar) (ps : List Tokens) (j : Job) : Type 0 where
   pub names : List Bytes
-  pub few-names : length names ≤ 256
+  pub counted : names-behind so-far ps ≡ names
+  pub names-fit : SpellingsFit 256 names
   pub among : Among (so-far .names) names
   pub few-clauses : so-far .clauses + length (j .clauses) ≤ 128
   pub few-queries : so-far .queries + length (j .queries) ≤ 8
@@ -62,18 +81,20 @@ pub record ReadInOrder (so-far : SoFar) (ps : List Tokens) (j : Job) : Type 0 wh
   pub queries : Paired (QueryAmong names) (those (begins-with (is "?")) ps) (j .queries)
 
 pub record InFigures (so-far : SoFar) : Type 0 where
-  pub names : length (so-far .names) ≤ 256
+  pub names : SpellingsFit 256 (so-far .names)
   pub clauses : so-far .clauses ≤ 128
   pub queries : so-far .queries ≤ 8
 
 -- One more piece in front of those read.
 module _ (so-far : SoFar) (piece : Tokens) (ps : List Tokens) (j : Job) where
-  with-nothing : (begins-with is-name piece ≡ false) × (begins-with (is "?") piece ≡ false) → ReadInOrder so-far ps j → ReadInOrder so-far (piece ∷ ps) j
-  unfolding those if_then_else_
-  with-nothing (unnamed, unasked) h =
+  with-nothing : item so-far piece ≡ nothing → (begins-with is-name piece ≡ false) × (begins-with (is "?") piece ≡ false)
+      → ReadInOrder so-far ps j → ReadInOrder so-far (piece ∷ ps) j
+  unfolding those if_then_else_ names-behind
+  with-nothing is-so (unnamed, unasked) h =
       record {
         names = h .names;
-        few-names = h .few-names;
+        counted = rw (is-so, names-behind) (h .counted);
+        names-fit = h .names-fit;
         among = h .among;
         few-clauses = h .few-clauses;
         few-queries = h .few-queries;
@@ -82,14 +103,15 @@ module _ (so-far : SoFar) (piece : Tokens) (ps : List Tokens) (j : Job) where
       }
 
   module _ (names : List Bytes) where
-    with-one-clause : (c : Clause) → ClauseNext so-far piece c names
+    with-one-clause : (c : Clause) → item so-far piece ≡ clause c names → ClauseNext so-far piece c names
         → ReadInOrder (record { names = names; clauses = so-far .clauses + 1; queries = so-far .queries }) ps j
         → ReadInOrder so-far (piece ∷ ps) (record { clauses = c ∷ j .clauses; queries = j .queries })
-    unfolding those if_then_else_
-    with-one-clause c n h =
+    unfolding those if_then_else_ names-behind
+    with-one-clause c is-so n h =
         record {
           names = h .names;
-          few-names = h .few-names;
+          counted = rw (is-so, names-behind) (h .counted);
+          names-fit = h .names-fit;
           among = λ f k. h .among f (n .among f k);
           few-clauses = omega (arith, h .few-clauses);
           few-queries = h .few-queries;
@@ -97,14 +119,15 @@ module _ (so-far : SoFar) (piece : Tokens) (ps : List Tokens) (j : Job) where
           queries = rw (n .unasked) (h .queries);
         }
 
-    with-one-query : (q : Query) → QueryNext so-far piece q names
+    with-one-query : (q : Query) → item so-far piece ≡ query q names → QueryNext so-far piece q names
         → ReadInOrder (record { names = names; clauses = so-far .clauses; queries = so-far .queries + 1 }) ps j
         → ReadInOrder so-far (piece ∷ ps) (record { clauses = j .clauses; queries = q ∷ j .queries })
-    unfolding those if_then_else_
-    with-one-query q n h =
+    unfolding those if_then_else_ names-behind
+    with-one-query q is-so n h =
         record {
           names = h .names;
-          few-names = h .few-names;
+          counted = rw (is-so, names-behind) (h .counted);
+          names-fit = h .names-fit;
           among = λ f k. h .among f (n .among f k);
           few-clauses = h .few-clauses;
           few-queries = omega (arith, h .few-queries);
@@ -125,35 +148,37 @@ with-query-job q (job j′) j e = (j′, refl, cc)
 with-query-job q (Reading.refused r) j e = absurd (differ (cc))
 
 -- "The text item by item": where no item is refused, each piece reads as the clause or query in its place.
-pub items-in-order : (ps : List Tokens) (so-far : SoFar) (j : Job) → InFigures so-far → items so-far ps ≡ job j → ReadInOrder so-far ps j
-unfolding items those Says
-items-in-order [] so-far j h e =
+pub items-in-order : (ps : List Tokens) → Each (EachToken TokenFits) ps
+    → (so-far : SoFar) (j : Job) → InFigures so-far → items so-far ps ≡ job j → ReadInOrder so-far ps j
+unfolding items those Says names-behind
+items-in-order [] fit so-far j h e =
     let e′ : j ≡ record { clauses = []; queries = [] } = cc in
     rw e′ (record {
       names = so-far .names;
-      few-names = h .names;
+      counted = refl;
+      names-fit = h .names;
       among = λ f k. k;
       few-clauses = omega arith;
       few-queries = omega arith;
       clauses = done;
       queries = done;
     })
-items-in-order (piece ∷ ps) so-far j h e =
-    go (item so-far piece) refl (item-says so-far piece (h .names)) (items-in-order ps)
+items-in-order (piece ∷ ps) fit so-far j h e =
+    go (item so-far piece) refl (item-says so-far piece (h .names) (fit .0)) (items-in-order ps (fit .1))
   where
     go : (p : Piece) → item so-far piece ≡ p → Says so-far piece p
         → ((so-far : SoFar) (j : Job) → InFigures so-far → items so-far ps ≡ job j → ReadInOrder so-far ps j) → ReadInOrder so-far (piece ∷ ps) j
-    go nothing i says further = with-nothing so-far piece ps j says (further so-far j h (rw (i, items) at e))
+    go nothing i says further = with-nothing so-far piece ps j i says (further so-far j h (rw (i, items) at e))
     go (clause c names) i says further =
         let after : SoFar = record { names = names; clauses = so-far .clauses + 1; queries = so-far .queries } in
         let (j′, e₁, e₂) = with-clause-job c (items after ps) j (rw (i, items) at e) in
-        let figures : InFigures after = record { names = says .few-names; clauses = omega (arith, says .room); queries = h .queries } in
-        rw e₂ (with-one-clause so-far piece ps j′ names c says (further after j′ figures e₁))
+        let figures : InFigures after = record { names = says .names-fit; clauses = omega (arith, says .room); queries = h .queries } in
+        rw e₂ (with-one-clause so-far piece ps j′ names c i says (further after j′ figures e₁))
     go (query q names) i says further =
         let after : SoFar = record { names = names; clauses = so-far .clauses; queries = so-far .queries + 1 } in
         let (j′, e₁, e₂) = with-query-job q (items after ps) j (rw (i, items) at e) in
-        let figures : InFigures after = record { names = says .few-names; clauses = h .clauses; queries = omega (arith, says .room) } in
-        rw e₂ (with-one-query so-far piece ps j′ names q says (further after j′ figures e₁))
+        let figures : InFigures after = record { names = says .names-fit; clauses = h .clauses; queries = omega (arith, says .room) } in
+        rw e₂ (with-one-query so-far piece ps j′ names q i says (further after j′ figures e₁))
     go (Piece.refused r) i says further =
         let e′ : Reading.refused r ≡ job j = rw (i, items) at e in absurd (differ (cc))
 
@@ -172,26 +197,24 @@ asked-job (Reading.refused r) j e = absurd (differ (cc))
 
 -- An accepted text, as it was read.
 pub record TextRead (text : Bytes) (j : Job) : Type 0 where
-  pub names : List Bytes
-  pub few-names : length names ≤ 256
+  pub names-fit : SpellingsFit 256 (names-of text)
   pub few-clauses : length (j .clauses) ≤ 128
   pub some-queries : 1 ≤ length (j .queries)
   pub few-queries : length (j .queries) ≤ 8
-  pub clauses : Paired (ClauseAmong names) (clause-pieces text) (j .clauses)
-  pub queries : Paired (QueryAmong names) (query-pieces text) (j .queries)
+  pub clauses : Paired (ClauseAmong (names-of text)) (clause-pieces text) (j .clauses)
+  pub queries : Paired (QueryAmong (names-of text)) (query-pieces text) (j .queries)
 
 pub accepted-is-read : (text : Bytes) (j : Job) → reading text ≡ job j → TextRead text j
-unfolding reading clause-pieces query-pieces
+unfolding reading clause-pieces query-pieces names-of
 accepted-is-read text j e =
     let first : SoFar = record { names = []; clauses = 0; queries = 0 } in
     let (accepted, asked) = asked-job (items first (pieces (tokens text))) j e in
-    let in-order = items-in-order (pieces (tokens text)) first j (record { names = omega arith; clauses = omega arith; queries = omega arith }) accepted in
+    let in-order = items-in-order (pieces (tokens text)) (tokens-fit text) first j (record { names = no-spellings-fit 256; clauses = omega arith; queries = omega arith }) accepted in
     record {
-      names = in-order .names;
-      few-names = in-order .few-names;
+      names-fit = rw (in-order .counted) (in-order .names-fit);
       few-clauses = omega (arith, in-order .few-clauses);
       some-queries = asked;
       few-queries = omega (arith, in-order .few-queries);
-      clauses = in-order .clauses;
-      queries = in-order .queries;
+      clauses = rw (in-order .counted) (in-order .clauses);
+      queries = rw (in-order .counted) (in-order .queries);
     }

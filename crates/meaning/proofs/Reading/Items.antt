@@ -1,6 +1,6 @@
 -- One item read: from nothing counted but the text's names, over the tokens of its piece, to a clause or a query that passed the tests.
 -- Every law of accepted items follows from that; two pieces with the same tokens read as the same.
-use Prim.Native.Nat.{ℕ, _≤_, _<_}
+use Prim.Native.Nat.{ℕ, _<_}
 use mathlib.Core.Path.{_≡_, refl}
 use mathlib.Core.Bool.{Bool, true, false, _&&_}
 use mathlib.Core.List.{List, _∷_}
@@ -43,6 +43,9 @@ use Rattle.meaning.specs.Items.{
   item,
   pieces,
 }
+use Rattle.meaning.proofs.Reading.Figures.{SpellingsFit, no-spellings-fit}
+use Rattle.meaning.proofs.Reading.EachToken.{EachToken}
+use Rattle.meaning.proofs.Reading.TokensFit.{TokenFits}
 use Rattle.meaning.proofs.Reading.Alike.{bare, Same, both-read}
 use Rattle.meaning.proofs.Reading.Readers.{Steady, GoalsFit, goals-steady, RuleFits, rule-steady}
 
@@ -69,20 +72,27 @@ Among l names = (f : Bytes) → any (same f) l ≡ true → any (same f) names �
 -- A reader has read an item from these tokens, behind items with these names.
 pub record ItemRead {A : Type 0} (r : Reader A) (s : Tokens) : Type 0 where
   pub names : List Bytes
-  pub few-names : length names ≤ 256
+  pub names-fit : SpellingsFit 256 names
+  pub fit : EachToken TokenFits s
   pub value : A
   pub counted : Counted
   pub rest : Tokens
   pub is-read : r (fresh names) s ≡ read value counted rest
 
 -- The same tokens are read as the same, whatever the names before them; and what is read fits.
-pub same-tokens-same-item : {A : Type 0} {P : Counted → A → Type 0} {r : Reader A} {s₁ s₂ : Tokens} → Steady P r → bare s₁ ≡ bare s₂
+pub same-tokens-same-item : {A : Type 0} (P : ℕ → Counted → A → Type 0) {r : Reader A} {s₁ s₂ : Tokens} → Steady P r → bare s₁ ≡ bare s₂
     → (x₁ : ItemRead r s₁) (x₂ : ItemRead r s₂)
-    → Same (fresh (x₁ .names)) P (x₁ .value) (x₂ .value) (x₁ .counted) (x₂ .counted) (x₁ .rest) (x₂ .rest)
+    → Same (fresh (x₁ .names)) (P 0) (x₁ .value) (x₂ .value) (x₁ .counted) (x₂ .counted) (x₁ .rest) (x₂ .rest)
 unfolding fresh
-same-tokens-same-item steady e x₁ x₂ =
+same-tokens-same-item P steady e x₁ x₂ =
     both-read (steady (fresh (x₁ .names)))
-    (record { variables = refl; compounds = refl; tokens = e; figures = record { names = x₁ .few-names; variables = omega arith; compounds = omega arith } })
+    (record {
+      variables = refl;
+      compounds = refl;
+      tokens = e;
+      figures = record { names = x₁ .names-fit; variables = no-spellings-fit 16; compounds = omega arith };
+      fit = x₁ .fit;
+    })
     (x₁ .is-read) (x₂ .is-read)
 
 -- A piece reads as a clause.
@@ -100,12 +110,12 @@ pub record QueryRead (piece : Tokens) (q : Query) : Type 0 where
   pub made : q ≡ record { goals = item .value; variables = item .counted .variables; compounds = item .counted .compounds }
 
 pub rule-fits : {piece : Tokens} (x : ItemRead rule piece)
-    → Same (fresh (x .names)) RuleFits (x .value) (x .value) (x .counted) (x .counted) (x .rest) (x .rest)
-rule-fits x = same-tokens-same-item rule-steady refl x x
+    → Same (fresh (x .names)) (RuleFits 0) (x .value) (x .value) (x .counted) (x .counted) (x .rest) (x .rest)
+rule-fits x = same-tokens-same-item RuleFits rule-steady refl x x
 
 pub goals-fit : {behind : Tokens} (x : ItemRead (goals 8) behind)
-    → Same (fresh (x .names)) (GoalsFit 8) (x .value) (x .value) (x .counted) (x .counted) (x .rest) (x .rest)
-goals-fit x = same-tokens-same-item (goals-steady 8) refl x x
+    → Same (fresh (x .names)) (GoalsFit 8 0) (x .value) (x .value) (x .counted) (x .counted) (x .rest) (x .rest)
+goals-fit x = same-tokens-same-item (GoalsFit 8) (goals-steady 8) refl x x
 
 -- A clause or a query is read, and with it the text's names become these.
 pub record ClauseNext (so-far : SoFar) (piece : Tokens) (c : Clause) (names : List Bytes) : Type 0 where
@@ -115,7 +125,7 @@ pub record ClauseNext (so-far : SoFar) (piece : Tokens) (c : Clause) (names : Li
   pub clause-read : ClauseRead piece c
   pub counted : clause-read .item .counted .names ≡ names
   pub among : Among (so-far .names) names
-  pub few-names : length names ≤ 256
+  pub names-fit : SpellingsFit 256 names
 
 pub record QueryNext (so-far : SoFar) (piece : Tokens) (q : Query) (names : List Bytes) : Type 0 where
   pub unnamed : begins-with is-name piece ≡ false
@@ -124,7 +134,7 @@ pub record QueryNext (so-far : SoFar) (piece : Tokens) (q : Query) (names : List
   pub query-read : QueryRead piece q
   pub counted : query-read .item .counted .names ≡ names
   pub among : Among (so-far .names) names
-  pub few-names : length names ≤ 256
+  pub names-fit : SpellingsFit 256 names
 
 -- What it means for a piece to be nothing at all, a clause, or a query.
 unfoldable pub Says : SoFar → Tokens → Piece → Type 0
@@ -141,7 +151,8 @@ name-no-sign (integer i) e = refl
 name-no-sign (sign b) e = cc
 name-no-sign bad e = refl
 
-module _ (so-far : SoFar) (few : length (so-far .names) ≤ 256) (begins : ℕ) (t : Token) (behind : Tokens) where
+module _ (so-far : SoFar) (names-fit : SpellingsFit 256 (so-far .names)) (begins : ℕ) (t : Token) (behind : Tokens)
+    (fit : EachToken TokenFits (token begins t behind)) where
   whole : Tokens
   whole = token begins t behind
 
@@ -157,7 +168,7 @@ module _ (so-far : SoFar) (few : length (so-far .names) ≤ 256) (begins : ℕ) 
         gs = r .head ∷ r .body
 
         read-so : ItemRead rule whole
-        read-so = record { names = so-far .names; few-names = few; value = r; counted = counted; rest = rest; is-read = e }
+        read-so = record { names = so-far .names; names-fit = names-fit; fit = fit; value = r; counted = counted; rest = rest; is-read = e }
 
         go : (once : Bool) → nothing-twice pairs gs ≡ once → (both : Bool) → both-halves pairs gs ≡ both
             → Says so-far whole (if once && both
@@ -171,7 +182,7 @@ module _ (so-far : SoFar) (few : length (so-far .names) ≤ 256) (begins : ℕ) 
               clause-read = record { item = read-so; not-twice = e₁; halves = e₂; made = refl };
               counted = refl;
               among = rule-fits read-so .widens .names;
-              few-names = rule-fits read-so .onward .figures .names;
+              names-fit = rule-fits read-so .onward .figures .names;
             }
         go true e₁ false e₂ = tt
         go false e₁ both e₂ = tt
@@ -184,7 +195,7 @@ module _ (so-far : SoFar) (few : length (so-far .names) ≤ 256) (begins : ℕ) 
     query-piece-says (read gs counted rest) e = go (nothing-twice (length (counted .variables)) gs) refl
       where
         read-so : ItemRead (goals 8) behind
-        read-so = record { names = so-far .names; few-names = few; value = gs; counted = counted; rest = rest; is-read = e }
+        read-so = record { names = so-far .names; names-fit = names-fit; fit = fit .1; value = gs; counted = counted; rest = rest; is-read = e }
 
         go : (once : Bool) → nothing-twice (length (counted .variables)) gs ≡ once
             → Says so-far whole (if once
@@ -198,7 +209,7 @@ module _ (so-far : SoFar) (few : length (so-far .names) ≤ 256) (begins : ℕ) 
               query-read = record { item = read-so; not-twice = e₁; made = refl };
               counted = refl;
               among = goals-fit read-so .widens .names;
-              few-names = goals-fit read-so .onward .figures .names;
+              names-fit = goals-fit read-so .onward .figures .names;
             }
         go false e₁ = tt
     query-piece-says (malformed place) e = tt
@@ -225,7 +236,7 @@ module _ (so-far : SoFar) (few : length (so-far .names) ≤ 256) (begins : ℕ) 
       go false e false e′ = tt
 
 -- What a piece of the text is says how it begins and how it is read.
-pub item-says : (so-far : SoFar) (piece : Tokens) → length (so-far .names) ≤ 256 → Says so-far piece (item so-far piece)
+pub item-says : (so-far : SoFar) (piece : Tokens) → SpellingsFit 256 (so-far .names) → EachToken TokenFits piece → Says so-far piece (item so-far piece)
 unfolding item Says begins-with whole
-item-says so-far (ends place) few = (refl, refl)
-item-says so-far (token begins t behind) few = token-says so-far few begins t behind
+item-says so-far (ends place) names-fit fit = (refl, refl)
+item-says so-far (token begins t behind) names-fit fit = token-says so-far names-fit begins t behind fit

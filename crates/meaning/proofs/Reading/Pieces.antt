@@ -4,13 +4,13 @@ use mathlib.Core.Path.{_≡_, refl}
 use Rattle.meaning.specs.Terms.{Clause, Query}
 use Rattle.meaning.specs.Tokens.{Tokens, ends, token}
 use Rattle.meaning.proofs.Reading.Alike.{bare}
-use Rattle.meaning.proofs.Reading.Readers.{goals-steady, rule-steady}
+use Rattle.meaning.proofs.Reading.Readers.{GoalsFit, goals-steady, RuleFits, rule-steady}
 use Rattle.meaning.proofs.Reading.Items.{ClauseRead, QueryRead, behind-first, same-tokens-same-item}
 
 -- Two pieces with the same tokens read as the same clause, or as the same query.
 pub same-tokens-same-clause : (p₁ p₂ : Tokens) (c₁ c₂ : Clause) → bare p₁ ≡ bare p₂ → ClauseRead p₁ c₁ → ClauseRead p₂ c₂ → c₁ ≡ c₂
 same-tokens-same-clause p₁ p₂ c₁ c₂ e r₁ r₂ =
-    let both = same-tokens-same-item rule-steady e (r₁ .item) (r₂ .item) in
+    let both = same-tokens-same-item RuleFits rule-steady e (r₁ .item) (r₂ .item) in
     rw (r₁ .made, r₂ .made, both .value, both .onward .variables, both .onward .compounds)
 
 behind-first-bare : (p₁ p₂ : Tokens) → bare p₁ ≡ bare p₂ → bare (behind-first p₁) ≡ bare (behind-first p₂)
@@ -22,5 +22,5 @@ behind-first-bare (token place₁ t₁ s₁) (token place₂ t₂ s₂) e = cc
 
 pub same-tokens-same-query : (p₁ p₂ : Tokens) (q₁ q₂ : Query) → bare p₁ ≡ bare p₂ → QueryRead p₁ q₁ → QueryRead p₂ q₂ → q₁ ≡ q₂
 same-tokens-same-query p₁ p₂ q₁ q₂ e r₁ r₂ =
-    let both = same-tokens-same-item (goals-steady 8) (behind-first-bare p₁ p₂ e) (r₁ .item) (r₂ .item) in
+    let both = same-tokens-same-item (GoalsFit 8) (goals-steady 8) (behind-first-bare p₁ p₂ e) (r₁ .item) (r₂ .item) in
     rw (r₁ .made, r₂ .made, both .value, both .onward .variables, both .onward .compounds)

@@ -50,6 +50,7 @@ use Rattle.meaning.specs.Items.{
   rule,
 }
 use Rattle.meaning.proofs.Lists.{Each, each-append}
+use Rattle.meaning.proofs.Reading.EachToken.{EachToken}
 use Rattle.meaning.proofs.Report.Spelled.{Spelled, All-spelled, Constant-spelled, Functor-spelled, Goal-spelled}
 
 module _ (N X : Bytes → Type 0) where
@@ -62,8 +63,7 @@ module _ (N X : Bytes → Type 0) where
   Token-good bad = Unit {0}
 
   abbrev pub Tokens-good : Tokens → Type 0
-  Tokens-good (ends place) = Unit {0}
-  Tokens-good (token place t rest) = Token-good t × Tokens-good rest
+  Tokens-good s = EachToken Token-good s
 
   abbrev pub Good : {A : Type 0} → (A → Type 0) → Read A → Type 0
   Good P (read a counted rest) = P a × Each X (counted .variables) × Tokens-good rest

@@ -7,7 +7,7 @@ use lib.Dec.{leb, ltb}
 use lib.ListN.{length}
 use Rattle.meaning.specs.Bytes.{Bytes}
 use Rattle.meaning.specs.Terms.{Named, Clause, Query}
-use Rattle.meaning.specs.Tokens.{Token, Tokens, ends, token, tokens}
+use Rattle.meaning.specs.Tokens.{Tokens, ends, token, tokens}
 use Rattle.meaning.specs.Items.{
   Read,
   read,
@@ -29,7 +29,6 @@ use Rattle.meaning.specs.Items.{
   query-from,
   item-from,
   item,
-  onto,
   pieces,
   Reading,
   job,
@@ -40,9 +39,10 @@ use Rattle.meaning.specs.Items.{
   reading,
 }
 use Rattle.meaning.proofs.Lists.{Each, if-holds}
+use Rattle.meaning.proofs.Reading.EachToken.{each-token-of-pieces}
 use Rattle.meaning.proofs.Report.Spelled.{Goal-spelled}
 use Rattle.meaning.proofs.Report.SpelledRun.{Clause-spelled}
-use Rattle.meaning.proofs.Report.SpelledReader.{Tokens-good, Good, Rule-spelled, goals-reads, rule-reads}
+use Rattle.meaning.proofs.Report.SpelledReader.{Token-good, Tokens-good, Good, Rule-spelled, goals-reads, rule-reads}
 
 module _ (N X : Bytes → Type 0) where
   pub record Query-spelled (q : Query) : Type 0 where
@@ -84,21 +84,6 @@ module _ (N X : Bytes → Type 0) where
       (λ e. query-piece-good begins _ (goals-reads N X 8 .from (fresh (so-far .names)) rest tt (t .1))) (λ e. tt))
       (λ e. tt))
 
-  -- The tokens cut behind each full stop.
-  onto-good : (place : ℕ) (t : Token) (ps : List Tokens) → Tokens-good N X (token place t (ends place)) → Each (Tokens-good N X) ps
-      → Each (Tokens-good N X) (onto place t ps)
-  unfolding onto
-  onto-good place t [] g ps = tt
-  onto-good place t (piece ∷ pieces) g ps = ((g .0, ps .0), ps .1)
-
-  pieces-good : (ts : Tokens) → Tokens-good N X ts → Each (Tokens-good N X) (pieces ts)
-  unfolding pieces
-  pieces-good (ends place) g = (tt, tt)
-  pieces-good (token place t rest) g =
-      if-holds (Each (Tokens-good N X)) (is "." t) (token place t (ends place) ∷ pieces rest) (onto place t (pieces rest))
-      (λ e. ((g .0, tt), pieces-good rest (g .1)))
-      (λ e. onto-good place t (pieces rest) (g .0, tt) (pieces-good rest (g .1)))
-
   with-clause-good : (c : Clause) (r : Reading) → Clause-spelled N c → Reading-good r → Reading-good (with-clause c r)
   unfolding with-clause
   with-clause-good c (job j) s g = ((s, g .0), g .1)
@@ -130,4 +115,4 @@ module _ (N X : Bytes → Type 0) where
   -- A job read from good tokens is good.
   pub reading-good : (text : Bytes) → Tokens-good N X (tokens text) → Reading-good (reading text)
   unfolding reading
-  reading-good text t = asked-good _ (items-good _ (pieces (tokens text)) (pieces-good (tokens text) t))
+  reading-good text t = asked-good _ (items-good _ (pieces (tokens text)) (each-token-of-pieces (Token-good N X) (tokens text) t))
