@@ -1,0 +1,12 @@
+pub mod Ceiling
+pub mod Cells
+pub mod Frames
+pub mod Held
+pub mod Holds
+pub mod Jobs
+pub mod Lists
+pub mod Names
+pub mod Numbers
+pub mod Regions
+pub mod Spellings
+pub mod Words

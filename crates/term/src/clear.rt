@@ -1,0 +1,17 @@
+// Zeroing the needed part of the scratch.
+ghost use mathlib.Core.Path.{_≡_};
+ghost use mathlib.Core.List.{_++_};
+ghost use Prim.Native.Nat.{_≤_};
+ghost use lib.ListN.{length, drop, replicate};
+
+// The first n words are zero afterwards, and all beyond them is as it was.
+pub fn clear(s: &mut [u64], n: usize)
+    requires { ⌜ n ≤ length (now s) ⌝ }
+    ensures { λ r. ⌜ now (s .exit) ≡ replicate n 0 ++ drop n (now (s .entry)) ⌝ }
+{
+    let mut i = 0;
+    while i < n {
+        s[i] = 0;
+        i += 1;
+    }
+}

@@ -1,0 +1,32 @@
+// The word of a term: a tag below 8, and what it is a term of, eight times over. A pair that has no value holds 0.
+ghost use mathlib.Core.Path.{_≡_};
+ghost use Prim.Native.Nat.{_/_, _%_};
+ghost use Rattle.term.specs.Words.{view};
+
+// What a word says.
+pub enum View {
+    Nothing,
+    Writer(usize),
+    Reader(usize),
+    Integer(u64),
+    Name(usize),
+    Empty,
+    Compound(usize),
+}
+
+// The one place where a word is taken apart.
+pub fn look(w: u64) -> View
+    ensures { λ r. ⌜ r ≡ view (w % 8) (w / 8) ⌝ }
+{
+    let payload = w / 8;
+    let tag = w % 8;
+    match tag {
+        0 => View::Nothing,
+        1 => View::Writer(payload as usize),
+        2 => View::Reader(payload as usize),
+        3 => View::Integer(payload),
+        4 => View::Name(payload as usize),
+        5 => View::Empty,
+        _ => View::Compound(payload as usize),
+    }
+}
