@@ -1,0 +1,61 @@
+-- The classes of bytes by the numbers of their bytes: a byte of one class lies outside the others.
+-- A test that passes bounds the byte, and a byte out of bounds fails the test.
+use Prim.Native.Nat.{ℕ, _≤_, _<_}
+use Prim.Native.Char.{Char}
+use mathlib.Core.Path.{_≡_, refl}
+use mathlib.Core.Bool.{Bool, true, false, _&&_}
+use native.Mathlib.Omega.{arith}
+use lib.Dec.{leb, eqb}
+use borrow.Author.Tests.{leb-true, lt-leb, eqb-true, ne-eqb}
+use Rattle.meaning.specs.Bytes.{byte}
+use Rattle.meaning.specs.Tokens.{tokens-words, between, lowercase, uppercase, digit, underscore, separates, single-sign}
+
+pub both : (a b : Bool) → (a && b) ≡ true → (a ≡ true) × (b ≡ true)
+both true b e = (refl, e)
+both false b e = (e, cc)
+
+in-between : (low high : Char) (c : ℕ) → between low high c ≡ true → (byte low ≤ c) × (c ≤ byte high)
+unfolding between
+in-between low high c e =
+    let t = both (leb (byte low) c) (leb c (byte high)) e in
+    (leb-true _ _ (t .0), leb-true _ _ (t .1))
+
+pub lowercase-bytes : (c : ℕ) → lowercase c ≡ true → (97 ≤ c) × (c ≤ 122)
+unfolding lowercase byte
+lowercase-bytes c e = in-between "a" "z" c e
+
+pub uppercase-bytes : (c : ℕ) → uppercase c ≡ true → (65 ≤ c) × (c ≤ 90)
+unfolding uppercase byte
+uppercase-bytes c e = in-between "A" "Z" c e
+
+pub digit-bytes : (c : ℕ) → digit c ≡ true → (48 ≤ c) × (c ≤ 57)
+unfolding digit byte
+digit-bytes c e = in-between "0" "9" c e
+
+pub not-lowercase : (c : ℕ) → c < 97 → lowercase c ≡ false
+unfolding tokens-words
+not-lowercase c h = rw (lt-leb 97 c h)
+
+pub not-uppercase : (c : ℕ) → c < 65 → uppercase c ≡ false
+unfolding tokens-words
+not-uppercase c h = rw (lt-leb 65 c h)
+
+pub not-separates : (c : ℕ) → 32 < c → separates c ≡ false
+unfolding tokens-words
+not-separates c h =
+    rw (ne-eqb c 32 (λ e. omega arith), ne-eqb c 9 (λ e. omega arith), ne-eqb c 13 (λ e. omega arith), ne-eqb c 10 (λ e. omega arith))
+
+pub not-remark : (c : ℕ) → 37 < c → eqb c (byte "%") ≡ false
+unfolding byte
+not-remark c h = ne-eqb c 37 (λ e. omega arith)
+
+-- No sign of a single byte leads a run.
+underscore-no-sign : (c : ℕ) → single-sign c ≡ true → (b : Bool) → underscore c ≡ b → underscore c ≡ false
+unfolding tokens-words
+underscore-no-sign c s true e =
+    let no : false ≡ true = rw (eqb-true c 95 e) at s in
+    cc
+underscore-no-sign c s false e = e
+
+pub sign-no-underscore : (c : ℕ) → single-sign c ≡ true → underscore c ≡ false
+sign-no-underscore c s = underscore-no-sign c s (underscore c) refl

@@ -1,0 +1,77 @@
+-- What loading answers, and how far it has come between two items.
+use Prim.Native.Nat.{ℕ, _+_, _≤_, _<_}
+use mathlib.Core.Path.{_≡_}
+use mathlib.Core.List.{List, [], _∷_, _++_}
+use lib.ListN.{length, take}
+use Rattle.meaning.specs.Bytes.{Bytes}
+use Rattle.meaning.specs.Terms.{Job, count}
+use Rattle.meaning.specs.Tokens.{Tokens, tokens}
+use Rattle.meaning.specs.Items.{Refusal, no-query, Reading, job, refused, with-clause, with-query, items, pieces, reading, line}
+use Rattle.meaning.specs.Call.{refusal, number, line-of, cleared}
+use Rattle.term.specs.Frames.{Only}
+use Rattle.loader.specs.Fronts.{tokens-at}
+use Rattle.loader.specs.Places.{Place, spellings}
+use Rattle.loader.specs.Tables.{NamesIn}
+use Rattle.loader.specs.Image.{
+  names-in,
+  Entry,
+  a-clause,
+  a-query,
+  so-far,
+  entries,
+  clauses-of,
+  queries-of,
+  entries-stored,
+  head-words,
+  image,
+}
+use Rattle.loader.specs.Endings.{GoalsKnown}
+use Rattle.loader.specs.declared.load.Loaded.{Loaded}
+use Rattle.loader.specs.declared.load.Loaded.the-variants.{Job as AJob, Refused}
+use Rattle.loader.specs.declared.load.Listed.{Listed}
+use Rattle.loader.specs.declared.load.Listed.the-variants.{Items, Stopped}
+
+-- A reading with these entries before it.
+unfoldable pub with-entries : List Entry → Reading → Reading
+with-entries [] r = r
+with-entries (a-clause c ∷ es) r = with-clause c (with-entries es r)
+with-entries (a-query q vs ∷ es) r = with-query q (with-entries es r)
+
+-- The entries' names are among these, and no head has more than 6 arguments.
+unfoldable pub EntriesKnown : List Bytes → List Entry → Type 0
+EntriesKnown names [] = Unit {0}
+EntriesKnown names (a-clause c ∷ es) = GoalsKnown names (c .head ∷ c .body) × (count (c .head .arguments) ≤ 6) × EntriesKnown names es
+EntriesKnown names (a-query q vs ∷ es) = GoalsKnown names (q .goals) × EntriesKnown names es
+
+-- Some items have been read, up to the byte behind a full stop.
+pub record Reached (text : Bytes) (s₀ s names heads : List ℕ) (from clauses queries known : ℕ) (places : List Place) (done : List Entry) : Type 0 where
+  pub inside : from ≤ length text
+  pub names-table : NamesIn text places names
+  pub count-is : known ≡ length places
+  pub clauses-are : clauses ≡ length (clauses-of done)
+  pub queries-are : queries ≡ length (queries-of done)
+  pub few : (clauses ≤ 128) × (queries ≤ 8)
+  pub reads : items (so-far [] 0 0) (pieces (tokens text)) ≡ with-entries done (items (so-far places clauses queries) (pieces (tokens-at text from)))
+  pub entries-are : entries [] 0 0 (pieces (tokens text)) ≡ done ++ entries places clauses queries (pieces (tokens-at text from))
+  pub names-are : names-in (tokens text) [] ≡ names-in (tokens-at text from) places
+  pub stored-is : s ≡ entries-stored places 0 0 done s₀
+  pub heads-are : take clauses heads ≡ head-words places (clauses-of done)
+  pub heads-size : length heads ≡ 128
+  pub known-names : EntriesKnown (spellings places) done
+  pub only : Only 0 39936 s₀ s
+
+-- All items read, or the first refused item with its number and place.
+abbrev pub ListedIs : (text : Bytes) (s₀ s names heads : List ℕ) → Listed → Type 0
+ListedIs text s₀ s names heads (Items clauses queries known) =
+    (places : List Place) × (done : List Entry) × (n : ℕ) × (from : ℕ)
+    × Reached text s₀ s names heads from clauses queries known places done
+    × (tokens-at text from ≡ Tokens.ends n)
+ListedIs text s₀ s names heads (Stopped n place) =
+    (r : Refusal) × (reading text ≡ refused r) × (n ≡ number (refusal text r)) × (line text place ≡ line-of (refusal text r)) × Only 0 39936 s₀ s
+
+-- The answer of `load`.
+abbrev pub LoadedIs : (text : Bytes) (need : ℕ) (s s′ : List ℕ) → Loaded → Type 0
+LoadedIs text need s s′ (AJob clauses queries) =
+    (j : Job) × (reading text ≡ job j) × (clauses ≡ length (j .clauses)) × (queries ≡ length (j .queries)) × (s′ ≡ image text (cleared need s))
+LoadedIs text need s s′ (Refused n at) =
+    (r : Refusal) × (reading text ≡ refused r) × (n ≡ number (refusal text r)) × (at ≡ line-of (refusal text r)) × (s′ ≡ cleared need s)

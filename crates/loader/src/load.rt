@@ -1,0 +1,127 @@
+// The loader's one public function: a text becomes a job in the scratch, or is refused.
+use crate::items::Item;
+use crate::items::next_item;
+use crate::keep::keep_places;
+use crate::keep::link;
+use crate::lines::line;
+use term::clear::clear;
+use term::layout::Room;
+use term::layout::need;
+ghost use mathlib.Core.Path.{_≡_};
+ghost use mathlib.Core.List.{List};
+ghost use Prim.Native.Nat.{ℕ, _+_, _≤_, _<_};
+ghost use lib.ListN.{length, drop, replicate};
+ghost use Rattle.meaning.specs.Call.{cleared};
+ghost use Rattle.term.specs.Layout.{need-of, figures, InRange};
+ghost use Rattle.loader.specs.Places.{Place};
+ghost use Rattle.loader.specs.Tables.{NamesIn};
+ghost use Rattle.loader.specs.Outcomes.{ItemIs, Lent};
+ghost use Rattle.loader.specs.Loading.{ListedIs, LoadedIs};
+
+// How many clauses and queries the job has; or the refusal's number and line.
+pub enum Loaded {
+    Job(usize, usize),
+    Refused(u64, usize),
+}
+
+// All items read: clauses, queries and names; or the refusal's number and place.
+pub enum Listed {
+    Items(usize, usize, usize),
+    Stopped(u64, usize),
+}
+
+// The item at an offset of the text, with an empty table of its own.
+fn item_at(
+    text: &[u8],
+    from: usize,
+    s: &mut [u64],
+    names: &mut [u64],
+    heads: &mut [u64],
+    clauses: usize,
+    queries: usize,
+    known: usize,
+) -> Item
+    requires { ⌜ Lent (now s) (now heads) ⌝ }
+    requires { ⌜ ((places : List Place) × (from ≤ length (now text)) × NamesIn (now text) places (now names) × (known ≡ length places)) ⌝ }
+    ensures { λ r. ⌜ ((places : List Place) → from ≤ length (now (text .entry)) → NamesIn (now (text .entry)) places (now (names .entry)) → known ≡ length places
+        → ItemIs (now (text .entry)) (drop from (now (text .entry))) from places clauses queries (now (s .entry)) (now (heads .entry)) (now (s .exit)) (now (names .entry)) (now (names .exit)) (now (heads .exit)) r) ⌝ }
+{
+    let mut item = [0u64; 64];
+    let rest = &text[from..];
+    next_item(
+        text,
+        rest,
+        from,
+        s,
+        names,
+        &mut item,
+        heads,
+        clauses,
+        queries,
+        known,
+    )
+}
+
+// Reads the text item by item; the first refused item decides; then no query.
+fn all_items(text: &[u8], s: &mut [u64], names: &mut [u64], heads: &mut [u64]) -> Listed
+    requires { ⌜ Lent (now s) (now heads) ⌝ }
+    requires { ⌜ now names ≡ replicate 1024 0 ⌝ }
+    ensures { λ r. ⌜ ListedIs (now (text .entry)) (now (s .entry)) (now (s .exit)) (now (names .exit)) (now (heads .exit)) r ⌝ }
+{
+    let mut from = 0;
+    let mut clauses = 0;
+    let mut queries = 0;
+    let mut known = 0;
+    loop {
+        match item_at(text, from, s, names, heads, clauses, queries, known) {
+            Item::Clause(at, count) => {
+                clauses += 1;
+                known = count;
+                from += at;
+            }
+            Item::Query(at, count) => {
+                queries += 1;
+                known = count;
+                from += at;
+            }
+            Item::Malformed(a) => {
+                return Listed::Stopped(4, from + a);
+            }
+            Item::Broken(a) => {
+                return Listed::Stopped(5, from + a);
+            }
+            Item::Passed(a) => {
+                return Listed::Stopped(6, from + a);
+            }
+            Item::Nothing => {
+                return Listed::Items(clauses, queries, known);
+            }
+        }
+    }
+}
+
+// A text becomes a job in the needed part of the scratch, or is refused and that part is zero; nothing beyond it changes.
+pub fn load(text: &[u8], s: &mut [u64], room: Room) -> Loaded
+    requires { ⌜ InRange (figures room) × (need-of (figures room) ≤ length (now s)) ⌝ }
+    ensures { λ r. ⌜ LoadedIs (now (text .entry)) (need-of (figures room)) (now (s .entry)) (now (s .exit)) r ⌝ }
+{
+    let words = need(room);
+    clear(s, words);
+    let mut names = [0u64; 1024];
+    let mut heads = [0u64; 128];
+    match all_items(text, s, &mut names, &mut heads) {
+        Listed::Items(clauses, queries, known) => {
+            if queries == 0 {
+                clear(s, words);
+                return Loaded::Refused(6, 0);
+            }
+            link(s, &heads, clauses);
+            keep_places(s, &names, 0, 0, known);
+            Loaded::Job(clauses, queries)
+        }
+        Listed::Stopped(n, place) => {
+            clear(s, words);
+            Loaded::Refused(n, line(text, place))
+        }
+    }
+}
