@@ -9,11 +9,11 @@ use lib.Dec.{leb, ltb, eqb}
 abbrev pub Bytes : Type 0
 Bytes = List ℕ
 
--- The byte of an ASCII character.
+-- The byte of a character: its code, which is below 256 in every text here.
 unfoldable pub byte : Char → ℕ
 byte c = code c
 
--- The bytes of an ASCII text.
+-- The bytes of a text, one for each character.
 unfoldable pub bytes : String → Bytes
 bytes String.[] = []
 bytes (String._∷_ c s) = code c ∷ bytes s
@@ -64,12 +64,13 @@ unfoldable pub joined : {A : Type 0} → List (List A) → List A
 joined [] = []
 joined (l ∷ ls) = l ++ joined ls
 
--- A number in decimal, without a leading zero; `n` bounds how many digits `n` has.
+-- The decimal digits of a number, no more than given and one, before some others.
 unfoldable pub digits : ℕ → ℕ → Bytes → Bytes
 digits zero n behind = (48 + n) ∷ behind
 digits (suc more) n behind =
     elim (ltb n 10) [ true ↦ (48 + n) ∷ behind | false ↦ digits more (n / 10) ((48 + n % 10) ∷ behind) ]
 
+-- A number in decimal, without a leading zero: a number has no more digits than it counts.
 unfoldable pub decimal : ℕ → Bytes
 decimal n = digits n n []
 

@@ -19,7 +19,7 @@ pub record Given : Type 0 where
   pub scratch : List ℕ
   pub buffer : Bytes
 
--- The answer: the report's length where it ran or was too long, the line where the text was refused.
+-- The answer: with the report's length where it ran, the smaller of its length and 16,777,217 where it was too long, the line where the text was refused.
 pub data Answer : Type 0 where
   ran : ℕ → Answer
   out-of-range : Answer

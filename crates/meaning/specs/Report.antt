@@ -56,7 +56,7 @@ unfoldable pub integer-bytes : Integer → Bytes
 integer-bytes (plus n) = decimal n
 integer-bytes (minus n) = bytes "-" ++ decimal n
 
--- A term stands alone, or as the tail of a list behind its last element.
+-- A term stands alone, or as the tail of a list behind an element.
 pub data Standing : Type 0 where
   alone tail : Standing
 

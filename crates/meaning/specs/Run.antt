@@ -35,7 +35,7 @@ ended verdict state = record { verdict = verdict; state = state }
 unfoldable pub choice-for : List Clause → State → Goal → Choice
 choice-for clauses state g = choice clauses (unit-at (g .query) (state .units)) (g .goal)
 
--- "Before each step, in this order: queue empty, `rest`; steps equal the budget, `budget`; a reduction that doesn't fit, `room`, with nothing counted."
+-- "Before each step, in this order: queue empty, the run ends `rest`; steps equal the budget, `budget`; the step would be a reduction that doesn't fit, `room`, with the goal still in front and nothing counted."
 unfoldable pub onward : ℕ → List Clause → Room → State → List Goal → Ended
 onward zero clauses figures state [] = ended rest state
 onward zero clauses figures state (g ∷ others) = ended budget state

@@ -25,7 +25,7 @@ body-goals clause unit query = goals-at query (map (renamed-goal (next-pair unit
 unfoldable pub wakes : ℕ → List Assignment → Waiting → Bool
 wakes query given w = of query (w .goal) && any (λ a. among (a .pair) (w .readers)) given
 
--- "The queue is the rest, then the body goals in order, then every waiting goal that waits on a pair assigned, in the order in which they began to wait."
+-- "The queue is the rest, then the body goals in order, then every waiting goal that waits on a pair assigned in this step, in the order in which they began to wait."
 unfoldable pub goals-after : Choice → QueryUnit → Goal → Goals → Goals
 goals-after (reduces clause given) unit g others =
     record {

@@ -9,7 +9,7 @@ use Rattle.meaning.specs.Bytes.{Bytes, bytes-words, same, if_then_else_}
 pub data Half : Type 0 where
   writer reader : Half
 
--- An integer by its sign and its digits' value; there is no `-0`.
+-- An integer by its sign and its digits' value; no text gives `-0`.
 pub data Integer : Type 0 where
   plus : ℕ → Integer
   minus : ℕ → Integer

@@ -53,7 +53,7 @@ pub data Choice : Type 0 where
   joins-waiting : List ℕ → Choice
   joins-failed : Choice
 
--- "If none succeeds and at least one waits, the goal joins the waiting goals with the set of all those readers. If all fail, it joins the failed goals."
+-- "If none succeeds and at least one waits, the goal joins the end of the waiting goals with the set of all those readers. If all fail, or no clause exists, it joins the end of the failed goals."
 unfoldable pub none-succeeds : List ℕ → Choice
 none-succeeds [] = joins-failed
 none-succeeds (r ∷ readers) = joins-waiting (r ∷ readers)
