@@ -1,11 +1,4 @@
 pub mod Build
-pub mod Circle
-pub mod Compare
 pub mod Extended
-pub mod Follow
-pub mod Gifts
 pub mod Log
 pub mod Ring
-pub mod Rows
-pub mod Search
-pub mod Setting

@@ -4,5 +4,7 @@ pub mod Frames
 pub mod Holds
 pub mod Jobs
 pub mod Layout
+pub mod Setting
 pub mod Spellings
+pub mod States
 pub mod Words

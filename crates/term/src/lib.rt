@@ -4,4 +4,5 @@
 // specs/ (Words, Cells, Holds, Jobs, Spellings), with the frames in proofs/: a write into one region keeps what the others hold.
 pub mod clear;
 pub mod layout;
+pub mod state;
 pub mod word;
