@@ -1,4 +1,7 @@
-// The machine, as far as it is built: copying a clause's terms, and the goals' lists. Each works on the scratch of crate `term` and is proved
-// against the definitions of crate `meaning`. Read specs/ for what each promises: Build, Ring and Log.
+// The machine: the queries entered, and the run, step by step. It works on the scratch of crate `term`, with the choice of a clause from crate
+// `trial`, and is proved against the definitions of crate `meaning`. Read specs/ for what each promises.
 pub mod build;
 pub mod goals;
+pub mod reduce;
+pub mod run;
+pub mod step;

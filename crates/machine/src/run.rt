@@ -1,0 +1,135 @@
+// The queries entered, and the run.
+use crate::reduce::add_goals;
+use crate::step::Stepped;
+use crate::step::step;
+use term::layout;
+use term::layout::QUERIES;
+use term::layout::Room;
+use term::state::Standing;
+use term::state::Verdict;
+
+// How the run ended and the state in which it did; or the queries alone pass a room figure.
+pub enum Ran {
+    Ended(Verdict, Standing),
+    QueriesPassRoom,
+}
+
+fn index(w: u64) -> usize {
+    w as usize
+}
+
+fn word(n: usize) -> u64 {
+    n as u64
+}
+
+fn word_at(s: &[u64], from: usize, i: usize) -> u64 {
+    s[from + i]
+}
+
+fn set_at(s: &mut [u64], from: usize, i: usize, w: u64) {
+    s[from + i] = w;
+}
+
+// The queries' words at a place of their records, added up: 0 their goals, 1 their pairs, 2 their compounds.
+fn sum(s: &[u64], queries: usize, at: usize) -> usize {
+    let mut all = 0;
+    let mut q = 0;
+    while q < queries {
+        all += index(word_at(s, QUERIES + 64 * q, at));
+        q += 1;
+    }
+    all
+}
+
+// "The queries alone pass a room figure."
+fn fit(s: &[u64], room: Room, queries: usize) -> bool {
+    if room.pairs < sum(s, queries, 1) {
+        return false;
+    }
+    if room.compounds < sum(s, queries, 2) {
+        return false;
+    }
+    sum(s, queries, 0) <= room.goals
+}
+
+// A query's goals join the queue; its pairs and compounds come next.
+fn enter(s: &mut [u64], room: Room, q: usize, t: Standing) -> Standing {
+    let goals = index(word_at(s, QUERIES + 64 * q, 0));
+    let pairs = index(word_at(s, QUERIES + 64 * q, 1));
+    let compounds = index(word_at(s, QUERIES + 64 * q, 2));
+    add_goals(
+        s,
+        QUERIES + 64 * q + 8,
+        goals,
+        t.pairs,
+        352 + t.compounds - 32 * q,
+        q,
+        layout::queue(room),
+        room.goals,
+        0,
+        t.active,
+    );
+    set_at(s, QUERIES + 64 * q, 3, word(t.pairs));
+    Standing {
+        pairs: t.pairs + pairs,
+        compounds: t.compounds + compounds,
+        front: 0,
+        active: t.active + goals,
+        log: 0,
+        waiting: 0,
+        failed: 0,
+        steps: 0,
+    }
+}
+
+// "The goals of all queries, in text order, form the queue."
+fn enter_all(s: &mut [u64], room: Room, queries: usize) -> Standing {
+    let mut t = Standing {
+        pairs: 0,
+        compounds: 0,
+        front: 0,
+        active: 0,
+        log: 0,
+        waiting: 0,
+        failed: 0,
+        steps: 0,
+    };
+    let mut q = 0;
+    while q < queries {
+        t = enter(s, room, q, t);
+        q += 1;
+    }
+    t
+}
+
+// "Before each step, in this order: queue empty; steps equal the budget; the step would be a reduction that doesn't fit."
+fn go_on(s: &mut [u64], room: Room, budget: usize, first: Standing) -> Ran {
+    let mut t = first;
+    let mut left = budget;
+    loop {
+        if t.active == 0 {
+            return Ran::Ended(Verdict::Rest, t);
+        }
+        if left == 0 {
+            return Ran::Ended(Verdict::Budget, t);
+        }
+        match step(s, room, t) {
+            Stepped::Next(u) => {
+                t = u;
+            }
+            Stepped::NoRoom => {
+                return Ran::Ended(Verdict::Room, t);
+            }
+        }
+        left -= 1;
+    }
+}
+
+// The loaded job with so many queries is run under a budget.
+pub fn run(s: &mut [u64], room: Room, budget: usize, queries: usize) -> Ran {
+    if !fit(s, room, queries) {
+        return Ran::QueriesPassRoom;
+    }
+    let t = enter_all(s, room, queries);
+    go_on(s, room, budget, t)
+}

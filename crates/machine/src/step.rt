@@ -1,0 +1,169 @@
+// One step: the goal at the front is reduced, waits or fails.
+use crate::goals::behind;
+use crate::goals::close_up;
+use crate::goals::fail;
+use crate::goals::wait;
+use crate::reduce::add_goals;
+use crate::reduce::add_woken;
+use crate::reduce::assign_goal;
+use crate::reduce::assign_head;
+use crate::reduce::wake;
+use term::layout;
+use term::layout::CLAUSES;
+use term::layout::QUERIES;
+use term::layout::Room;
+use term::state::Standing;
+use trial::choice::Choice;
+use trial::choice::READERS;
+use trial::choice::choice;
+
+// The state after the step, or the reduction does not fit.
+pub enum Stepped {
+    Next(Standing),
+    NoRoom,
+}
+
+fn index(w: u64) -> usize {
+    w as usize
+}
+
+fn word(n: usize) -> u64 {
+    n as u64
+}
+
+fn word_at(s: &[u64], from: usize, i: usize) -> u64 {
+    s[from + i]
+}
+
+// "Its query's number of tries rises by one."
+fn count_try(s: &mut [u64], query: usize) {
+    let tries = word_at(s, QUERIES + 64 * query, 4);
+    s[QUERIES + 64 * query + 4] = tries + 1;
+}
+
+// "Pairs or compounds charged would pass their figure, or active, waiting and failed goals together would number more than the goal figure."
+fn fits(room: Room, t: Standing, pairs: usize, compounds: usize, body: usize) -> bool {
+    if room.pairs < t.pairs + pairs {
+        return false;
+    }
+    if room.compounds < t.compounds + compounds {
+        return false;
+    }
+    t.active - 1 + t.waiting + t.failed + body <= room.goals
+}
+
+// The goal is reduced by clause k, with n of its pairs given a term.
+fn reduce(s: &mut [u64], room: Room, t: Standing, query: usize, k: usize, n: usize) -> Stepped {
+    let pairs = index(word_at(s, CLAUSES + 16 * k, 1));
+    let compounds = index(word_at(s, CLAUSES + 16 * k, 2));
+    let body = index(word_at(s, CLAUSES + 16 * k, 3));
+    if !fits(room, t, pairs, compounds, body) {
+        return Stepped::NoRoom;
+    }
+    let shift = 4448 + t.compounds - 32 * k;
+    let front = behind(room.goals, t.front);
+    let active = t.active - 1;
+    assign_head(s, layout::values(room), t.pairs, pairs);
+    assign_goal(s, layout::values(room), t.pairs, shift, n);
+    let woken = wake(s, layout::waiting(room), layout::waiters(room), layout::sets(room), n);
+    add_goals(
+        s,
+        CLAUSES + 16 * k + 4,
+        body,
+        t.pairs,
+        shift,
+        query,
+        layout::queue(room),
+        room.goals,
+        front,
+        active,
+    );
+    add_woken(
+        s,
+        layout::waiting(room),
+        woken,
+        layout::queue(room),
+        room.goals,
+        front,
+        active + body,
+    );
+    count_try(s, query);
+    Stepped::Next(Standing {
+        pairs: t.pairs + pairs,
+        compounds: t.compounds + compounds,
+        front,
+        active: active + body + woken,
+        log: t.log,
+        waiting: t.waiting - woken,
+        failed: t.failed,
+        steps: t.steps + 1,
+    })
+}
+
+// The log with a free place at its end: closed up if it is full. How many places are used.
+fn free_place(s: &mut [u64], room: Room, log: usize) -> usize {
+    if log < 2 * room.goals {
+        return log;
+    }
+    close_up(s, layout::waiting(room), layout::waiters(room), layout::sets(room), log)
+}
+
+// The goal joins the end of the waiting goals with so many readers.
+fn join_waiting(s: &mut [u64], room: Room, t: Standing, goal: u64, query: usize, readers: usize) -> Stepped {
+    let log = free_place(s, room, t.log);
+    wait(
+        s,
+        layout::waiting(room),
+        layout::waiters(room),
+        layout::sets(room),
+        log,
+        goal,
+        READERS,
+        readers,
+    );
+    count_try(s, query);
+    Stepped::Next(Standing {
+        pairs: t.pairs,
+        compounds: t.compounds,
+        front: behind(room.goals, t.front),
+        active: t.active - 1,
+        log: log + 1,
+        waiting: t.waiting + 1,
+        failed: t.failed,
+        steps: t.steps + 1,
+    })
+}
+
+// The goal joins the end of the failed goals.
+fn join_failed(s: &mut [u64], room: Room, t: Standing, goal: u64, query: usize) -> Stepped {
+    fail(s, layout::failed(room), t.failed, goal);
+    count_try(s, query);
+    Stepped::Next(Standing {
+        pairs: t.pairs,
+        compounds: t.compounds,
+        front: behind(room.goals, t.front),
+        active: t.active - 1,
+        log: t.log,
+        waiting: t.waiting,
+        failed: t.failed + 1,
+        steps: t.steps + 1,
+    })
+}
+
+// "A step takes the goal at the front." Every step has 32,768 stamps of its own: 256 a clause.
+pub fn step(s: &mut [u64], room: Room, t: Standing) -> Stepped {
+    let goal = word_at(s, layout::queue(room), t.front);
+    let query = index(goal % 8);
+    match choice(
+        s,
+        layout::values(room),
+        layout::marks(room),
+        t.pairs,
+        index(goal / 8),
+        word(t.steps) * 32768 + 1,
+    ) {
+        Choice::Reduces(k, n) => reduce(s, room, t, query, k, n),
+        Choice::Waits(readers) => join_waiting(s, room, t, goal, query, readers),
+        Choice::Fails => join_failed(s, room, t, goal, query),
+    }
+}
