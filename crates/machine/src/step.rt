@@ -13,7 +13,7 @@ use term::layout::CLAUSES;
 use term::layout::QUERIES;
 use term::layout::Room;
 use term::state::Standing;
-use trial::choice::Choice;
+use trial::choice::Fate;
 use trial::choice::READERS;
 use trial::choice::choice;
 
@@ -162,8 +162,8 @@ pub fn step(s: &mut [u64], room: Room, t: Standing) -> Stepped {
         index(goal / 8),
         word(t.steps) * 32768 + 1,
     ) {
-        Choice::Reduces(k, n) => reduce(s, room, t, query, k, n),
-        Choice::Waits(readers) => join_waiting(s, room, t, goal, query, readers),
-        Choice::Fails => join_failed(s, room, t, goal, query),
+        Fate::Reduces(k, n) => reduce(s, room, t, query, k, n),
+        Fate::Waits(readers) => join_waiting(s, room, t, goal, query, readers),
+        Fate::Fails => join_failed(s, room, t, goal, query),
     }
 }

@@ -1,3 +1,4 @@
+pub mod Choosing
 pub mod Circle
 pub mod Compare
 pub mod Follow

@@ -5,44 +5,68 @@ use crate::compare::places;
 use term::layout::CLAUSES;
 use term::layout::PROCEDURES;
 use term::layout::TRIAL;
+ghost use mathlib.Core.Path.{_≡_};
+ghost use mathlib.Core.List.{List};
+ghost use Prim.Native.Nat.{ℕ, _+_, _*_, _≤_, _<_, _^_};
+ghost use lib.ListN.{length, getD, set};
+ghost use Rattle.meaning.specs.Bytes.{Bytes};
+ghost use Rattle.meaning.specs.Terms.{Clause, Job};
+ghost use Rattle.meaning.specs.State.{Room, Goal};
+ghost use Rattle.term.specs.Cells.{Places};
+ghost use Rattle.term.specs.Frames.{Only};
+ghost use Rattle.trial.specs.Choosing.{Trying, MarksBelow, Candidate, TrialIs, ChoiceIs};
 
 // Where the pairs of the waiting readers stand, in the trial's region behind what a trial has given.
 pub const READERS: usize = 40336;
 
 // "Each trial of a clause gives one of three results": it succeeds, with so many of the goal's pairs given a term; it waits on the reader of a
 // pair; it fails.
-pub enum Trial {
+pub enum Outcome {
     Succeeds(usize),
     Waits(usize),
     Fails,
 }
 
 // What becomes of the goal: reduced by a clause, with so many of its pairs given a term; waiting on so many readers; failed.
-pub enum Choice {
+pub enum Fate {
     Reduces(usize, usize),
     Waits(usize),
     Fails,
 }
 
-fn index(w: u64) -> usize {
+fn index(w: u64) -> usize
+    ensures { λ r. ⌜ r ≡ w ⌝ }
+{
     w as usize
 }
 
-fn word(n: usize) -> u64 {
+fn word(n: usize) -> u64
+    ensures { λ r. ⌜ r ≡ n ⌝ }
+{
     n as u64
 }
 
 // A word at so many words from a place, and setting it.
-fn word_at(s: &[u64], from: usize, i: usize) -> u64 {
+fn word_at(s: &[u64], from: usize, i: usize) -> u64
+    requires { ⌜ from + i < length (now s) ⌝ }
+    ensures { λ r. ⌜ r ≡ getD (now (s .entry)) (from + i) 0 ⌝ }
+{
     s[from + i]
 }
 
-fn set_at(s: &mut [u64], from: usize, i: usize, w: u64) {
+fn set_at(s: &mut [u64], from: usize, i: usize, w: u64)
+    requires { ⌜ from + i < length (now s) ⌝ }
+    ensures { λ r. ⌜ now (s .exit) ≡ set (now (s .entry)) (from + i) w ⌝ }
+{
     s[from + i] = w;
 }
 
 // The head's writers are given nothing yet.
-fn begin(s: &mut [u64], pairs: usize) {
+fn begin(s: &mut [u64], pairs: usize)
+    requires { ⌜ (pairs ≤ 16) × (40704 ≤ length (now s)) ⌝ }
+    ensures only { λ r. ⌜ Only 39936 39952 (now (s .entry)) (now (s .exit)) ⌝ }
+    ensures nothing { λ r. ⌜ ((x : ℕ) → x < pairs → getD (now (s .exit)) (39936 + x) 0 ≡ 0) ⌝ }
+{
     let mut x = 0;
     while x < pairs {
         set_at(s, TRIAL, x, 0);
@@ -59,29 +83,45 @@ pub fn trial(
     k: usize,
     goal: usize,
     stamp: u64,
-) -> Trial {
+) -> Outcome
+    requires { ⌜ ((text : Bytes) × (names : List Bytes) × (j : Job) × (limit : ℕ) × (figures : Room) × (at : Places) × (g : Goal) × (others : List Goal) × (c : Clause)
+        × Trying (now s) text names j limit figures at g others values marks links goal
+        × Candidate (now s) names j g k c
+        × MarksBelow (now s) marks (figures .pairs) stamp × (stamp + 256 < 2 ^ 64)) ⌝ }
+    ensures { λ r. ⌜ ((text : Bytes) (names : List Bytes) (j : Job) (limit : ℕ) (figures : Room) (at : Places) (g : Goal) (others : List Goal) (c : Clause)
+        → Trying (now (s .entry)) text names j limit figures at g others values marks links goal
+        → Candidate (now (s .entry)) names j g k c
+        → MarksBelow (now (s .entry)) marks (figures .pairs) stamp
+        → TrialIs (now (s .entry)) (now (s .exit)) j limit figures at g marks stamp k c r) ⌝ }
+{
     let pairs = index(word_at(s, CLAUSES + 16 * k, 1));
     begin(s, pairs);
     match places(s, values, links, 640 + 32 * k, goal, 0) {
         Result::Agrees(n) => {
             if circle(s, values, marks, n, stamp) {
-                return Trial::Fails;
+                return Outcome::Fails;
             }
-            Trial::Succeeds(n)
+            Outcome::Succeeds(n)
         }
-        Result::Waits(p) => Trial::Waits(p),
-        Result::Fails => Trial::Fails,
+        Result::Waits(p) => Outcome::Waits(p),
+        Result::Fails => Outcome::Fails,
     }
 }
 
 // "Name and number of arguments together select the procedure": the number of its first clause plus one, or 0.
-fn first_clause(s: &[u64], goal: usize) -> usize {
+fn first_clause(s: &[u64], goal: usize) -> usize
+    requires { ⌜ (8 * goal < length (now s)) × (504 + getD (now s) (8 * goal) 0 < length (now s)) ⌝ }
+    ensures { λ r. ⌜ r ≡ getD (now (s .entry)) (504 + getD (now (s .entry)) (8 * goal) 0) 0 ⌝ }
+{
     let functor = index(word_at(s, 8 * goal, 0));
     index(word_at(s, PROCEDURES - 8, functor))
 }
 
 // The number of the next clause of the same procedure plus one, or 0.
-fn next_clause(s: &[u64], k: usize) -> usize {
+fn next_clause(s: &[u64], k: usize) -> usize
+    requires { ⌜ 2560 + 16 * k < length (now s) ⌝ }
+    ensures { λ r. ⌜ r ≡ getD (now (s .entry)) (2560 + 16 * k) 0 ⌝ }
+{
     index(word_at(s, CLAUSES + 16 * k, 0))
 }
 
@@ -93,15 +133,23 @@ pub fn choice(
     links: usize,
     goal: usize,
     first: u64,
-) -> Choice {
+) -> Fate
+    requires { ⌜ ((text : Bytes) × (names : List Bytes) × (j : Job) × (limit : ℕ) × (figures : Room) × (at : Places) × (g : Goal) × (others : List Goal)
+        × Trying (now s) text names j limit figures at g others values marks links goal
+        × MarksBelow (now s) marks (figures .pairs) first × (first + 32768 < 2 ^ 64)) ⌝ }
+    ensures { λ r. ⌜ ((text : Bytes) (names : List Bytes) (j : Job) (limit : ℕ) (figures : Room) (at : Places) (g : Goal) (others : List Goal)
+        → Trying (now (s .entry)) text names j limit figures at g others values marks links goal
+        → MarksBelow (now (s .entry)) marks (figures .pairs) first
+        → ChoiceIs (now (s .entry)) (now (s .exit)) names j limit figures at g marks first r) ⌝ }
+{
     let mut readers = 0;
     let mut stamp = first;
     let mut next = first_clause(s, goal);
     'clauses: while next != 0 {
         let k = next - 1;
         let t = trial(s, values, marks, links, k, goal, stamp);
-        let Trial::Succeeds(n) = t else {
-            if let Trial::Waits(p) = t {
+        let Outcome::Succeeds(n) = t else {
+            if let Outcome::Waits(p) = t {
                 set_at(s, READERS, readers, word(p));
                 readers += 1;
             }
@@ -109,10 +157,10 @@ pub fn choice(
             next = next_clause(s, k);
             continue 'clauses;
         };
-        return Choice::Reduces(k, n);
+        return Fate::Reduces(k, n);
     }
     if readers == 0 {
-        return Choice::Fails;
+        return Fate::Fails;
     }
-    Choice::Waits(readers)
+    Fate::Waits(readers)
 }

@@ -1,0 +1,100 @@
+-- What the trial of a clause and the choice of a clause ask and give. Both work for the goal in front, in a state of the run of the job that a
+-- text was read as: what the laws say of such states is what they lean on.
+use Prim.Native.Nat.{ℕ, _+_, _*_, _≤_, _<_, _^_}
+use mathlib.Core.Path.{_≡_}
+use mathlib.Core.Logic.{_⊎_}
+use mathlib.Core.List.{List, [], _∷_, _++_, map}
+use lib.ListN.{length, getD}
+use Rattle.meaning.specs.Bytes.{Bytes}
+use Rattle.meaning.specs.Terms.{Clause, Job, as-term}
+use Rattle.meaning.specs.Items.{job, reading}
+use Rattle.meaning.specs.State.{Room, QueryUnit, Goal, unit-at}
+use Rattle.meaning.specs.Compare.{Assignment, Result, succeeds, waits-on, fails}
+use Rattle.meaning.specs.Trial.{Choice, reduces, joins-waiting, joins-failed, procedure, trial, choice}
+use Rattle.meaning.specs.Run.{run}
+use Rattle.term.specs.Cells.{Places}
+use Rattle.term.specs.Jobs.{HoldsJob, ClauseAt}
+use Rattle.term.specs.Setting.{Setting, UnitTerm, UnitStands}
+use Rattle.term.specs.States.{setting, listed}
+use Rattle.trial.specs.Compare.{Template, Gave}
+use Rattle.trial.specs.declared.choice.Outcome.{Outcome}
+use Rattle.trial.specs.declared.choice.Outcome.the-variants.{Succeeds, Waits, Fails}
+use Rattle.trial.specs.declared.choice.Fate.{Fate}
+use Rattle.trial.specs.declared.choice.Fate.the-variants.{Reduces, Waits as WaitsOn, Fails as FailsAll}
+
+-- The unit of a goal's query, in the state after so many steps.
+abbrev pub unit-of : Job → ℕ → Room → Goal → QueryUnit
+unit-of j limit figures g = unit-at (g .query) (run j limit figures .state .units)
+
+-- The scratch holds the job, the goal at a place, and its unit: values from a word on, marks behind them, compounds before them.
+pub record Trying (s : List ℕ) (text : Bytes) (names : List Bytes) (j : Job) (limit : ℕ) (figures : Room) (places : Places)
+    (g : Goal) (others : List Goal) (values marks links goal : ℕ) : Type 0 where
+  pub reads : reading text ≡ job j
+  pub front : run j limit figures .state .goals .queue ≡ g ∷ others
+  pub held : HoldsJob s names j
+  pub names-are : places .names ≡ names
+  pub unit : UnitStands s (setting figures places (unit-of j limit figures g)) values
+  pub goal-held : UnitTerm s (setting figures places (unit-of j limit figures g)) (as-term (g .goal))
+  pub goal-place : goal ≡ places .compound (g .goal .number)
+  pub apart : (n m : ℕ) → n < length (unit-of j limit figures g .values) → m < length (unit-of j limit figures g .values)
+      → places .pair n ≡ places .pair m → n ≡ m
+  pub compound-behind : (n : ℕ) → n < unit-of j limit figures g .compounds → 5088 ≤ places .compound n
+  pub compound-before : (n : ℕ) → n < unit-of j limit figures g .compounds → 8 * places .compound n + 8 ≤ values
+  pub values-behind : 40704 ≤ values
+  pub marks-behind : values + figures .pairs ≤ marks
+  pub inside : marks + figures .pairs ≤ length s
+  pub enough : length (unit-of j limit figures g .values) ≤ links
+
+-- Stamps from this one on are unused.
+abbrev pub MarksBelow : List ℕ → ℕ → ℕ → ℕ → Type 0
+MarksBelow s marks pairs stamp = (k : ℕ) → marks ≤ k → k < marks + pairs → getD s k 0 < stamp
+
+-- Only words of the trial's region below a top, and marks, differ.
+pub record TrialOnly (top marks pairs : ℕ) (s s′ : List ℕ) : Type 0 where
+  pub size : length s′ ≡ length s
+  pub same : (k : ℕ) → (k < 39936) ⊎ (top ≤ k) → (k < marks) ⊎ (marks + pairs ≤ k) → getD s′ k 0 ≡ getD s k 0
+
+-- Clause k as comparing sees it.
+abbrev pub template : ℕ → Clause → Template
+template k c = record { number = k; pairs = c .pairs; compounds = c .compounds }
+
+-- A clause of the goal's procedure, in the scratch as clause k.
+pub record Candidate (s : List ℕ) (names : List Bytes) (j : Job) (g : Goal) (k : ℕ) (c : Clause) : Type 0 where
+  pub at : ClauseAt s names k c
+  pub before : List Clause
+  pub after : List Clause
+  pub in-procedure : procedure (j .clauses) (g .goal) ≡ before ++ c ∷ after
+
+-- What a trial has given stands in the trial's region: the assignments of n of the goal's pairs, and of the head's writers.
+abbrev pub Succeeded : List ℕ → Setting → ℕ → Clause → List Assignment → ℕ → Type 0
+Succeeded s x k c given n = (n ≤ 192) × Gave s s x (template k c) given n
+
+abbrev pub TrialTold : List ℕ → Setting → ℕ → Clause → Result → Outcome → Type 0
+TrialTold s x k c o (Succeeds n) = (given : List Assignment) × (o ≡ succeeds given) × Succeeded s x k c given n
+TrialTold s x k c o (Waits p) = (pair : ℕ) × (o ≡ waits-on pair) × (pair < length (x .values)) × (p ≡ x .places .pair pair)
+TrialTold s x k c o Fails = o ≡ fails
+
+-- The answer of a trial.
+pub record TrialIs (s s′ : List ℕ) (j : Job) (limit : ℕ) (figures : Room) (places : Places) (g : Goal) (marks stamp k : ℕ) (c : Clause) (r : Outcome) : Type 0 where
+  pub only : TrialOnly 40336 marks (figures .pairs) s s′
+  pub marks-now : MarksBelow s′ marks (figures .pairs) (stamp + 256)
+  pub told : TrialTold s′ (setting figures places (unit-of j limit figures g)) k c (trial c (unit-of j limit figures g) (g .goal)) r
+
+abbrev pub AllBelow : ℕ → List ℕ → Type 0
+AllBelow n [] = Unit {0}
+AllBelow n (r ∷ rs) = (r < n) × AllBelow n rs
+
+abbrev pub ChoiceTold : List ℕ → List Bytes → Setting → Choice → Fate → Type 0
+ChoiceTold s names x o (Reduces k n) =
+    (c : Clause) × (given : List Assignment) × (o ≡ reduces c given) × ClauseAt s names k c × Succeeded s x k c given n
+ChoiceTold s names x o (WaitsOn n) =
+    (readers : List ℕ) × (o ≡ joins-waiting readers) × (n ≤ 128) × (listed s 40336 n ≡ map (λ p. x .places .pair p) readers)
+    × AllBelow (length (x .values)) readers
+ChoiceTold s names x o FailsAll = o ≡ joins-failed
+
+-- The answer of the choice.
+pub record ChoiceIs (s s′ : List ℕ) (names : List Bytes) (j : Job) (limit : ℕ) (figures : Room) (places : Places) (g : Goal) (marks stamp : ℕ) (r : Fate)
+    : Type 0 where
+  pub only : TrialOnly 40464 marks (figures .pairs) s s′
+  pub marks-now : MarksBelow s′ marks (figures .pairs) (stamp + 32768)
+  pub told : ChoiceTold s′ names (setting figures places (unit-of j limit figures g)) (choice (j .clauses) (unit-of j limit figures g) (g .goal)) r
