@@ -1,13 +1,10 @@
 pub mod Closing
-pub mod Copying
-pub mod Extending
-pub mod Leaves
+pub mod Deciding
 pub mod Leaving
 pub mod Listed
 pub mod Log
 pub mod LogSteps
 pub mod Ring
 pub mod Shifting
-pub mod Standing
 pub mod Turning
 pub mod Waking

@@ -7,7 +7,8 @@ use native.Mathlib.Numerals.{add-one}
 use lib.ListN.{length, getD, set}
 use lib.Seq.{getD-set-same, getD-set-other}
 use Rattle.term.proofs.Frames.{only-set}
-use Rattle.machine.specs.Log.{listed, Failed}
+use Rattle.machine.specs.Log.{Failed}
+use Rattle.term.specs.States.{listed}
 
 pub listed-kept : (s s′ : List ℕ) (from n : ℕ) → ((x : ℕ) → from ≤ x → x < from + n → getD s′ x 0 ≡ getD s x 0)
     → listed s′ from n ≡ listed s from n

@@ -13,8 +13,9 @@ use borrow.Author.Tests.{ltb-true, ltb-false}
 use Rattle.meaning.specs.Bytes.{if_then_else_}
 use Rattle.term.specs.Frames.{Only}
 use Rattle.term.proofs.Frames.{only-set}
-use Rattle.machine.specs.Ring.{round, ring, RingOk, Pushed, Passed}
-use Rattle.machine.proofs.Extending.{if-below, if-beyond}
+use Rattle.machine.specs.Ring.{RingOk, Pushed, Passed}
+use Rattle.term.specs.States.{round, ring}
+use Rattle.machine.proofs.Deciding.{if-below, if-beyond}
 
 pub round-below : (size at : ℕ) → at < size → round size at ≡ at
 unfolding round

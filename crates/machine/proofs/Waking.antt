@@ -10,7 +10,8 @@ use lib.ListN.{length, getD, set}
 use borrow.Author.Tests.{eqb-true}
 use Rattle.meaning.specs.Bytes.{among, if_then_else_}
 use Rattle.term.specs.Frames.{Only}
-use Rattle.machine.specs.Log.{Slot, gone, waits, pairs-in, slot, link, Chain, SlotStands, LogOk, joined, gathered, listed}
+use Rattle.machine.specs.Log.{Slot, gone, waits, pairs-in, slot, link, Chain, SlotStands, LogOk, joined, gathered}
+use Rattle.term.specs.States.{listed}
 use Rattle.machine.proofs.Log.{slot-still, chain-waiter}
 
 -- Only words outside the pairs' waiters and sets and outside the log differ.

@@ -1,77 +1,54 @@
--- A term of an item copied for a unit: its compounds lie one after the other from a free place on, and nothing else is written.
--- A compound's place stands for eight words, so the copy of a term of so many compounds takes eight times as many words.
-use Prim.Native.Nat.{ℕ, zero, suc, _+_, _*_, _≤_, _<_}
+-- A term of an item copied for a unit: its pairs come from a pair on, and its compounds lie as the item's own do, so many places further on.
+use Prim.Native.Nat.{ℕ, _+_, _*_, _≤_, _<_}
 use mathlib.Core.Path.{_≡_}
 use mathlib.Core.List.{List}
 use lib.ListN.{length}
-use Rattle.meaning.specs.Terms.{Term, Terms, variable, constant, compound, end, more, renamed}
+use Rattle.meaning.specs.Terms.{Term, renamed}
 use Rattle.term.specs.Cells.{Places, term-word}
 use Rattle.term.specs.Holds.{Holds}
+use Rattle.term.specs.Setting.{Within}
 use Rattle.term.specs.Frames.{Only}
 
--- How many compounds a term has.
-unfoldable mutual
-  pub compounds-in : Term → ℕ
-  compounds-in (variable h n) = 0
-  compounds-in (constant k) = 0
-  compounds-in (compound n f ts) = 1 + compounds-in-all ts
+-- An item: its own places, how many pairs and compounds it has.
+pub record Item : Type 0 where
+  pub places : Places
+  pub pairs : ℕ
+  pub compounds : ℕ
 
-  pub compounds-in-all : Terms → ℕ
-  compounds-in-all end = 0
-  compounds-in-all (more t ts) = compounds-in t + compounds-in-all ts
+-- Where the copies go: the pairs from a pair on; the compounds so many places further on, from low up to high.
+pub record Goes (x : Item) (pair shift low high : ℕ) : Type 0 where
+  pub own : (n : ℕ) → x .places .pair n ≡ n
+  pub before : (n : ℕ) → n < x .compounds → x .places .compound n < low
+  pub from : (n : ℕ) → n < x .compounds → low ≤ x .places .compound n + shift
+  pub below : (n : ℕ) → n < x .compounds → x .places .compound n + shift < high
+  pub pairs-fit : pair + x .pairs ≤ 4294967296
 
--- The pairs of a term are below a number.
-unfoldable mutual
-  pub PairsBelow : ℕ → Term → Type 0
-  PairsBelow pairs (variable h n) = n < pairs
-  PairsBelow pairs (constant k) = Unit {0}
-  PairsBelow pairs (compound n f ts) = AllPairsBelow pairs ts
+-- A term of the item in the scratch.
+pub record ItemTerm (s : List ℕ) (x : Item) (t : Term) : Type 0 where
+  pub held : Holds s (x .places) t
+  pub within : Within (x .pairs) (x .compounds) t
 
-  pub AllPairsBelow : ℕ → Terms → Type 0
-  AllPairsBelow pairs end = Unit {0}
-  AllPairsBelow pairs (more t ts) = PairsBelow pairs t × AllPairsBelow pairs ts
+-- A term of the item by its word, and room for its copy.
+pub record Original (s : List ℕ) (x : Item) (pair shift low high h : ℕ) (t : Term) : Type 0 where
+  pub goes : Goes x pair shift low high
+  pub word : h ≡ term-word (x .places) t
+  pub term : ItemTerm s x t
+  pub room : 8 * high ≤ length s
 
--- The compounds of a term lie at places from one up to another.
-unfoldable mutual
-  pub LiesWithin : Places → ℕ → ℕ → Term → Type 0
-  LiesWithin places lo hi (variable h n) = Unit {0}
-  LiesWithin places lo hi (constant k) = Unit {0}
-  LiesWithin places lo hi (compound n f ts) = (lo ≤ places .compound n) × (places .compound n < hi) × AllLieWithin places lo hi ts
+-- The unit's places for the item renamed by p and c: its pairs from a pair on, its compounds so many places further on.
+pub record Moved (x : Item) (places : Places) (pair shift p c : ℕ) : Type 0 where
+  pub names : places .names ≡ x .places .names
+  pub pair-at : (n : ℕ) → n < x .pairs → places .pair (p + n) ≡ pair + n
+  pub compound-at : (n : ℕ) → n < x .compounds → places .compound (c + n) ≡ x .places .compound n + shift
 
-  pub AllLieWithin : Places → ℕ → ℕ → Terms → Type 0
-  AllLieWithin places lo hi end = Unit {0}
-  AllLieWithin places lo hi (more t ts) = LiesWithin places lo hi t × AllLieWithin places lo hi ts
+-- What stays held: the copy of any other term of the item, since a compound is copied to the same words each time.
+abbrev pub CopiesKept : List ℕ → List ℕ → Item → ℕ → ℕ → Type 0
+CopiesKept s s′ x pair shift = (places : Places) (p c : ℕ) → Moved x places pair shift p c
+    → (u : Term) → ItemTerm s x u → Holds s places (renamed p c u) → Holds s′ places (renamed p c u)
 
--- The compounds of a term lie one after the other from a place on, a compound before its arguments' own.
-unfoldable mutual
-  pub LiesFrom : Places → ℕ → Term → Type 0
-  LiesFrom places at (variable h n) = Unit {0}
-  LiesFrom places at (constant k) = Unit {0}
-  LiesFrom places at (compound n f ts) = (places .compound n ≡ at) × AllLieFrom places (at + 1) ts
-
-  pub AllLieFrom : Places → ℕ → Terms → Type 0
-  AllLieFrom places at end = Unit {0}
-  AllLieFrom places at (more t ts) = LiesFrom places at t × AllLieFrom places (at + compounds-in t) ts
-
--- A term of an item stands in the scratch below the free place, and there is room for its copy.
-pub record Original (s : List ℕ) (item : Places) (pairs pair free h : ℕ) (t : Term) : Type 0 where
-  pub word : h ≡ term-word item t
-  pub held : Holds s item t
-  pub own : (n : ℕ) → item .pair n ≡ n
-  pub pairs-below : PairsBelow pairs t
-  pub lies : LiesWithin item 0 free t
-  pub pairs-fit : pair + pairs ≤ 4294967296
-  pub room : 8 * (free + compounds-in t) ≤ length s
-
--- The unit's places for the copy: its pairs come from a pair on, its compounds from the free place on. The clause is renamed by p and c.
-pub record CopyPlaces (item places : Places) (pairs pair free p c : ℕ) (t : Term) : Type 0 where
-  pub names : places .names ≡ item .names
-  pub pair-at : (n : ℕ) → n < pairs → places .pair (p + n) ≡ pair + n
-  pub lies : LiesFrom places free (renamed p c t)
-
--- The copy: its word, the next free place, and which words have changed.
-pub record Copied (s s′ : List ℕ) (item : Places) (pairs pair free : ℕ) (t : Term) (word free′ : ℕ) : Type 0 where
-  pub behind : free′ ≡ free + compounds-in t
-  pub only : Only (8 * free) (8 * (free + compounds-in t)) s s′
-  pub stands : (places : Places) (p c : ℕ) → CopyPlaces item places pairs pair free p c t → word ≡ term-word places (renamed p c t)
-  pub held : (places : Places) (p c : ℕ) → CopyPlaces item places pairs pair free p c t → Holds s′ places (renamed p c t)
+-- The copy: its word, that it is held, and which words have changed.
+pub record Copied (s s′ : List ℕ) (x : Item) (pair shift low high : ℕ) (t : Term) (word : ℕ) : Type 0 where
+  pub only : Only (8 * low) (8 * high) s s′
+  pub stands : (places : Places) (p c : ℕ) → Moved x places pair shift p c → word ≡ term-word places (renamed p c t)
+  pub held : (places : Places) (p c : ℕ) → Moved x places pair shift p c → Holds s′ places (renamed p c t)
+  pub kept : CopiesKept s s′ x pair shift

@@ -1,4 +1,6 @@
 pub mod Build
 pub mod Extended
 pub mod Log
+pub mod Reducing
 pub mod Ring
+pub mod Running

@@ -8,6 +8,7 @@ use mathlib.Core.List.{List, [], _∷_, _++_}
 use lib.ListN.{length, getD, set}
 use Rattle.meaning.specs.Bytes.{among, if_then_else_}
 use Rattle.term.specs.Frames.{Only}
+use Rattle.term.specs.States.{listed}
 
 -- A place of the log: emptied, or a goal that waits on a set of pairs, each by its place.
 pub data Slot : Type 0 where
@@ -65,11 +66,6 @@ Unclaimed slots place p = (i : ℕ) → i < length slots → (i ≡ place → �
 -- A set with a pair more.
 unfoldable pub joined : ℕ → List ℕ → List ℕ
 joined p ps = if among p ps then ps else p ∷ ps
-
--- So many words from one on, as a list.
-unfoldable pub listed : List ℕ → ℕ → ℕ → List ℕ
-listed s from zero = []
-listed s from (suc n) = listed s from n ++ (getD s (from + n) 0 ∷ [])
 
 -- A set with several pairs more.
 unfoldable pub gathered : List ℕ → List ℕ → List ℕ

@@ -1,20 +1,10 @@
 -- The queue as a ring: so many words of the scratch, of which the goals stand from the front on, round its end.
-use Prim.Native.Nat.{ℕ, zero, suc, _+_, _-_, _≤_, _<_}
+use Prim.Native.Nat.{ℕ, _+_, _≤_, _<_}
 use mathlib.Core.Path.{_≡_}
 use mathlib.Core.List.{List, [], _∷_, _++_}
-use lib.Dec.{ltb}
 use lib.ListN.{length, getD}
-use Rattle.meaning.specs.Bytes.{if_then_else_}
+use Rattle.term.specs.States.{ring}
 use Rattle.term.specs.Frames.{Only}
-
--- A place of the ring, counted past its end.
-unfoldable pub round : ℕ → ℕ → ℕ
-round size at = if ltb at size then at else at - size
-
--- The goals in order: n words from a place of the ring on.
-unfoldable pub ring : List ℕ → ℕ → ℕ → ℕ → ℕ → List ℕ
-ring s queue size at zero = []
-ring s queue size at (suc n) = getD s (queue + round size at) 0 ∷ ring s queue size (at + 1) n
 
 -- The ring lies in the scratch, and its front in the ring.
 pub record RingOk (s : List ℕ) (queue size front : ℕ) : Type 0 where

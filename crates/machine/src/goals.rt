@@ -4,8 +4,9 @@ ghost use mathlib.Core.Path.{_≡_};
 ghost use Prim.Native.Nat.{ℕ, _+_, _*_, _≤_, _<_};
 ghost use lib.ListN.{length, getD, set};
 ghost use mathlib.Core.List.{List, [], _∷_, _++_};
-ghost use Rattle.machine.specs.Ring.{RingOk, Pushed, Passed, round};
-ghost use Rattle.machine.specs.Log.{Slot, gone, waits, joined, gathered, listed, At, Joins, JoinsAll, Waits, LogNow, Turns, Turned, Shifts, LogOk, Settles, SettledAs, Closed, Failed, slot};
+ghost use Rattle.machine.specs.Ring.{RingOk, Pushed, Passed};
+ghost use Rattle.term.specs.States.{round, listed};
+ghost use Rattle.machine.specs.Log.{Slot, gone, waits, joined, gathered, At, Joins, JoinsAll, Waits, LogNow, Turns, Turned, Shifts, LogOk, Settles, SettledAs, Closed, Failed, slot};
 
 fn word(n: usize) -> u64
     ensures { λ r. ⌜ r ≡ n ⌝ }

@@ -7,6 +7,15 @@ use term::layout::QUERIES;
 use term::layout::Room;
 use term::state::Standing;
 use term::state::Verdict;
+ghost use mathlib.Core.Path.{_≡_};
+ghost use mathlib.Core.List.{List};
+ghost use Prim.Native.Nat.{ℕ, _+_, _*_, _≤_, _<_};
+ghost use lib.ListN.{length, getD, set};
+ghost use Rattle.meaning.specs.Bytes.{Bytes};
+ghost use Rattle.meaning.specs.Terms.{Job};
+ghost use Rattle.term.specs.Layout.{figures};
+ghost use Rattle.term.specs.States.{Ready};
+ghost use Rattle.machine.specs.Running.{RanIs};
 
 // How the run ended and the state in which it did; or the queries alone pass a room figure.
 pub enum Ran {
@@ -14,19 +23,29 @@ pub enum Ran {
     QueriesPassRoom,
 }
 
-fn index(w: u64) -> usize {
+fn index(w: u64) -> usize
+    ensures { λ r. ⌜ r ≡ w ⌝ }
+{
     w as usize
 }
 
-fn word(n: usize) -> u64 {
+fn word(n: usize) -> u64
+    ensures { λ r. ⌜ r ≡ n ⌝ }
+{
     n as u64
 }
 
-fn word_at(s: &[u64], from: usize, i: usize) -> u64 {
+fn word_at(s: &[u64], from: usize, i: usize) -> u64
+    requires { ⌜ from + i < length (now s) ⌝ }
+    ensures { λ r. ⌜ r ≡ getD (now (s .entry)) (from + i) 0 ⌝ }
+{
     s[from + i]
 }
 
-fn set_at(s: &mut [u64], from: usize, i: usize, w: u64) {
+fn set_at(s: &mut [u64], from: usize, i: usize, w: u64)
+    requires { ⌜ from + i < length (now s) ⌝ }
+    ensures { λ r. ⌜ now (s .exit) ≡ set (now (s .entry)) (from + i) w ⌝ }
+{
     s[from + i] = w;
 }
 
@@ -126,7 +145,13 @@ fn go_on(s: &mut [u64], room: Room, budget: usize, first: Standing) -> Ran {
 }
 
 // The loaded job with so many queries is run under a budget.
-pub fn run(s: &mut [u64], room: Room, budget: usize, queries: usize) -> Ran {
+pub fn run(s: &mut [u64], room: Room, budget: usize, queries: usize) -> Ran
+    requires { ⌜ ((text : Bytes) × (names : List Bytes) × (j : Job) × Ready (now s) text names (figures room) j
+        × (budget ≤ 1000000) × (queries ≡ length (j .queries))) ⌝ }
+    ensures { λ r. ⌜ ((text : Bytes) (names : List Bytes) (j : Job) → Ready (now (s .entry)) text names (figures room) j
+        → budget ≤ 1000000 → queries ≡ length (j .queries)
+        → RanIs (now (s .entry)) (now (s .exit)) text names j (figures room) budget r) ⌝ }
+{
     if !fit(s, room, queries) {
         return Ran::QueriesPassRoom;
     }

@@ -16,6 +16,19 @@ use term::state::Standing;
 use trial::choice::Fate;
 use trial::choice::READERS;
 use trial::choice::choice;
+ghost use mathlib.Core.Path.{_≡_};
+ghost use mathlib.Core.Bool.{true, false};
+ghost use mathlib.Core.List.{List, _∷_};
+ghost use Prim.Native.Nat.{ℕ, _+_, _*_, _≤_, _<_};
+ghost use lib.ListN.{length, getD, set};
+ghost use Rattle.meaning.specs.Bytes.{Bytes};
+ghost use Rattle.meaning.specs.Terms.{Job};
+ghost use Rattle.meaning.specs.State.{Goal};
+ghost use Rattle.meaning.specs.Run.{run};
+ghost use Rattle.term.specs.Layout.{figures, InRange};
+ghost use Rattle.term.specs.States.{Atlas};
+ghost use Rattle.machine.specs.Log.{Slot};
+ghost use Rattle.machine.specs.Running.{Running, StepIs};
 
 // The state after the step, or the reduction does not fit.
 pub enum Stepped {
@@ -23,15 +36,22 @@ pub enum Stepped {
     NoRoom,
 }
 
-fn index(w: u64) -> usize {
+fn index(w: u64) -> usize
+    ensures { λ r. ⌜ r ≡ w ⌝ }
+{
     w as usize
 }
 
-fn word(n: usize) -> u64 {
+fn word(n: usize) -> u64
+    ensures { λ r. ⌜ r ≡ n ⌝ }
+{
     n as u64
 }
 
-fn word_at(s: &[u64], from: usize, i: usize) -> u64 {
+fn word_at(s: &[u64], from: usize, i: usize) -> u64
+    requires { ⌜ from + i < length (now s) ⌝ }
+    ensures { λ r. ⌜ r ≡ getD (now (s .entry)) (from + i) 0 ⌝ }
+{
     s[from + i]
 }
 
@@ -151,7 +171,17 @@ fn join_failed(s: &mut [u64], room: Room, t: Standing, goal: u64, query: usize) 
 }
 
 // "A step takes the goal at the front." Every step has 32,768 stamps of its own: 256 a clause.
-pub fn step(s: &mut [u64], room: Room, t: Standing) -> Stepped {
+pub fn step(s: &mut [u64], room: Room, t: Standing) -> Stepped
+    requires { ⌜ ((text : Bytes) × (names : List Bytes) × (j : Job) × (limit : ℕ) × (atlas : Atlas) × (slots : List Slot) × (g : Goal) × (others : List Goal)
+        × Running (now s) text names j (figures room) limit atlas slots t
+        × (t .steps < 1000000)
+        × (run j limit (figures room) .state .goals .queue ≡ g ∷ others)) ⌝ }
+    ensures { λ r. ⌜ ((text : Bytes) (names : List Bytes) (j : Job) (limit : ℕ) (atlas : Atlas) (slots : List Slot) (g : Goal) (others : List Goal)
+        → Running (now (s .entry)) text names j (figures room) limit atlas slots t
+        → t .steps < 1000000
+        → run j limit (figures room) .state .goals .queue ≡ g ∷ others
+        → StepIs (now (s .entry)) (now (s .exit)) text names j (figures room) limit atlas g others t r) ⌝ }
+{
     let goal = word_at(s, layout::queue(room), t.front);
     let query = index(goal % 8);
     match choice(
