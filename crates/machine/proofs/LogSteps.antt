@@ -9,6 +9,7 @@ use lib.Dec.{eqb}
 use lib.ListN.{length, getD, set, length-set, length-append, List·getD-append}
 use lib.Seq.{getD-set-same, getD-set-other, getD-at, set-getD, set-set, set-at}
 use Rattle.meaning.specs.Bytes.{among, if_then_else_}
+use Rattle.term.specs.States.{listed}
 use Rattle.machine.specs.Log.{
   Slot,
   gone,
@@ -22,7 +23,6 @@ use Rattle.machine.specs.Log.{
   LogOnly,
   Unclaimed,
   joined,
-  listed,
   gathered,
   At,
   Joins,
