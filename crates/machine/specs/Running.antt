@@ -35,9 +35,9 @@ pub record RunOnly (figures : Room) (s s′ : List ℕ) : Type 0 where
   pub numbers : (k : ℕ) → numbers-region figures ≤ k → k < queue-region figures → getD s′ k 0 ≡ getD s k 0
   pub behind : (k : ℕ) → need-of figures ≤ k → getD s′ k 0 ≡ getD s k 0
 
--- The job's run after `limit` steps.
+-- The job's run after `limit` steps; the stamps from one on are unused.
 pub record Running (s : List ℕ) (text : Bytes) (names : List Bytes) (j : Job) (figures : Room) (limit : ℕ) (atlas : Atlas) (slots : List Slot) (t : Standing)
-    : Type 0 where
+    (stamp : ℕ) : Type 0 where
   pub in-range : InRange figures
   pub inside : need-of figures ≤ length s
   pub reads : reading text ≡ job j
@@ -48,14 +48,15 @@ pub record Running (s : List ℕ) (text : Bytes) (names : List Bytes) (j : Job) 
   pub log : LogOk s (waiting-region figures) (waiters-region figures) (sets-region figures) (figures .pairs) slots
   pub log-number : t .log ≡ length slots
   pub waiting : present slots (length slots) ≡ map (slot-of atlas) (run j limit figures .state .goals .waiting)
-  pub marks : MarksBelow s (marks-region figures) (figures .pairs) (t .steps * 32768 + 1)
+  pub marks : MarksBelow s (marks-region figures) (figures .pairs) stamp
 
 -- After a step: the next state of the run; or the reduction does not fit, and the state is as it was.
 abbrev pub SteppedIs : List ℕ → Bytes → List Bytes → Job → Room → ℕ → Atlas → Goal → List Goal → Standing → Stepped → Type 0
 SteppedIs s′ text names j figures limit atlas g others t (Next u) =
     (fits figures (choice-for (j .clauses) (run j limit figures .state) g) (run j limit figures .state)
     (without-front others (run j limit figures .state .goals)) ≡ true)
-    × (atlas′ : Atlas) × (slots′ : List Slot) × (u .steps ≡ t .steps + 1) × Running s′ text names j figures (limit + 1) atlas′ slots′ u
+    × (atlas′ : Atlas) × (slots′ : List Slot) × (u .steps ≡ t .steps + 1)
+    × Running s′ text names j figures (limit + 1) atlas′ slots′ u (u .steps * 32768 + 1)
 SteppedIs s′ text names j figures limit atlas g others t NoRoom =
     (fits figures (choice-for (j .clauses) (run j limit figures .state) g) (run j limit figures .state)
     (without-front others (run j limit figures .state .goals)) ≡ false)
