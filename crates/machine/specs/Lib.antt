@@ -4,3 +4,4 @@ pub mod Log
 pub mod Reducing
 pub mod Ring
 pub mod Running
+pub mod Taking

@@ -22,13 +22,16 @@ ghost use mathlib.Core.List.{List, _∷_};
 ghost use Prim.Native.Nat.{ℕ, _+_, _*_, _≤_, _<_};
 ghost use lib.ListN.{length, getD, set};
 ghost use Rattle.meaning.specs.Bytes.{Bytes};
-ghost use Rattle.meaning.specs.Terms.{Job};
+ghost use Rattle.meaning.specs.Terms.{Clause, Job};
 ghost use Rattle.meaning.specs.State.{Goal};
+ghost use Rattle.meaning.specs.Compare.{Assignment};
 ghost use Rattle.meaning.specs.Run.{run};
+ghost use Rattle.term.specs.Jobs.{query-record};
 ghost use Rattle.term.specs.Layout.{figures, InRange};
 ghost use Rattle.term.specs.States.{Atlas};
 ghost use Rattle.machine.specs.Log.{Slot};
 ghost use Rattle.machine.specs.Running.{Running, StepIs};
+ghost use Rattle.machine.specs.Taking.{Taken, Reducing, JoiningWaiting, JoiningFailed};
 
 // The state after the step, or the reduction does not fit.
 pub enum Stepped {
@@ -56,7 +59,10 @@ fn word_at(s: &[u64], from: usize, i: usize) -> u64
 }
 
 // "Its query's number of tries rises by one."
-fn count_try(s: &mut [u64], query: usize) {
+fn count_try(s: &mut [u64], query: usize)
+    requires { ⌜ (query < 8) × (5120 ≤ length (now s)) × (getD (now s) (query-record query + 4) 0 ≤ 1000000) ⌝ }
+    ensures { λ r. ⌜ now (s .exit) ≡ set (now (s .entry)) (query-record query + 4) (getD (now (s .entry)) (query-record query + 4) 0 + 1) ⌝ }
+{
     let tries = word_at(s, QUERIES + 64 * query, 4);
     s[QUERIES + 64 * query + 4] = tries + 1;
 }
@@ -73,7 +79,15 @@ fn fits(room: Room, t: Standing, pairs: usize, compounds: usize, body: usize) ->
 }
 
 // The goal is reduced by clause k, with n of its pairs given a term.
-fn reduce(s: &mut [u64], room: Room, t: Standing, query: usize, k: usize, n: usize) -> Stepped {
+fn reduce(s: &mut [u64], room: Room, t: Standing, query: usize, k: usize, n: usize) -> Stepped
+    requires { ⌜ ((text : Bytes) × (names : List Bytes) × (j : Job) × (limit : ℕ) × (atlas : Atlas) × (slots : List Slot) × (g : Goal) × (others : List Goal) × (c : Clause) × (given : List Assignment)
+        × Taken (now s) text names j (figures room) limit atlas slots g others t
+        × Reducing (now s) names j (figures room) limit atlas g query k n c given) ⌝ }
+    ensures { λ r. ⌜ ((text : Bytes) (names : List Bytes) (j : Job) (limit : ℕ) (atlas : Atlas) (slots : List Slot) (g : Goal) (others : List Goal) (c : Clause) (given : List Assignment)
+        → Taken (now (s .entry)) text names j (figures room) limit atlas slots g others t
+        → Reducing (now (s .entry)) names j (figures room) limit atlas g query k n c given
+        → StepIs (now (s .entry)) (now (s .exit)) text names j (figures room) limit atlas g others t r) ⌝ }
+{
     let pairs = index(word_at(s, CLAUSES + 16 * k, 1));
     let compounds = index(word_at(s, CLAUSES + 16 * k, 2));
     let body = index(word_at(s, CLAUSES + 16 * k, 3));
@@ -129,7 +143,15 @@ fn free_place(s: &mut [u64], room: Room, log: usize) -> usize {
 }
 
 // The goal joins the end of the waiting goals with so many readers.
-fn join_waiting(s: &mut [u64], room: Room, t: Standing, goal: u64, query: usize, readers: usize) -> Stepped {
+fn join_waiting(s: &mut [u64], room: Room, t: Standing, goal: u64, query: usize, readers: usize) -> Stepped
+    requires { ⌜ ((text : Bytes) × (names : List Bytes) × (j : Job) × (limit : ℕ) × (atlas : Atlas) × (slots : List Slot) × (g : Goal) × (others : List Goal) × (rs : List ℕ)
+        × Taken (now s) text names j (figures room) limit atlas slots g others t
+        × JoiningWaiting (now s) j (figures room) limit atlas g goal query readers rs) ⌝ }
+    ensures { λ r. ⌜ ((text : Bytes) (names : List Bytes) (j : Job) (limit : ℕ) (atlas : Atlas) (slots : List Slot) (g : Goal) (others : List Goal) (rs : List ℕ)
+        → Taken (now (s .entry)) text names j (figures room) limit atlas slots g others t
+        → JoiningWaiting (now (s .entry)) j (figures room) limit atlas g goal query readers rs
+        → StepIs (now (s .entry)) (now (s .exit)) text names j (figures room) limit atlas g others t r) ⌝ }
+{
     let log = free_place(s, room, t.log);
     wait(
         s,
@@ -155,7 +177,15 @@ fn join_waiting(s: &mut [u64], room: Room, t: Standing, goal: u64, query: usize,
 }
 
 // The goal joins the end of the failed goals.
-fn join_failed(s: &mut [u64], room: Room, t: Standing, goal: u64, query: usize) -> Stepped {
+fn join_failed(s: &mut [u64], room: Room, t: Standing, goal: u64, query: usize) -> Stepped
+    requires { ⌜ ((text : Bytes) × (names : List Bytes) × (j : Job) × (limit : ℕ) × (atlas : Atlas) × (slots : List Slot) × (g : Goal) × (others : List Goal)
+        × Taken (now s) text names j (figures room) limit atlas slots g others t
+        × JoiningFailed j (figures room) limit atlas g goal query) ⌝ }
+    ensures { λ r. ⌜ ((text : Bytes) (names : List Bytes) (j : Job) (limit : ℕ) (atlas : Atlas) (slots : List Slot) (g : Goal) (others : List Goal)
+        → Taken (now (s .entry)) text names j (figures room) limit atlas slots g others t
+        → JoiningFailed j (figures room) limit atlas g goal query
+        → StepIs (now (s .entry)) (now (s .exit)) text names j (figures room) limit atlas g others t r) ⌝ }
+{
     fail(s, layout::failed(room), t.failed, goal);
     count_try(s, query);
     Stepped::Next(Standing {
