@@ -151,7 +151,7 @@ module _ (p c : ℕ) where
       ∙ sym (set-value ws j i v (omega (arith, g .0 .0))))
       z h
 
-entries-held : (gs : List Gift) (s : List ℕ) (x : Setting) (y : Template) → AllGiven s x y gs → AllEntries s x y (entries-of gs)
+pub entries-held : (gs : List Gift) (s : List ℕ) (x : Setting) (y : Template) → AllGiven s x y gs → AllEntries s x y (entries-of gs)
 unfolding AllGiven AllEntries entries-of
 entries-held [] s x y g = tt
 entries-held (to-head n u ∷ gs) s x y g = entries-held gs s x y (g .1)

@@ -1,5 +1,6 @@
 pub mod Arguments
 pub mod Calls
+pub mod Clauses
 pub mod Depth
 pub mod Descent
 pub mod Entries
@@ -7,8 +8,10 @@ pub mod Equal
 pub mod Following
 pub mod Gifts
 pub mod Given
+pub mod Heads
 pub mod Kept
 pub mod Measure
+pub mod Once
 pub mod Parts
 pub mod Place
 pub mod Rows
@@ -17,8 +20,10 @@ pub mod Seen
 pub mod SetBack
 pub mod Stamps
 pub mod Starts
+pub mod Staying
 pub mod Table
 pub mod Through
+pub mod Trials
 pub mod Unseen
 pub mod Visit
 pub mod Walk

@@ -1,0 +1,219 @@
+-- What a change of the trial's region and of marks alone leaves as it was: the job, the goal and its unit, a clause's head, what a trial gave.
+use Prim.Native.Nat.{ℕ, zero, suc, _+_, _*_, _≤_, _<_}
+use mathlib.Core.Path.{_≡_, refl, _∙_}
+use mathlib.Core.Logic.{_⊎_, inl, inr}
+use mathlib.Core.List.{List, [], _∷_}
+use mathlib.Core.Option.{Option, none, some}
+use native.Mathlib.Omega.{arith}
+use lib.ListN.{length, getD, set, length-set}
+use lib.Seq.{getD-set-other}
+use Rattle.meaning.specs.Bytes.{Bytes}
+use Rattle.meaning.specs.Terms.{Term, Terms, end, more, Clause, Job, as-term}
+use Rattle.meaning.specs.State.{Room, Goal, value}
+use Rattle.term.specs.Cells.{Places}
+use Rattle.term.specs.Every.{Every, EveryOf}
+use Rattle.term.specs.Frames.{Only}
+use Rattle.term.specs.Holds.{Holds}
+use Rattle.term.specs.Jobs.{clause-record, query-record, ClauseAt, Linked, JobKept}
+use Rattle.term.specs.Setting.{Setting, Within, AllWithin, UnitTerm, UnitStands}
+use Rattle.term.specs.States.{setting, listed}
+use Rattle.term.proofs.Holds.{holds-alike, EveryValue, holds-values-alike}
+use Rattle.term.proofs.Jobs.{holds-clause-kept, holds-job-kept, linked-map}
+use Rattle.trial.specs.Gifts.{Entry, EntriesAt}
+use Rattle.trial.specs.Compare.{Template, item, HeadTerm, AllEntries}
+use Rattle.trial.specs.Choosing.{unit-of, Trying, TrialOnly, MarksBelow}
+
+-- Frames: nothing changed, one change after another, a wider region, a change of the trial's region, of marks, of one word.
+pub trial-only-same : (top marks pairs : ℕ) (s : List ℕ) → TrialOnly top marks pairs s s
+trial-only-same top marks pairs s = record { size = refl; same = λ k a b. refl }
+
+pub trial-only-then : {top marks pairs : ℕ} {s t u : List ℕ} → TrialOnly top marks pairs s t → TrialOnly top marks pairs t u
+    → TrialOnly top marks pairs s u
+trial-only-then f g = record { size = g .size ∙ f .size; same = λ k a b. g .same k a b ∙ f .same k a b }
+
+above : (low high k : ℕ) → low ≤ high → (k < 39936) ⊎ (high ≤ k) → (k < 39936) ⊎ (low ≤ k)
+above low high k h (inl a) = inl a
+above low high k h (inr a) = inr (omega arith)
+
+pub trial-only-wider : {top marks pairs : ℕ} {s t : List ℕ} (top′ : ℕ) → top ≤ top′ → TrialOnly top marks pairs s t → TrialOnly top′ marks pairs s t
+trial-only-wider {top} top′ h f = record { size = f .size; same = λ k a b. f .same k (above top top′ k h a) b }
+
+pub trial-only-region : {hi : ℕ} {s t : List ℕ} (top marks pairs : ℕ) → hi ≤ top → Only 39936 hi s t → TrialOnly top marks pairs s t
+trial-only-region {hi} {s} {t} top marks pairs h f = record { size = f .size; same = λ k a b. go k a }
+  where
+    go : (k : ℕ) → (k < 39936) ⊎ (top ≤ k) → getD t k 0 ≡ getD s k 0
+    go k (inl a) = f .below k a
+    go k (inr a) = f .above k (omega arith)
+
+pub trial-only-marks : {marks pairs : ℕ} {s t : List ℕ} (top : ℕ) → Only marks (marks + pairs) s t → TrialOnly top marks pairs s t
+trial-only-marks {marks} {pairs} {s} {t} top f = record { size = f .size; same = λ k a b. go k b }
+  where
+    go : (k : ℕ) → (k < marks) ⊎ (marks + pairs ≤ k) → getD t k 0 ≡ getD s k 0
+    go k (inl a) = f .below k a
+    go k (inr a) = f .above k a
+
+pub trial-only-set : (top marks pairs i v : ℕ) (s : List ℕ) → 39936 ≤ i → i < top → TrialOnly top marks pairs s (set s i v)
+trial-only-set top marks pairs i v s l h = record { size = length-set s i v; same = λ k a b. go k a }
+  where
+    go : (k : ℕ) → (k < 39936) ⊎ (top ≤ k) → getD (set s i v) k 0 ≡ getD s k 0
+    go k (inl a) = getD-set-other s i k v 0 (λ e. omega arith)
+    go k (inr a) = getD-set-other s i k v 0 (λ e. omega arith)
+
+-- A term's compounds are below the bound on them.
+mutual
+  unfolding Within AllWithin Every EveryOf
+
+  within-every : (p c : ℕ) (t : Term) → Within p c t → Every (λ n. n < c) t
+  within-every p c (Term.variable h n) w = tt
+  within-every p c (Term.constant k) w = tt
+  within-every p c (Term.compound n f ts) w = (w .0, all-within-every p c ts (w .1))
+
+  all-within-every : (p c : ℕ) (ts : Terms) → AllWithin p c ts → EveryOf (λ n. n < c) ts
+  all-within-every p c end w = tt
+  all-within-every p c (more t ts) w = (within-every p c t (w .0), all-within-every p c ts (w .1))
+
+-- A compound's place is below the trial's region, or behind it and before the marks.
+abbrev pub Apart : ℕ → ℕ → Type 0
+Apart marks place = (place < 4992) ⊎ ((5088 ≤ place) × (8 * place + 8 ≤ marks))
+
+module _ (marks pairs : ℕ) (s s′ : List ℕ) (o : TrialOnly 40704 marks pairs s s′) (behind : 40704 ≤ marks) where
+  pub low-stays : (k : ℕ) → k < 39936 → getD s′ k 0 ≡ getD s k 0
+  low-stays k h = o .same k (inl h) (inl (omega arith))
+
+  pub high-stays : (k : ℕ) → 40704 ≤ k → k < marks → getD s′ k 0 ≡ getD s k 0
+  high-stays k a b = o .same k (inr a) (inl b)
+
+  place-stays : (place k : ℕ) → Apart marks place → 8 * place ≤ k → k < 8 * place + 8 → getD s′ k 0 ≡ getD s k 0
+  place-stays place k (inl low) a b = low-stays k (omega arith)
+  place-stays place k (inr high) a b = high-stays k (omega (arith, high .0)) (omega (arith, high .1))
+
+  module _ (places : Places) (p c : ℕ) (apart : (n : ℕ) → n < c → Apart marks (places .compound n)) where
+    pub holds-stays : (t : Term) → Within p c t → Holds s places t → Holds s′ places t
+    holds-stays t w h =
+        holds-alike s s′ places (λ n. n < c) (omega (arith, o .size)) (λ n l k. place-stays (places .compound n) k (apart n l)) t
+        (within-every p c t w) h
+
+  module _ (x : Setting) (apart : (n : ℕ) → n < x .compounds → Apart marks (x .places .compound n)) where
+    pub unit-term-stays : (t : Term) → UnitTerm s x t → UnitTerm s′ x t
+    unit-term-stays t k = record {
+      held = holds-stays (x .places) (length (x .values)) (x .compounds) apart t (k .of .within) (k .held);
+      of = k .of;
+    }
+
+    every-value : (from n : ℕ) → UnitStands s x from → n < length (x .values) → (v : Option Term) → value (x .values) n ≡ v
+        → EveryValue (λ m. m < x .compounds) v
+    unfolding EveryValue
+    every-value from n u h none e = tt
+    every-value from n u h (some t) e = within-every (length (x .values)) (x .compounds) t (u .of n t h e .within)
+
+    pub unit-stays : (from : ℕ) → 40704 ≤ from → from + x .pairs ≤ marks → UnitStands s x from → UnitStands s′ x from
+    unit-stays from a b u = record {
+      held =
+          holds-values-alike s s′ (x .places) (λ m. m < x .compounds) (omega (arith, o .size))
+          (λ n l k. place-stays (x .places .compound n) k (apart n l)) from (x .pairs) (x .values)
+          (λ k l h. high-stays k (omega arith) (omega arith))
+          (λ n h. every-value from n u h (value (x .values) n) refl)
+          (u .held);
+      of = u .of;
+    }
+
+  module _ (x : Setting) (y : Template) (small : y .number < 128) (few : y .compounds ≤ 32) where
+    head-apart : (n : ℕ) → n < y .compounds → Apart marks (item x y .compound n)
+    head-apart n h = inl (omega arith)
+
+    pub head-term-stays : (lo hi : ℕ) (t : Term) → HeadTerm s x y lo hi t → HeadTerm s′ x y lo hi t
+    head-term-stays lo hi t k = record {
+      held = holds-stays (item x y) (y .pairs) (y .compounds) head-apart t (k .within) (k .held);
+      within = k .within;
+      known = k .known;
+      ranged = k .ranged;
+      numbered = k .numbered;
+      high = k .high;
+    }
+
+    pub all-entries-stay : (es : List Entry) → AllEntries s x y es → AllEntries s′ x y es
+    unfolding AllEntries
+    all-entries-stay [] k = tt
+    all-entries-stay (e ∷ es) k =
+        ((k .0 .0, k .0 .1, k .0 .2, head-term-stays (k .0 .1) (k .0 .2) (e .term) (k .0 .3)), all-entries-stay es (k .1))
+
+  -- The job, and a clause of it.
+  pub job-stays : JobKept s s′
+  job-stays = record {
+    size = omega (arith, o .size);
+    before = λ k h. low-stays k (omega arith);
+    records = λ q i h m a b. low-stays (query-record q + i) (omega arith);
+    items = λ k l h. low-stays k h;
+  }
+
+  pub clause-stays : (names : List Bytes) (k : ℕ) (c : Clause) → ClauseAt s names k c → ClauseAt s′ names k c
+  clause-stays names k c a =
+      let number : k < 128 = a .number in
+      record {
+        number = number;
+        held = holds-clause-kept s s′ names k (omega (arith, o .size)) c (λ i l m. low-stays (clause-record k + i) (omega arith))
+            (λ i l m. low-stays i (omega arith)) (a .held);
+      }
+
+  pub linked-stays : (names : List Bytes) (w : ℕ) (cs : List Clause) → Linked s (ClauseAt s names) w cs → Linked s′ (ClauseAt s′ names) w cs
+  linked-stays names w cs l =
+      linked-map s s′ (ClauseAt s names) (ClauseAt s′ names) w cs
+      (λ k c a. (clause-stays names k c a, low-stays (clause-record k) (omega (arith, a .number)))) l
+
+-- Where the goal's unit has its compounds.
+pub compounds-apart : {s : List ℕ} {text : Bytes} {names : List Bytes} {j : Job} {limit : ℕ} {figures : Room} {at : Places}
+    {g : Goal} {others : List Goal} {values marks links goal : ℕ}
+    → Trying s text names j limit figures at g others values marks links goal
+    → (n : ℕ) → n < unit-of j limit figures g .compounds → Apart marks (at .compound n)
+compounds-apart t n h = inr (t .compound-behind n h, omega (arith, t .compound-before n h, t .marks-behind))
+
+-- All that a trial leans on.
+pub trying-stays : {s s′ : List ℕ} {text : Bytes} {names : List Bytes} {j : Job} {limit : ℕ} {figures : Room} {at : Places}
+    {g : Goal} {others : List Goal} {values marks links goal : ℕ}
+    → TrialOnly 40704 marks (figures .pairs) s s′
+    → Trying s text names j limit figures at g others values marks links goal
+    → Trying s′ text names j limit figures at g others values marks links goal
+trying-stays {s} {s′} {names = names} {j} {limit} {figures} {at} {g} {values = values} {marks} o t =
+    let x = setting figures at (unit-of j limit figures g) in
+    let behind : 40704 ≤ marks = omega (arith, t .values-behind, t .marks-behind) in
+    record {
+      reads = t .reads;
+      front = t .front;
+      held = holds-job-kept s s′ names (job-stays marks (figures .pairs) s s′ o behind) j (t .held);
+      names-are = t .names-are;
+      unit = unit-stays marks (figures .pairs) s s′ o behind x (compounds-apart t) values (t .values-behind) (t .marks-behind) (t .unit);
+      goal-held = unit-term-stays marks (figures .pairs) s s′ o behind x (compounds-apart t)
+          (as-term (g .goal)) (t .goal-held);
+      goal-place = t .goal-place;
+      apart = t .apart;
+      compound-behind = t .compound-behind;
+      compound-before = t .compound-before;
+      values-behind = t .values-behind;
+      marks-behind = t .marks-behind;
+      inside = omega (arith, t .inside, o .size);
+      enough = t .enough;
+    }
+
+-- The marks, where only the trial's region has changed.
+pub marks-stay : {hi : ℕ} {s s′ : List ℕ} (marks pairs stamp : ℕ) → hi ≤ marks → Only 39936 hi s s′
+    → MarksBelow s marks pairs stamp → MarksBelow s′ marks pairs stamp
+marks-stay marks pairs stamp h o m k a b = rw (o .above k (omega arith)) (m k a b)
+
+-- The entries, where the words from the first to the last stay.
+pub entries-stay : (s s′ : List ℕ) (item unit : Places) (n : ℕ) (es : List Entry)
+    → ((k : ℕ) → 39952 ≤ k → k < 39952 + 2 * (n + length es) → getD s′ k 0 ≡ getD s k 0)
+    → EntriesAt s item unit n es → EntriesAt s′ item unit n es
+unfolding EntriesAt
+entries-stay s s′ item unit n [] same k = tt
+entries-stay s s′ item unit n (e ∷ es) same k = (
+  same (39952 + 2 * n) (omega arith) (omega arith) ∙ k .0,
+  same (39953 + 2 * n) (omega arith) (omega arith) ∙ k .1,
+  entries-stay s s′ item unit (n + 1) es (λ m a b. same m a (omega arith)) (k .2),
+)
+
+-- So many words from one on.
+pub listed-stays : (s s′ : List ℕ) (from n : ℕ) → ((k : ℕ) → from ≤ k → k < from + n → getD s′ k 0 ≡ getD s k 0) → listed s′ from n ≡ listed s from n
+unfolding listed
+listed-stays s s′ from zero same = refl
+listed-stays s s′ from (suc n) same =
+    rw (listed-stays s s′ from n (λ k a b. same k a (omega arith)), same (from + n) (omega arith) (omega arith))

@@ -1,0 +1,156 @@
+-- `trial::choice::trial` meets its contract: the head is compared with the goal, and where all places agree the circle test follows.
+use mathlib.Core.Path.{_∙_}
+use borrow.Author.Needs.{needs}
+use Rattle.meaning.specs.Terms.{named}
+use Rattle.term.specs.States.{setting}
+use Rattle.trial.specs.declared.compare.Result.the-variants.{Agrees, Waits, Fails}
+use Rattle.trial.specs.Choosing.{unit-of, template}
+use Rattle.trial.proofs.Trials as trials
+use Rattle.trial.proofs.choice.trial.Statement.{statement}
+use Rattle.trial.proofs.choice.trial.Tie as tie
+
+mul-word-at : tie.Need-mul-word-at
+mul-word-at c = search needs
+
+add-word-at : tie.Need-add-word-at
+add-word-at c = search needs
+
+word-at-requires : tie.Need-word-at-requires
+word-at-requires c κs = search needs
+
+index-requires : tie.Need-index-requires
+index-requires c κs = search needs
+
+begin-requires : tie.Need-begin-requires
+begin-requires c κs = search needs
+
+mul-places : tie.Need-mul-places
+mul-places c = search needs
+
+add-places : tie.Need-add-places
+add-places c = search needs
+
+places-requires : tie.Need-places-requires
+places-requires c κs =
+    let B = c .before .before .before in
+    let S = B .before .before .before .before .before .before in
+    let (text, names, j, limit, figures, at, g, others, k, trying, candidate, new, fit) = S .pre in
+    let begun = B .begin .ensures .0 in (
+      setting figures at (unit-of j limit figures g),
+      template (S .args .k) k,
+      k .head .number,
+      named (k .head .name),
+      k .head .arguments,
+      1,
+      trials.to trying candidate begun,
+      g .goal .number,
+      named (g .goal .name),
+      g .goal .arguments,
+      trials.comparing trying candidate begun,
+    )
+
+enum-known-n : tie.Need-enum-known-n
+enum-known-n c = search needs
+
+circle-requires : tie.Need-circle-requires
+circle-requires c κs =
+    let N = c .before .before in
+    let P = N .before .before .before .before in
+    let B = P .before .before .before .before in
+    let I = B .before .before in
+    let (text, names, j, limit, figures, at, g, others, k, t, m, new, fit) = I .before .before .before .before .pre in
+    let begun = B .begin .ensures .0 in
+    let cleared = trials.cleared-all t m begun (I .index .result) (I .index .ensures ∙ I .before .word-at .ensures) (B .begin .ensures .1) in
+    let told = trials.comparison t m begun (P .places .last .0) (P .places .result) (Agrees (N .n .given .0 .0)) (P .places .ensures) (N .n .given .1) in
+    (trials.tried-as t m begun new fit cleared told, trials.tried t m begun new fit cleared told)
+
+same-length : tie.Need-same-length
+same-length c = search needs
+
+returns : tie.Need-returns
+returns c =
+    let C = c .before .before .before in
+    let N = C .before .before .before in
+    let P = N .before .before .before .before in
+    let B = P .before .before .before .before in
+    let I = B .before .before in
+    let fit = I .before .before .before .before .pre .12 in
+    λ text names j limit figures at g others k t m new.
+    let begun = B .begin .ensures .0 in
+    let cleared = trials.cleared-all t m begun (I .index .result) (I .index .ensures ∙ I .before .word-at .ensures) (B .begin .ensures .1) in
+    let told = trials.comparison t m begun (P .places .last .0) (P .places .result) (Agrees (N .n .given .0 .0)) (P .places .ensures) (N .n .given .1) in
+    trials.circle-fails t m begun new fit cleared told
+    (C .circle .ensures (trials.tried-as t m begun new fit cleared told) (trials.tried t m begun new fit cleared told)) (c .if1 .taken)
+
+enum-known-p : tie.Need-enum-known-p
+enum-known-p c = search needs
+
+enum-told : tie.Need-enum-told
+enum-told c = search needs
+
+same-length-2 : tie.Need-same-length-2
+same-length-2 c = search needs
+
+returns-2 : tie.Need-returns-2
+returns-2 c =
+    let C = c .before .before .before in
+    let N = C .before .before .before in
+    let P = N .before .before .before .before in
+    let B = P .before .before .before .before in
+    let I = B .before .before in
+    let fit = I .before .before .before .before .pre .12 in
+    λ text names j limit figures at g others k t m new.
+    let begun = B .begin .ensures .0 in
+    let cleared = trials.cleared-all t m begun (I .index .result) (I .index .ensures ∙ I .before .word-at .ensures) (B .begin .ensures .1) in
+    let told = trials.comparison t m begun (P .places .last .0) (P .places .result) (Agrees (N .n .given .0 .0)) (P .places .ensures) (N .n .given .1) in
+    trials.no-circle-succeeds t m begun new fit cleared told
+    (C .circle .ensures (trials.tried-as t m begun new fit cleared told) (trials.tried t m begun new fit cleared told)) (c .if1 .left)
+
+same-length-3 : tie.Need-same-length-3
+same-length-3 c = search needs
+
+returns-3 : tie.Need-returns-3
+returns-3 c =
+    let W = c .before in
+    let P = W .before .before .before .before in
+    let begun = P .before .before .before .before .begin .ensures .0 in
+    let z = W .p .given .0 .0 in
+    λ text names j limit figures at g others k t m new.
+    trials.place-waits t m begun new z
+    (trials.comparison t m begun (P .places .last .0) (P .places .result) (Waits z) (P .places .ensures) (W .p .given .1))
+
+same-length-4 : tie.Need-same-length-4
+same-length-4 c = search needs
+
+returns-4 : tie.Need-returns-4
+returns-4 c =
+    let P = c .before .before .before .before in
+    let begun = P .before .before .before .before .begin .ensures .0 in
+    λ text names j limit figures at g others k t m new.
+    trials.place-fails t m begun new
+    (trials.comparison t m begun (P .places .last .0) (P .places .result) Fails (P .places .ensures) (c .enum-told .given .1))
+
+pub trial-spec : {M : Type 1} → statement M
+trial-spec =
+    tie.close
+    (tie.spec
+    mul-word-at
+    add-word-at
+    word-at-requires
+    index-requires
+    begin-requires
+    mul-places
+    add-places
+    places-requires
+    enum-known-n
+    circle-requires
+    same-length
+    returns
+    enum-known-p
+    enum-told
+    same-length-2
+    returns-2
+    same-length-3
+    returns-3
+    same-length-4
+    returns-4)
