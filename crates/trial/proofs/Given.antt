@@ -2,7 +2,7 @@
 -- those of the entries assigned over those that the head's writers were given.
 use Prim.Native.Nat.{ℕ, _+_, _*_, _≤_, _<_}
 use mathlib.Core.Path.{_≡_, refl, sym, ap, _∙_}
-use mathlib.Core.Bool.{Bool, true, false}
+use mathlib.Core.Bool.{Bool, true, false, _||_}
 use mathlib.Core.List.{List, [], _∷_}
 use mathlib.Core.Option.{Option, none, some}
 use native.Mathlib.Omega.{arith}
@@ -10,7 +10,7 @@ use lib.Dec.{eqb}
 use lib.ListN.{length, getD, set, replicate, length-set, length-append, length-replicate, getD-replicate}
 use lib.Seq.{getD-set-same, getD-set-other, getD-append-add}
 use borrow.Author.Tests.{eqb-true, eqb-false}
-use Rattle.meaning.specs.Bytes.{if_then_else_}
+use Rattle.meaning.specs.Bytes.{any, if_then_else_}
 use Rattle.meaning.specs.Terms.{Functor, Term, Terms, Named, Clause, count, renamed}
 use Rattle.meaning.specs.State.{Values, value, QueryUnit}
 use Rattle.meaning.specs.Compare.{Assignment, Result, succeeds}
@@ -100,6 +100,13 @@ module _ (item unit : Places) where
       ∙ getD-set-other s (39952 + 2 * n) (39936 + a) p 0 (λ k. omega arith)
       ∙ e)
 
+not-eqb : (a b : ℕ) → (a ≡ b → ⊥) → eqb a b ≡ false
+not-eqb a b h = go (eqb a b) refl
+  where
+    go : (t : Bool) → eqb a b ≡ t → t ≡ false
+    go true e = absurd (h (eqb-true a b e))
+    go false e = refl
+
 set-value : (vs : Values) (i z : ℕ) (t : Term) → i < length vs → value (set vs i (some t)) z ≡ (if eqb z i then some t else value vs z)
 unfolding value if_then_else_
 set-value vs i z t h = go (eqb z i) refl
@@ -151,6 +158,16 @@ module _ (p c : ℕ) where
       ∙ sym (set-value ws j i v (omega (arith, g .0 .0))))
       z h
 
+-- Of the unit's own pairs those of the entries and no other are assigned.
+entry-pairs : (p c : ℕ) (gs : List Gift) (s : List ℕ) (x : Setting) (y : Template) → AllGiven s x y gs → (z : ℕ) → z < p
+    → any (λ a. eqb z (a .pair)) (assignments p c gs) ≡ any (λ e. eqb z (e .pair)) (entries-of gs)
+unfolding any assignments entries-of AllGiven
+entry-pairs p c [] s x y g z h = refl
+entry-pairs p c (to-head n u ∷ gs) s x y g z h =
+    let other : eqb z (p + n) ≡ false = not-eqb z (p + n) (λ e. omega arith) in
+    rw other (entry-pairs p c gs s x y (g .1) z h)
+entry-pairs p c (to-goal j t ∷ gs) s x y g z h = ap (λ b. eqb z j || b) (entry-pairs p c gs s x y (g .1) z h)
+
 pub entries-held : (gs : List Gift) (s : List ℕ) (x : Setting) (y : Template) → AllGiven s x y gs → AllEntries s x y (entries-of gs)
 unfolding AllGiven AllEntries entries-of
 entries-held [] s x y g = tt
@@ -162,7 +179,11 @@ pub gave : (s s′ : List ℕ) (x : Setting) (y : Template) (given : List Assign
     → 40336 ≤ length s → m ≤ 192 → y .pairs ≤ 16 → ((a : ℕ) → a < y .pairs → getD s (39936 + a) 0 ≡ 0) → Gave s s′ x y given m
 unfolding with-pairs value
 gave s s′ x y given m k large room few cleared = record {
+  gifts = k .gifts;
+  given-are = are;
+  gifts-held = k .given;
   list = entries-of (k .gifts);
+  list-is = refl;
   size = entries-length (k .gifts) ∙ omega (arith, k .counted);
   stand =
       rw (k .scratch)
@@ -175,6 +196,7 @@ gave s s′ x y given m k large room few cleared = record {
       (head-word-at (item x y) (x .places) (k .gifts) s x y 0 a none s few (k .given) large (omega arith) (cleared a h)
       ∙ ap (λ o. value-word (x .places) (head-gift (k .gifts) a o)) (sym (free a h))
       ∙ ap (value-word (x .places)) (sym (head-value p (x .compounds) (k .gifts) base a s x y (k .given) refl (omega (arith, long)))));
+  pairs-are = λ z h. rw are (entry-pairs p (x .compounds) (k .gifts) s x y (k .given) z h);
 }
   where
     p : ℕ

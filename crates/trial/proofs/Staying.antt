@@ -19,8 +19,8 @@ use Rattle.term.specs.Setting.{Setting, Within, AllWithin, UnitTerm, UnitStands
 use Rattle.term.specs.States.{setting, listed}
 use Rattle.term.proofs.Holds.{holds-alike, EveryValue, holds-values-alike}
 use Rattle.term.proofs.Jobs.{holds-clause-kept, holds-job-kept, linked-map}
-use Rattle.trial.specs.Gifts.{Entry, EntriesAt}
-use Rattle.trial.specs.Compare.{Template, item, HeadTerm, AllEntries}
+use Rattle.trial.specs.Gifts.{Gift, to-head, to-goal, Entry, EntriesAt}
+use Rattle.trial.specs.Compare.{Template, item, HeadTerm, AllEntries, AllGiven}
 use Rattle.trial.specs.Choosing.{unit-of, Trying, TrialOnly, MarksBelow}
 
 -- Frames: nothing changed, one change after another, a wider region, a change of the trial's region, of marks, of one word.
@@ -136,6 +136,13 @@ module _ (marks pairs : ℕ) (s s′ : List ℕ) (o : TrialOnly 40704 marks pair
     all-entries-stay [] k = tt
     all-entries-stay (e ∷ es) k =
         ((k .0 .0, k .0 .1, k .0 .2, head-term-stays (k .0 .1) (k .0 .2) (e .term) (k .0 .3)), all-entries-stay es (k .1))
+
+    pub all-given-stay : ((n : ℕ) → n < x .compounds → Apart marks (x .places .compound n)) → (gs : List Gift) → AllGiven s x y gs → AllGiven s′ x y gs
+    unfolding AllGiven
+    all-given-stay apart [] k = tt
+    all-given-stay apart (to-head n u ∷ gs) k = ((k .0 .0, unit-term-stays x apart u (k .0 .1)), all-given-stay apart gs (k .1))
+    all-given-stay apart (to-goal z t ∷ gs) k =
+        ((k .0 .0, k .0 .1, k .0 .2, head-term-stays (k .0 .1) (k .0 .2) t (k .0 .3)), all-given-stay apart gs (k .1))
 
   -- The job, and a clause of it.
   pub job-stays : JobKept s s′

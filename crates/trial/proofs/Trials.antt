@@ -49,7 +49,7 @@ use Rattle.trial.proofs.Staying.{
   clause-stays,
   unit-term-stays,
   head-term-stays,
-  all-entries-stay,
+  all-entries-stay, all-given-stay,
   entries-stay,
   marks-stay,
 }
@@ -302,6 +302,14 @@ module _ {s s₁ : List ℕ} {text : Bytes} {names : List Bytes} {j : Job} {limi
                       (omega (arith, t .values-behind, t .marks-behind)) x y (m .at .number) (m .at .held .laid .few-compounds) (all .list) (all .held);
                   unit-values = all .unit-values;
                   clause-values = λ a h. before-marks (39936 + a) (omega (arith, few)) ∙ all .clause-values a h;
+                  gifts = all .gifts;
+                  given-are = all .given-are;
+                  list-is = all .list-is;
+                  gifts-held = all-given-stay marks (figures .pairs) s₁ s₃
+                      (trial-only-then agreed-frame (trial-only-wider 40704 (omega arith) tested-frame))
+                      (omega (arith, t .values-behind, t .marks-behind)) x y (m .at .number) (m .at .held .laid .few-compounds) (compounds-apart t)
+                      (all .gifts) (all .gifts-held);
+                  pairs-are = all .pairs-are;
                 },
               ),
             );

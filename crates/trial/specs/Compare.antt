@@ -4,8 +4,9 @@ use Prim.Native.Nat.{ℕ, _+_, _*_, _≤_, _<_}
 use mathlib.Core.Path.{_≡_}
 use mathlib.Core.Logic.{_⊎_}
 use mathlib.Core.List.{List, [], _∷_}
+use lib.Dec.{eqb}
 use lib.ListN.{length, getD}
-use Rattle.meaning.specs.Bytes.{Bytes}
+use Rattle.meaning.specs.Bytes.{Bytes, any}
 use Rattle.meaning.specs.Terms.{Functor, Term, Terms, count, renamed, all-renamed}
 use Rattle.meaning.specs.State.{value}
 use Rattle.meaning.specs.Trial.{with-pairs, assigned}
@@ -15,7 +16,7 @@ use Rattle.term.specs.Holds.{CellAt, Holds, HoldsFrom, value-word}
 use Rattle.term.specs.Frames.{Only}
 use Rattle.trial.specs.declared.compare.Result.{Result}
 use Rattle.trial.specs.declared.compare.Result.the-variants.{Agrees, Waits, Fails}
-use Rattle.trial.specs.Gifts.{Gift, to-head, to-goal, assignments, entries, recorded, Entry, EntriesAt, renamed-entries}
+use Rattle.trial.specs.Gifts.{Gift, to-head, to-goal, assignments, entries, recorded, Entry, entries-of, EntriesAt, renamed-entries}
 use Rattle.term.specs.Setting.{Setting, Within, AllWithin, Ranged, AllRanged, UnitTerm, UnitTerms, UnitStands}
 
 -- Where the terms of clause k lie: pairs by their own numbers, compounds 32 a clause.
@@ -135,9 +136,14 @@ AllEntries s x y (e ∷ es) =
     ((e .pair < length (x .values)) × (lo : ℕ) × (hi : ℕ) × HeadTerm s x y lo hi (e .term)) × AllEntries s x y es
 
 -- What a trial gave, read from its region: m entries in order, and a word for each of the clause's pairs. The values after the trial are those of
--- the entries assigned, in order, for the unit's own pairs, and those of the words for the clause's.
+-- the entries assigned, in order, for the unit's own pairs, and those of the words for the clause's; of the unit's own pairs those of the
+-- entries and no other are assigned.
 pub record Gave (s s′ : List ℕ) (x : Setting) (y : Template) (given : List Assignment) (m : ℕ) : Type 0 where
+  pub gifts : List Gift
+  pub given-are : given ≡ assignments (length (x .values)) (x .compounds) gifts
+  pub gifts-held : AllGiven s x y gifts
   pub list : List Entry
+  pub list-is : list ≡ entries-of gifts
   pub size : length list ≡ m
   pub stand : EntriesAt s′ (item x y) (x .places) 0 list
   pub held : AllEntries s x y list
@@ -147,3 +153,4 @@ pub record Gave (s s′ : List ℕ) (x : Setting) (y : Template) (given : List A
   pub clause-values : (a : ℕ) → a < y .pairs
       → getD s′ (39936 + a) 0
       ≡ value-word (x .places) (value (assigned given (with-pairs (y .pairs) (x .values))) (length (x .values) + a))
+  pub pairs-are : (z : ℕ) → z < length (x .values) → any (λ a. eqb z (a .pair)) given ≡ any (λ e. eqb z (e .pair)) list
