@@ -7,9 +7,8 @@ use lib.ListN.{length, set}
 use Rattle.meaning.specs.Bytes.{Bytes}
 use Rattle.meaning.specs.Terms.{Clause, Query, Job, count}
 use Rattle.meaning.specs.Items.{Refusal, Reading, job, refused, with-clause, with-query}
-use Rattle.loader.specs.Places.{Place, spellings}
-use Rattle.loader.specs.Reading.{item-places}
-use Rattle.loader.specs.Image.{
+use Rattle.tables.specs.Places.{Place, spellings, item-places}
+use Rattle.image.specs.Image.{
   Entry,
   a-clause,
   a-query,
@@ -27,11 +26,11 @@ use Rattle.loader.specs.Image.{
   goals-stored,
   places-stored,
 }
-use Rattle.loader.specs.Endings.{GoalsKnown}
+use Rattle.items.specs.Endings.{GoalsKnown}
 use Rattle.loader.specs.Loading.{with-entries, EntriesKnown}
-use Rattle.loader.proofs.Later.{More}
-use Rattle.loader.proofs.GoalLists.{still-known, still-goals, still-stored}
-use Rattle.loader.proofs.Heads.{still-head}
+use Rattle.items.proofs.Later.{More}
+use Rattle.items.proofs.GoalLists.{still-known, still-goals, still-stored}
+use Rattle.items.proofs.Heads.{still-head}
 
 pub with-snoc : (es : List Entry) (e : Entry) (r : Reading) → with-entries (es ++ (e ∷ [])) r ≡ with-entries es (with-entries (e ∷ []) r)
 unfolding with-entries
