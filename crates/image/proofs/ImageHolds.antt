@@ -9,7 +9,7 @@ use Rattle.meaning.specs.Terms.{Named, Clause, Query, Job, count}
 use Rattle.meaning.specs.Trial.{procedure}
 use Rattle.term.specs.Cells.{KnownName}
 use Rattle.term.specs.Frames.{Only}
-use Rattle.term.specs.Jobs.{HoldsClause, HoldsQuery, EachFrom, Linked, procedure-place, Distinct, ClauseAt, HoldsJob}
+use Rattle.term.specs.Jobs.{HoldsClause, HoldsQuery, EachFrom, Linked, procedure-place, Distinct, ClauseAt, HoldsJob, clause-record}
 use Rattle.term.proofs.Jobs.{each-map, linked-map, holds-clause-kept, holds-query-kept}
 use Rattle.tables.specs.Places.{Place, spellings}
 use Rattle.image.specs.Image.{
@@ -18,7 +18,6 @@ use Rattle.image.specs.Image.{
   a-query,
   clauses-of,
   queries-of,
-  clause-record,
   entries-stored,
   places-stored,
   head-words,

@@ -5,24 +5,11 @@ use mathlib.Core.List.{List, [], _∷_}
 use native.Mathlib.Omega.{arith}
 use lib.ListN.{length, getD}
 use Rattle.meaning.specs.Bytes.{Bytes}
-use Rattle.term.specs.Jobs.{ClauseLaid, QueryLaid, HoldsClause, HoldsQuery, EachFrom}
+use Rattle.term.specs.Jobs.{ClauseLaid, QueryLaid, HoldsClause, HoldsQuery, EachFrom, clause-base, clause-record, query-base, query-record}
 use Rattle.term.proofs.Regions.{OnlyTwo}
 use Rattle.term.proofs.Jobs.{holds-clause-kept, holds-query-kept}
 use Rattle.tables.specs.Places.{Place, spellings}
-use Rattle.image.specs.Image.{
-  Entry,
-  a-clause,
-  a-query,
-  clauses-of,
-  queries-of,
-  clause-base,
-  clause-record,
-  clause-stored,
-  query-base,
-  query-record,
-  query-stored,
-  entries-stored,
-}
+use Rattle.image.specs.Image.{Entry, a-clause, a-query, clauses-of, queries-of, clause-stored, query-stored, entries-stored}
 use Rattle.image.proofs.KeptItems.{clause-two, clause-holds, query-two, query-holds}
 
 -- The entries keep the figures: "128 clauses; 1 to 8 queries", each item laid out, and the variables of a query.

@@ -8,23 +8,14 @@ use lib.Seq.{getD-set-same, getD-set-other}
 use Rattle.meaning.specs.Terms.{Clause, Query, as-term}
 use Rattle.term.specs.Cells.{stored}
 use Rattle.term.specs.Frames.{Only}
-use Rattle.term.specs.Jobs.{GoalsNumbered, ClauseLaid, QueryLaid, HoldsClause, HoldsQuery}
+use Rattle.term.specs.Jobs.{GoalsNumbered, ClauseLaid, QueryLaid, HoldsClause, HoldsQuery, clause-base, clause-record, query-base, query-record}
 use Rattle.term.proofs.Frames.{only-set, only-then}
 use Rattle.term.proofs.Cells.{stored-only}
 use Rattle.term.proofs.Regions.{OnlyTwo, two-first, two-second, two-then, two-wider}
 use Rattle.term.proofs.Holds.{holds-kept, stored-holds}
 use Rattle.term.proofs.Jobs.{goals-numbered-order, holds-goals-kept}
 use Rattle.tables.specs.Places.{Place, spellings, item-places}
-use Rattle.image.specs.Image.{
-  goals-stored,
-  places-stored,
-  clause-base,
-  clause-record,
-  clause-stored,
-  query-base,
-  query-record,
-  query-stored,
-}
+use Rattle.image.specs.Image.{goals-stored, places-stored, clause-stored, query-stored}
 use Rattle.image.proofs.Keeping.{goals-two, goals-hold, places-only}
 
 -- Three words of a record.

@@ -14,11 +14,11 @@ use Rattle.meaning.specs.Bytes.{Bytes, same, those, if_then_else_}
 use Rattle.meaning.specs.Terms.{Named, Clause, count, as-term}
 use Rattle.meaning.specs.Trial.{procedure}
 use Rattle.term.specs.Cells.{number-of, KnownName, Known, Numbered}
-use Rattle.term.specs.Jobs.{ClauseLaid, GoalsNumbered, GoalsKnown, EachFrom, Linked, procedure-place}
+use Rattle.term.specs.Jobs.{ClauseLaid, GoalsNumbered, GoalsKnown, EachFrom, Linked, procedure-place, clause-record}
 use Rattle.term.proofs.Numbers.{same-equal, number-below, number-apart}
 use Rattle.term.proofs.Jobs.{linked-map}
 use Rattle.tables.specs.Places.{Place, spellings, item-places}
-use Rattle.image.specs.Image.{clause-record, head-word, head-words, link-one, linked}
+use Rattle.image.specs.Image.{head-word, head-words, link-one, linked}
 
 -- A head or a goal that has a procedure: its name is known, and it has at most 6 arguments.
 pub record Headed (names : List Bytes) (g : Named) : Type 0 where

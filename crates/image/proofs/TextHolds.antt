@@ -11,7 +11,7 @@ use Rattle.meaning.specs.Tokens.{Tokens, tokens}
 use Rattle.meaning.specs.Call.{cleared}
 use Rattle.meaning.specs.Items.{Piece, nothing, clause, query, refused, item, pieces, reading, job}
 use Rattle.term.specs.Frames.{Only}
-use Rattle.term.specs.Jobs.{EachFrom}
+use Rattle.term.specs.Jobs.{EachFrom, query-base, query-record}
 use Rattle.term.specs.Spellings.{HoldsSpellings, HoldsVariables, HoldsText}
 use Rattle.term.proofs.Jobs.{each-map}
 use Rattle.term.proofs.Spellings.{holds-spellings-kept}
@@ -29,8 +29,6 @@ use Rattle.image.specs.Image.{
   goals-stored,
   places-stored,
   clause-stored,
-  query-base,
-  query-record,
   query-stored,
   entries-stored,
   head-words,

@@ -7,7 +7,9 @@ use Rattle.meaning.specs.Terms.{Named, named, Clause, Query, as-term, count}
 use Rattle.meaning.specs.Tokens.{Tokens, ends, token, tokens}
 use Rattle.meaning.specs.Items.{SoFar, Piece, nothing, clause, query, refused, item, pieces}
 use Rattle.term.specs.Cells.{Places as CellPlaces, term-word, functor-word, stored}
+use Rattle.term.specs.Jobs.{clause-record, clause-base, query-record, query-base}
 use Rattle.tables.specs.Places.{Place, spellings, with-name, with-variable, item-places}
+
 -- Where the names first stand, over some tokens, behind those already known; where the variables do.
 unfoldable pub names-in : Tokens → List Place → List Place
 names-in (ends n) places = places
@@ -58,17 +60,7 @@ unfoldable pub places-stored : ℕ → List Place → List ℕ → List ℕ
 places-stored place [] s = s
 places-stored place (p ∷ ps) s = places-stored (place + 2) ps (set (set s place (p .at)) (place + 1) (length (p .spelling)))
 
--- An item's compounds have their places from here on: 32 an item, the clauses' before the queries'.
-abbrev pub clause-base : ℕ → ℕ
-clause-base k = 640 + 32 * k
-
-abbrev pub query-base : ℕ → ℕ
-query-base k = 640 + 32 * (128 + k)
-
 -- The clause k: its head's compounds and its body goals, then its pairs, compounds and body goals counted. The record's first word is for the link.
-abbrev pub clause-record : ℕ → ℕ
-clause-record k = 2560 + 16 * k
-
 unfoldable pub clause-stored : List Place → ℕ → Clause → List ℕ → List ℕ
 clause-stored names k c s =
     set
@@ -83,9 +75,6 @@ clause-stored names k c s =
     (length (c .body))
 
 -- The query k: its goals, then its goals, pairs and compounds counted, then where its variables first stand.
-abbrev pub query-record : ℕ → ℕ
-query-record k = 4608 + 64 * k
-
 unfoldable pub query-stored : List Place → ℕ → Query → List Place → List ℕ → List ℕ
 query-stored names k q vs s =
     places-stored (query-record k + 16) vs

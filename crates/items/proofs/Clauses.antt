@@ -28,14 +28,15 @@ use Rattle.meaning.specs.Items.{
 }
 use Rattle.term.specs.Frames.{Only}
 use Rattle.term.proofs.Frames.{only-set, only-then}
+use Rattle.term.specs.Jobs.{clause-base, clause-record}
 use Rattle.tokens.specs.Fronts.{tokens-in}
 use Rattle.tables.specs.Places.{Place, Placed, spellings, names-over, variables-over}
-use Rattle.phrases.specs.Reading.{piece, counted-at, Stands}
+use Rattle.openings.specs.Reading.{piece, counted-at, Stands}
 use Rattle.tables.specs.Rules.{none-twice, halves-alike}
-use Rattle.image.specs.Image.{so-far, clause-stored, clause-base, clause-record, head-word}
-use Rattle.items.specs.Endings.{rule-part, Ended, RuleIs}
+use Rattle.image.specs.Image.{so-far, clause-stored, head-word}
+use Rattle.goals.specs.Endings.{rule-part, Ended, RuleIs}
 use Rattle.items.specs.Outcomes.{Begins, TookClause, Took}
-use Rattle.phrases.specs.declared.terms.Cursor.{Cursor}
+use Rattle.openings.specs.declared.cursor.Cursor.{Cursor}
 use Rattle.tables.proofs.Numbering.{spellings-length}
 use Rattle.items.proofs.Occurrence.{twice-is, halves-are}
 use Rattle.items.proofs.Starts.{halves-from-none, clause-many, clause-reads}

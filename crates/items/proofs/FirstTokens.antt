@@ -18,7 +18,7 @@ use Rattle.tables.specs.Places.{Place}
 use Rattle.items.specs.Outcomes.{ItemIs}
 use Rattle.tokens.specs.declared.token.Token.the-variants.{End, Name, Writer, Reader, Integer as AnInteger, Sign, Bad}
 use Rattle.items.specs.declared.items.Item.the-variants.{Malformed, Nothing}
-use Rattle.items.proofs.Goals.{behind-after}
+use Rattle.openings.proofs.GoalNames.{behind-after}
 use Rattle.items.proofs.Starts.{starts-none}
 
 pub query-sign : (rest : Bytes) (from b a : ℕ) → b ≡ 63 → FrontIs rest 0 (Sign b a)

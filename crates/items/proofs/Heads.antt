@@ -15,19 +15,20 @@ use Rattle.term.specs.Frames.{Only}
 use Rattle.term.proofs.Frames.{only-then, only-wider}
 use Rattle.term.proofs.Cells.{arguments-stored-only}
 use Rattle.term.proofs.Names.{functor-word-more}
+use Rattle.term.specs.Jobs.{GoalsKnown}
 use Rattle.tokens.specs.Fronts.{tokens-in}
 use Rattle.tables.specs.Places.{Place, Placed, spellings, before, with-name, with-variable, names-over, variables-over, item-places}
-use Rattle.phrases.specs.Reading.{piece, counted-at, half-place, Stands, Open, Gave}
+use Rattle.openings.specs.Reading.{piece, counted-at, half-place, Stands, Open, Gave}
 use Rattle.tokens.specs.Nexts.{SignAt, one-of, Stops}
 use Rattle.image.specs.Image.{goals-stored, head-word}
-use Rattle.items.specs.Endings.{GoalsKnown, goals-part, rule-part, Ended, EndIs, RuleIs}
-use Rattle.phrases.specs.declared.terms.Cursor.{Cursor}
-use Rattle.phrases.specs.declared.terms.Read.{Read as Answer}
-use Rattle.phrases.specs.declared.terms.Read.the-variants.{Got, Malformed, Passed}
-use Rattle.phrases.proofs.Expected.{piece-open, piece-stop, either-first, either-second, either-none}
-use Rattle.items.proofs.Later.{More, names-append, variables-append, before-append, open-append, names-more}
-use Rattle.items.proofs.GoalLists.{places-more, still-stored, still-named}
-use Rattle.items.proofs.Partly.{behind-it, stands-behind, gave-only}
+use Rattle.goals.specs.Endings.{goals-part, rule-part, Ended, EndIs, RuleIs}
+use Rattle.openings.specs.declared.cursor.Cursor.{Cursor}
+use Rattle.openings.specs.declared.cursor.Read.{Read as Answer}
+use Rattle.openings.specs.declared.cursor.Read.the-variants.{Got, Malformed, Passed}
+use Rattle.openings.proofs.Expected.{piece-open, piece-stop, either-first, either-second, either-none}
+use Rattle.openings.proofs.Passing.{More, names-append, variables-append, before-append, open-append, names-more}
+use Rattle.goals.proofs.GoalLists.{places-more, still-stored, still-named}
+use Rattle.goals.proofs.Partly.{behind-it, stands-behind, gave-only}
 
 rule-suc : (counted counted′ : Counted) (ts us : Tokens) (g : Named) → goal counted ts ≡ read g counted′ us
     → rule counted ts

@@ -1,13 +1,7 @@
 pub mod Clauses
-pub mod Commas
 pub mod FirstTokens
-pub mod GoalLists
-pub mod Goals
 pub mod Heads
-pub mod Later
-pub mod Ninth
 pub mod Occurrence
-pub mod Partly
 pub mod PlacesKept
 pub mod Queries
 pub mod Starts

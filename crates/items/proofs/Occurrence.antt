@@ -12,7 +12,8 @@ use borrow.Author.Tests.{leb-true, leb-false, le-leb, lt-leb}
 use Rattle.meaning.specs.Bytes.{all, up-to}
 use Rattle.meaning.specs.Terms.{Half, writer, reader, Named, goals-occurrences}
 use Rattle.meaning.specs.Items.{nothing-twice, both-halves}
-use Rattle.phrases.specs.Reading.{half-place}
+use Rattle.meaning.proofs.Lists.Tests.{and-left, and-right}
+use Rattle.openings.specs.Reading.{half-place}
 use Rattle.tables.specs.Rules.{once, alike, none-twice, halves-alike}
 use Rattle.tables.proofs.Tallies.{all-suc}
 
@@ -22,14 +23,6 @@ unfolding up-to all
 all-same f g zero h = refl
 all-same f g (suc n) h =
     rw (all-suc f n, all-suc g n, all-same f g n (λ k l. h k (omega arith)), h n (omega arith))
-
-and-left : (a b : Bool) → a && b ≡ true → a ≡ true
-and-left true b h = refl
-and-left false b h = h
-
-and-right : (a b : Bool) → a && b ≡ true → b ≡ true
-and-right true b h = h
-and-right false b h = let z : false ≡ true = h in cc
 
 all-at : (f : ℕ → Bool) (n : ℕ) → all f (up-to n) ≡ true → (k : ℕ) → k < n → f k ≡ true
 all-at f zero h k l = absurd (omega arith)

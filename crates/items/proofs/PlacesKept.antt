@@ -1,7 +1,7 @@
 -- The places that a table holds, kept in the scratch one after the other, are those places.
 use Prim.Native.Nat.{ℕ, zero, suc, _+_, _*_, _≤_, _<_}
 use mathlib.Core.Path.{_≡_, refl, ap, sym, _∙_}
-use mathlib.Core.List.{List, [], _∷_, _++_, map}
+use mathlib.Core.List.{List, [], _∷_, _++_, map, map-append}
 use native.Mathlib.Omega.{arith}
 use lib.ListN.{length, getD, set, take, length-take, length-map, length-set}
 use lib.Seq.{take-suc, take-length}
@@ -12,9 +12,6 @@ use Rattle.tables.specs.Tables.{no-place}
 use Rattle.image.specs.Kept.{pairs-kept}
 use Rattle.image.specs.Image.{places-stored}
 use Rattle.items.specs.Outcomes.{shifted}
-
-set-place : (l : List ℕ) (v i j : ℕ) → i ≡ j → set l i v ≡ set l j v
-set-place l v i j e = ap (λ k. set l k v) e
 
 both-places : (l : List ℕ) (v w i j : ℕ) → i ≡ j → set (set l i v) (i + 1) w ≡ set (set l j v) (j + 1) w
 both-places l v w i j e = ap (λ k. set (set l k v) (k + 1) w) e
@@ -28,10 +25,6 @@ places-snoc place (q ∷ ps) p s =
     let s₁ = set (set s place (q .at)) (place + 1) (length (q .spelling)) in
     places-snoc (place + 2) ps p s₁
     ∙ both-places (places-stored (place + 2) ps s₁) (p .at) (length (p .spelling)) (place + 2 + 2 * length ps) (place + 2 * suc (length ps)) (omega arith)
-
-map-append : (f : Place → Place) (ps qs : List Place) → map f (ps ++ qs) ≡ map f ps ++ map f qs
-map-append f [] qs = refl
-map-append f (p ∷ ps) qs = ap (λ l. f p ∷ l) (map-append f ps qs)
 
 module _ (table : List ℕ) (from place : ℕ) (ps : List Place) (s : List ℕ)
     (starts : (n : ℕ) → n < length ps → getD table (2 * n) 0 ≡ getD ps n no-place .at)

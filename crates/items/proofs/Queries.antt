@@ -27,15 +27,16 @@ use Rattle.meaning.specs.Items.{
 }
 use Rattle.term.specs.Frames.{Only}
 use Rattle.term.proofs.Frames.{only-set, only-then}
+use Rattle.term.specs.Jobs.{query-base, query-record}
 use Rattle.tokens.specs.Fronts.{tokens-in}
 use Rattle.tables.specs.Places.{Place, Placed, spellings, before, names-over, variables-over, with-name, with-variable}
-use Rattle.phrases.specs.Reading.{piece, counted-at, Stands, Open}
+use Rattle.openings.specs.Reading.{piece, counted-at, Stands, Open}
 use Rattle.tables.specs.Rules.{none-twice}
 use Rattle.image.specs.Kept.{pairs-kept}
-use Rattle.image.specs.Image.{so-far, query-stored, query-base, query-record, places-stored}
-use Rattle.items.specs.Endings.{goals-part, Ended}
+use Rattle.image.specs.Image.{so-far, query-stored, places-stored}
+use Rattle.goals.specs.Endings.{goals-part, Ended}
 use Rattle.items.specs.Outcomes.{Begins, TookQuery, Took, shifted}
-use Rattle.phrases.specs.declared.terms.Cursor.{Cursor}
+use Rattle.openings.specs.declared.cursor.Cursor.{Cursor}
 use Rattle.tables.proofs.Numbering.{spellings-length}
 use Rattle.items.proofs.Occurrence.{twice-is}
 use Rattle.items.proofs.Clauses.{three-words}

@@ -30,11 +30,11 @@ use Rattle.meaning.specs.Items.{
 use Rattle.tokens.specs.Fronts.{tokens-in}
 use Rattle.tables.specs.Places.{Place, spellings}
 use Rattle.tables.specs.Tables.{VariablesIn}
-use Rattle.phrases.specs.Reading.{piece, counted-at, half-place, Stands}
+use Rattle.openings.specs.Reading.{piece, counted-at, half-place, Stands}
 use Rattle.image.specs.Image.{so-far}
 use Rattle.items.specs.Outcomes.{Begins}
-use Rattle.phrases.specs.declared.terms.Cursor.{Cursor}
-use Rattle.phrases.proofs.Expected.{piece-open}
+use Rattle.openings.specs.declared.cursor.Cursor.{Cursor}
+use Rattle.openings.proofs.Expected.{piece-open}
 
 no-variables : (rest : Bytes) → VariablesIn rest [] (replicate 64 0)
 no-variables rest = record {

@@ -8,12 +8,12 @@ use Rattle.meaning.specs.Terms.{Clause, Query, count}
 use Rattle.meaning.specs.Tokens.{Tokens, ends, token, sign}
 use Rattle.meaning.specs.Items.{Piece, clause, query, refused, no-item, occurrence-rule, figure, item}
 use Rattle.term.specs.Frames.{Only}
+use Rattle.term.specs.Jobs.{GoalsKnown}
 use Rattle.tokens.specs.Fronts.{tokens-in}
 use Rattle.tables.specs.Places.{Place, Placed, spellings, before, names-over, variables-over}
 use Rattle.tables.specs.Tables.{NamesIn}
-use Rattle.phrases.specs.Reading.{piece, Open}
+use Rattle.openings.specs.Reading.{piece, Open}
 use Rattle.image.specs.Image.{so-far, clause-stored, query-stored, head-word}
-use Rattle.items.specs.Endings.{GoalsKnown}
 use Rattle.items.specs.declared.items.Item.{Item}
 use Rattle.items.specs.declared.items.Item.the-variants.{
   Clause as AClause,

@@ -1,184 +1,34 @@
 // Items: "`head.`, `head :- goal,..,goal.` or `?- goal,..,goal.`", each read into its places of the scratch.
+use goals::goals::goal;
+use goals::goals::goals;
 use image::keep::keep_places;
-use tables::names;
+use openings::cursor::Cursor;
+use openings::cursor::Read;
 use tables::rules::both_halves;
 use tables::rules::nothing_twice;
-use phrases::terms::Cursor;
-use tokens::next::Next;
-use phrases::terms::Read;
-use phrases::terms::compound;
-use tokens::next::next_of;
-use tokens::token::Token;
-use tokens::token::front;
 use term::layout::CLAUSES;
 use term::layout::ITEMS;
 use term::layout::QUERIES;
+use tokens::next::Next;
+use tokens::next::next_of;
+use tokens::token::Token;
+use tokens::token::front;
 ghost use mathlib.Core.Path.{_≡_};
 ghost use mathlib.Core.List.{List};
 ghost use Prim.Native.Nat.{ℕ, _+_, _*_, _≤_, _<_};
 ghost use lib.ListN.{length};
-ghost use Rattle.meaning.specs.Terms.{as-term};
-ghost use Rattle.meaning.specs.Items.{goal as goal-reader, goals as goals-reader};
 ghost use Rattle.tables.specs.Places.{Place};
 ghost use Rattle.meaning.specs.Bytes.{Bytes};
 ghost use Rattle.meaning.specs.Tokens.{Tokens, token, name, sign};
 ghost use Rattle.tokens.specs.Fronts.{tokens-in};
 ghost use Rattle.items.specs.Outcomes.{ItemIs, Begins, Lent};
-ghost use Rattle.phrases.specs.Reading.{Stands, ReadIs};
-ghost use Rattle.items.specs.Endings.{OpeningIs, NinthIs, EndIs, RuleIs, goals-part};
-
-// A goal's name with its number, and the cursor behind its parenthesis; or 4 at a place, or 6.
-pub enum Opening {
-    Named(usize, Cursor),
-    NotNamed(usize),
-    Overfull,
-}
-
-// "Heads and goals are compounds with a name": the name, and its parenthesis.
-fn goal_name(text: &[u8], rest: &[u8], from: usize, names: &mut [u64], c: Cursor) -> Opening
-    requires { ⌜ ((known : List Place) × (vars : List Place) × (item : List ℕ) × Stands (now text) (now rest) from (now names) item c known vars) ⌝ }
-    ensures { λ r. ⌜ ((known : List Place) (vars : List Place) (item : List ℕ) → Stands (now (text .entry)) (now (rest .entry)) from (now (names .entry)) item c known vars
-        → OpeningIs (now (text .entry)) (now (rest .entry)) from (now (names .exit)) item known vars c r) ⌝ }
-{
-    let at = c.at;
-    match front(rest, at) {
-        Token::Name(a, e) => {
-            let known = c.names;
-            match names::number(text, rest, from, names, known, a, e) {
-                names::Numbered::Number(n, count) => match next_of(rest, e, b'(', b'(', b'(') {
-                    Next::First(behind) => Opening::Named(
-                        n,
-                        Cursor {
-                            at: behind,
-                            names: count,
-                            variables: c.variables,
-                            compounds: c.compounds,
-                        },
-                    ),
-                    Next::Second(a) => Opening::NotNamed(a),
-                    Next::Third(a) => Opening::NotNamed(a),
-                    Next::Other(a) => Opening::NotNamed(a),
-                },
-                names::Numbered::Passed => Opening::Overfull,
-            }
-        }
-        Token::Writer(a, _) => Opening::NotNamed(a),
-        Token::Reader(a, _) => Opening::NotNamed(a),
-        Token::Integer(_, a, _) => Opening::NotNamed(a),
-        Token::Sign(_, a) => Opening::NotNamed(a),
-        Token::Bad(a) => Opening::NotNamed(a),
-        Token::End => Opening::NotNamed(rest.len()),
-    }
-}
-
-// A goal; the parenthesis is the first of the 16 brackets.
-fn goal(
-    text: &[u8],
-    rest: &[u8],
-    from: usize,
-    s: &mut [u64],
-    names: &mut [u64],
-    item: &mut [u64],
-    base: usize,
-    c: Cursor,
-) -> Read
-    requires { ⌜ (8 * (base + 32) ≤ length (now s)) × (length (now s) < 1152921504606846976) ⌝ }
-    requires { ⌜ ((known : List Place) × (vars : List Place) × Stands (now text) (now rest) from (now names) (now item) c known vars) ⌝ }
-    ensures { λ r. ⌜ ((known : List Place) (vars : List Place) → Stands (now (text .entry)) (now (rest .entry)) from (now (names .entry)) (now (item .entry)) c known vars
-        → ReadIs as-term goal-reader (now (text .entry)) (now (rest .entry)) from base known vars c (now (s .entry)) (now (item .entry)) (now (s .exit)) (now (names .exit)) (now (item .exit)) r) ⌝ }
-{
-    match goal_name(text, rest, from, names, c) {
-        Opening::Named(n, d) => compound(text, rest, from, s, names, item, base, 15, n, d),
-        Opening::NotNamed(a) => Read::Malformed(a),
-        Opening::Overfull => Read::Passed,
-    }
-}
-
-// The ninth goal's name passes the figure, if the token can stand there at all.
-fn ninth(rest: &[u8], at: usize) -> Read
-    requires { ⌜ at ≤ length (now rest) ⌝ }
-    ensures { λ r. ⌜ NinthIs (now (rest .entry)) at r ⌝ }
-{
-    match front(rest, at) {
-        Token::Name(_, _) => Read::Passed,
-        Token::Writer(a, _) => Read::Malformed(a),
-        Token::Reader(a, _) => Read::Malformed(a),
-        Token::Integer(_, a, _) => Read::Malformed(a),
-        Token::Sign(_, a) => Read::Malformed(a),
-        Token::Bad(a) => Read::Malformed(a),
-        Token::End => Read::Malformed(rest.len()),
-    }
-}
+ghost use Rattle.openings.specs.Reading.{Stands};
+ghost use Rattle.goals.specs.Endings.{RuleIs};
 
 fn word(n: usize) -> u64
     ensures { λ r. ⌜ r ≡ n ⌝ }
 {
     n as u64
-}
-
-// "8 body or query goals", up to the full stop: their words stand from a place on, and how many there are is the answer.
-fn goals(
-    text: &[u8],
-    rest: &[u8],
-    from: usize,
-    s: &mut [u64],
-    names: &mut [u64],
-    item: &mut [u64],
-    base: usize,
-    place: usize,
-    c: Cursor,
-) -> Read
-    requires { ⌜ (base + 32 ≤ 4992) × (place + 8 ≤ 39936) × (39936 ≤ length (now s)) × (length (now s) < 1152921504606846976) ⌝ }
-    requires { ⌜ ((known : List Place) × (vars : List Place) × Stands (now text) (now rest) from (now names) (now item) c known vars) ⌝ }
-    ensures { λ r. ⌜ ((known : List Place) (vars : List Place) → Stands (now (text .entry)) (now (rest .entry)) from (now (names .entry)) (now (item .entry)) c known vars
-        → EndIs (goals-part place) (goals-reader 8) (now (text .entry)) (now (rest .entry)) from base known vars c (now (s .entry)) (now (item .entry)) (now (s .exit)) (now (names .exit)) (now (item .exit)) r) ⌝ }
-{
-    let mut d = c;
-    let mut i = 0;
-    while i < 8 {
-        match goal(text, rest, from, s, names, item, base, d) {
-            Read::Got(w, e) => {
-                s[place + i] = w;
-                i += 1;
-                let at = e.at;
-                match next_of(rest, at, b',', b'.', b'.') {
-                    Next::First(behind) => {
-                        d = Cursor {
-                            at: behind,
-                            names: e.names,
-                            variables: e.variables,
-                            compounds: e.compounds,
-                        };
-                    }
-                    Next::Second(behind) => {
-                        return Read::Got(
-                            word(i),
-                            Cursor {
-                                at: behind,
-                                names: e.names,
-                                variables: e.variables,
-                                compounds: e.compounds,
-                            },
-                        );
-                    }
-                    Next::Third(a) => {
-                        return Read::Malformed(a);
-                    }
-                    Next::Other(a) => {
-                        return Read::Malformed(a);
-                    }
-                }
-            }
-            Read::Malformed(a) => {
-                return Read::Malformed(a);
-            }
-            Read::Passed => {
-                return Read::Passed;
-            }
-        }
-    }
-    let at = d.at;
-    ninth(rest, at)
 }
 
 // Head and body of a clause: how many body goals there are. The head's own word is noted for the clause of this number.

@@ -7,6 +7,7 @@ use lib.ListN.{length, set}
 use Rattle.meaning.specs.Bytes.{Bytes}
 use Rattle.meaning.specs.Terms.{Clause, Query, Job, count}
 use Rattle.meaning.specs.Items.{Refusal, Reading, job, refused, with-clause, with-query}
+use Rattle.term.specs.Jobs.{clause-base, query-base, clause-record, query-record, GoalsKnown}
 use Rattle.tables.specs.Places.{Place, spellings, item-places}
 use Rattle.image.specs.Image.{
   Entry,
@@ -14,10 +15,6 @@ use Rattle.image.specs.Image.{
   a-query,
   clauses-of,
   queries-of,
-  clause-base,
-  query-base,
-  clause-record,
-  query-record,
   clause-stored,
   query-stored,
   entries-stored,
@@ -26,10 +23,9 @@ use Rattle.image.specs.Image.{
   goals-stored,
   places-stored,
 }
-use Rattle.items.specs.Endings.{GoalsKnown}
 use Rattle.loader.specs.Loading.{with-entries, EntriesKnown}
-use Rattle.items.proofs.Later.{More}
-use Rattle.items.proofs.GoalLists.{still-known, still-goals, still-stored}
+use Rattle.openings.proofs.Passing.{More}
+use Rattle.goals.proofs.GoalLists.{still-known, still-goals, still-stored}
 use Rattle.items.proofs.Heads.{still-head}
 
 pub with-snoc : (es : List Entry) (e : Entry) (r : Reading) → with-entries (es ++ (e ∷ [])) r ≡ with-entries es (with-entries (e ∷ []) r)

@@ -36,11 +36,11 @@ use Rattle.image.specs.Image.{
   text-entries,
   image,
 }
-use Rattle.items.specs.Endings.{GoalsKnown}
 use Rattle.items.specs.Outcomes.{shifted}
 use Rattle.loader.specs.Loading.{with-entries, EntriesKnown, Reached}
 use Rattle.term.specs.Cells.{Known}
 use Rattle.meaning.specs.Terms.{as-term}
+use Rattle.term.specs.Jobs.{GoalsKnown}
 use Rattle.tables.proofs.Numbering.{spellings-length}
 use Rattle.loader.proofs.Entries.{with-all}
 use Rattle.items.proofs.PlacesKept.{kept-places}

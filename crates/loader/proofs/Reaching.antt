@@ -15,7 +15,7 @@ use Rattle.term.specs.Frames.{Only}
 use Rattle.tokens.specs.Fronts.{tokens-at, tokens-in}
 use Rattle.tables.specs.Places.{Place, Placed, spellings, before, names-over, variables-over, with-name}
 use Rattle.tables.specs.Tables.{NamesIn, last-with}
-use Rattle.phrases.specs.Reading.{piece}
+use Rattle.openings.specs.Reading.{piece}
 use Rattle.image.specs.Image.{
   names-in,
   variables-in,
@@ -34,7 +34,7 @@ use Rattle.image.specs.Image.{
 }
 use Rattle.items.specs.Outcomes.{Took, TookClause, TookQuery, shifted}
 use Rattle.loader.specs.Loading.{with-entries, EntriesKnown, Reached}
-use Rattle.items.proofs.Later.{names-more}
+use Rattle.openings.proofs.Passing.{names-more}
 use Rattle.loader.proofs.Pieces.{piece-is, pieces-cut, names-before, names-of-piece, variables-of-piece, tokens-behind}
 use Rattle.loader.proofs.Entries.{
   with-snoc,

@@ -10,7 +10,7 @@ use Rattle.meaning.specs.Tokens.{Token, Tokens, ends, token, tokens}
 use Rattle.meaning.specs.Items.{Piece, Refusal, Reading, job, refused, is, onto, item, items, pieces, asked, reading}
 use Rattle.tokens.specs.Fronts.{tokens-at, tokens-in}
 use Rattle.tables.specs.Places.{Place, spellings}
-use Rattle.phrases.specs.Reading.{piece}
+use Rattle.openings.specs.Reading.{piece}
 use Rattle.image.specs.Image.{Entry, so-far}
 use Rattle.loader.specs.Loading.{with-entries, Reached}
 use Rattle.loader.proofs.Entries.{with-refused}

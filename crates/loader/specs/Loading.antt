@@ -9,6 +9,7 @@ use Rattle.meaning.specs.Tokens.{Tokens, tokens}
 use Rattle.meaning.specs.Items.{Refusal, no-query, Reading, job, refused, with-clause, with-query, items, pieces, reading, line}
 use Rattle.meaning.specs.Call.{refusal, number, line-of, cleared}
 use Rattle.term.specs.Frames.{Only}
+use Rattle.term.specs.Jobs.{GoalsKnown}
 use Rattle.tokens.specs.Fronts.{tokens-at}
 use Rattle.tables.specs.Places.{Place, spellings}
 use Rattle.tables.specs.Tables.{NamesIn}
@@ -25,7 +26,6 @@ use Rattle.image.specs.Image.{
   head-words,
   image,
 }
-use Rattle.items.specs.Endings.{GoalsKnown}
 use Rattle.loader.specs.declared.load.Loaded.{Loaded}
 use Rattle.loader.specs.declared.load.Loaded.the-variants.{Job as AJob, Refused}
 use Rattle.loader.specs.declared.load.Listed.{Listed}

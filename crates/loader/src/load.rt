@@ -1,12 +1,12 @@
 // The loader's one public function: a text becomes a job in the scratch, or is refused.
-use items::items::Item;
-use items::items::next_item;
 use image::keep::keep_places;
 use image::keep::link;
-use tokens::lines::line;
+use items::items::Item;
+use items::items::next_item;
 use term::clear::clear;
 use term::layout::Room;
 use term::layout::need;
+use tokens::lines::line;
 ghost use mathlib.Core.Path.{_≡_};
 ghost use mathlib.Core.List.{List};
 ghost use Prim.Native.Nat.{ℕ, _+_, _≤_, _<_};

@@ -17,12 +17,12 @@ use Rattle.term.proofs.Names.{known-name-more, number-of-more}
 use Rattle.tokens.specs.Fronts.{tokens-in}
 use Rattle.tables.specs.Places.{Place, Placed, spellings, names-over, variables-over, item-places}
 use Rattle.tokens.specs.Nexts.{SignAt, Stops, Goes, one-of}
-use Rattle.phrases.specs.Reading.{piece, counted-at, half-place, Gave, ReadIs, ArgumentsAre}
-use Rattle.phrases.specs.declared.terms.Cursor.{Cursor}
-use Rattle.phrases.specs.declared.terms.Read.{Read}
-use Rattle.phrases.specs.declared.terms.Read.the-variants.{Got, Malformed, Passed}
+use Rattle.openings.specs.Reading.{piece, counted-at, half-place, Gave, ReadIs, ArgumentsAre}
+use Rattle.openings.specs.declared.cursor.Cursor.{Cursor}
+use Rattle.openings.specs.declared.cursor.Read.{Read}
+use Rattle.openings.specs.declared.cursor.Read.the-variants.{Got, Malformed, Passed}
 use Rattle.tables.proofs.Numbering.{placed}
-use Rattle.phrases.proofs.Passing.{names-more, piece-stops, piece-goes}
+use Rattle.openings.proofs.Passing.{names-more, piece-stops, piece-goes}
 use Rattle.phrases.proofs.Arms.{
   arguments-malformed,
   arguments-passed,
@@ -34,8 +34,8 @@ use Rattle.phrases.proofs.Arms.{
   compound-many,
   compound-over,
 }
-use Rattle.phrases.proofs.Moves.{moves-then, moves-sign, sign-placed, piece-sign, moved-to, counted-one, stands-moved, word-later, stored-later, known-later, twice}
-use Rattle.phrases.proofs.Given.{gave-moves, gave-only}
+use Rattle.openings.proofs.Moves.{moves-then, moves-sign, sign-placed, piece-sign, moved-to, counted-one, stands-moved, word-later, stored-later, known-later, twice}
+use Rattle.openings.proofs.Given.{gave-moves, gave-only}
 
 module _ (text rest : Bytes) (from base : ℕ) (known vars : List Place) (c : Cursor) (s item : List ℕ) (argument : Reader Term) (n i : ℕ)
     (inside : i < 6) where

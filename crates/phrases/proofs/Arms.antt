@@ -8,8 +8,8 @@ use Rattle.meaning.specs.Tokens.{Tokens, token, name, sign}
 use Rattle.meaning.specs.Items.{Counted, Reader, read, malformed, passed, read-on, _>>=_, _>>_, give, passes, next, is, begins-term, expect, either, arguments, compound-of, tail-of, elements}
 use Rattle.tables.specs.Places.{Place}
 use Rattle.tokens.specs.Nexts.{one-of, Stops, Goes}
-use Rattle.phrases.specs.Reading.{counted-at, closed}
-use Rattle.phrases.proofs.Readers.{
+use Rattle.openings.specs.Reading.{counted-at, closed}
+use Rattle.openings.proofs.Readers.{
   count-compound-with,
   count-compound-passed,
   either-stops,

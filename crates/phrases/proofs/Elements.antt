@@ -15,14 +15,14 @@ use Rattle.term.proofs.Cells.{numbered-order}
 use Rattle.tokens.specs.Fronts.{tokens-in}
 use Rattle.tables.specs.Places.{Place, Placed, names-over, variables-over, item-places}
 use Rattle.tokens.specs.Nexts.{SignAt, Stops, Goes, one-of}
-use Rattle.phrases.specs.Reading.{piece, counted-at, half-place, Stands, Gave, ReadIs, closed}
-use Rattle.phrases.specs.declared.terms.Cursor.{Cursor}
-use Rattle.phrases.specs.declared.terms.Read.the-variants.{Got, Malformed, Passed}
-use Rattle.phrases.proofs.Passing.{piece-stops, piece-goes}
-use Rattle.phrases.proofs.Readers.{tail-stops}
+use Rattle.openings.specs.Reading.{piece, counted-at, half-place, Stands, Gave, ReadIs, closed}
+use Rattle.openings.specs.declared.cursor.Cursor.{Cursor}
+use Rattle.openings.specs.declared.cursor.Read.the-variants.{Got, Malformed, Passed}
+use Rattle.openings.proofs.Passing.{piece-stops, piece-goes}
+use Rattle.openings.proofs.Readers.{tail-stops}
 use Rattle.phrases.proofs.Arms.{elements-cannot, elements-many, elements-over, elements-none, elements-none-cannot, tail-empty, closed-malformed, closed-passed, closed-read, closed-stop}
-use Rattle.phrases.proofs.Moves.{moves-then, moves-sign, sign-placed, piece-sign, moved-to, counted-one, stands-moved, word-later, stored-later, known-later, once, twice, half-small}
-use Rattle.phrases.proofs.Given.{gave-by, gave-moves, gave-only}
+use Rattle.openings.proofs.Moves.{moves-then, moves-sign, sign-placed, piece-sign, moved-to, counted-one, stands-moved, word-later, stored-later, known-later, once, twice, half-small}
+use Rattle.openings.proofs.Given.{gave-by, gave-moves, gave-only}
 
 module _ (text rest : Bytes) (from base : ℕ) (known vars : List Place) (c : Cursor) (s item : List ℕ) (element : Reader Term) where
   -- The first token cannot begin a term.

@@ -1,10 +1,3 @@
 pub mod Arguments
 pub mod Arms
-pub mod Begins
 pub mod Elements
-pub mod Expected
-pub mod Given
-pub mod Moves
-pub mod Opening
-pub mod Passing
-pub mod Readers

@@ -1,3 +1,2 @@
-// Terms of an item, read from left to right: `begin` reads the first token or two of a term, `terms` a whole one into the item's compounds.
-pub mod begin;
+// Terms of an item, read from left to right into the item's compounds.
 pub mod terms;

@@ -1,6 +1,8 @@
 // Terms of an item, read into the item's compounds: `term` reads one term, `arguments` and `elements` its list of arguments or elements.
-use crate::begin::Begun;
-use crate::begin::begin;
+use openings::begin::Begun;
+use openings::begin::begin;
+use openings::cursor::Cursor;
+use openings::cursor::Read;
 use tokens::next::Next;
 use tokens::next::Start;
 use tokens::next::next_of;
@@ -15,22 +17,7 @@ ghost use Rattle.meaning.specs.Terms.{Term, as-term};
 ghost use Rattle.meaning.specs.Items.{place-of, compound-of, next, tail-of};
 ghost use Rattle.meaning.specs.Items.{term as term-reader, arguments as arguments-reader, elements as elements-reader};
 ghost use Rattle.tables.specs.Places.{Place, spellings};
-ghost use Rattle.phrases.specs.Reading.{Stands, ReadIs, ArgumentsAre, closed};
-
-// Where the reading stands, and what has been counted: the text's names, the item's variables and compounds.
-pub struct Cursor {
-    pub at: usize,
-    pub names: usize,
-    pub variables: usize,
-    pub compounds: usize,
-}
-
-// A term's word, or a number of arguments; or 4 at a place, or 6.
-pub enum Read {
-    Got(u64, Cursor),
-    Malformed(usize),
-    Passed,
-}
+ghost use Rattle.openings.specs.Reading.{Stands, ReadIs, ArgumentsAre, closed};
 
 fn word(n: usize) -> u64
     ensures { λ r. ⌜ r ≡ n ⌝ }

@@ -2,7 +2,7 @@
 use Prim.Native.Nat.{ℕ, suc, _+_, _<_}
 use mathlib.Core.Path.{_≡_, refl, ap, sym, _∙_}
 use mathlib.Core.Bool.{Bool, true, false, _||_}
-use mathlib.Core.List.{List, [], _∷_, _++_}
+use mathlib.Core.List.{List, [], _∷_, _++_, map-append}
 use mathlib.Core.Option.{Option, none, some}
 use native.Mathlib.Omega.{arith}
 use lib.Dec.{eqb}
@@ -87,8 +87,7 @@ placed x (y ∷ ys) n h = placed-cons x y ys n (same x y) refl h (λ m e. placed
 -- The spellings of places one behind the other.
 pub spellings-append : (a b : List Place) → spellings (a ++ b) ≡ spellings a ++ spellings b
 unfolding spellings
-spellings-append [] b = refl
-spellings-append (p ∷ a) b = ap (λ l. p .spelling ∷ l) (spellings-append a b)
+spellings-append a b = map-append (λ p. p .spelling) a b
 
 pub spellings-snoc : (ps : List Place) (at : ℕ) (f : Bytes) → spellings (ps ++ (record { at = at; spelling = f } ∷ [])) ≡ spellings ps ++ (f ∷ [])
 unfolding spellings

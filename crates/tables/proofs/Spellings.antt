@@ -12,24 +12,9 @@ use lib.ListN.{length, getD, length-map}
 use lib.Seq.{slice, slice-cons, slice-empty, length-slice}
 use Rattle.meaning.specs.Bytes.{Bytes, same, any, if_then_else_}
 use Rattle.meaning.specs.Items.{place-of}
+use Rattle.meaning.proofs.Lists.Tests.{same-refl, same-true}
 use Rattle.tables.specs.Places.{Place, spellings, with-place}
 use Rattle.tables.specs.Tables.{no-place, StandsAt}
-
-pub same-refl : (f : Bytes) → same f f ≡ true
-unfolding same
-same-refl [] = refl
-same-refl (b ∷ f) = rw (eq-eqb b b refl) (same-refl f)
-
-pub same-true : (f g : Bytes) → same f g ≡ true → f ≡ g
-unfolding same
-same-true [] [] h = refl
-same-true [] (c ∷ g) h = absurd (let z : false ≡ true = h in let w : _≡_ {A = ℕ} 0 1 = cc in omega arith)
-same-true (b ∷ f) [] h = absurd (let z : false ≡ true = h in let w : _≡_ {A = ℕ} 0 1 = cc in omega arith)
-same-true (b ∷ f) (c ∷ g) h = go (eqb b c) refl (same-true f g)
-  where
-    go : (t : Bool) → eqb b c ≡ t → (same f g ≡ true → f ≡ g) → b ∷ f ≡ c ∷ g
-    go true e rest = ap₂ _∷_ (eqb-true b c e) (rest (rw e at h))
-    go false e rest = absurd (let z : false ≡ true = rw e at h in let w : _≡_ {A = ℕ} 0 1 = cc in omega arith)
 
 pub same-false : (f g : Bytes) → (f ≡ g → ⊥) → same f g ≡ false
 same-false f g h = go (same f g) refl

@@ -8,16 +8,7 @@ use native.Mathlib.Numerals.{add-one}
 use lib.ListN.{length, getD, take, length-append}
 use lib.Seq.{take-suc}
 use Rattle.meaning.specs.Bytes.{those, if_then_else_}
-
-if-append : (b : Bool) (x : ℕ) (xs ys : List ℕ) → (if b then x ∷ (xs ++ ys) else xs ++ ys) ≡ (if b then x ∷ xs else xs) ++ ys
-unfolding if_then_else_
-if-append true x xs ys = refl
-if-append false x xs ys = refl
-
-those-append : (test : ℕ → Bool) (xs ys : List ℕ) → those test (xs ++ ys) ≡ those test xs ++ those test ys
-unfolding those
-those-append test [] ys = refl
-those-append test (x ∷ xs) ys = rw (those-append test xs ys) (if-append (test x) x (those test xs) (those test ys))
+use Rattle.meaning.proofs.Lists.Filters.{those-append}
 
 those-one : (test : ℕ → Bool) (x : ℕ) → test x ≡ true → length (those test (x ∷ [])) ≡ 1
 unfolding those if_then_else_

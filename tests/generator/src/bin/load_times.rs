@@ -16,6 +16,10 @@ fn main() -> ExitCode {
     };
     println!("{:<28} {:>7} {:>12} {:>12} {:>7}", "text", "bytes", "loader ns", "reference ns", "ratio");
     for (label, text) in texts() {
+        if !as_meant(label, &text) {
+            eprintln!("load_times: '{label}' is not the text that it should be, at {} bytes", text.len());
+            return ExitCode::from(2);
+        }
         let reference = reference_time(&text);
         let loader = match loader_time(&program, &text, reference) {
             Ok(time) => time,
@@ -29,27 +33,50 @@ fn main() -> ExitCode {
     ExitCode::SUCCESS
 }
 
-/// Texts up to the longest: many names, long lists, many clauses, deep brackets, blanks, and a small job.
+/// Texts close to the longest: many names, long lists, many clauses, deep brackets, blanks; and a small job.
 fn texts() -> Vec<(&'static str, Vec<u8>)> {
-    let names = (0..42).map(|k| format!("n{k}a(n{k}b,n{k}c,n{k}d,n{k}e,n{k}f).\n")).collect::<String>();
-    let query = "?- n0a(n1b,n2c,n3d,n4e,n5f).\n";
+    let rule = "merge([X|Xs],Ys,[X?|Zs?]) :- merge(Ys?,Xs?,Zs), other(f(Ps?),g(Qs?,Rs)), third(Rs?,Qs,Ps), fourth(left(A),[B|A?],B?,12345678).\n";
     let list = format!("p([{}]).\n", ["123456"; 31].join(","));
-    let rule = "merge([X|Xs],Ys,[X?|Zs?]) :- merge(Ys?,Xs?,Zs), other(f(Ps?),g(Qs?,Rs)), third(Rs?,Qs,Ps).\n";
-    let deep = format!("p({}{}{}).\n", "[f(".repeat(7), "x", ")]".repeat(7));
-    let many = |item: &str, count: usize| item.repeat(count.min((LONGEST - 64) / item.len()));
+    let tower = format!("{}g(x){}", "[nest(".repeat(7), ")]".repeat(7));
+    let deep = format!("p({tower},{tower}).\n");
+    let many = |item: &str| item.repeat(128.min((LONGEST - 32) / item.len()));
     let small = "tag([H|T],[hit(H?)|R?]) :- tag(T?,R).\ntag([],[]).\n?- tag([1,2|A?],Z), tag(A?,B).\n";
     [
-        ("256 names", many(&format!("{names}{}", many("n7a(n8b,n9c,n10d,n11e,n12f).\n", 80)), 1) + query),
-        ("long lists", many(&list, 128) + "?- p([]).\n"),
-        ("128 clauses", many(rule, 128) + "?- merge([],[],A).\n"),
-        ("deep brackets", many(&deep, 128) + "?- p(1).\n"),
-        ("remarks and blanks", format!("{}?- p(1).\n", many("   \t  % a remark of some length\n", 1000))),
-        ("refused at its end", many(rule, 128) + "?- merge([],[],"),
+        ("256 names", names() + "?- n1(n3).\n"),
+        ("long lists", many(&list) + "?- p([]).\n"),
+        ("128 clauses", many(rule) + "?- merge([],[],A).\n"),
+        ("deep brackets", many(&deep) + "?- p(1).\n"),
+        ("remarks and blanks", format!("{}?- p(1).\n", "   \t  % a remark of some length\n".repeat(510))),
+        ("refused at its end", many(rule) + "?- merge([],[],"),
         ("a small job", small.to_string()),
     ]
     .into_iter()
     .map(|(label, text)| (label, text.into_bytes()))
     .collect()
+}
+
+/// Clauses over 256 names, every second one of 31 bytes, each used again and again.
+fn names() -> String {
+    let name = |k: usize| if k % 2 == 0 { format!("a_name_of_thirty_one_bytes_{:04}", k % 256) } else { format!("n{}", k % 256) };
+    let clause = |k: usize| {
+        let words: Vec<String> = (7 * k + 1..7 * k + 7).map(name).collect();
+        format!("{}({}).\n", name(7 * k), words.join(","))
+    };
+    let mut text = String::new();
+    for k in 0.. {
+        let next = clause(k);
+        if LONGEST - 32 < text.len() + next.len() {
+            return text;
+        }
+        text += &next;
+    }
+    text
+}
+
+/// Every text but the small one has 16,000 bytes at least, and just the one that says so is refused.
+fn as_meant(label: &str, text: &[u8]) -> bool {
+    let long = (16_000..=LONGEST).contains(&text.len());
+    (long || label == "a small job") && reference::read(text).is_err() == label.starts_with("refused")
 }
 
 /// Nanoseconds that the reference takes to read the text, the best of three rounds.

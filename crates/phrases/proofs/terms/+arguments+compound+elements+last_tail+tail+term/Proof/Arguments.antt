@@ -6,8 +6,8 @@ use Rattle.meaning.specs.Items.{term as term-reader}
 use Rattle.term.proofs.Cells.{numbered-order}
 use Rattle.tables.specs.Places.{names-over, variables-over}
 use Rattle.tokens.proofs.InFront.{eqb-same}
-use Rattle.phrases.proofs.Moves.{stands-moved}
-use Rattle.phrases.proofs.Given.{gave-only}
+use Rattle.openings.proofs.Moves.{stands-moved}
+use Rattle.openings.proofs.Given.{gave-only}
 use Rattle.phrases.proofs.Arguments.{argument-malformed, argument-passed, argument-only, argument-stop, argument-last, argument-more, seventh-passed, seventh-malformed}
 use Prim.Native.Nat.{ℕ}
 use borrow.Fn.PlainCycle.{is, and}

@@ -22,7 +22,7 @@ use Rattle.phrases.proofs.terms.+arguments+compound+elements+last_tail+
 use Rattle.phrases.proofs.terms.term.Reads as term
 use Rattle.phrases.proofs.terms.term.Kinds as term-kinds
 use Rattle.phrases.proofs.terms.+arguments+compound+elements+last_tail+tail+term.Lts-term as term-lts
-use Rattle.phrases.proofs.begin.begin.Reads as begin-reads
+use Rattle.openings.proofs.begin.begin.Reads as begin-reads
 use Rattle.phrases.proofs.terms.compound_word.Reads as compound-word-reads
 use Rattle.phrases.proofs.terms.functor.Reads as functor-reads
 use Rattle.tokens.proofs.next.next_of.Reads as next-of-reads

@@ -6,7 +6,7 @@ use lib.ListN.{length}
 use Rattle.meaning.specs.Items.{term as term-reader}
 use Rattle.tables.specs.Places.{spellings}
 use Rattle.tables.proofs.Numbering.{placed, spellings-length}
-use Rattle.phrases.proofs.Moves.{stands-counted}
+use Rattle.openings.proofs.Moves.{stands-counted}
 use Rattle.phrases.proofs.Arguments.{compound-none, compound-malformed, compound-passed, compound-got}
 use Prim.Native.Nat.{ℕ}
 use borrow.Fn.PlainCycle.{is}

@@ -6,7 +6,7 @@ use lib.ListN.{length}
 use Rattle.meaning.specs.Items.{term as term-reader}
 use Rattle.term.proofs.Cells.{numbered-order}
 use Rattle.tables.specs.Places.{names-over, variables-over}
-use Rattle.phrases.proofs.Moves.{stands-counted}
+use Rattle.openings.proofs.Moves.{stands-counted}
 use Rattle.phrases.proofs.Elements.{start-cannot, element-many, element-malformed, element-passed, tail-malformed, tail-passed, tail-got}
 use Prim.Native.Nat.{ℕ}
 use borrow.Fn.PlainCycle.{is, and}

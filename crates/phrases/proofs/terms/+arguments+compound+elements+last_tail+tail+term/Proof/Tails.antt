@@ -4,11 +4,11 @@ use mathlib.Core.Path.{refl}
 use native.Mathlib.Omega.{arith}
 use Rattle.meaning.specs.Items.{next, tail-of}
 use Rattle.meaning.specs.Items.{term as term-reader, elements as elements-reader}
-use Rattle.phrases.specs.Reading.{closed}
+use Rattle.openings.specs.Reading.{closed}
 use Rattle.phrases.proofs.Arms.{tail-more, tail-closed}
 use Rattle.tokens.proofs.InFront.{one-sign}
-use Rattle.phrases.proofs.Moves.{stands-moved}
-use Rattle.phrases.proofs.Given.{sign-read}
+use Rattle.openings.proofs.Moves.{stands-moved}
+use Rattle.openings.proofs.Given.{sign-read}
 use Rattle.phrases.proofs.Elements.{tail-third, tail-other, last-malformed, last-passed, last-other, last-got}
 use Prim.Native.Nat.{ℕ}
 use borrow.Fn.PlainCycle.{is, and}

@@ -4,8 +4,8 @@ use native.Mathlib.Omega.{arith}
 use Rattle.meaning.specs.Items.{term as term-reader, elements as elements-reader}
 use Rattle.term.proofs.Frames.{only-same}
 use Rattle.tables.specs.Places.{names-over, variables-over}
-use Rattle.phrases.specs.Reading.{round-of}
-use Rattle.phrases.proofs.Given.{round-read, opened-read}
+use Rattle.openings.specs.Reading.{round-of}
+use Rattle.openings.proofs.Given.{round-read, opened-read}
 use Prim.Native.Nat.{ℕ}
 use borrow.Fn.PlainCycle.{is}
 use Rattle.phrases.proofs.terms.term.Reads as term
