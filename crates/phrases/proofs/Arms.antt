@@ -1,14 +1,17 @@
 -- The readers of terms, arguments and lists, over what their parts read: each lemma is one arm of the code.
 use Prim.Native.Nat.{ℕ, suc, _+_, _-_, _≤_, _<_}
-use mathlib.Core.Path.{_≡_, refl}
+use mathlib.Core.Path.{_≡_, refl, ap, sym, _∙_}
+use mathlib.Core.Bool.{Bool, true, false}
 use mathlib.Core.List.{List}
 use Rattle.meaning.specs.Bytes.{Bytes, byte, if_then_else_}
 use Rattle.meaning.specs.Terms.{empty, cell, Term, Terms, compound, end, more}
-use Rattle.meaning.specs.Tokens.{Tokens, token, name, sign}
-use Rattle.meaning.specs.Items.{Counted, Reader, read, malformed, passed, read-on, _>>=_, _>>_, give, passes, next, is, begins-term, expect, either, arguments, compound-of, tail-of, elements}
+use Rattle.meaning.specs.Tokens.{Token, Tokens, ends, token, name, variable, integer, sign, bad}
+use Rattle.meaning.specs.Items.{Counted, Read, Reader, read, malformed, passed, read-on, _>>=_, _>>_, give, passes, next, is, begins-term, expect, either, arguments, compound-of, tail-of, elements, term}
 use Rattle.tables.specs.Places.{Place}
 use Rattle.tokens.specs.Nexts.{one-of, Stops, Goes}
 use Rattle.openings.specs.Reading.{counted-at, closed}
+use Rattle.openings.proofs.Begins.{term-end, term-bad, term-sign}
+use Rattle.openings.proofs.Expected.{never}
 use Rattle.openings.proofs.Readers.{
   count-compound-with,
   count-compound-passed,
@@ -86,6 +89,33 @@ module _ (element : Reader Term) (left : ℕ) (known vars : List Place) (k : ℕ
       (λ (t : Term) (counted : Counted) (behind : Tokens). read-on (next (tail-of element (elements element left)) counted behind) (λ (tail : Term). give (cell-of t tail)))
   unfolding elements _>>=_ _>>_ read-on
   elements-over g h = rw (standing-goes (counted-at known vars k) ts g, count-compound-with known vars k ts h)
+
+-- Where the element is a term, it need not be asked first whether the token can begin one.
+term-cannot : (depth : ℕ) (counted : Counted) (p : ℕ) (t : Token) (ts : Tokens) → begins-term t ≡ false → term depth counted (token p t ts) ≡ malformed p
+unfolding begins-term byte
+term-cannot depth counted p (name f) ts h = never h
+term-cannot depth counted p (variable k x) ts h = never h
+term-cannot depth counted p (integer i) ts h = never h
+term-cannot depth counted p (sign b) ts h = term-sign depth counted p b ts h
+term-cannot depth counted p bad ts h = term-bad depth counted p ts
+
+module _ (depth left : ℕ) (known vars : List Place) (k : ℕ) (few : k < 32) where
+  abbrev and-tail : Term → Counted → Tokens → Read Term
+  and-tail t counted behind = read-on (next (tail-of (term depth) (elements (term depth) left)) counted behind) (λ (tail : Term). give (compound k cell (more t (more tail end))))
+
+  pub elements-term : (ts : Tokens) → elements (term depth) (suc left) (counted-at known vars k) ts ≡ read-on (term depth (counted-at known vars (k + 1)) ts) and-tail
+  unfolding read-on
+  elements-term (ends p) =
+      elements-cannot (term depth) left known vars k (ends p) p refl
+      ∙ ap (λ r. read-on r and-tail) (sym (term-end depth (counted-at known vars (k + 1)) p))
+  elements-term (token p t ts) = by (begins-term t) refl
+    where
+      by : (b : Bool) → begins-term t ≡ b
+          → elements (term depth) (suc left) (counted-at known vars k) (token p t ts) ≡ read-on (term depth (counted-at known vars (k + 1)) (token p t ts)) and-tail
+      by true e = elements-over (term depth) left known vars k (token p t ts) e few
+      by false e =
+          elements-cannot (term depth) left known vars k (token p t ts) p (refl, e)
+          ∙ ap (λ r. read-on r and-tail) (sym (term-cannot depth (counted-at known vars (k + 1)) p t ts e))
 
 pub elements-none-cannot : (element : Reader Term) (place : ℕ) (counted : Counted) (ts : Tokens) → Stops begins-term place ts
     → elements element 0 counted ts ≡ malformed place

@@ -197,37 +197,35 @@ fn elements(
     ensures { λ r. ⌜ ((known : List Place) (vars : List Place) → Stands (now (text .entry)) (now (rest .entry)) from (now (names .entry)) (now (item .entry)) c known vars
         → (left-over : ℕ) → 32 ≤ left-over + c .compounds → ReadIs (λ (t : Term). t) (elements-reader (term-reader left) left-over) (now (text .entry)) (now (rest .entry)) from base known vars c (now (s .entry)) (now (item .entry)) (now (s .exit)) (now (names .exit)) (now (item .exit)) r) ⌝ }
 {
-    let at = c.at;
-    let n = c.compounds;
-    match starts(rest, at) {
-        Start::Can => {
-            if 32 <= n {
-                return Read::Passed;
-            }
-            let d = Cursor {
-                at,
-                names: c.names,
-                variables: c.variables,
-                compounds: n + 1,
-            };
-            match term(text, rest, from, s, names, item, base, left, d) {
-                Read::Got(w, e) => {
-                    store_argument(s, base, n, 0, w);
-                    match tail(text, rest, from, s, names, item, base, left, e) {
-                        Read::Got(v, f) => {
-                            store_argument(s, base, n, 1, v);
-                            store_functor(s, base, n, 2);
-                            Read::Got(compound_word(base, n), f)
-                        }
-                        Read::Malformed(a) => Read::Malformed(a),
-                        Read::Passed => Read::Passed,
-                    }
+    let cell = c.compounds;
+    if 32 <= cell {
+        let at = c.at;
+        return match starts(rest, at) {
+            Start::Can => Read::Passed,
+            Start::Cannot(a) => Read::Malformed(a),
+        };
+    }
+    let d = Cursor {
+        at: c.at,
+        names: c.names,
+        variables: c.variables,
+        compounds: cell + 1,
+    };
+    match term(text, rest, from, s, names, item, base, left, d) {
+        Read::Got(w, e) => {
+            store_argument(s, base, cell, 0, w);
+            match tail(text, rest, from, s, names, item, base, left, e) {
+                Read::Got(v, f) => {
+                    store_argument(s, base, cell, 1, v);
+                    store_functor(s, base, cell, 2);
+                    Read::Got(compound_word(base, cell), f)
                 }
                 Read::Malformed(a) => Read::Malformed(a),
                 Read::Passed => Read::Passed,
             }
         }
-        Start::Cannot(a) => Read::Malformed(a),
+        Read::Malformed(a) => Read::Malformed(a),
+        Read::Passed => Read::Passed,
     }
 }
 

@@ -25,7 +25,7 @@ use Rattle.phrases.proofs.terms.+arguments+compound+elements+last_tail+
 use Rattle.phrases.proofs.terms.+arguments+compound+elements+last_tail+tail+term.Proof.Claims.{μ-arguments, arguments-at, arguments-calls, μ-compound, compound-at, compound-calls, μ-elements, elements-at, elements-calls, μ-last-tail, last-tail-at, last-tail-calls, μ-tail, tail-at, tail-calls, μ-term, term-at, term-calls}
 use Rattle.phrases.proofs.terms.+arguments+compound+elements+last_tail+tail+term.Proof.Arguments.{arguments-starts-requires, arguments-returns, arguments-returns-2, arguments-term-requires, arguments-store-argument-requires, arguments-next-of-requires, arguments-add-arguments, arguments-arguments-requires, arguments-add-word, arguments-same-length, arguments-returns-3, arguments-returns-4, arguments-returns-5, arguments-returns-6, arguments-returns-7, arguments-returns-8}
 use Rattle.phrases.proofs.terms.+arguments+compound+elements+last_tail+tail+term.Proof.Compound.{compound-returns, compound-add-t17, compound-arguments-requires, compound-functor-requires, compound-store-functor-requires, compound-compound-word-requires, compound-returns-2, compound-returns-3, compound-returns-4}
-use Rattle.phrases.proofs.terms.+arguments+compound+elements+last_tail+tail+term.Proof.Elements.{elements-starts-requires, elements-returns, elements-add-t23, elements-term-requires, elements-store-argument-requires, elements-tail-requires, elements-store-argument-requires-2, elements-store-functor-requires, elements-compound-word-requires, elements-same-length, elements-same-length-2, elements-same-length-3, elements-returns-2, elements-returns-3, elements-returns-4, elements-returns-5, elements-returns-6, elements-returns-7}
+use Rattle.phrases.proofs.terms.+arguments+compound+elements+last_tail+tail+term.Proof.Elements.{elements-starts-requires, elements-returns, elements-returns-2, elements-add-t23, elements-term-requires, elements-store-argument-requires, elements-tail-requires, elements-store-argument-requires-2, elements-store-functor-requires, elements-compound-word-requires, elements-same-length, elements-same-length-2, elements-same-length-3, elements-returns-3, elements-returns-4, elements-returns-5, elements-returns-6, elements-returns-7}
 use Rattle.phrases.proofs.terms.+arguments+compound+elements+last_tail+tail+term.Proof.Tails.{tail-next-of-requires, tail-elements-requires, tail-last-tail-requires, tail-returns, tail-returns-2, tail-returns-3, tail-returns-4, last-tail-term-requires, last-tail-next-of-requires, last-tail-returns, last-tail-returns-2, last-tail-returns-3, last-tail-returns-4, last-tail-returns-5}
 use Rattle.phrases.proofs.terms.+arguments+compound+elements+last_tail+tail+term.Proof.Term.{term-begin-requires, term-sub-compound, term-compound-requires, term-sub-elements, term-elements-requires, term-returns, term-returns-2, term-returns-3, term-returns-4, term-returns-5}
 
@@ -37,7 +37,7 @@ pub +arguments+compound+elements+last-tail+tail+term-spec : {M : Type 1} → sta
     (λ t. compound-lts.spec (compound-calls t) (compound-at t) compound.Post
     (compound-returns t) (compound-add-t17 t) (compound-arguments-requires t) (λ c. search needs) (compound-functor-requires t) (compound-store-functor-requires t) (compound-compound-word-requires t) (λ c. search needs) (λ c. search needs) (λ c. search needs) (λ c. search needs) (λ c. search needs) (compound-returns-2 t) (λ c. search needs) (λ c. search needs) (λ c. search needs) (compound-returns-3 t) (λ c. search needs) (λ c. search needs) (λ c. search needs) (compound-returns-4 t))
     (λ t. elements-lts.spec (elements-calls t) (elements-at t) elements.Post
-    (elements-starts-requires t) (λ c. search needs) (elements-returns t) (elements-add-t23 t) (elements-term-requires t) (λ c. search needs) (elements-store-argument-requires t) (elements-tail-requires t) (λ c. search needs) (elements-store-argument-requires-2 t) (elements-store-functor-requires t) (elements-compound-word-requires t) (λ c. search needs) (λ c. search needs) (λ c. search needs) (λ c. search needs) (λ c. search needs) (elements-same-length t) (elements-same-length-2 t) (elements-same-length-3 t) (elements-returns-2 t) (λ c. search needs) (λ c. search needs) (λ c. search needs) (elements-returns-3 t) (λ c. search needs) (λ c. search needs) (λ c. search needs) (elements-returns-4 t) (λ c. search needs) (λ c. search needs) (λ c. search needs) (elements-returns-5 t) (λ c. search needs) (λ c. search needs) (λ c. search needs) (elements-returns-6 t) (elements-returns-7 t))
+    (elements-starts-requires t) (λ c. search needs) (λ c. search needs) (elements-returns t) (elements-returns-2 t) (elements-add-t23 t) (elements-term-requires t) (λ c. search needs) (elements-store-argument-requires t) (elements-tail-requires t) (λ c. search needs) (elements-store-argument-requires-2 t) (elements-store-functor-requires t) (elements-compound-word-requires t) (λ c. search needs) (λ c. search needs) (λ c. search needs) (λ c. search needs) (elements-same-length t) (elements-same-length-2 t) (elements-same-length-3 t) (elements-returns-3 t) (λ c. search needs) (λ c. search needs) (λ c. search needs) (elements-returns-4 t) (λ c. search needs) (λ c. search needs) (λ c. search needs) (elements-returns-5 t) (λ c. search needs) (λ c. search needs) (λ c. search needs) (elements-returns-6 t) (λ c. search needs) (λ c. search needs) (λ c. search needs) (elements-returns-7 t))
     (λ t. last-tail-lts.spec (last-tail-calls t) (last-tail-at t) last-tail.Post
     (last-tail-term-requires t) (λ c. search needs) (last-tail-next-of-requires t) (λ c. search needs) (λ c. search needs) (λ c. search needs) (λ c. search needs) (λ c. search needs) (λ c. search needs) (λ c. search needs) (last-tail-returns t) (λ c. search needs) (λ c. search needs) (λ c. search needs) (last-tail-returns-2 t) (λ c. search needs) (λ c. search needs) (λ c. search needs) (last-tail-returns-3 t) (λ c. search needs) (λ c. search needs) (λ c. search needs) (last-tail-returns-4 t) (λ c. search needs) (λ c. search needs) (λ c. search needs) (last-tail-returns-5 t))
     (λ t. tail-lts.spec (tail-calls t) (tail-at t) tail.Post

@@ -17,17 +17,27 @@ use Rattle.phrases.proofs.terms.+arguments+compound+elements+last_tail+
 
 pub elements-starts-requires : (t : ℕ) → elements-lts.Need-starts-requires (elements-calls t) (elements-at t) elements.Post
 elements-starts-requires t c κs =
-    let entry = c .before .before .before .before .before in
+    let entry = c .before .before .before .before .before .before in
     entry .pre .1 .1 .2 .inside
 
 pub elements-returns : (t : ℕ) → elements-lts.Need-returns (elements-calls t) (elements-at t) elements.Post
 elements-returns t c known vars stands left-over enough =
     let entry = c .before .before .before .before .before .before .before .before .before in
-    let told = c .before .enum-told in
-    let started = c .before .before .before .starts in
-    let test = c .if1 in
+    let told = c .enum-told in
+    let started = c .before .before .starts in
+    let test = c .before .before .before .if1 in
     let a = entry .args in
     element-many (a .text .now) (a .rest .now) (a .from) (a .base) known vars (a .c) (a .s .now) (a .item .now) (term-reader (a .left)) (rw (told .given .1) at (started .ensures)) (a .names .now) left-over (test .taken)
+
+pub elements-returns-2 : (t : ℕ) → elements-lts.Need-returns-2 (elements-calls t) (elements-at t) elements.Post
+elements-returns-2 t c known vars stands left-over enough =
+    let entry = c .before .before .before .before .before .before .before .before .before .before in
+    let stop = c .before .a in
+    let started = c .before .before .before .starts in
+    let a = entry .args in
+    let g = stop .given in
+    let b = rw (g .1) at (started .ensures) in
+    start-cannot (a .text .now) (a .rest .now) (a .from) (a .base) known vars (a .c) (a .s .now) (a .item .now) (term-reader (a .left)) (a .names .now) left-over (g .0 .0) (b .0) (b .1)
 
 pub elements-add-t23 : (t : ℕ) → elements-lts.Need-add-t23 (elements-calls t) (elements-at t) elements.Post
 elements-add-t23 t c =
@@ -36,7 +46,7 @@ elements-add-t23 t c =
 
 pub elements-term-requires : (t : ℕ) → elements-lts.Need-term-requires (elements-calls t) (elements-at t) elements.Post
 elements-term-requires t c κs =
-    let entry = c .before .before .before .before .before .before .before .before .before .before .before .before in
+    let entry = c .before .before .before .before .before .before .before .before .before in
     let test = c .before .before .before .if1 in
     let p = entry .pre .1 .1 in
     let r = entry .pre .1 .0 in
@@ -44,7 +54,7 @@ elements-term-requires t c κs =
 
 pub elements-store-argument-requires : (t : ℕ) → elements-lts.Need-store-argument-requires (elements-calls t) (elements-at t) elements.Post
 elements-store-argument-requires t c κs =
-    let entry = c .before .before .before .before .before .before .before .before .before .before .before .before .before .before .before .before .before .before .before .before .before .before .before in
+    let entry = c .before .before .before .before .before .before .before .before .before .before .before .before .before .before .before .before .before .before .before .before in
     let one-term = c .before .before .before .before .before .before .before .before .before .before .term in
     let test = c .before .before .before .before .before .before .before .before .before .before .before .before .before .before .if1 in
     let a = entry .args in
@@ -54,7 +64,7 @@ elements-store-argument-requires t c κs =
 
 pub elements-tail-requires : (t : ℕ) → elements-lts.Need-tail-requires (elements-calls t) (elements-at t) elements.Post
 elements-tail-requires t c κs =
-    let entry = c .before .before .before .before .before .before .before .before .before .before .before .before .before .before .before .before .before .before .before .before .before .before .before .before .before .before .before .before .before in
+    let entry = c .before .before .before .before .before .before .before .before .before .before .before .before .before .before .before .before .before .before .before .before .before .before .before .before .before .before in
     let word-got = c .before .before .before .before .before .before .before .before .w in
     let one-term = c .before .before .before .before .before .before .before .before .before .before .before .before .before .before .before .before .term in
     let test = c .before .before .before .before .before .before .before .before .before .before .before .before .before .before .before .before .before .before .before .before .if1 in
@@ -72,7 +82,7 @@ elements-tail-requires t c κs =
 
 pub elements-store-argument-requires-2 : (t : ℕ) → elements-lts.Need-store-argument-requires-2 (elements-calls t) (elements-at t) elements.Post
 elements-store-argument-requires-2 t c κs =
-    let entry = c .before .before .before .before .before .before .before .before .before .before .before .before .before .before .before .before .before .before .before .before .before .before .before .before .before .before .before .before .before .before .before .before .before .before .before .before .before .before .before .before in
+    let entry = c .before .before .before .before .before .before .before .before .before .before .before .before .before .before .before .before .before .before .before .before .before .before .before .before .before .before .before .before .before .before .before .before .before .before .before .before .before in
     let one-term = c .before .before .before .before .before .before .before .before .before .before .before .before .before .before .before .before .before .before .before .before .before .before .before .before .before .before .before .term in
     let first-stored = c .before .before .before .before .before .before .before .before .before .before .before .before .before .before .before .before .store-argument in
     let the-tail = c .before .before .before .before .before .before .before .before .before .before .tail in
@@ -86,7 +96,7 @@ elements-store-argument-requires-2 t c κs =
 
 pub elements-store-functor-requires : (t : ℕ) → elements-lts.Need-store-functor-requires (elements-calls t) (elements-at t) elements.Post
 elements-store-functor-requires t c κs =
-    let entry = c .before .before .before .before .before .before .before .before .before .before .before .before .before .before .before .before .before .before .before .before .before .before .before .before .before .before .before .before .before .before .before .before .before .before .before .before .before .before .before .before .before .before .before .before in
+    let entry = c .before .before .before .before .before .before .before .before .before .before .before .before .before .before .before .before .before .before .before .before .before .before .before .before .before .before .before .before .before .before .before .before .before .before .before .before .before .before .before .before .before in
     let one-term = c .before .before .before .before .before .before .before .before .before .before .before .before .before .before .before .before .before .before .before .before .before .before .before .before .before .before .before .before .before .before .before .term in
     let first-stored = c .before .before .before .before .before .before .before .before .before .before .before .before .before .before .before .before .before .before .before .before .store-argument in
     let the-tail = c .before .before .before .before .before .before .before .before .before .before .before .before .before .before .tail in
@@ -102,7 +112,7 @@ elements-store-functor-requires t c κs =
 
 pub elements-compound-word-requires : (t : ℕ) → elements-lts.Need-compound-word-requires (elements-calls t) (elements-at t) elements.Post
 elements-compound-word-requires t c κs =
-    let entry = c .before .before .before .before .before .before .before .before .before .before .before .before .before .before .before .before .before .before .before .before .before .before .before .before .before .before .before .before .before .before .before .before .before .before .before .before .before .before .before .before .before .before .before .before .before .before .before in
+    let entry = c .before .before .before .before .before .before .before .before .before .before .before .before .before .before .before .before .before .before .before .before .before .before .before .before .before .before .before .before .before .before .before .before .before .before .before .before .before .before .before .before .before .before .before .before in
     let test = c .before .before .before .before .before .before .before .before .before .before .before .before .before .before .before .before .before .before .before .before .before .before .before .before .before .before .before .before .before .before .before .before .before .before .before .before .before .before .if1 in
     let a = entry .args in
     let r = entry .pre .1 .0 in
@@ -120,16 +130,14 @@ pub elements-same-length-3 : (t : ℕ) → elements-lts.Need-same-length-3 (elem
 elements-same-length-3 t c =
     c .before .before .before .before .before .before .before .before .before .before .before .before .before .before .before .before .before .before .tail .kept .1 .1 .1 .1 .1 .0 ∙ c .before .before .before .before .before .before .before .before .before .before .before .before .before .before .before .before .before .before .before .before .before .before .before .before .before .before .before .before .before .before .before .before .before .before .before .term .kept .1 .1 .1 .1 .1 .0
 
-pub elements-returns-2 : (t : ℕ) → elements-lts.Need-returns-2 (elements-calls t) (elements-at t) elements.Post
-elements-returns-2 t c known vars stands left-over enough =
-    let entry = c .before .before .before .before .before .before .before .before .before .before .before .before .before .before .before .before .before .before .before .before .before .before .before .before .before .before .before .before .before .before .before .before .before .before .before .before .before .before .before .before .before .before .before .before .before .before .before .before in
+pub elements-returns-3 : (t : ℕ) → elements-lts.Need-returns-3 (elements-calls t) (elements-at t) elements.Post
+elements-returns-3 t c known vars stands left-over enough =
+    let entry = c .before .before .before .before .before .before .before .before .before .before .before .before .before .before .before .before .before .before .before .before .before .before .before .before .before .before .before .before .before .before .before .before .before .before .before .before .before .before .before .before .before .before .before .before .before in
     let test = c .before .before .before .before .before .before .before .before .before .before .before .before .before .before .before .before .before .before .before .before .before .before .before .before .before .before .before .before .before .before .before .before .before .before .before .before .before .before .before .if1 in
     let word-got = c .before .before .before .before .before .before .before .before .before .before .before .before .before .before .before .before .before .before .before .before .before .before .before .before .before .before .before .w in
     let one-term = c .before .before .before .before .before .before .before .before .before .before .before .before .before .before .before .before .before .before .before .before .before .before .before .before .before .before .before .before .before .before .before .before .before .before .before .term in
     let tail-got-word = c .before .before .before .before .before .before .before .before .before .before .v in
     let the-tail = c .before .before .before .before .before .before .before .before .before .before .before .before .before .before .before .before .before .before .tail in
-    let told = c .before .before .before .before .before .before .before .before .before .before .before .before .before .before .before .before .before .before .before .before .before .before .before .before .before .before .before .before .before .before .before .before .before .before .before .before .before .before .before .before .enum-told in
-    let started = c .before .before .before .before .before .before .before .before .before .before .before .before .before .before .before .before .before .before .before .before .before .before .before .before .before .before .before .before .before .before .before .before .before .before .before .before .before .before .before .before .before .before .starts in
     let first-stored = c .before .before .before .before .before .before .before .before .before .before .before .before .before .before .before .before .before .before .before .before .before .before .before .before .store-argument in
     let second-stored = c .before .before .before .before .before .before .before .store-argument2 in
     let functor-stored = c .before .before .before .store-functor in
@@ -141,18 +149,16 @@ elements-returns-2 t c known vars stands left-over enough =
     let up = numbered-order (a .c .compounds + 1) (g .0 .1 .0 .compounds) (b .0) (b .2 .numbered) in
     let h = tail-got-word .given in
     let d = rw (h .1) at (the-tail .ensures (names-over (b .1) known) (variables-over (a .from) (b .1) vars) (b .2 .stands) (left-over - 1) (omega (arith, up, test .left))) in
-    rw one (tail-got (a .text .now) (a .rest .now) (a .from) (a .base) known vars (a .c) (a .s .now) (a .item .now) (term-reader (a .left)) (rw (told .given .1) at (started .ensures)) (test .left) (left-over - 1) (one-term .last .1 .1 .1 .0) (one-term .last .1 .1 .1 .1 .0) (one-term .last .1 .1 .1 .1 .1 .0) (first-stored .last .0) (g .0 .0) (g .0 .1 .0) (b .0) (b .1) (b .2) (first-stored .ensures) (the-tail .last .1 .1 .1 .0) (the-tail .last .1 .1 .1 .1 .0) (the-tail .last .1 .1 .1 .1 .1 .0) (second-stored .last .0) (functor-stored .last .0) (h .0 .0) (own-word .result) (h .0 .1 .0) d (second-stored .ensures) (functor-stored .ensures) (own-word .ensures))
+    rw one (tail-got (a .text .now) (a .rest .now) (a .from) (a .base) known vars (a .c) (a .s .now) (a .item .now) (a .left) (test .left) (left-over - 1) (one-term .last .1 .1 .1 .0) (one-term .last .1 .1 .1 .1 .0) (one-term .last .1 .1 .1 .1 .1 .0) (first-stored .last .0) (g .0 .0) (g .0 .1 .0) (b .0) (b .1) (b .2) (first-stored .ensures) (the-tail .last .1 .1 .1 .0) (the-tail .last .1 .1 .1 .1 .0) (the-tail .last .1 .1 .1 .1 .1 .0) (second-stored .last .0) (functor-stored .last .0) (h .0 .0) (own-word .result) (h .0 .1 .0) d (second-stored .ensures) (functor-stored .ensures) (own-word .ensures))
 
-pub elements-returns-3 : (t : ℕ) → elements-lts.Need-returns-3 (elements-calls t) (elements-at t) elements.Post
-elements-returns-3 t c known vars stands left-over enough =
-    let entry = c .before .before .before .before .before .before .before .before .before .before .before .before .before .before .before .before .before .before .before .before .before .before .before .before .before .before .before .before .before .before .before .before .before .before .before .before .before .before .before in
+pub elements-returns-4 : (t : ℕ) → elements-lts.Need-returns-4 (elements-calls t) (elements-at t) elements.Post
+elements-returns-4 t c known vars stands left-over enough =
+    let entry = c .before .before .before .before .before .before .before .before .before .before .before .before .before .before .before .before .before .before .before .before .before .before .before .before .before .before .before .before .before .before .before .before .before .before .before .before in
     let test = c .before .before .before .before .before .before .before .before .before .before .before .before .before .before .before .before .before .before .before .before .before .before .before .before .before .before .before .before .before .before .if1 in
     let word-got = c .before .before .before .before .before .before .before .before .before .before .before .before .before .before .before .before .before .before .w in
     let one-term = c .before .before .before .before .before .before .before .before .before .before .before .before .before .before .before .before .before .before .before .before .before .before .before .before .before .before .term in
-    let stop = c .before .a in
+    let stop = c .before .a2 in
     let the-tail = c .before .before .before .before .before .before .before .before .before .tail in
-    let told = c .before .before .before .before .before .before .before .before .before .before .before .before .before .before .before .before .before .before .before .before .before .before .before .before .before .before .before .before .before .before .before .enum-told in
-    let started = c .before .before .before .before .before .before .before .before .before .before .before .before .before .before .before .before .before .before .before .before .before .before .before .before .before .before .before .before .before .before .before .before .before .starts in
     let first-stored = c .before .before .before .before .before .before .before .before .before .before .before .before .before .before .before .store-argument in
     let a = entry .args in
     let one : left-over ≡ suc (left-over - 1) = omega (arith, test .left) in
@@ -161,18 +167,16 @@ elements-returns-3 t c known vars stands left-over enough =
     let up = numbered-order (a .c .compounds + 1) (g .0 .1 .0 .compounds) (b .0) (b .2 .numbered) in
     let h = stop .given in
     let d = rw (h .1) at (the-tail .ensures (names-over (b .1) known) (variables-over (a .from) (b .1) vars) (b .2 .stands) (left-over - 1) (omega (arith, up, test .left))) in
-    rw one (tail-malformed (a .text .now) (a .rest .now) (a .from) (a .base) known vars (a .c) (a .s .now) (a .item .now) (term-reader (a .left)) (rw (told .given .1) at (started .ensures)) (test .left) (left-over - 1) (one-term .last .1 .1 .1 .0) (one-term .last .1 .1 .1 .1 .0) (one-term .last .1 .1 .1 .1 .1 .0) (first-stored .last .0) (g .0 .0) (g .0 .1 .0) (b .0) (b .1) (b .2) (first-stored .ensures) (the-tail .last .1 .1 .1 .0) (the-tail .last .1 .1 .1 .1 .0) (the-tail .last .1 .1 .1 .1 .1 .0) (h .0 .0) d)
+    rw one (tail-malformed (a .text .now) (a .rest .now) (a .from) (a .base) known vars (a .c) (a .s .now) (a .item .now) (a .left) (test .left) (left-over - 1) (one-term .last .1 .1 .1 .0) (one-term .last .1 .1 .1 .1 .0) (one-term .last .1 .1 .1 .1 .1 .0) (first-stored .last .0) (g .0 .0) (g .0 .1 .0) (b .0) (b .1) (b .2) (first-stored .ensures) (the-tail .last .1 .1 .1 .0) (the-tail .last .1 .1 .1 .1 .0) (the-tail .last .1 .1 .1 .1 .1 .0) (h .0 .0) d)
 
-pub elements-returns-4 : (t : ℕ) → elements-lts.Need-returns-4 (elements-calls t) (elements-at t) elements.Post
-elements-returns-4 t c known vars stands left-over enough =
-    let entry = c .before .before .before .before .before .before .before .before .before .before .before .before .before .before .before .before .before .before .before .before .before .before .before .before .before .before .before .before .before .before .before .before .before .before .before .before .before .before in
+pub elements-returns-5 : (t : ℕ) → elements-lts.Need-returns-5 (elements-calls t) (elements-at t) elements.Post
+elements-returns-5 t c known vars stands left-over enough =
+    let entry = c .before .before .before .before .before .before .before .before .before .before .before .before .before .before .before .before .before .before .before .before .before .before .before .before .before .before .before .before .before .before .before .before .before .before .before in
     let test = c .before .before .before .before .before .before .before .before .before .before .before .before .before .before .before .before .before .before .before .before .before .before .before .before .before .before .before .before .before .if1 in
     let word-got = c .before .before .before .before .before .before .before .before .before .before .before .before .before .before .before .before .before .w in
     let one-term = c .before .before .before .before .before .before .before .before .before .before .before .before .before .before .before .before .before .before .before .before .before .before .before .before .before .term in
     let told = c .enum-told2 in
     let the-tail = c .before .before .before .before .before .before .before .before .tail in
-    let told′ = c .before .before .before .before .before .before .before .before .before .before .before .before .before .before .before .before .before .before .before .before .before .before .before .before .before .before .before .before .before .before .enum-told in
-    let started = c .before .before .before .before .before .before .before .before .before .before .before .before .before .before .before .before .before .before .before .before .before .before .before .before .before .before .before .before .before .before .before .before .starts in
     let first-stored = c .before .before .before .before .before .before .before .before .before .before .before .before .before .before .store-argument in
     let a = entry .args in
     let one : left-over ≡ suc (left-over - 1) = omega (arith, test .left) in
@@ -181,42 +185,28 @@ elements-returns-4 t c known vars stands left-over enough =
     let up = numbered-order (a .c .compounds + 1) (g .0 .1 .0 .compounds) (b .0) (b .2 .numbered) in
     let h = told .given in
     let d = rw (h .1) at (the-tail .ensures (names-over (b .1) known) (variables-over (a .from) (b .1) vars) (b .2 .stands) (left-over - 1) (omega (arith, up, test .left))) in
-    rw one (tail-passed (a .text .now) (a .rest .now) (a .from) (a .base) known vars (a .c) (a .s .now) (a .item .now) (term-reader (a .left)) (rw (told′ .given .1) at (started .ensures)) (test .left) (left-over - 1) (one-term .last .1 .1 .1 .0) (one-term .last .1 .1 .1 .1 .0) (one-term .last .1 .1 .1 .1 .1 .0) (first-stored .last .0) (g .0 .0) (g .0 .1 .0) (b .0) (b .1) (b .2) (first-stored .ensures) (the-tail .last .1 .1 .1 .0) (the-tail .last .1 .1 .1 .1 .0) (the-tail .last .1 .1 .1 .1 .1 .0) d)
+    rw one (tail-passed (a .text .now) (a .rest .now) (a .from) (a .base) known vars (a .c) (a .s .now) (a .item .now) (a .left) (test .left) (left-over - 1) (one-term .last .1 .1 .1 .0) (one-term .last .1 .1 .1 .1 .0) (one-term .last .1 .1 .1 .1 .1 .0) (first-stored .last .0) (g .0 .0) (g .0 .1 .0) (b .0) (b .1) (b .2) (first-stored .ensures) (the-tail .last .1 .1 .1 .0) (the-tail .last .1 .1 .1 .1 .0) (the-tail .last .1 .1 .1 .1 .1 .0) d)
 
-pub elements-returns-5 : (t : ℕ) → elements-lts.Need-returns-5 (elements-calls t) (elements-at t) elements.Post
-elements-returns-5 t c known vars stands left-over enough =
-    let entry = c .before .before .before .before .before .before .before .before .before .before .before .before .before .before .before .before .before .before .before .before .before .before in
+pub elements-returns-6 : (t : ℕ) → elements-lts.Need-returns-6 (elements-calls t) (elements-at t) elements.Post
+elements-returns-6 t c known vars stands left-over enough =
+    let entry = c .before .before .before .before .before .before .before .before .before .before .before .before .before .before .before .before .before .before .before in
     let test = c .before .before .before .before .before .before .before .before .before .before .before .before .before .if1 in
-    let stop = c .before .a2 in
+    let stop = c .before .a3 in
     let one-term = c .before .before .before .before .before .before .before .before .before .term in
-    let told = c .before .before .before .before .before .before .before .before .before .before .before .before .before .before .enum-told in
-    let started = c .before .before .before .before .before .before .before .before .before .before .before .before .before .before .before .before .starts in
     let a = entry .args in
     let one : left-over ≡ suc (left-over - 1) = omega (arith, test .left) in
     let g = stop .given in
     let b = rw (g .1) at (one-term .ensures known vars (stands-counted stands (test .left))) in
-    rw one (element-malformed (a .text .now) (a .rest .now) (a .from) (a .base) known vars (a .c) (a .s .now) (a .item .now) (term-reader (a .left)) (rw (told .given .1) at (started .ensures)) (test .left) (left-over - 1) (one-term .last .1 .1 .1 .0) (one-term .last .1 .1 .1 .1 .0) (one-term .last .1 .1 .1 .1 .1 .0) (g .0 .0) b)
+    rw one (element-malformed (a .text .now) (a .rest .now) (a .from) (a .base) known vars (a .c) (a .s .now) (a .item .now) (a .left) (test .left) (left-over - 1) (one-term .last .1 .1 .1 .0) (one-term .last .1 .1 .1 .1 .0) (one-term .last .1 .1 .1 .1 .1 .0) (g .0 .0) b)
 
-pub elements-returns-6 : (t : ℕ) → elements-lts.Need-returns-6 (elements-calls t) (elements-at t) elements.Post
-elements-returns-6 t c known vars stands left-over enough =
-    let entry = c .before .before .before .before .before .before .before .before .before .before .before .before .before .before .before .before .before .before .before .before .before in
+pub elements-returns-7 : (t : ℕ) → elements-lts.Need-returns-7 (elements-calls t) (elements-at t) elements.Post
+elements-returns-7 t c known vars stands left-over enough =
+    let entry = c .before .before .before .before .before .before .before .before .before .before .before .before .before .before .before .before .before .before in
     let test = c .before .before .before .before .before .before .before .before .before .before .before .before .if1 in
     let told = c .enum-told3 in
     let one-term = c .before .before .before .before .before .before .before .before .term in
-    let told′ = c .before .before .before .before .before .before .before .before .before .before .before .before .before .enum-told in
-    let started = c .before .before .before .before .before .before .before .before .before .before .before .before .before .before .before .starts in
     let a = entry .args in
     let one : left-over ≡ suc (left-over - 1) = omega (arith, test .left) in
     let g = told .given in
     let b = rw (g .1) at (one-term .ensures known vars (stands-counted stands (test .left))) in
-    rw one (element-passed (a .text .now) (a .rest .now) (a .from) (a .base) known vars (a .c) (a .s .now) (a .item .now) (term-reader (a .left)) (rw (told′ .given .1) at (started .ensures)) (test .left) (left-over - 1) (one-term .last .1 .1 .1 .0) (one-term .last .1 .1 .1 .1 .0) (one-term .last .1 .1 .1 .1 .1 .0) b)
-
-pub elements-returns-7 : (t : ℕ) → elements-lts.Need-returns-7 (elements-calls t) (elements-at t) elements.Post
-elements-returns-7 t c known vars stands left-over enough =
-    let entry = c .before .before .before .before .before .before .before .before .before in
-    let stop = c .before .a3 in
-    let started = c .before .before .before .starts in
-    let a = entry .args in
-    let g = stop .given in
-    let b = rw (g .1) at (started .ensures) in
-    start-cannot (a .text .now) (a .rest .now) (a .from) (a .base) known vars (a .c) (a .s .now) (a .item .now) (term-reader (a .left)) (a .names .now) left-over (g .0 .0) (b .0) (b .1)
+    rw one (element-passed (a .text .now) (a .rest .now) (a .from) (a .base) known vars (a .c) (a .s .now) (a .item .now) (a .left) (test .left) (left-over - 1) (one-term .last .1 .1 .1 .0) (one-term .last .1 .1 .1 .1 .0) (one-term .last .1 .1 .1 .1 .1 .0) b)
