@@ -18,18 +18,13 @@ use Rattle.tables.specs.Places.{Place, spellings}
 use Rattle.tables.specs.Tables.{hash-from, hash-of, no-place, last-with}
 use Rattle.tables.proofs.Spellings.{same-false, place-at, place-none}
 
-hash-below : (f : Bytes) (h : ℕ) → h < 256 → hash-from h f < 256
-unfolding hash-from
-hash-below [] h k = k
-hash-below (c ∷ f) h k = hash-below f ((h * 31 + c) % 256) (omega arith)
-
 pub hash-fits : (f : Bytes) → hash-of f < 256
 unfolding hash-of
-hash-fits f = hash-below f 0 (omega arith)
+hash-fits f = omega arith
 
 -- One byte more, and none left.
 pub hash-next : (rest : Bytes) (h i e : ℕ) → i < e → e ≤ length rest
-    → hash-from ((h * 31 + getD rest i 0) % 256) (slice (i + 1) e rest) ≡ hash-from h (slice i e rest)
+    → hash-from ((h * 33 + getD rest i 0) % 4294967296) (slice (i + 1) e rest) ≡ hash-from h (slice i e rest)
 unfolding hash-from
 hash-next rest h i e turn within = rw (add-one i, slice-cons i e rest 0 turn within)
 

@@ -12,10 +12,10 @@ use Rattle.tables.specs.Places.{Place}
 -- The hash of a spelling.
 unfoldable pub hash-from : ℕ → Bytes → ℕ
 hash-from h [] = h
-hash-from h (c ∷ cs) = hash-from ((h * 31 + c) % 256) cs
+hash-from h (c ∷ cs) = hash-from ((h * 33 + c) % 4294967296) cs
 
 unfoldable pub hash-of : Bytes → ℕ
-hash-of f = hash-from 0 f
+hash-of f = hash-from 0 f % 256
 
 unfoldable pub no-place : Place
 no-place = record { at = 0; spelling = [] }

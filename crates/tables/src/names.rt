@@ -50,10 +50,10 @@ fn hash(rest: &[u8], a: usize, e: usize) -> usize
     let mut h: usize = 0;
     let mut i = a;
     while i < e {
-        h = (h * 31 + wide(rest[i])) % 256;
+        h = (h * 33 + wide(rest[i])) % 4_294_967_296;
         i += 1;
     }
-    h
+    h % 256
 }
 
 // Whether n bytes of the rest from i and of the text from j are the same.

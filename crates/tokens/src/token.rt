@@ -65,16 +65,7 @@ fn separates(c: u8) -> bool
 fn in_run(c: u8) -> bool
     ensures { λ r. ⌜ r ≡ in-run c ⌝ }
 {
-    if lowercase(c) {
-        return true;
-    }
-    if uppercase(c) {
-        return true;
-    }
-    if digit(c) {
-        return true;
-    }
-    c == b'_'
+    lowercase(c) | uppercase(c) | digit(c) | (c == b'_')
 }
 
 // The signs of a single byte.

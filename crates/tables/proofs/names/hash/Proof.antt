@@ -1,6 +1,6 @@
 -- `tables::names::hash` meets its contract. The hash so far, taken on over what is left, is that of the whole part; what is left falls.
-use Prim.Native.Nat.{_-_, _≤_, _<_}
-use mathlib.Core.Path.{_≡_, refl, sym, _∙_}
+use Prim.Native.Nat.{_-_, _%_, _≤_, _<_}
+use mathlib.Core.Path.{_≡_, refl, sym, ap, _∙_}
 use native.Mathlib.Omega.{arith}
 use lib.Seq.{slice}
 use borrow.Author.Needs.{needs}
@@ -10,7 +10,7 @@ use Rattle.tables.proofs.names.hash.Statement.{statement}
 use Rattle.tables.proofs.names.hash.Tie as tie
 
 abbrev Inv-loop : tie.InvT-loop
-Inv-loop rest a e h₀ i₀ h i = (i ≤ e) × (h < 256) × (hash-from h (slice i e rest) ≡ hash-of (slice a e rest))
+Inv-loop rest a e h₀ i₀ h i = (i ≤ e) × (h < 4294967296) × (hash-from h (slice i e rest) % 256 ≡ hash-of (slice a e rest))
 
 abbrev μ-loop : tie.MeasureT-loop
 μ-loop rest a e h₀ i₀ h i = e - i
@@ -42,14 +42,14 @@ loop-again c =
     let at = c .before .before .before in
     let a = at .before .before .args in
     let turn : at .loop .i < a .e = omega arith in
-    (omega arith, omega arith, rw (c .wide .ensures) (hash-next (a .rest .now) (at .loop .h) (at .loop .i) (a .e) turn (omega arith) ∙ at .loop .inv .2))
+    (omega arith, omega arith, rw (c .wide .ensures) (ap (λ h. h % 256) (hash-next (a .rest .now) (at .loop .h) (at .loop .i) (a .e) turn (omega arith)) ∙ at .loop .inv .2))
 
 returns : tie.Need-returns Inv-loop μ-loop
 returns c =
     let at = c .before in
     let a = at .before .before .args in
     let all : at .loop .i ≡ a .e = omega arith in
-    sym (hash-ends (a .rest .now) (at .loop .h) (at .loop .i) (a .e) all) ∙ at .loop .inv .2
+    sym (ap (λ h. h % 256) (hash-ends (a .rest .now) (at .loop .h) (at .loop .i) (a .e) all)) ∙ at .loop .inv .2
 
 pub hash-spec : {M : Type 1} → statement M
 hash-spec =
