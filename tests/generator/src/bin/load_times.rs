@@ -3,9 +3,8 @@
 //! PROGRAM is the compiled program `loads`, which loads a text as often as its frame says. It is run with few and with many times,
 //! and the difference is divided. The reference reads in this process, built for release. A ratio below 1 is in the loader's favour.
 
-use std::io::Write;
+use std::io::{Read, Write};
 use std::process::{Command, ExitCode, Stdio};
-use std::time::Instant;
 
 const LONGEST: usize = 16_384;
 
@@ -40,7 +39,7 @@ fn texts() -> Vec<(&'static str, Vec<u8>)> {
     let tower = format!("{}g(x){}", "[nest(".repeat(7), ")]".repeat(7));
     let deep = format!("p({tower},{tower}).\n");
     let many = |item: &str| item.repeat(128.min((LONGEST - 32) / item.len()));
-    let small = "tag([H|T],[hit(H?)|R?]) :- tag(T?,R).\ntag([],[]).\n?- tag([1,2|A?],Z), tag(A?,B).\n";
+    let small = "tag([H|T],[hit(H?)|R?]) :- tag(T?,R).\ntag([],[]).\n?- tag([1,2|A?],Z), tag([3],A).\n";
     [
         ("256 names", names() + "?- n1(n3).\n"),
         ("long lists", many(&list) + "?- p([]).\n"),
@@ -82,11 +81,11 @@ fn as_meant(label: &str, text: &[u8]) -> bool {
 /// Nanoseconds that the reference takes to read the text, the best of three rounds.
 fn reference_time(text: &[u8]) -> f64 {
     let round = |times: u32| {
-        let start = Instant::now();
+        let start = processor_time("self");
         for _ in 0..times {
             let _ = std::hint::black_box(reference::read(std::hint::black_box(text)));
         }
-        start.elapsed().as_nanos() as f64 / f64::from(times)
+        (processor_time("self") - start) / f64::from(times)
     };
     let rough = round(100);
     let times = (2e8 / rough).clamp(100.0, 1e6) as u32;
@@ -106,13 +105,21 @@ fn loader_time(program: &str, text: &[u8], rough: f64) -> std::io::Result<f64> {
 }
 
 fn run(program: &str, text: &[u8], times: u64) -> std::io::Result<f64> {
-    let start = Instant::now();
-    let mut child = Command::new(program).stdin(Stdio::piped()).stdout(Stdio::null()).spawn()?;
+    let mut child = Command::new(program).stdin(Stdio::piped()).stdout(Stdio::piped()).spawn()?;
     let mut input = child.stdin.take().expect("piped");
     write!(input, "{times:06}\n{:06}\n", text.len())?;
     input.write_all(text)?;
     input.write_all(b"\n")?;
     drop(input);
+    let mut answer = String::new();
+    child.stdout.take().expect("piped").read_to_string(&mut answer)?;
+    let time = processor_time(&child.id().to_string());
     child.wait()?;
-    Ok(start.elapsed().as_nanos() as f64)
+    Ok(time)
+}
+
+/// Nanoseconds that a process has had on a processor, as Linux tells them: others on the machine do not count.
+fn processor_time(process: &str) -> f64 {
+    let told = std::fs::read_to_string(format!("/proc/{process}/schedstat")).unwrap_or_default();
+    told.split(' ').next().and_then(|time| time.parse().ok()).unwrap_or(f64::NAN)
 }
