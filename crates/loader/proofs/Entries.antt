@@ -7,18 +7,14 @@ use lib.ListN.{length, set}
 use Rattle.meaning.specs.Bytes.{Bytes}
 use Rattle.meaning.specs.Terms.{Clause, Query, Job, count}
 use Rattle.meaning.specs.Items.{Refusal, Reading, job, refused, with-clause, with-query}
-use Rattle.loader.specs.Places.{Place, spellings}
-use Rattle.loader.specs.Reading.{item-places}
-use Rattle.loader.specs.Image.{
+use Rattle.term.specs.Jobs.{clause-base, query-base, clause-record, query-record, GoalsKnown}
+use Rattle.tables.specs.Places.{Place, spellings, item-places}
+use Rattle.image.specs.Image.{
   Entry,
   a-clause,
   a-query,
   clauses-of,
   queries-of,
-  clause-base,
-  query-base,
-  clause-record,
-  query-record,
   clause-stored,
   query-stored,
   entries-stored,
@@ -27,11 +23,10 @@ use Rattle.loader.specs.Image.{
   goals-stored,
   places-stored,
 }
-use Rattle.loader.specs.Endings.{GoalsKnown}
 use Rattle.loader.specs.Loading.{with-entries, EntriesKnown}
-use Rattle.loader.proofs.Later.{More}
-use Rattle.loader.proofs.GoalLists.{still-known, still-goals, still-stored}
-use Rattle.loader.proofs.Heads.{still-head}
+use Rattle.openings.proofs.Passing.{More}
+use Rattle.goals.proofs.GoalLists.{still-known, still-goals, still-stored}
+use Rattle.items.proofs.Heads.{still-head}
 
 pub with-snoc : (es : List Entry) (e : Entry) (r : Reading) → with-entries (es ++ (e ∷ [])) r ≡ with-entries es (with-entries (e ∷ []) r)
 unfolding with-entries

@@ -2,18 +2,18 @@
 use Prim.Native.Nat.{ℕ, zero, suc, _+_, _-_, _≤_, _<_}
 use mathlib.Core.Path.{_≡_, refl, ap, sym, _∙_}
 use mathlib.Core.Bool.{Bool, true, false}
-use mathlib.Core.List.{List, [], _∷_, _++_, map}
+use mathlib.Core.List.{List, [], _∷_, _++_, map, map-append}
 use native.Mathlib.Omega.{arith}
 use lib.ListN.{length, drop}
 use lib.Seq.{drop-drop}
 use Rattle.meaning.specs.Bytes.{Bytes, byte, same, any, if_then_else_}
 use Rattle.meaning.specs.Tokens.{Token, name, variable, integer, sign, bad, Tokens, ends, token, Front, blank, placed, front, tokens-from}
 use Rattle.meaning.specs.Items.{is, onto, pieces}
-use Rattle.loader.specs.Fronts.{tokens-at, tokens-in}
-use Rattle.loader.specs.Places.{Place, Placed, spellings, with-place, with-name, with-variable, before, names-over, variables-over}
-use Rattle.loader.specs.Reading.{piece, Open}
-use Rattle.loader.specs.Image.{names-in, variables-in}
-use Rattle.loader.specs.Outcomes.{shifted}
+use Rattle.tokens.specs.Fronts.{tokens-at, tokens-in}
+use Rattle.tables.specs.Places.{Place, Placed, spellings, with-place, with-name, with-variable, before, names-over, variables-over}
+use Rattle.openings.specs.Reading.{piece, Open}
+use Rattle.image.specs.Image.{names-in, variables-in}
+use Rattle.items.specs.Outcomes.{shifted}
 
 abbrev stopped : ℕ → Tokens
 stopped stop = token stop (sign 46) (ends stop)
@@ -66,10 +66,6 @@ shifted-spellings : (from : ℕ) (vars : List Place) → spellings (map (shifted
 unfolding spellings shifted
 shifted-spellings from [] = refl
 shifted-spellings from (v ∷ vs) = ap (λ l. v .spelling ∷ l) (shifted-spellings from vs)
-
-map-append : (f : Place → Place) (ps qs : List Place) → map f (ps ++ qs) ≡ map f ps ++ map f qs
-map-append f [] qs = refl
-map-append f (p ∷ ps) qs = ap (λ l. f p ∷ l) (map-append f ps qs)
 
 shifted-by : (from at : ℕ) (x : Bytes) (vars : List Place) (b : Bool) → from ≤ at
     → (if b then map (shifted from) vars else map (shifted from) vars ++ (record { at = at; spelling = x } ∷ []))

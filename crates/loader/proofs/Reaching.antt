@@ -12,11 +12,11 @@ use Rattle.meaning.specs.Tokens.{Tokens, ends, token, sign, tokens}
 use Rattle.meaning.specs.Items.{Reading, Piece, clause, query, nothing, job, refused, Refusal, SoFar, with-clause, with-query, item, items, pieces}
 use Rattle.term.proofs.Frames.{only-same, only-then}
 use Rattle.term.specs.Frames.{Only}
-use Rattle.loader.specs.Fronts.{tokens-at, tokens-in}
-use Rattle.loader.specs.Places.{Place, Placed, spellings, before, names-over, variables-over, with-name}
-use Rattle.loader.specs.Tables.{NamesIn, last-with}
-use Rattle.loader.specs.Reading.{piece}
-use Rattle.loader.specs.Image.{
+use Rattle.tokens.specs.Fronts.{tokens-at, tokens-in}
+use Rattle.tables.specs.Places.{Place, Placed, spellings, before, names-over, variables-over, with-name}
+use Rattle.tables.specs.Tables.{NamesIn, last-with}
+use Rattle.openings.specs.Reading.{piece}
+use Rattle.image.specs.Image.{
   names-in,
   variables-in,
   Entry,
@@ -32,9 +32,9 @@ use Rattle.loader.specs.Image.{
   head-word,
   head-words,
 }
-use Rattle.loader.specs.Outcomes.{Took, TookClause, TookQuery, shifted}
+use Rattle.items.specs.Outcomes.{Took, TookClause, TookQuery, shifted}
 use Rattle.loader.specs.Loading.{with-entries, EntriesKnown, Reached}
-use Rattle.loader.proofs.Later.{names-more}
+use Rattle.openings.proofs.Passing.{names-more}
 use Rattle.loader.proofs.Pieces.{piece-is, pieces-cut, names-before, names-of-piece, variables-of-piece, tokens-behind}
 use Rattle.loader.proofs.Entries.{
   with-snoc,

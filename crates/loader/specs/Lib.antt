@@ -1,14 +1,1 @@
-pub mod Answers
-pub mod Begun
-pub mod Endings
-pub mod Ends
-pub mod Fronts
-pub mod Image
-pub mod Kept
 pub mod Loading
-pub mod Nexts
-pub mod Outcomes
-pub mod Places
-pub mod Reading
-pub mod Rules
-pub mod Tables

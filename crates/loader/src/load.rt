@@ -1,21 +1,21 @@
 // The loader's one public function: a text becomes a job in the scratch, or is refused.
-use crate::items::Item;
-use crate::items::next_item;
-use crate::keep::keep_places;
-use crate::keep::link;
-use crate::lines::line;
+use image::keep::keep_places;
+use image::keep::link;
+use items::items::Item;
+use items::items::next_item;
 use term::clear::clear;
 use term::layout::Room;
 use term::layout::need;
+use tokens::lines::line;
 ghost use mathlib.Core.Path.{_≡_};
 ghost use mathlib.Core.List.{List};
 ghost use Prim.Native.Nat.{ℕ, _+_, _≤_, _<_};
 ghost use lib.ListN.{length, drop, replicate};
 ghost use Rattle.meaning.specs.Call.{cleared};
 ghost use Rattle.term.specs.Layout.{need-of, figures, InRange};
-ghost use Rattle.loader.specs.Places.{Place};
-ghost use Rattle.loader.specs.Tables.{NamesIn};
-ghost use Rattle.loader.specs.Outcomes.{ItemIs, Lent};
+ghost use Rattle.tables.specs.Places.{Place};
+ghost use Rattle.tables.specs.Tables.{NamesIn};
+ghost use Rattle.items.specs.Outcomes.{ItemIs, Lent};
 ghost use Rattle.loader.specs.Loading.{ListedIs, LoadedIs};
 
 // How many clauses and queries the job has; or the refusal's number and line.

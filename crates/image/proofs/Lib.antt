@@ -1,0 +1,14 @@
+pub mod AcceptedEntries
+pub mod ImageHolds
+pub mod Keeping
+pub mod KeptEntries
+pub mod KeptItems
+pub mod Laid
+pub mod LaidItems
+pub mod Links
+pub mod Loaded
+pub mod Procedures
+pub mod SmallSteps
+pub mod Steps
+pub mod TextHolds
+pub mod TokensSpelled

@@ -1,0 +1,7 @@
+pub mod Clauses
+pub mod FirstTokens
+pub mod Heads
+pub mod Occurrence
+pub mod PlacesKept
+pub mod Queries
+pub mod Starts

@@ -1,0 +1,46 @@
+-- The cycle of `term`, `compound`, `arguments`, `elements`, `tail` and `last_tail` meets its contracts: its members' needs are shown below, and
+-- what a search finds is left to it here.
+mod Claims
+mod Arguments
+mod Compound
+mod Elements
+mod Tails
+mod Term
+use borrow.Author.Needs.{needs}
+use borrow.Fn.PlainCycle.{is, and}
+use Rattle.phrases.proofs.terms.arguments.Reads as arguments
+use Rattle.phrases.proofs.terms.+arguments+compound+elements+last_tail+tail+term.Lts-arguments as arguments-lts
+use Rattle.phrases.proofs.terms.compound.Reads as compound
+use Rattle.phrases.proofs.terms.+arguments+compound+elements+last_tail+tail+term.Lts-compound as compound-lts
+use Rattle.phrases.proofs.terms.elements.Reads as elements
+use Rattle.phrases.proofs.terms.+arguments+compound+elements+last_tail+tail+term.Lts-elements as elements-lts
+use Rattle.phrases.proofs.terms.last_tail.Reads as last-tail
+use Rattle.phrases.proofs.terms.+arguments+compound+elements+last_tail+tail+term.Lts-last_tail as last-tail-lts
+use Rattle.phrases.proofs.terms.tail.Reads as tail
+use Rattle.phrases.proofs.terms.+arguments+compound+elements+last_tail+tail+term.Lts-tail as tail-lts
+use Rattle.phrases.proofs.terms.term.Reads as term
+use Rattle.phrases.proofs.terms.+arguments+compound+elements+last_tail+tail+term.Lts-term as term-lts
+use Rattle.phrases.proofs.terms.+arguments+compound+elements+last_tail+tail+term.{statement}
+use Rattle.phrases.proofs.terms.+arguments+compound+elements+last_tail+tail+term.Tie.{close}
+use Rattle.phrases.proofs.terms.+arguments+compound+elements+last_tail+tail+term.Proof.Claims.{μ-arguments, arguments-at, arguments-calls, μ-compound, compound-at, compound-calls, μ-elements, elements-at, elements-calls, μ-last-tail, last-tail-at, last-tail-calls, μ-tail, tail-at, tail-calls, μ-term, term-at, term-calls}
+use Rattle.phrases.proofs.terms.+arguments+compound+elements+last_tail+tail+term.Proof.Arguments.{arguments-starts-requires, arguments-returns, arguments-returns-2, arguments-term-requires, arguments-store-argument-requires, arguments-next-of-requires, arguments-add-arguments, arguments-arguments-requires, arguments-add-word, arguments-same-length, arguments-returns-3, arguments-returns-4, arguments-returns-5, arguments-returns-6, arguments-returns-7, arguments-returns-8}
+use Rattle.phrases.proofs.terms.+arguments+compound+elements+last_tail+tail+term.Proof.Compound.{compound-returns, compound-add-t17, compound-arguments-requires, compound-functor-requires, compound-store-functor-requires, compound-compound-word-requires, compound-returns-2, compound-returns-3, compound-returns-4}
+use Rattle.phrases.proofs.terms.+arguments+compound+elements+last_tail+tail+term.Proof.Elements.{elements-starts-requires, elements-returns, elements-returns-2, elements-add-t23, elements-term-requires, elements-store-argument-requires, elements-tail-requires, elements-store-argument-requires-2, elements-store-functor-requires, elements-compound-word-requires, elements-same-length, elements-same-length-2, elements-same-length-3, elements-returns-3, elements-returns-4, elements-returns-5, elements-returns-6, elements-returns-7}
+use Rattle.phrases.proofs.terms.+arguments+compound+elements+last_tail+tail+term.Proof.Tails.{tail-next-of-requires, tail-elements-requires, tail-last-tail-requires, tail-returns, tail-returns-2, tail-returns-3, tail-returns-4, last-tail-term-requires, last-tail-next-of-requires, last-tail-returns, last-tail-returns-2, last-tail-returns-3, last-tail-returns-4, last-tail-returns-5}
+use Rattle.phrases.proofs.terms.+arguments+compound+elements+last_tail+tail+term.Proof.Term.{term-begin-requires, term-sub-compound, term-compound-requires, term-sub-elements, term-elements-requires, term-returns, term-returns-2, term-returns-3, term-returns-4, term-returns-5}
+
+pub +arguments+compound+elements+last-tail+tail+term-spec : {M : Type 1} → statement M
++arguments+compound+elements+last-tail+tail+term-spec =
+    close μ-arguments μ-compound μ-elements μ-last-tail μ-tail μ-term
+    (λ t. arguments-lts.spec (arguments-calls t) (arguments-at t) arguments.Post
+    (arguments-starts-requires t) (λ c. search needs) (λ c. search needs) (arguments-returns t) (arguments-returns-2 t) (arguments-term-requires t) (λ c. search needs) (arguments-store-argument-requires t) (arguments-next-of-requires t) (λ c. search needs) (arguments-add-arguments t) (arguments-arguments-requires t) (λ c. search needs) (arguments-add-word t) (λ c κs. search needs) (λ c. search needs) (λ c. search needs) (λ c. search needs) (λ c. search needs) (arguments-same-length t) (λ c. search needs) (λ c. search needs) (arguments-returns-3 t) (λ c. search needs) (λ c. search needs) (λ c. search needs) (arguments-returns-4 t) (λ c. search needs) (λ c. search needs) (λ c. search needs) (arguments-returns-5 t) (λ c. search needs) (λ c. search needs) (λ c. search needs) (arguments-returns-6 t) (λ c. search needs) (λ c. search needs) (λ c. search needs) (arguments-returns-7 t) (λ c. search needs) (λ c. search needs) (λ c. search needs) (arguments-returns-8 t))
+    (λ t. compound-lts.spec (compound-calls t) (compound-at t) compound.Post
+    (compound-returns t) (compound-add-t17 t) (compound-arguments-requires t) (λ c. search needs) (compound-functor-requires t) (compound-store-functor-requires t) (compound-compound-word-requires t) (λ c. search needs) (λ c. search needs) (λ c. search needs) (λ c. search needs) (λ c. search needs) (compound-returns-2 t) (λ c. search needs) (λ c. search needs) (λ c. search needs) (compound-returns-3 t) (λ c. search needs) (λ c. search needs) (λ c. search needs) (compound-returns-4 t))
+    (λ t. elements-lts.spec (elements-calls t) (elements-at t) elements.Post
+    (elements-starts-requires t) (λ c. search needs) (λ c. search needs) (elements-returns t) (elements-returns-2 t) (elements-add-t23 t) (elements-term-requires t) (λ c. search needs) (elements-store-argument-requires t) (elements-tail-requires t) (λ c. search needs) (elements-store-argument-requires-2 t) (elements-store-functor-requires t) (elements-compound-word-requires t) (λ c. search needs) (λ c. search needs) (λ c. search needs) (λ c. search needs) (elements-same-length t) (elements-same-length-2 t) (elements-same-length-3 t) (elements-returns-3 t) (λ c. search needs) (λ c. search needs) (λ c. search needs) (elements-returns-4 t) (λ c. search needs) (λ c. search needs) (λ c. search needs) (elements-returns-5 t) (λ c. search needs) (λ c. search needs) (λ c. search needs) (elements-returns-6 t) (λ c. search needs) (λ c. search needs) (λ c. search needs) (elements-returns-7 t))
+    (λ t. last-tail-lts.spec (last-tail-calls t) (last-tail-at t) last-tail.Post
+    (last-tail-term-requires t) (λ c. search needs) (last-tail-next-of-requires t) (λ c. search needs) (λ c. search needs) (λ c. search needs) (λ c. search needs) (λ c. search needs) (λ c. search needs) (λ c. search needs) (last-tail-returns t) (λ c. search needs) (λ c. search needs) (λ c. search needs) (last-tail-returns-2 t) (λ c. search needs) (λ c. search needs) (λ c. search needs) (last-tail-returns-3 t) (λ c. search needs) (λ c. search needs) (λ c. search needs) (last-tail-returns-4 t) (λ c. search needs) (λ c. search needs) (λ c. search needs) (last-tail-returns-5 t))
+    (λ t. tail-lts.spec (tail-calls t) (tail-at t) tail.Post
+    (tail-next-of-requires t) (λ c. search needs) (tail-elements-requires t) (λ c. search needs) (tail-last-tail-requires t) (λ c. search needs) (λ c. search needs) (λ c. search needs) (λ c. search needs) (λ c. search needs) (tail-returns t) (λ c. search needs) (λ c. search needs) (λ c. search needs) (tail-returns-2 t) (tail-returns-3 t) (tail-returns-4 t))
+    λ t. term-lts.spec (term-calls t) (term-at t) term.Post
+    (term-begin-requires t) (λ c. search needs) (λ c. search needs) (term-sub-compound t) (term-compound-requires t) (λ c. search needs) (term-sub-elements t) (term-elements-requires t) (λ c. search needs) (λ c. search needs) (λ c. search needs) (λ c. search needs) (term-returns t) (λ c. search needs) (λ c. search needs) (λ c. search needs) (term-returns-2 t) (λ c. search needs) (λ c. search needs) (λ c. search needs) (term-returns-3 t) (λ c. search needs) (λ c. search needs) (term-returns-4 t) (λ c. search needs) (λ c. search needs) (term-returns-5 t)

@@ -1,0 +1,2 @@
+// Terms of an item, read from left to right into the item's compounds.
+pub mod terms;

@@ -1,0 +1,319 @@
+// Terms of an item, read into the item's compounds: `term` reads one term, `arguments` and `elements` its list of arguments or elements.
+use openings::begin::Begun;
+use openings::begin::begin;
+use openings::cursor::Cursor;
+use openings::cursor::Read;
+use tokens::next::Next;
+use tokens::next::Start;
+use tokens::next::next_of;
+use tokens::next::starts;
+ghost use mathlib.Core.Path.{_≡_};
+ghost use mathlib.Core.List.{List};
+ghost use mathlib.Core.Option.{some};
+ghost use Prim.Native.Nat.{ℕ, _+_, _*_, _-_, _≤_, _<_};
+ghost use lib.ListN.{length, set};
+ghost use Rattle.meaning.specs.Bytes.{Bytes};
+ghost use Rattle.meaning.specs.Terms.{Term, as-term};
+ghost use Rattle.meaning.specs.Items.{place-of, compound-of, next, tail-of};
+ghost use Rattle.meaning.specs.Items.{term as term-reader, arguments as arguments-reader, elements as elements-reader};
+ghost use Rattle.tables.specs.Places.{Place, spellings};
+ghost use Rattle.openings.specs.Reading.{Stands, ReadIs, ArgumentsAre, closed};
+
+fn word(n: usize) -> u64
+    ensures { λ r. ⌜ r ≡ n ⌝ }
+{
+    n as u64
+}
+
+// A compound's own word: the number of its arguments, and eight times its functor: 0 for the list cell, else the name's number and one.
+fn functor(name: usize, count: u64) -> u64
+    requires { ⌜ (name < 256) × (count ≤ 6) ⌝ }
+    ensures { λ r. ⌜ r ≡ count + 8 * (name + 1) ⌝ }
+{
+    count + 8 * word(name + 1)
+}
+
+// The word of the compound n of the item.
+fn compound_word(base: usize, n: usize) -> u64
+    requires { ⌜ (base < 1152921504606846976) × (n ≤ 32) ⌝ }
+    ensures { λ r. ⌜ r ≡ 6 + 8 * (base + n) ⌝ }
+{
+    word(6 + 8 * (base + n))
+}
+
+// The words of the compound n of the item, whose compounds have places from base on: its own word, and one for each argument.
+fn store_functor(s: &mut [u64], base: usize, n: usize, w: u64)
+    requires { ⌜ (8 * (base + n) < length (now s)) × (length (now s) < 1152921504606846976) ⌝ }
+    ensures { λ r. ⌜ now (s .exit) ≡ set (now (s .entry)) (8 * (base + n)) w ⌝ }
+{
+    let here = 8 * (base + n);
+    s[here] = w;
+}
+
+fn store_argument(s: &mut [u64], base: usize, n: usize, i: usize, w: u64)
+    requires { ⌜ (8 * (base + n) + 1 + i < length (now s)) × (length (now s) < 1152921504606846976) ⌝ }
+    ensures { λ r. ⌜ now (s .exit) ≡ set (now (s .entry)) (8 * (base + n) + 1 + i) w ⌝ }
+{
+    let here = 8 * (base + n) + 1 + i;
+    s[here] = w;
+}
+
+// A term inside which so many brackets more may open.
+pub fn term(
+    text: &[u8],
+    rest: &[u8],
+    from: usize,
+    s: &mut [u64],
+    names: &mut [u64],
+    item: &mut [u64],
+    base: usize,
+    left: usize,
+    c: Cursor,
+) -> Read
+    requires { ⌜ (left ≤ 15) × (8 * (base + 32) ≤ length (now s)) × (length (now s) < 1152921504606846976) ⌝ }
+    requires { ⌜ ((known : List Place) × (vars : List Place) × Stands (now text) (now rest) from (now names) (now item) c known vars) ⌝ }
+    ensures { λ r. ⌜ ((known : List Place) (vars : List Place) → Stands (now (text .entry)) (now (rest .entry)) from (now (names .entry)) (now (item .entry)) c known vars
+        → ReadIs (λ (t : Term). t) (term-reader left) (now (text .entry)) (now (rest .entry)) from base known vars c (now (s .entry)) (now (item .entry)) (now (s .exit)) (now (names .exit)) (now (item .exit)) r) ⌝ }
+{
+    match begin(text, rest, from, names, item, left, c) {
+        Begun::Got(w, d) => Read::Got(w, d),
+        Begun::Round(n, d) => compound(text, rest, from, s, names, item, base, left - 1, n, d),
+        Begun::Square(d) => elements(text, rest, from, s, names, item, base, left - 1, d),
+        Begun::Malformed(a) => Read::Malformed(a),
+        Begun::Passed => Read::Passed,
+    }
+}
+
+// "A compound `name(T,..)` with 1 to 6 arguments", behind its opening parenthesis.
+pub fn compound(
+    text: &[u8],
+    rest: &[u8],
+    from: usize,
+    s: &mut [u64],
+    names: &mut [u64],
+    item: &mut [u64],
+    base: usize,
+    left: usize,
+    name: usize,
+    c: Cursor,
+) -> Read
+    requires { ⌜ (left ≤ 15) × (8 * (base + 32) ≤ length (now s)) × (length (now s) < 1152921504606846976) ⌝ }
+    requires { ⌜ ((known : List Place) × (vars : List Place) × Stands (now text) (now rest) from (now names) (now item) c known vars × (f : Bytes) × (place-of f (spellings known) ≡ some name)) ⌝ }
+    ensures { λ r. ⌜ ((known : List Place) (vars : List Place) → Stands (now (text .entry)) (now (rest .entry)) from (now (names .entry)) (now (item .entry)) c known vars
+        → (f : Bytes) → place-of f (spellings known) ≡ some name → ReadIs as-term (compound-of (term-reader left) f) (now (text .entry)) (now (rest .entry)) from base known vars c (now (s .entry)) (now (item .entry)) (now (s .exit)) (now (names .exit)) (now (item .exit)) r) ⌝ }
+{
+    let n = c.compounds;
+    if 32 <= n {
+        return Read::Passed;
+    }
+    let d = Cursor {
+        at: c.at,
+        names: c.names,
+        variables: c.variables,
+        compounds: n + 1,
+    };
+    match arguments(text, rest, from, s, names, item, base, left, n, 0, d) {
+        Read::Got(k, e) => {
+            store_functor(s, base, n, functor(name, k));
+            Read::Got(compound_word(base, n), e)
+        }
+        Read::Malformed(a) => Read::Malformed(a),
+        Read::Passed => Read::Passed,
+    }
+}
+
+// The arguments of the compound n from the i-th on, and how many it has with those before.
+fn arguments(
+    text: &[u8],
+    rest: &[u8],
+    from: usize,
+    s: &mut [u64],
+    names: &mut [u64],
+    item: &mut [u64],
+    base: usize,
+    left: usize,
+    n: usize,
+    i: usize,
+    c: Cursor,
+) -> Read
+    requires { ⌜ (left ≤ 15) × (8 * (base + 32) ≤ length (now s)) × (length (now s) < 1152921504606846976) × (n < c .compounds) × (i ≤ 6) ⌝ }
+    requires { ⌜ ((known : List Place) × (vars : List Place) × Stands (now text) (now rest) from (now names) (now item) c known vars) ⌝ }
+    ensures { λ r. ⌜ ((known : List Place) (vars : List Place) → Stands (now (text .entry)) (now (rest .entry)) from (now (names .entry)) (now (item .entry)) c known vars
+        → ArgumentsAre n i (arguments-reader (term-reader left) (6 - i)) (now (text .entry)) (now (rest .entry)) from base known vars c (now (s .entry)) (now (item .entry)) (now (s .exit)) (now (names .exit)) (now (item .exit)) r) ⌝ }
+{
+    if 6 <= i {
+        let at = c.at;
+        return match starts(rest, at) {
+            Start::Can => Read::Passed,
+            Start::Cannot(a) => Read::Malformed(a),
+        };
+    }
+    match term(text, rest, from, s, names, item, base, left, c) {
+        Read::Got(w, e) => {
+            store_argument(s, base, n, i, w);
+            let at = e.at;
+            match next_of(rest, at, b',', b')', b')') {
+                Next::First(behind) => {
+                    let d = Cursor {
+                        at: behind,
+                        names: e.names,
+                        variables: e.variables,
+                        compounds: e.compounds,
+                    };
+                    arguments(text, rest, from, s, names, item, base, left, n, i + 1, d)
+                }
+                Next::Second(behind) => Read::Got(
+                    word(i + 1),
+                    Cursor {
+                        at: behind,
+                        names: e.names,
+                        variables: e.variables,
+                        compounds: e.compounds,
+                    },
+                ),
+                Next::Other(a) => Read::Malformed(a),
+                _ => Read::Passed,
+            }
+        }
+        Read::Malformed(a) => Read::Malformed(a),
+        Read::Passed => Read::Passed,
+    }
+}
+
+// "A list `[T,..]` or `[T,..|T]`", behind its bracket: each element makes one list cell, counted at its first token.
+fn elements(
+    text: &[u8],
+    rest: &[u8],
+    from: usize,
+    s: &mut [u64],
+    names: &mut [u64],
+    item: &mut [u64],
+    base: usize,
+    left: usize,
+    c: Cursor,
+) -> Read
+    requires { ⌜ (left ≤ 15) × (8 * (base + 32) ≤ length (now s)) × (length (now s) < 1152921504606846976) ⌝ }
+    requires { ⌜ ((known : List Place) × (vars : List Place) × Stands (now text) (now rest) from (now names) (now item) c known vars) ⌝ }
+    ensures { λ r. ⌜ ((known : List Place) (vars : List Place) → Stands (now (text .entry)) (now (rest .entry)) from (now (names .entry)) (now (item .entry)) c known vars
+        → (left-over : ℕ) → 32 ≤ left-over + c .compounds → ReadIs (λ (t : Term). t) (elements-reader (term-reader left) left-over) (now (text .entry)) (now (rest .entry)) from base known vars c (now (s .entry)) (now (item .entry)) (now (s .exit)) (now (names .exit)) (now (item .exit)) r) ⌝ }
+{
+    let cell = c.compounds;
+    if 32 <= cell {
+        let at = c.at;
+        return match starts(rest, at) {
+            Start::Can => Read::Passed,
+            Start::Cannot(a) => Read::Malformed(a),
+        };
+    }
+    let d = Cursor {
+        at: c.at,
+        names: c.names,
+        variables: c.variables,
+        compounds: cell + 1,
+    };
+    match term(text, rest, from, s, names, item, base, left, d) {
+        Read::Got(w, e) => {
+            store_argument(s, base, cell, 0, w);
+            match tail(text, rest, from, s, names, item, base, left, e) {
+                Read::Got(v, f) => {
+                    store_argument(s, base, cell, 1, v);
+                    store_functor(s, base, cell, 2);
+                    Read::Got(compound_word(base, cell), f)
+                }
+                Read::Malformed(a) => Read::Malformed(a),
+                Read::Passed => Read::Passed,
+            }
+        }
+        Read::Malformed(a) => Read::Malformed(a),
+        Read::Passed => Read::Passed,
+    }
+}
+
+// The tail behind an element: more elements, the term behind a `|`, or `[]`.
+fn tail(
+    text: &[u8],
+    rest: &[u8],
+    from: usize,
+    s: &mut [u64],
+    names: &mut [u64],
+    item: &mut [u64],
+    base: usize,
+    left: usize,
+    c: Cursor,
+) -> Read
+    requires { ⌜ (left ≤ 15) × (8 * (base + 32) ≤ length (now s)) × (length (now s) < 1152921504606846976) ⌝ }
+    requires { ⌜ ((known : List Place) × (vars : List Place) × Stands (now text) (now rest) from (now names) (now item) c known vars) ⌝ }
+    ensures { λ r. ⌜ ((known : List Place) (vars : List Place) → Stands (now (text .entry)) (now (rest .entry)) from (now (names .entry)) (now (item .entry)) c known vars
+        → (left-over : ℕ) → 32 ≤ left-over + c .compounds → ReadIs (λ (t : Term). t) (next (tail-of (term-reader left) (elements-reader (term-reader left) left-over))) (now (text .entry)) (now (rest .entry)) from base known vars c (now (s .entry)) (now (item .entry)) (now (s .exit)) (now (names .exit)) (now (item .exit)) r) ⌝ }
+{
+    let at = c.at;
+    match next_of(rest, at, b',', b'|', b']') {
+        Next::First(behind) => {
+            let d = Cursor {
+                at: behind,
+                names: c.names,
+                variables: c.variables,
+                compounds: c.compounds,
+            };
+            elements(text, rest, from, s, names, item, base, left, d)
+        }
+        Next::Second(behind) => {
+            let d = Cursor {
+                at: behind,
+                names: c.names,
+                variables: c.variables,
+                compounds: c.compounds,
+            };
+            last_tail(text, rest, from, s, names, item, base, left, d)
+        }
+        Next::Third(behind) => Read::Got(
+            5,
+            Cursor {
+                at: behind,
+                names: c.names,
+                variables: c.variables,
+                compounds: c.compounds,
+            },
+        ),
+        Next::Other(a) => Read::Malformed(a),
+    }
+}
+
+// The term behind a list's `|`, and its closing bracket.
+fn last_tail(
+    text: &[u8],
+    rest: &[u8],
+    from: usize,
+    s: &mut [u64],
+    names: &mut [u64],
+    item: &mut [u64],
+    base: usize,
+    left: usize,
+    c: Cursor,
+) -> Read
+    requires { ⌜ (left ≤ 15) × (8 * (base + 32) ≤ length (now s)) × (length (now s) < 1152921504606846976) ⌝ }
+    requires { ⌜ ((known : List Place) × (vars : List Place) × Stands (now text) (now rest) from (now names) (now item) c known vars) ⌝ }
+    ensures { λ r. ⌜ ((known : List Place) (vars : List Place) → Stands (now (text .entry)) (now (rest .entry)) from (now (names .entry)) (now (item .entry)) c known vars
+        → ReadIs (λ (t : Term). t) (closed (term-reader left)) (now (text .entry)) (now (rest .entry)) from base known vars c (now (s .entry)) (now (item .entry)) (now (s .exit)) (now (names .exit)) (now (item .exit)) r) ⌝ }
+{
+    match term(text, rest, from, s, names, item, base, left, c) {
+        Read::Got(w, e) => {
+            let at = e.at;
+            match next_of(rest, at, b']', b']', b']') {
+                Next::First(behind) => Read::Got(
+                    w,
+                    Cursor {
+                        at: behind,
+                        names: e.names,
+                        variables: e.variables,
+                        compounds: e.compounds,
+                    },
+                ),
+                Next::Other(a) => Read::Malformed(a),
+                _ => Read::Passed,
+            }
+        }
+        Read::Malformed(a) => Read::Malformed(a),
+        Read::Passed => Read::Passed,
+    }
+}

@@ -1,0 +1,7 @@
+pub mod Hashes
+pub mod Lists
+pub mod NameTable
+pub mod Numbering
+pub mod Spellings
+pub mod Tallies
+pub mod VariableTable

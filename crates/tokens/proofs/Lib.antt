@@ -1,0 +1,12 @@
+pub mod Blanks
+pub mod Classes
+pub mod Counted
+pub mod Digits
+pub mod Ends
+pub mod InFront
+pub mod Integers
+pub mod Leads
+pub mod Parts
+pub mod Signs
+pub mod Spelled
+pub mod TokensIn

@@ -1,0 +1,22 @@
+-- `tokens::token::in_run` meets its contract: the tests of the code are those of the definition, in its order.
+use borrow.Author.Needs.{needs}
+use Rattle.meaning.specs.Bytes.{byte}
+use Rattle.meaning.specs.Tokens.{underscore}
+use Rattle.tokens.proofs.token.in_run.Statement.{statement}
+use Rattle.tokens.proofs.token.in_run.Tie as tie
+
+lowercase-requires : tie.Need-lowercase-requires
+lowercase-requires c κs = search needs
+
+uppercase-requires : tie.Need-uppercase-requires
+uppercase-requires c κs = search needs
+
+digit-requires : tie.Need-digit-requires
+digit-requires c κs = search needs
+
+returns : tie.Need-returns
+unfolding underscore byte
+returns c = rw (c .before .before .lowercase .ensures, c .before .uppercase .ensures, c .digit .ensures)
+
+pub in-run-spec : {M : Type 1} → statement M
+in-run-spec = tie.close (tie.spec lowercase-requires uppercase-requires digit-requires returns)
