@@ -1,7 +1,4 @@
-pub mod Build
+pub mod Entering
 pub mod Extended
-pub mod Log
-pub mod Reducing
-pub mod Ring
 pub mod Running
 pub mod Taking

@@ -13,10 +13,10 @@ use Rattle.meaning.specs.Step.{without-front}
 use Rattle.meaning.specs.Run.{fits, choice-for, queries-fit, run}
 use Rattle.term.specs.Jobs.{query-record, HoldsJob}
 use Rattle.term.specs.Layout.{values-region, waiters-region, sets-region, marks-region, numbers-region, queue-region, waiting-region, need-of, InRange}
-use Rattle.term.specs.States.{Atlas, goal-word, HoldsState, Ready, Finished}
+use Rattle.term.specs.States.{Atlas, goal-word, HoldsState, Finished, verdict-of}
 use Rattle.term.specs.declared.state.Standing.{Standing}
 use Rattle.trial.specs.Choosing.{MarksBelow}
-use Rattle.machine.specs.Log.{Slot, waits, gathered, present, LogOk}
+use Rattle.queues.specs.Log.{Slot, waits, gathered, present, LogOk}
 use Rattle.machine.specs.declared.step.Stepped.{Stepped}
 use Rattle.machine.specs.declared.step.Stepped.the-variants.{Next, NoRoom}
 use Rattle.machine.specs.declared.run.Ran.{Ran}
@@ -67,6 +67,13 @@ pub record StepIs (s s′ : List ℕ) (text : Bytes) (names : List Bytes) (j : J
     (t : Standing) (r : Stepped) : Type 0 where
   pub only : RunOnly figures s s′
   pub told : SteppedIs s′ text names j figures limit atlas g others t r
+
+-- The run has ended: by which verdict, and in which state.
+abbrev pub GoneOn : List ℕ → List Bytes → Job → Room → ℕ → Ran → Type 0
+GoneOn s names j figures limit (Ended v t) =
+    (verdict-of v ≡ run j limit figures .verdict)
+    × (atlas : Atlas) × HoldsState s names figures (j .queries) atlas (run j limit figures .state) t
+GoneOn s names j figures limit QueriesPassRoom = ⊥
 
 -- The run's contract: number 7, and nothing has changed; or the run is finished, and nothing behind the needed part has changed.
 pub record Behind (figures : Room) (s s′ : List ℕ) : Type 0 where

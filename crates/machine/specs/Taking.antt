@@ -10,10 +10,11 @@ use Rattle.meaning.specs.Compare.{Assignment}
 use Rattle.meaning.specs.Trial.{reduces, joins-waiting, joins-failed}
 use Rattle.meaning.specs.Run.{choice-for, run}
 use Rattle.term.specs.Jobs.{ClauseAt}
+use Rattle.term.specs.Layout.{waiters-region, sets-region, waiting-region}
 use Rattle.term.specs.States.{Atlas, setting-at, goal-word, listed}
 use Rattle.term.specs.declared.state.Standing.{Standing}
 use Rattle.trial.specs.Choosing.{Succeeded, AllBelow}
-use Rattle.machine.specs.Log.{Slot}
+use Rattle.queues.specs.Log.{Slot, present, LogOk, LogOnly}
 use Rattle.machine.specs.Running.{Running}
 
 -- The state is as it was; the choice has used this step's stamps.
@@ -22,6 +23,13 @@ pub record Taken (s : List ℕ) (text : Bytes) (names : List Bytes) (j : Job) (f
   pub running : Running s text names j figures limit atlas slots t (t .steps * 32768 + 32769)
   pub front : run j limit figures .state .goals .queue ≡ g ∷ others
   pub more : t .steps < 1000000
+
+-- A goal is in front, and what is charged and how many goals there are is within a room of the greatest figures.
+pub record Counted (t : Standing) : Type 0 where
+  pub some : 1 ≤ t .active
+  pub pairs : t .pairs ≤ 65535
+  pub compounds : t .compounds ≤ 65535
+  pub goals : t .active + t .waiting + t .failed ≤ 65535
 
 -- It is reduced by clause k, and n of its pairs are given a term.
 pub record Reducing (s : List ℕ) (names : List Bytes) (j : Job) (figures : Room) (limit : ℕ) (atlas : Atlas) (g : Goal) (query k n : ℕ)
@@ -45,3 +53,16 @@ pub record JoiningFailed (j : Job) (figures : Room) (limit : ℕ) (atlas : Atlas
   pub goal-is : goal ≡ goal-word atlas g
   pub query-is : query ≡ g .query
   pub chosen : choice-for (j .clauses) (run j limit figures .state) g ≡ joins-failed
+
+-- The log where the room has it.
+abbrev pub LogHere : List ℕ → Room → List Slot → Type 0
+LogHere s figures slots = LogOk s (waiting-region figures) (waiters-region figures) (sets-region figures) (figures .pairs) slots
+
+-- The log with the same goals and, if they are fewer than its places, with a free place at its end.
+pub record FreePlace (s s′ : List ℕ) (figures : Room) (slots : List Slot) (place : ℕ) : Type 0 where
+  pub slots-now : List Slot
+  pub ok : LogHere s′ figures slots-now
+  pub number : place ≡ length slots-now
+  pub goals : present slots-now (length slots-now) ≡ present slots (length slots)
+  pub free : length (present slots (length slots)) < 2 * figures .goals → place < 2 * figures .goals
+  pub only : LogOnly (waiting-region figures) (waiters-region figures) (sets-region figures) (figures .pairs) (length slots) s s′

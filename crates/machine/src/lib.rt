@@ -1,7 +1,4 @@
-// The machine: the queries entered, and the run, step by step. It works on the scratch of crate `term`, with the choice of a clause from crate
-// `trial`, and is proved against the definitions of crate `meaning`. Read specs/ for what each promises.
-pub mod build;
-pub mod goals;
-pub mod reduce;
+// The machine: the queries entered, and the run, step by step, over the scratch of crate `term`, with the choice of a clause from crate `trial`
+// and the parts of a reduction from crate `reduction`. Proved against the definitions of crate `meaning`. Read specs/Running for what a run promises.
 pub mod run;
 pub mod step;

@@ -1,13 +1,14 @@
 // The queries entered, and the run.
-use crate::reduce::add_goals;
 use crate::step::Stepped;
 use crate::step::step;
+use reduction::reduce::add_goals;
 use term::layout;
 use term::layout::QUERIES;
 use term::layout::Room;
 use term::state::Standing;
 use term::state::Verdict;
 ghost use mathlib.Core.Path.{_≡_};
+ghost use mathlib.Core.Bool.{true};
 ghost use mathlib.Core.List.{List};
 ghost use Prim.Native.Nat.{ℕ, _+_, _*_, _≤_, _<_};
 ghost use lib.ListN.{length, getD, set};
@@ -15,7 +16,15 @@ ghost use Rattle.meaning.specs.Bytes.{Bytes};
 ghost use Rattle.meaning.specs.Terms.{Job};
 ghost use Rattle.term.specs.Layout.{figures};
 ghost use Rattle.term.specs.States.{Ready};
-ghost use Rattle.machine.specs.Running.{RanIs};
+ghost use mathlib.Core.List.{[], _∷_, _++_};
+ghost use Rattle.meaning.specs.Terms.{Query};
+ghost use Rattle.meaning.specs.Run.{queries-fit};
+ghost use Rattle.term.specs.Jobs.{query-record, HoldsJob};
+ghost use Rattle.term.specs.Layout.{InRange};
+ghost use Rattle.term.specs.States.{Atlas};
+ghost use Rattle.queues.specs.Log.{Slot};
+ghost use Rattle.machine.specs.Entering.{record-sum, EnterOnly, Entered};
+ghost use Rattle.machine.specs.Running.{Running, RunOnly, GoneOn, RanIs};
 
 // How the run ended and the state in which it did; or the queries alone pass a room figure.
 pub enum Ran {
@@ -50,7 +59,10 @@ fn set_at(s: &mut [u64], from: usize, i: usize, w: u64)
 }
 
 // The queries' words at a place of their records, added up: 0 their goals, 1 their pairs, 2 their compounds.
-fn sum(s: &[u64], queries: usize, at: usize) -> usize {
+fn sum(s: &[u64], queries: usize, at: usize) -> usize
+    requires { ⌜ (queries ≤ 8) × (at < 64) × (5120 ≤ length (now s)) × ((q : ℕ) → q < queries → getD (now s) (query-record q + at) 0 ≤ 32) ⌝ }
+    ensures { λ r. ⌜ r ≡ record-sum (now (s .entry)) at queries ⌝ }
+{
     let mut all = 0;
     let mut q = 0;
     while q < queries {
@@ -61,7 +73,11 @@ fn sum(s: &[u64], queries: usize, at: usize) -> usize {
 }
 
 // "The queries alone pass a room figure."
-fn fit(s: &[u64], room: Room, queries: usize) -> bool {
+fn fit(s: &[u64], room: Room, queries: usize) -> bool
+    requires { ⌜ ((names : List Bytes) × (j : Job) × HoldsJob (now s) names j × (queries ≡ length (j .queries))) ⌝ }
+    ensures { λ r. ⌜ ((names : List Bytes) (j : Job) → HoldsJob (now (s .entry)) names j → queries ≡ length (j .queries)
+        → r ≡ queries-fit (figures room) (j .queries)) ⌝ }
+{
     if room.pairs < sum(s, queries, 1) {
         return false;
     }
@@ -72,7 +88,14 @@ fn fit(s: &[u64], room: Room, queries: usize) -> bool {
 }
 
 // A query's goals join the queue; its pairs and compounds come next.
-fn enter(s: &mut [u64], room: Room, q: usize, t: Standing) -> Standing {
+fn enter(s: &mut [u64], room: Room, q: usize, t: Standing) -> Standing
+    requires { ⌜ ((text : Bytes) × (names : List Bytes) × (j : Job) × (done : List Query) × (x : Query) × (rest : List Query) × (atlas : Atlas)
+        × Entered (now s) text names j (figures room) done atlas t × (j .queries ≡ done ++ x ∷ rest) × (q ≡ length done)) ⌝ }
+    ensures { λ r. ⌜ ((text : Bytes) (names : List Bytes) (j : Job) (done : List Query) (x : Query) (rest : List Query) (atlas : Atlas)
+        → Entered (now (s .entry)) text names j (figures room) done atlas t → j .queries ≡ done ++ x ∷ rest → q ≡ length done
+        → EnterOnly (figures room) (now (s .entry)) (now (s .exit))
+        × ((atlas′ : Atlas) × Entered (now (s .exit)) text names j (figures room) (done ++ x ∷ []) atlas′ r)) ⌝ }
+{
     let goals = index(word_at(s, QUERIES + 64 * q, 0));
     let pairs = index(word_at(s, QUERIES + 64 * q, 1));
     let compounds = index(word_at(s, QUERIES + 64 * q, 2));
@@ -102,7 +125,14 @@ fn enter(s: &mut [u64], room: Room, q: usize, t: Standing) -> Standing {
 }
 
 // "The goals of all queries, in text order, form the queue."
-fn enter_all(s: &mut [u64], room: Room, queries: usize) -> Standing {
+fn enter_all(s: &mut [u64], room: Room, queries: usize) -> Standing
+    requires { ⌜ ((text : Bytes) × (names : List Bytes) × (j : Job) × Ready (now s) text names (figures room) j
+        × (queries-fit (figures room) (j .queries) ≡ true) × (queries ≡ length (j .queries))) ⌝ }
+    ensures { λ r. ⌜ ((text : Bytes) (names : List Bytes) (j : Job) → Ready (now (s .entry)) text names (figures room) j
+        → queries-fit (figures room) (j .queries) ≡ true → queries ≡ length (j .queries)
+        → EnterOnly (figures room) (now (s .entry)) (now (s .exit))
+        × ((atlas : Atlas) × Entered (now (s .exit)) text names j (figures room) (j .queries) atlas r)) ⌝ }
+{
     let mut t = Standing {
         pairs: 0,
         compounds: 0,
@@ -122,7 +152,13 @@ fn enter_all(s: &mut [u64], room: Room, queries: usize) -> Standing {
 }
 
 // "Before each step, in this order: queue empty; steps equal the budget; the step would be a reduction that doesn't fit."
-fn go_on(s: &mut [u64], room: Room, budget: usize, first: Standing) -> Ran {
+fn go_on(s: &mut [u64], room: Room, budget: usize, first: Standing) -> Ran
+    requires { ⌜ ((text : Bytes) × (names : List Bytes) × (j : Job) × (atlas : Atlas) × (slots : List Slot)
+        × Running (now s) text names j (figures room) 0 atlas slots first 1 × (first .steps ≡ 0) × (budget ≤ 1000000)) ⌝ }
+    ensures { λ r. ⌜ ((text : Bytes) (names : List Bytes) (j : Job) (atlas : Atlas) (slots : List Slot)
+        → Running (now (s .entry)) text names j (figures room) 0 atlas slots first 1 → first .steps ≡ 0 → budget ≤ 1000000
+        → RunOnly (figures room) (now (s .entry)) (now (s .exit)) × GoneOn (now (s .exit)) names j (figures room) budget r) ⌝ }
+{
     let mut t = first;
     let mut left = budget;
     loop {

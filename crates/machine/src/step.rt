@@ -1,13 +1,13 @@
 // One step: the goal at the front is reduced, waits or fails.
-use crate::goals::behind;
-use crate::goals::close_up;
-use crate::goals::fail;
-use crate::goals::wait;
-use crate::reduce::add_goals;
-use crate::reduce::add_woken;
-use crate::reduce::assign_goal;
-use crate::reduce::assign_head;
-use crate::reduce::wake;
+use queues::goals::behind;
+use queues::goals::close_up;
+use queues::goals::fail;
+use queues::goals::wait;
+use reduction::reduce::add_goals;
+use reduction::reduce::add_woken;
+use reduction::reduce::assign_goal;
+use reduction::reduce::assign_head;
+use reduction::reduce::wake;
 use term::layout;
 use term::layout::CLAUSES;
 use term::layout::QUERIES;
@@ -19,19 +19,19 @@ use trial::choice::choice;
 ghost use mathlib.Core.Path.{_≡_};
 ghost use mathlib.Core.Bool.{true, false};
 ghost use mathlib.Core.List.{List, _∷_};
-ghost use Prim.Native.Nat.{ℕ, _+_, _*_, _≤_, _<_};
+ghost use Prim.Native.Nat.{ℕ, _+_, _-_, _*_, _≤_, _<_};
 ghost use lib.ListN.{length, getD, set};
 ghost use Rattle.meaning.specs.Bytes.{Bytes};
 ghost use Rattle.meaning.specs.Terms.{Clause, Job};
 ghost use Rattle.meaning.specs.State.{Goal};
 ghost use Rattle.meaning.specs.Compare.{Assignment};
-ghost use Rattle.meaning.specs.Run.{run};
+ghost use Rattle.meaning.specs.Run.{run, within};
 ghost use Rattle.term.specs.Jobs.{query-record};
 ghost use Rattle.term.specs.Layout.{figures, InRange};
 ghost use Rattle.term.specs.States.{Atlas};
-ghost use Rattle.machine.specs.Log.{Slot};
+ghost use Rattle.queues.specs.Log.{Slot};
 ghost use Rattle.machine.specs.Running.{Running, StepIs};
-ghost use Rattle.machine.specs.Taking.{Taken, Reducing, JoiningWaiting, JoiningFailed};
+ghost use Rattle.machine.specs.Taking.{LogHere, FreePlace, Taken, Counted, Reducing, JoiningWaiting, JoiningFailed};
 
 // The state after the step, or the reduction does not fit.
 pub enum Stepped {
@@ -68,7 +68,10 @@ fn count_try(s: &mut [u64], query: usize)
 }
 
 // "Pairs or compounds charged would pass their figure, or active, waiting and failed goals together would number more than the goal figure."
-fn fits(room: Room, t: Standing, pairs: usize, compounds: usize, body: usize) -> bool {
+fn fits(room: Room, t: Standing, pairs: usize, compounds: usize, body: usize) -> bool
+    requires { ⌜ Counted t × (pairs ≤ 16) × (compounds ≤ 32) × (body ≤ 8) ⌝ }
+    ensures { λ r. ⌜ r ≡ within (figures room) (t .pairs + pairs) (t .compounds + compounds) (t .active - 1 + t .waiting + t .failed + body) ⌝ }
+{
     if room.pairs < t.pairs + pairs {
         return false;
     }
@@ -99,7 +102,13 @@ fn reduce(s: &mut [u64], room: Room, t: Standing, query: usize, k: usize, n: usi
     let active = t.active - 1;
     assign_head(s, layout::values(room), t.pairs, pairs);
     assign_goal(s, layout::values(room), t.pairs, shift, n);
-    let woken = wake(s, layout::waiting(room), layout::waiters(room), layout::sets(room), n);
+    let woken = wake(
+        s,
+        layout::waiting(room),
+        layout::waiters(room),
+        layout::sets(room),
+        n,
+    );
     add_goals(
         s,
         CLAUSES + 16 * k + 4,
@@ -135,15 +144,32 @@ fn reduce(s: &mut [u64], room: Room, t: Standing, query: usize, k: usize, n: usi
 }
 
 // The log with a free place at its end: closed up if it is full. How many places are used.
-fn free_place(s: &mut [u64], room: Room, log: usize) -> usize {
+fn free_place(s: &mut [u64], room: Room, log: usize) -> usize
+    requires { ⌜ InRange (figures room) × ((slots : List Slot) × LogHere (now s) (figures room) slots × (log ≡ length slots)) ⌝ }
+    ensures { λ r. ⌜ ((slots : List Slot) → LogHere (now (s .entry)) (figures room) slots → log ≡ length slots
+        → FreePlace (now (s .entry)) (now (s .exit)) (figures room) slots r) ⌝ }
+{
     if log < 2 * room.goals {
         return log;
     }
-    close_up(s, layout::waiting(room), layout::waiters(room), layout::sets(room), log)
+    close_up(
+        s,
+        layout::waiting(room),
+        layout::waiters(room),
+        layout::sets(room),
+        log,
+    )
 }
 
 // The goal joins the end of the waiting goals with so many readers.
-fn join_waiting(s: &mut [u64], room: Room, t: Standing, goal: u64, query: usize, readers: usize) -> Stepped
+fn join_waiting(
+    s: &mut [u64],
+    room: Room,
+    t: Standing,
+    goal: u64,
+    query: usize,
+    readers: usize,
+) -> Stepped
     requires { ⌜ ((text : Bytes) × (names : List Bytes) × (j : Job) × (limit : ℕ) × (atlas : Atlas) × (slots : List Slot) × (g : Goal) × (others : List Goal) × (rs : List ℕ)
         × Taken (now s) text names j (figures room) limit atlas slots g others t
         × JoiningWaiting (now s) j (figures room) limit atlas g goal query readers rs) ⌝ }

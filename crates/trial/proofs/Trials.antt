@@ -49,7 +49,8 @@ use Rattle.trial.proofs.Staying.{
   clause-stays,
   unit-term-stays,
   head-term-stays,
-  all-entries-stay, all-given-stay,
+  all-entries-stay,
+  all-given-stay,
   entries-stay,
   marks-stay,
 }

@@ -1,0 +1,117 @@
+-- The goal in front: what the step reads of it, what it hands to the choice, and what each answer of the choice is to the rest of the step.
+use Prim.Native.Nat.{ℕ, _+_, _*_, _/_, _%_, _<_, _^_}
+use mathlib.Core.Path.{_≡_, ap, _∙_}
+use mathlib.Core.List.{List, _∷_}
+use native.Mathlib.Omega.{arith}
+use lib.ListN.{length, getD}
+use Rattle.meaning.specs.Bytes.{Bytes}
+use Rattle.meaning.specs.Terms.{Clause, Job}
+use Rattle.meaning.specs.State.{Room, Goal}
+use Rattle.meaning.specs.Compare.{Assignment}
+use Rattle.meaning.specs.Trial.{choice}
+use Rattle.meaning.specs.Run.{choice-for, run}
+use Rattle.term.specs.Layout.{values-region, marks-region, queue-region}
+use Rattle.term.specs.States.{Atlas, goal-word, setting}
+use Rattle.term.specs.declared.state.Standing.{Standing}
+use Rattle.trial.specs.Choosing.{unit-of, Trying, MarksBelow, ChoiceTold, ChoiceIs}
+use Rattle.queues.specs.Log.{Slot}
+use Rattle.machine.specs.Running.{RunOnly, Running, StepIs}
+use Rattle.machine.specs.Taking.{Taken, Reducing, JoiningWaiting, JoiningFailed}
+use Rattle.machine.specs.declared.step.Stepped.{Stepped}
+use Rattle.trial.specs.declared.choice.Fate.{Fate}
+use Rattle.trial.specs.declared.choice.Fate.the-variants.{Reduces, Waits, Fails}
+use Rattle.machine.proofs.FramesRunning.{few-units, front-word, front-stands, trying, trial-run-only, run-only-then, running-tried}
+
+-- What the step has read.
+pub record Fetched (s : List ℕ) (figures : Room) (t : Standing) (goal query place values marks steps : ℕ) : Type 0 where
+  pub goal-is : goal ≡ getD s (queue-region figures + t .front) 0
+  pub query-is : query ≡ goal % 8
+  pub place-is : place ≡ goal / 8
+  pub values-is : values ≡ values-region figures
+  pub marks-is : marks ≡ marks-region figures
+  pub steps-are : steps ≡ t .steps
+
+pub front-inside : (s : List ℕ) (text : Bytes) (names : List Bytes) (j : Job) (figures : Room) (limit : ℕ) (atlas : Atlas) (slots : List Slot) (t : Standing)
+    (stamp : ℕ) → Running s text names j figures limit atlas slots t stamp → queue-region figures + t .front < length s
+front-inside s text names j figures limit atlas slots t stamp r = omega (arith, r .inside, r .state .queue .front-inside)
+
+-- A goal's word taken apart.
+word-query : (q n : ℕ) → q < 8 → (q + 8 * n) % 8 ≡ q
+word-query q n h = omega arith
+
+word-place : (q n : ℕ) → q < 8 → (q + 8 * n) / 8 ≡ n
+word-place q n h = omega arith
+
+module _ (s : List ℕ) (text : Bytes) (names : List Bytes) (j : Job) (figures : Room) (limit : ℕ) (atlas : Atlas) (slots : List Slot)
+    (g : Goal) (others : List Goal) (t : Standing) (goal query place values marks steps : ℕ)
+    (r : Running s text names j figures limit atlas slots t (t .steps * 32768 + 1)) (more : t .steps < 1000000)
+    (front : run j limit figures .state .goals .queue ≡ g ∷ others) (f : Fetched s figures t goal query place values marks steps) where
+  its-word : goal ≡ goal-word atlas g
+  its-word = f .goal-is ∙ front-word s names figures (j .queries) atlas (run j limit figures .state) t (r .state) g others front
+
+  few-queries : g .query < 8
+  few-queries =
+      omega (
+        arith,
+        front-stands s names figures (j .queries) atlas (run j limit figures .state) t (r .state) g others front .query,
+        few-units s text names j figures limit atlas slots t (t .steps * 32768 + 1) r,
+      )
+
+  its-query : query ≡ g .query
+  its-query = f .query-is ∙ ap (λ w. w % 8) its-word ∙ word-query (g .query) (atlas (g .query) .compound (g .goal .number)) few-queries
+
+  its-place : place ≡ atlas (g .query) .compound (g .goal .number)
+  its-place = f .place-is ∙ ap (λ w. w / 8) its-word ∙ word-place (g .query) (atlas (g .query) .compound (g .goal .number)) few-queries
+
+  pub choice-tries : Trying s text names j limit figures (atlas (g .query)) g others values marks (t .pairs) place
+  choice-tries =
+      rw (f .values-is, f .marks-is, its-place) (trying s text names j figures limit atlas slots t (t .steps * 32768 + 1) g others r front)
+
+  pub choice-marks : MarksBelow s marks (figures .pairs) (steps * 32768 + 1)
+  choice-marks = rw (f .marks-is, f .steps-are) (r .marks)
+
+  pub choice-stamps : steps * 32768 + 1 + 32768 < 2 ^ 64
+  choice-stamps = omega (arith, f .steps-are)
+
+  -- The choice is made.
+  module _ (s₁ : List ℕ) (fate : Fate) (told : ChoiceIs s s₁ names j limit figures (atlas (g .query)) g marks (steps * 32768 + 1) fate) where
+    tried-only : RunOnly figures s s₁
+    tried-only = trial-run-only figures s s₁ (rw (f .marks-is) at (told .only))
+
+    pub choice-taken : Taken s₁ text names j figures limit atlas slots g others t
+    choice-taken =
+        let only = rw (f .marks-is) at (told .only) in
+        let marked : MarksBelow s₁ (marks-region figures) (figures .pairs) (steps * 32768 + 1 + 32768) = rw (f .marks-is) at (told .marks-now) in
+        record {
+          running = running-tried s s₁ text names j figures limit atlas slots t (t .steps * 32768 + 1) (t .steps * 32768 + 32769) r only
+              (λ x a b. omega (arith, marked x a b, f .steps-are));
+          front = front;
+          more = more;
+        }
+
+    pub choice-reduces : (k n : ℕ) → fate ≡ Reduces k n
+        → (c : Clause) × (given : List Assignment) × Reducing s₁ names j figures limit atlas g query k n c given
+    unfolding choice-for
+    choice-reduces k n e =
+        let its : ChoiceTold s₁ names (setting figures (atlas (g .query)) (unit-of j limit figures g))
+        (choice (j .clauses) (unit-of j limit figures g) (g .goal)) (Reduces k n) = rw e at (told .told)
+        in
+        (its .0, its .1, record { query-is = its-query; chosen = its .2; at = its .3; gave = its .4 })
+
+    pub choice-waits : (n : ℕ) → fate ≡ Waits n → (readers : List ℕ) × JoiningWaiting s₁ j figures limit atlas g goal query n readers
+    unfolding choice-for
+    choice-waits n e =
+        let its : ChoiceTold s₁ names (setting figures (atlas (g .query)) (unit-of j limit figures g))
+        (choice (j .clauses) (unit-of j limit figures g) (g .goal)) (Waits n) = rw e at (told .told)
+        in (
+          its .0,
+          record { goal-is = its-word; query-is = its-query; chosen = its .1; few = its .2; listed-are = its .3; inside = its .4 },
+        )
+
+    pub choice-fails : fate ≡ Fails → JoiningFailed j figures limit atlas g goal query
+    unfolding choice-for
+    choice-fails e = record { goal-is = its-word; query-is = its-query; chosen = rw e at (told .told) }
+
+    pub step-from : (s′ : List ℕ) (answer : Stepped) → StepIs s₁ s′ text names j figures limit atlas g others t answer
+        → StepIs s s′ text names j figures limit atlas g others t answer
+    step-from s′ answer is = record { only = run-only-then figures s s₁ s′ tried-only (is .only); told = is .told }

@@ -1,0 +1,617 @@
+-- The parts of a reduction, one behind the other: what each asks follows from what those before it have left.
+use Prim.Native.Nat.{ℕ, zero, suc, _+_, _-_, _*_, _≤_, _<_}
+use mathlib.Core.Path.{_≡_, refl, sym, ap, _∙_}
+use mathlib.Core.Logic.{_⊎_, inl, inr}
+use mathlib.Core.Bool.{Bool, true, false, not}
+use mathlib.Core.List.{List, [], _∷_, _++_, map}
+use native.Mathlib.Omega.{arith}
+use lib.ListN.{length, getD, set, length-set}
+use lib.Seq.{getD-set-same, getD-set-other}
+use Rattle.meaning.specs.Bytes.{Bytes, those}
+use Rattle.meaning.specs.Terms.{Term, Terms, variable, constant, compound, end, more, Clause, Job, Named, renamed, all-renamed, as-term}
+use Rattle.meaning.specs.State.{Room, QueryUnit, Goal, Waiting, State, unit-at, number-of}
+use Rattle.meaning.specs.Compare.{Assignment}
+use Rattle.meaning.specs.Trial.{reduces}
+use Rattle.meaning.specs.Step.{wakes, without-front}
+use Rattle.meaning.specs.Run.{fits, choice-for, run}
+use Rattle.meaning.proofs.Lists.EachOf.{Each, each-in, each-member}
+use Rattle.meaning.proofs.Lists.Filters.{length-those}
+use Rattle.meaning.proofs.Reading.{accepted-keeps-the-occurrence-rules}
+use Rattle.meaning.proofs.Runs.Counts.{within-says}
+use Rattle.meaning.proofs.Single.{reduction-assigns-once}
+use Rattle.meaning.proofs.Trial.Chosen.{reduces-agrees}
+use Rattle.term.specs.Cells.{Places, term-word}
+use Rattle.term.specs.Every.{Every, EveryOf}
+use Rattle.term.specs.Holds.{Holds}
+use Rattle.term.specs.Jobs.{clause-record, clause-base, query-record, places-from, HoldsGoals, HoldsClause, ClauseAt}
+use Rattle.term.specs.Layout.{values-region, waiters-region, sets-region, marks-region, numbers-region, queue-region, waiting-region, failed-region, need-of, InRange}
+use Rattle.term.specs.Setting.{Setting, Within, AllWithin}
+use Rattle.term.specs.States.{Atlas, setting, goal-word, ring, listed, Lies, AllStand, HoldsState}
+use Rattle.term.specs.declared.state.Standing.{Standing}
+use Rattle.term.proofs.Holds.{holds-alike}
+use Rattle.term.proofs.Jobs.{holds-clause-kept}
+use Rattle.trial.specs.Gifts.{Entry, EntriesAt, entries-of, assignments}
+use Rattle.trial.specs.Compare.{Template, item-places, HeadTerm, AllEntries, Gave}
+use Rattle.trial.proofs.Once.{AllApart, once-apart, no-entry, entries-differ, entry-words, entry-held}
+use Rattle.reduction.specs.Build.{Item, Goes, ItemTerm, Moved, CopiesKept}
+use Rattle.trial.specs.Choosing.{template}
+use Rattle.queues.specs.Log.{Slot, LogOk, present}
+use Rattle.reduction.specs.Reducing.{Apart, Kept, HeadAssigned, EntryTerms, Assigning, EntriesGiven, NoEntry, GoalAssigned, GoalsWithin, Adding, GoalsHeld, Added, entry-places, hit, hits, woken, quieted, emptied, NotLogged, Wakes, Waked, AddsWoken, WokenAdded}
+use Rattle.queues.specs.Ring.{RingOk, Passed}
+use Rattle.machine.specs.Running.{slot-of, RunOnly, Running}
+use Rattle.machine.specs.Taking.{Taken, Reducing}
+use Rattle.machine.proofs.BodyGoals.{BodyFits, body-fits}
+use Rattle.machine.proofs.Enlarging.{extended-moved}
+use Rattle.machine.proofs.FramesRunning.{few-units, tries-below}
+use Rattle.machine.proofs.Growing.{within-every}
+use Rattle.queues.proofs.Listed.{listed-kept}
+use Rattle.machine.proofs.NextState.{Reduced, WokenAre}
+use Rattle.machine.proofs.NextUnit.{enlarged}
+use Rattle.queues.proofs.Ring.{ring-kept}
+use Rattle.machine.proofs.WaitingPairs.{OwnReaders, waiting-readers}
+use Rattle.queues.proofs.Waking.{log-kept}
+use Rattle.machine.proofs.Woken.{woken-are, others-wait, woken-number, entry-places-are, entries-below, hit-wakes}
+
+-- The clause as an item, and how far its compounds are moved.
+abbrev pub clause-item : List Bytes → ℕ → Clause → Item
+clause-item names k c = record { places = item-places names k; pairs = c .pairs; compounds = c .compounds }
+
+-- The numbers of a copy's compounds.
+mutual
+  unfolding Within AllWithin renamed all-renamed Every EveryOf
+
+  copy-every : (p c pairs compounds : ℕ) (t : Term) → Within pairs compounds t → Every (λ n. (a : ℕ) × (n ≡ c + a) × (a < compounds)) (renamed p c t)
+  copy-every p c pairs compounds (variable h n) w = tt
+  copy-every p c pairs compounds (constant x) w = tt
+  copy-every p c pairs compounds (compound n f ts) w = ((n, refl, w .0), copies-every p c pairs compounds ts (w .1))
+
+  copies-every : (p c pairs compounds : ℕ) (ts : Terms) → AllWithin pairs compounds ts
+      → EveryOf (λ n. (a : ℕ) × (n ≡ c + a) × (a < compounds)) (all-renamed p c ts)
+  copies-every p c pairs compounds end w = tt
+  copies-every p c pairs compounds (more t ts) w = (copy-every p c pairs compounds t (w .0), copies-every p c pairs compounds ts (w .1))
+
+-- A copy stays where the words of the copies' places stay.
+module _ (s s′ : List ℕ) (x : Item) (places : Places) (pair shift low high p c : ℕ) (goes : Goes x pair shift low high) (moved : Moved x places pair shift p c)
+    (size : length s′ ≡ length s) (same : (k : ℕ) → 8 * low ≤ k → k < 8 * high → getD s′ k 0 ≡ getD s k 0) where
+  copy-word : (n : ℕ) → (a : ℕ) × (n ≡ c + a) × (a < x .compounds)
+      → (k : ℕ) → 8 * places .compound n ≤ k → k < 8 * places .compound n + 8 → getD s′ k 0 ≡ getD s k 0
+  copy-word n (a, e, h) k l b =
+      let at : places .compound n ≡ x .places .compound a + shift = ap (places .compound) e ∙ moved .compound-at a h in
+      same k (omega (arith, goes .from a h)) (omega (arith, goes .below a h))
+
+  pub copy-stays : (t : Term) → Within (x .pairs) (x .compounds) t → Holds s places (renamed p c t) → Holds s′ places (renamed p c t)
+  copy-stays t w h =
+      holds-alike s s′ places (λ n. (a : ℕ) × (n ≡ c + a) × (a < x .compounds)) (omega arith) copy-word (renamed p c t)
+      (copy-every p c (x .pairs) (x .compounds) t w) h
+
+  pub goal-copies-stay : (gs : List Named) → GoalsWithin (x .pairs) (x .compounds) gs → GoalsHeld s places p c gs → GoalsHeld s′ places p c gs
+  unfolding GoalsWithin GoalsHeld
+  goal-copies-stay [] w h = tt
+  goal-copies-stay (g ∷ gs) w h = (copy-stays (as-term g) (w .0) (h .0), goal-copies-stay gs (w .1) (h .1))
+
+-- The terms of a clause stay held where the words below the trial's region stay.
+pub item-stays : (s s′ : List ℕ) (names : List Bytes) (k pairs compounds : ℕ) → k < 128 → compounds ≤ 32 → length s′ ≡ length s
+    → ((w : ℕ) → w < 39936 → getD s′ w 0 ≡ getD s w 0) → (t : Term) → Within pairs compounds t → Holds s (item-places names k) t → Holds s′ (item-places names k) t
+item-stays s s′ names k pairs compounds small few size same t w h =
+    holds-alike s s′ (item-places names k) (λ n. n < compounds) (omega arith) (λ n l v a b. same v (omega arith)) t (within-every pairs compounds t w) h
+
+-- The entries.
+entries-still : (s s′ : List ℕ) (item unit : Places) (n : ℕ) (es : List Entry)
+    → ((k : ℕ) → 39952 ≤ k → k < 39952 + 2 * (n + length es) → getD s′ k 0 ≡ getD s k 0)
+    → EntriesAt s item unit n es → EntriesAt s′ item unit n es
+unfolding EntriesAt
+entries-still s s′ item unit n [] same k = tt
+entries-still s s′ item unit n (e ∷ es) same k = (
+  same (39952 + 2 * n) (omega arith) (omega arith) ∙ k .0,
+  same (39953 + 2 * n) (omega arith) (omega arith) ∙ k .1,
+  entries-still s s′ item unit (n + 1) es (λ m a b. same m a (omega arith)) (k .2),
+)
+
+entry-terms : (s s′ : List ℕ) (figures : Room) (unit : QueryUnit) (at : Places) (P k : ℕ) (c : Clause) (es : List Entry) → k < 128 → c .compounds ≤ 32
+    → length s′ ≡ length s → ((w : ℕ) → w < 39936 → getD s′ w 0 ≡ getD s w 0) → ((m : ℕ) → m < length (unit .values) → at .pair m < P)
+    → AllEntries s (setting figures at unit) (template k c) es → EntryTerms s′ (clause-item (at .names) k c) at P es
+unfolding AllEntries EntryTerms
+entry-terms s s′ figures unit at P k c [] small few size same below h = tt
+entry-terms s s′ figures unit at P k c (e ∷ es) small few size same below h = (
+  (
+    below (e .pair) (h .0 .0),
+    record {
+      held = item-stays s s′ (at .names) k (c .pairs) (c .compounds) small few size same (e .term) (h .0 .3 .within) (h .0 .3 .held);
+      within = h .0 .3 .within;
+    },
+  ),
+  entry-terms s s′ figures unit at P k c es small few size same below (h .1),
+)
+
+-- The entries' words and copies from one scratch to a later one.
+given-still : (s s′ : List ℕ) (x : Item) (unit places : Places) (values p c bound : ℕ) (es : List Entry)
+    → ((z : ℕ) → z < bound → getD s′ (values + z) 0 ≡ getD s (values + z) 0)
+    → ((t : Term) → Within (x .pairs) (x .compounds) t → Holds s places (renamed p c t) → Holds s′ places (renamed p c t))
+    → EntryTerms s x unit bound es → EntriesGiven s unit places values p c es → EntriesGiven s′ unit places values p c es
+unfolding EntryTerms EntriesGiven
+given-still s s′ x unit places values p c bound [] same still w h = tt
+given-still s s′ x unit places values p c bound (d ∷ es) same still w h = (
+  (same (unit .pair (d .pair)) (w .0 .0) ∙ h .0 .0, still (d .term) (w .0 .1 .within) (h .0 .1)),
+  given-still s s′ x unit places values p c bound es same still (w .1) (h .1),
+)
+
+copies-to : (s s′ : List ℕ) (x : Item) (unit places : Places) (values p c bound pair shift : ℕ) (es : List Entry)
+    → ((z : ℕ) → z < bound → getD s′ (values + z) 0 ≡ getD s (values + z) 0) → CopiesKept s s′ x pair shift → Moved x places pair shift p c
+    → EntryTerms s x unit bound es → EntriesGiven s unit places values p c es → EntriesGiven s′ unit places values p c es
+unfolding EntryTerms EntriesGiven
+copies-to s s′ x unit places values p c bound pair shift [] same kept moved w h = tt
+copies-to s s′ x unit places values p c bound pair shift (d ∷ es) same kept moved w h = (
+  (same (unit .pair (d .pair)) (w .0 .0) ∙ h .0 .0, kept places p c moved (d .term) (w .0 .1) (h .0 .1)),
+  copies-to s s′ x unit places values p c bound pair shift es same kept moved (w .1) (h .1),
+)
+
+goals-first : (atlas : Atlas) (ws : List Waiting) → map (λ w. goal-word atlas (w .goal)) ws ≡ map (goal-word atlas) (map (λ w. w .goal) ws)
+goals-first atlas [] = refl
+goals-first atlas (w ∷ ws) = ap (λ l. goal-word atlas (w .goal) ∷ l) (goals-first atlas ws)
+
+module _ {s : List ℕ} {text : Bytes} {names : List Bytes} {j : Job} {figures : Room} {limit : ℕ} {atlas : Atlas} {slots : List Slot} {g : Goal}
+    {others : List Goal} {t : Standing} {query k n : ℕ} {c : Clause} {given : List Assignment}
+    (taken : Taken s text names j figures limit atlas slots g others t)
+    (red : Reducing s names j figures limit atlas g query k n c given)
+    (fit : fits figures (reduces c given) (run j limit figures .state) (without-front others (run j limit figures .state .goals)) ≡ true) where
+  abbrev σ : State
+  σ = run j limit figures .state
+
+  abbrev q : ℕ
+  q = g .query
+
+  abbrev P : ℕ
+  P = t .pairs
+
+  abbrev C : ℕ
+  C = t .compounds
+
+  abbrev unit : QueryUnit
+  unit = unit-at q (σ .units)
+
+  abbrev vals : ℕ
+  vals = values-region figures
+
+  abbrev low : ℕ
+  low = 5088 + C
+
+  abbrev high : ℕ
+  high = 5088 + C + c .compounds
+
+  abbrev shift : ℕ
+  shift = 4448 + C - 32 * k
+
+  abbrev x : Item
+  x = clause-item (atlas q .names) k c
+
+  abbrev list : List Entry
+  list = red .gave .1 .list
+
+  abbrev places : Places
+  places = enlarged (atlas q) unit P C
+
+  abbrev st : HoldsState s names figures (j .queries) atlas σ t
+  st = taken .running .state
+
+  pub charges : (P + c .pairs ≤ figures .pairs) × (C + c .compounds ≤ figures .compounds)
+      × (number-of (without-front others (σ .goals)) + length (c .body) ≤ figures .goals)
+  unfolding fits
+  charges =
+      let a = within-says figures (σ .pairs + c .pairs) (σ .compounds + c .compounds) (number-of (without-front others (σ .goals)) + length (c .body)) fit in
+      (omega (arith, a .0, st .pairs), omega (arith, a .1, st .compounds), a .2)
+
+  -- What every part leans on, in numbers.
+  pub record Sizes : Type 0 where
+    pub pairs : P + c .pairs ≤ figures .pairs
+    pub compounds : C + c .compounds ≤ figures .compounds
+    pub number : k < 128
+    pub few-pairs : c .pairs ≤ 16
+    pub few-compounds : c .compounds ≤ 32
+    pub few-goals : length (c .body) ≤ 8
+    pub room : need-of figures ≤ length s
+    pub entries : n ≤ 192
+    pub small-pairs : figures .pairs ≤ 65535
+    pub used : length slots ≤ 2 * figures .goals
+    pub few-queries : q < 8
+
+  sizes : Sizes
+  sizes =
+      record {
+        pairs = charges .0;
+        compounds = charges .1;
+        number = red .at .number;
+        few-pairs = red .at .held .laid .few-pairs;
+        few-compounds = red .at .held .laid .few-compounds;
+        few-goals = red .at .held .laid .few-goals;
+        room = taken .running .inside;
+        entries = red .gave .0;
+        small-pairs = taken .running .in-range .pairs;
+        used = omega (arith, taken .running .log-number, st .waiting .fits);
+        few-queries = omega (arith, here, few-units s text names j figures limit atlas slots t _ (taken .running));
+      }
+    where
+      here : g .query < length (run j limit figures .state .units)
+      here = let all : AllStand s figures atlas (run j limit figures .state .units) (g ∷ others) = rw (taken .front) at (taken .running .state .queue-held) in all .0 .query
+
+  pub few-query : q < 8
+  few-query = sizes .few-queries
+
+  here : q < length (σ .units)
+  here = let all : AllStand s figures atlas (σ .units) (g ∷ others) = rw (taken .front) at (st .queue-held) in all .0 .query
+
+  lies : Lies names figures atlas (σ .units) P C
+  lies = rw (st .pairs, st .compounds) (st .lies)
+
+  goes : Goes x P shift low high
+  goes =
+      let z = sizes in
+      record {
+        own = λ m. refl;
+        before = λ m h. omega (arith, z .number, z .few-compounds);
+        from = λ m h. omega (arith, z .number);
+        below = λ m h. omega (arith, z .number);
+        pairs-fit = omega (arith, z .pairs, z .small-pairs);
+      }
+
+  moved : Moved x places P shift (length (unit .values)) (unit .compounds)
+  moved =
+      extended-moved (atlas q) (length (unit .values)) (unit .compounds) P low x shift refl
+      (λ m h. omega (arith, sizes .number))
+
+  -- The entries one by one.
+  entry-word : (i : ℕ) → i < n → getD s (39952 + 2 * i) 0 ≡ atlas q .pair (getD list i no-entry .pair)
+  entry-word i h =
+      let is : 0 + i ≡ i = omega arith in
+      rw is at (entry-words s (item-places (atlas q .names) k) (atlas q) 0 list i (omega (arith, red .gave .1 .size)) (red .gave .1 .stand) .0)
+
+  entry-below : (i : ℕ) → i < n → getD list i no-entry .pair < length (unit .values)
+  entry-below i h = entry-held s (setting figures (atlas q) unit) (template k c) list i (omega (arith, red .gave .1 .size)) (red .gave .1 .held) .0
+
+  entries-apart : (i m : ℕ) → i < n → m < n → getD s (39952 + 2 * i) 0 ≡ getD s (39952 + 2 * m) 0 → i ≡ m
+  entries-apart i m h l e =
+      let size : length list ≡ n = red .gave .1 .size in
+      let once = reduction-assigns-once j (accepted-keeps-the-occurrence-rules text j (taken .running .reads)) limit figures g others (taken .front) c given (red .chosen) in
+      differ list (red .gave .1 .list-is) (rw (red .gave .1 .given-are) at (once-apart once)) (omega arith) (omega arith)
+      (lies .pair-apart q q _ _ here here (entry-below i h) (entry-below m l) (sym (entry-word i h) ∙ e ∙ entry-word m l) .1)
+    where
+      differ : (es : List Entry) → es ≡ entries-of (red .gave .1 .gifts)
+          → AllApart (assignments (length (unit-at (g .query) (run j limit figures .state .units) .values))
+          (unit-at (g .query) (run j limit figures .state .units) .compounds) (red .gave .1 .gifts))
+          → i < length es → m < length es → getD es i no-entry .pair ≡ getD es m no-entry .pair → i ≡ m
+      differ es is apart a b same =
+          entries-differ _ _ (red .gave .1 .gifts) i m apart (rw is at a) (rw is at b) (rw is at same)
+
+  -- The head's writers are assigned.
+  module _ (s₁ : List ℕ) (h₁ : HeadAssigned s s₁ (values-region figures) (t .pairs) (c .pairs)) where
+    below-1 : (w : ℕ) → w < vals + P → getD s₁ w 0 ≡ getD s w 0
+    below-1 w h = h₁ .kept .same w (inl h)
+
+    pub assigning : Assigning s₁ x (atlas q) vals P P shift low high n list
+    assigning =
+        let z = sizes in
+        let size : length s₁ ≡ length s = h₁ .kept .size in
+        let count : length list ≡ n = red .gave .1 .size in
+        record {
+          goes = goes;
+          order = omega arith;
+          behind = omega arith;
+          before = omega (arith, z .compounds);
+          inside = omega (arith, z .room, z .pairs);
+          few = z .entries;
+          number = count;
+          stand =
+              entries-still s s₁ (item-places (atlas q .names) k) (atlas q) 0 list
+              (λ w a b. below-1 w (omega (arith, z .entries))) (red .gave .1 .stand);
+          terms =
+              entry-terms s s₁ figures unit (atlas q) P k c list (z .number) (z .few-compounds) size (λ w h. below-1 w (omega arith))
+              (λ m h. lies .pair-below q m here h) (red .gave .1 .held);
+          apart = λ i m a b e.
+              entries-apart i m a b
+              (sym (below-1 (39952 + 2 * i) (omega (arith, z .entries))) ∙ e ∙ below-1 (39952 + 2 * m) (omega (arith, z .entries)));
+        }
+
+    -- The entries' pairs are assigned.
+    module _ (s₂ : List ℕ) (h₂ : GoalAssigned s₁ s₂ (clause-item (atlas (g .query) .names) k c) (atlas (g .query)) (values-region figures) (t .pairs) (t .pairs)
+        (4448 + t .compounds - 32 * k) (5088 + t .compounds) (5088 + t .compounds + c .compounds) (red .gave .1 .list)) where
+      low-2 : (w : ℕ) → w < 40704 → getD s₂ w 0 ≡ getD s w 0
+      low-2 w h = h₂ .kept .same w (inl (omega arith), inl (omega arith)) ∙ h₁ .kept .same w (inl (omega arith))
+
+      high-2 : (w : ℕ) → vals + figures .pairs ≤ w → getD s₂ w 0 ≡ getD s w 0
+      high-2 w h =
+          let z = sizes in
+          h₂ .kept .same w (inr (omega (arith, z .compounds)), inr (omega (arith, z .pairs))) ∙ h₁ .kept .same w (inr (omega (arith, z .pairs)))
+
+      size-2 : length s₂ ≡ length s
+      size-2 = h₂ .kept .size ∙ h₁ .kept .size
+
+      log-2 : LogOk s₂ (waiting-region figures) (waiters-region figures) (sets-region figures) (figures .pairs) slots
+      log-2 =
+          log-kept s s₂ (waiting-region figures) (waiters-region figures) (sets-region figures) (figures .pairs) slots (taken .running .log) size-2
+          (λ w a b. high-2 w (omega arith)) (λ w a b. high-2 w (omega arith))
+
+      pub waking : Wakes s₂ (waiting-region figures) (waiters-region figures) (sets-region figures) (figures .pairs) slots n
+      waking =
+          let z = sizes in
+          record {
+            ok = log-2;
+            few = z .entries;
+            behind = omega arith;
+            small = λ i h.
+                rw (low-2 (39952 + 2 * i) (omega (arith, z .entries)), entry-word i h)
+                (omega (arith, lies .pair-below q _ here (entry-below i h), z .pairs));
+          }
+
+      abbrev pub zs : List ℕ
+      zs = entry-places s₂ n
+
+      zs-are : zs ≡ map (λ e. atlas q .pair (e .pair)) list
+      zs-are =
+          let count : length list ≡ n = red .gave .1 .size in
+          entry-places-are s₂ (item-places (atlas q .names) k) (atlas q) n list count
+          (entries-still s s₂ (item-places (atlas q .names) k) (atlas q) 0 list (λ w a b. low-2 w (omega (arith, sizes .entries))) (red .gave .1 .stand))
+
+      each-hit : (ws : List Waiting) → AllStand s figures atlas (σ .units) (map (λ w. w .goal) ws) → Each (OwnReaders (σ .units)) ws
+          → Each (λ w. hit zs (slot-of atlas w) ≡ wakes q given w) ws
+      each-hit [] a b = tt
+      each-hit (w ∷ ws) a b = (
+        rw zs-are
+            (hit-wakes atlas (σ .units) q given list here (lies .pair-apart)
+            (entries-below s (setting figures (atlas q) unit) (template k c) list (red .gave .1 .held)) (red .gave .1 .pairs-are) w (a .0 .query) (b .0)),
+        each-hit ws (a .1) (b .1),
+      )
+
+      hit-all : Each (λ w. hit zs (slot-of atlas w) ≡ wakes q given w) (σ .goals .waiting)
+      hit-all = each-hit (σ .goals .waiting) (st .waiting-held) (waiting-readers text j (taken .running .reads) limit figures)
+
+      pub waked-are : WokenAre atlas q given (σ .goals .waiting) slots zs
+      waked-are =
+          record {
+            woken-are = woken-are atlas q given zs slots (σ .goals .waiting) (taken .running .waiting) hit-all
+                ∙ goals-first atlas (those (wakes q given) (σ .goals .waiting));
+            left-are = others-wait atlas q given zs slots (σ .goals .waiting) (taken .running .waiting) hit-all;
+          }
+
+      hits-number : length (hits zs 0 slots) ≡ length (those (wakes q given) (σ .goals .waiting))
+      hits-number = woken-number atlas q given zs slots (σ .goals .waiting) (taken .running .waiting) hit-all
+
+      -- The woken goals are found.
+      module _ (s₃ : List ℕ) (r : ℕ) (h₃ : Waked s₂ s₃ (waiting-region figures) (waiters-region figures) (sets-region figures) (figures .pairs) slots n r) where
+        low-3 : (w : ℕ) → w < 40464 → getD s₃ w 0 ≡ getD s w 0
+        low-3 w h = h₃ .kept .same w (inl h, (inl (omega arith), inl (omega arith))) ∙ low-2 w (omega arith)
+
+        size-3 : length s₃ ≡ length s
+        size-3 = h₃ .kept .size ∙ size-2
+
+        body-held : HoldsGoals s₃ (item-places (atlas q .names) k) (clause-record k + 4) 0 (c .body)
+        body-held =
+            let z = sizes in
+            rw (lies .names-are q)
+            (holds-clause-kept s s₃ names k (omega (arith, size-3)) c (λ i a b. low-3 (clause-record k + i) (omega (arith, z .number)))
+            (λ i a b. low-3 i (omega (arith, z .number))) (red .at .held) .body)
+
+        fits-body : BodyFits c
+        unfolding choice-for
+        fits-body = body-fits text j (taken .running .reads) c (reduces-agrees unit (g .goal) c given (j .clauses) (red .chosen) .0)
+
+        goals-now : length others + length (σ .goals .waiting) + length (σ .goals .failed) + length (c .body) ≤ figures .goals
+        unfolding number-of without-front
+        goals-now = charges .2
+
+        active-is : t .active ≡ length others + 1
+        active-is = st .queue .number ∙ rw (taken .front) (omega arith)
+
+        pub few-woken : r ≤ t .waiting
+        few-woken = omega (arith, h₃ .number, hits-number, length-those (wakes q given) (σ .goals .waiting), st .waiting .number)
+
+        module _ (front body : ℕ) (front-inside : front < figures .goals) (body-is : body ≡ length (c .body)) where
+          pub adding : Adding s₃ x (clause-record k + 4) body P shift low high q (queue-region figures) (figures .goals) front (t .active - 1) (c .body)
+          adding =
+              let z = sizes in
+              record {
+                goes = goes;
+                number = body-is;
+                words = body-held;
+                within = fits-body .within;
+                from-before = omega (arith, z .number, z .few-goals);
+                before = omega (arith, z .compounds);
+                ring-ok = record { inside = omega (arith, z .room, size-3); front-inside = front-inside };
+                space = omega (arith, goals-now, active-is);
+                few = z .few-queries;
+              }
+
+          -- The body's goals join the queue.
+          module _ (s₄ : List ℕ) (h₄ : Added s₃ s₄ (clause-item (atlas (g .query) .names) k c) body (t .pairs) (4448 + t .compounds - 32 * k) (5088 + t .compounds)
+              (5088 + t .compounds + c .compounds) (g .query) (queue-region figures) (figures .goals) front (t .active - 1) (c .body)) where
+            log-4 : LogOk s₄ (waiting-region figures) (waiters-region figures) (sets-region figures) (figures .pairs) (quieted zs slots)
+            log-4 =
+                let z = sizes in
+                log-kept s₃ s₄ (waiting-region figures) (waiters-region figures) (sets-region figures) (figures .pairs) (quieted zs slots) (h₃ .ok) (h₄ .kept .size)
+                (λ w a b. h₄ .kept .same w (inr (omega (arith, z .compounds)), inl (omega arith)))
+                (λ w a b. h₄ .kept .same w (inr (omega (arith, z .compounds)), inr (omega arith)))
+
+            pub adds-woken : AddsWoken s₄ (waiting-region figures) (waiters-region figures) (sets-region figures) (figures .pairs) slots zs r (queue-region figures)
+                (figures .goals) front (t .active - 1 + body)
+            adds-woken =
+                let z = sizes in
+                record {
+                  ok = log-4;
+                  number = h₃ .number;
+                  places =
+                      listed-kept s₃ s₄ 40464 r (λ w a b. h₄ .kept .same w (inl (omega (arith, h₃ .few)), inl (omega (arith, h₃ .few)))) ∙ h₃ .places;
+                  few = h₃ .few;
+                  behind = omega arith;
+                  ring-ok = record { inside = omega (arith, z .room, size-3, h₄ .kept .size); front-inside = front-inside };
+                  space =
+                      omega (arith, goals-now, active-is, body-is, h₃ .number, hits-number, length-those (wakes q given) (σ .goals .waiting));
+                  queue-behind = omega arith;
+                  queue-before = omega arith;
+                }
+
+            -- The woken goals join it, and the query has a try more.
+            module _ (s₅ : List ℕ) (h₅ : WokenAdded s₄ s₅ (waiting-region figures) (waiters-region figures) (sets-region figures) (figures .pairs) slots
+                (entry-places s₂ n) r (queue-region figures) (figures .goals) front (t .active - 1 + body)) where
+              same-5 : (w : ℕ) → Apart (vals + P) (vals + P + c .pairs) w → Apart (8 * low) (8 * high) w → Apart vals (vals + P) w → Apart 40464 40656 w
+                  → NotLogged (waiting-region figures) (waiters-region figures) (sets-region figures) (figures .pairs) (length slots) w
+                  → Apart (queue-region figures) (queue-region figures + figures .goals) w → getD s₅ w 0 ≡ getD s w 0
+              same-5 w a b d e f h =
+                  h₅ .kept .same w (h, f) ∙ h₄ .kept .same w (b, h) ∙ h₃ .kept .same w (e, f) ∙ h₂ .kept .same w (b, d) ∙ h₁ .kept .same w a
+
+              low-5 : (w : ℕ) → w < 40464 → getD s₅ w 0 ≡ getD s w 0
+              low-5 w h =
+                  same-5 w (inl (omega arith)) (inl (omega arith)) (inl (omega arith)) (inl h) (inl (omega arith), inl (omega arith)) (inl (omega arith))
+
+              low-4 : (w : ℕ) → w < 39936 → getD s₄ w 0 ≡ getD s w 0
+              low-4 w h = h₄ .kept .same w (inl (omega arith), inl (omega arith)) ∙ low-3 w (omega arith)
+
+              size-4 : length s₄ ≡ length s
+              size-4 = h₄ .kept .size ∙ size-3
+
+              pub size-5 : length s₅ ≡ length s
+              size-5 = h₅ .kept .size ∙ size-4
+
+              pub tries-few : getD s₅ (query-record q + 4) 0 ≤ 1000000
+              tries-few =
+                  rw (low-5 (query-record q + 4) (omega (arith, sizes .few-queries)))
+                  (omega (arith, tries-below s text names j figures limit atlas slots t _ (taken .running) q here, taken .running .few-steps))
+
+              abbrev s₆ : List ℕ
+              s₆ = set s₅ (query-record q + 4) (getD s₅ (query-record q + 4) 0 + 1)
+
+              beyond : (w : ℕ) → 5120 ≤ w → getD s₆ w 0 ≡ getD s₅ w 0
+              beyond w h =
+                  getD-set-other s₅ (query-record q + 4) w (getD s₅ (query-record q + 4) 0 + 1) 0 (λ e. omega (arith, sizes .few-queries))
+
+              size-6 : length s₆ ≡ length s₅
+              size-6 = length-set s₅ (query-record q + 4) (getD s₅ (query-record q + 4) 0 + 1)
+
+              only-6 : RunOnly figures s s₆
+              only-6 =
+                  let z = sizes in
+                  record {
+                    size = size-6 ∙ size-5;
+                    before = λ w h.
+                        getD-set-other s₅ (query-record q + 4) w (getD s₅ (query-record q + 4) 0 + 1) 0 (λ e. omega arith) ∙ low-5 w (omega arith);
+                    records = λ i w h l other.
+                        getD-set-other s₅ (query-record q + 4) (query-record i + w) (getD s₅ (query-record q + 4) 0 + 1) 0 (λ e. omega arith)
+                        ∙ low-5 (query-record i + w) (omega arith);
+                    items = λ w a b. beyond w a ∙ low-5 w (omega arith);
+                    numbers = λ w a b.
+                        beyond w (omega arith)
+                        ∙ same-5 w (inr (omega (arith, z .pairs))) (inr (omega (arith, z .compounds))) (inr (omega (arith, z .pairs))) (inr (omega arith))
+                        (inr (omega arith), inl (omega arith)) (inl b);
+                    behind = λ w a.
+                        beyond w (omega arith)
+                        ∙ same-5 w (inr (omega (arith, z .pairs))) (inr (omega (arith, z .compounds))) (inr (omega (arith, z .pairs))) (inr (omega arith))
+                        (inr (omega arith), inr (omega (arith, z .used))) (inr (omega arith));
+                  }
+
+              -- The pairs' values since the entries were assigned.
+              since-2 : (w : ℕ) → vals ≤ w → w < vals + figures .pairs → getD s₆ w 0 ≡ getD s₂ w 0
+              since-2 w a b =
+                  let z = sizes in
+                  beyond w (omega arith)
+                  ∙ h₅ .kept .same w (inl (omega arith), (inl b, inl (omega arith)))
+                  ∙ h₄ .kept .same w (inr (omega (arith, z .compounds)), inl (omega arith))
+                  ∙ h₃ .kept .same w (inr (omega arith), (inl b, inl (omega arith)))
+
+              head-6 : (a : ℕ) → a < c .pairs → getD s₆ (vals + (P + a)) 0 ≡ getD s (39936 + a) 0
+              head-6 a h =
+                  let z = sizes in
+                  let e : vals + (P + a) ≡ vals + P + a = omega arith in
+                  since-2 (vals + (P + a)) (omega arith) (omega (arith, z .pairs))
+                  ∙ h₂ .kept .same (vals + (P + a)) (inr (omega (arith, z .compounds)), inr (omega arith))
+                  ∙ rw e (h₁ .given a h)
+
+              terms-in : (s′ : List ℕ) → length s′ ≡ length s → ((w : ℕ) → w < 39936 → getD s′ w 0 ≡ getD s w 0) → EntryTerms s′ x (atlas q) P list
+              terms-in s′ size same =
+                  entry-terms s s′ figures unit (atlas q) P k c list (sizes .number) (sizes .few-compounds) size same (λ m h. lies .pair-below q m here h)
+                  (red .gave .1 .held)
+
+              entries-3 : EntriesGiven s₃ (atlas q) places vals (length (unit .values)) (unit .compounds) list
+              entries-3 =
+                  let z = sizes in
+                  given-still s₂ s₃ x (atlas q) places vals (length (unit .values)) (unit .compounds) P list
+                  (λ m h. h₃ .kept .same (vals + m) (inr (omega arith), (inl (omega (arith, z .pairs)), inl (omega (arith, z .pairs)))))
+                  (copy-stays s₂ s₃ x places P shift low high (length (unit .values)) (unit .compounds) goes moved (h₃ .kept .size)
+                  (λ w a b. h₃ .kept .same w (inr (omega arith), (inl (omega (arith, z .compounds)), inl (omega (arith, z .compounds))))))
+                  (terms-in s₂ size-2 (λ w h. low-2 w (omega arith)))
+                  (h₂ .given places (length (unit .values)) (unit .compounds) moved)
+
+              entries-4 : EntriesGiven s₄ (atlas q) places vals (length (unit .values)) (unit .compounds) list
+              entries-4 =
+                  let z = sizes in
+                  copies-to s₃ s₄ x (atlas q) places vals (length (unit .values)) (unit .compounds) P P shift list
+                  (λ m h. h₄ .kept .same (vals + m) (inr (omega (arith, z .compounds)), inl (omega (arith, z .pairs))))
+                  (h₄ .copies) moved (terms-in s₃ size-3 (λ w h. low-3 w (omega arith))) entries-3
+
+              since-4 : (w : ℕ) → 40704 ≤ w → w < waiters-region figures → getD s₆ w 0 ≡ getD s₄ w 0
+              since-4 w a b = beyond w (omega arith) ∙ h₅ .kept .same w (inl (omega arith), (inl b, inl (omega arith)))
+
+              entries-6 : EntriesGiven s₆ (atlas q) places vals (length (unit .values)) (unit .compounds) list
+              entries-6 =
+                  let z = sizes in
+                  given-still s₄ s₆ x (atlas q) places vals (length (unit .values)) (unit .compounds) P list
+                  (λ m h. since-4 (vals + m) (omega arith) (omega (arith, z .pairs)))
+                  (copy-stays s₄ s₆ x places P shift low high (length (unit .values)) (unit .compounds) goes moved (size-6 ∙ h₅ .kept .size)
+                  (λ w a b. since-4 w (omega arith) (omega (arith, z .compounds))))
+                  (terms-in s₄ size-4 low-4) entries-4
+
+              goals-6 : GoalsHeld s₆ places (length (unit .values)) (unit .compounds) (c .body)
+              goals-6 =
+                  let z = sizes in
+                  goal-copies-stay s₄ s₆ x places P shift low high (length (unit .values)) (unit .compounds) goes moved (size-6 ∙ h₅ .kept .size)
+                  (λ w a b. since-4 w (omega arith) (omega (arith, z .compounds)))
+                  (c .body) (fits-body .within) (h₄ .held places (length (unit .values)) (unit .compounds) moved)
+
+              log-6 : LogOk s₆ (waiting-region figures) (waiters-region figures) (sets-region figures) (figures .pairs) (emptied zs slots)
+              log-6 =
+                  log-kept s₅ s₆ (waiting-region figures) (waiters-region figures) (sets-region figures) (figures .pairs) (emptied zs slots) (h₅ .ok) size-6
+                  (λ w a b. beyond w (omega arith)) (λ w a b. beyond w (omega arith))
+
+              queue-3 : ring s₃ (queue-region figures) (figures .goals) front (t .active - 1) ≡ ring s (queue-region figures) (figures .goals) front (t .active - 1)
+              queue-3 =
+                  ring-kept (queue-region figures) (figures .goals) s s₃ front (t .active - 1) (omega (arith, goals-now, active-is))
+                  (λ w a b. h₃ .kept .same w (inr (omega arith), (inr (omega arith), inl b)) ∙ high-2 w (omega arith))
+
+              queue-6 : ring s₆ (queue-region figures) (figures .goals) front (t .active - 1 + length (c .body) + length (hits zs 0 slots))
+                  ≡ (ring s (queue-region figures) (figures .goals) front (t .active - 1)
+                  ++ map (λ b. q + 8 * places .compound (unit .compounds + b .number)) (c .body))
+                  ++ woken zs slots
+              queue-6 =
+                  rw (← body-is, ← h₃ .number, ← queue-3)
+                  (ring-kept (queue-region figures) (figures .goals) s₅ s₆ front (t .active - 1 + body + r) (omega (arith, adds-woken .space))
+                  (λ w a b. beyond w (omega arith))
+                  ∙ h₅ .items
+                  ∙ ap (λ l. l ++ woken zs slots) (h₄ .items places (length (unit .values)) (unit .compounds) moved))
+
+              pub reduced : Reduced s s₆ figures atlas (σ .units) q P C c list slots zs front (t .active - 1)
+              reduced =
+                  let z = sizes in
+                  record {
+                    only = only-6;
+                    tried =
+                        getD-set-same s₅ (query-record q + 4) (getD s₅ (query-record q + 4) 0 + 1) 0 (omega (arith, size-5, z .room, z .few-queries))
+                        ∙ ap (λ w. w + 1) (low-5 (query-record q + 4) (omega (arith, z .few-queries)));
+                    tries = λ i h other.
+                        getD-set-other s₅ (query-record q + 4) (query-record i + 4) (getD s₅ (query-record q + 4) 0 + 1) 0 (λ e. other (omega arith))
+                        ∙ low-5 (query-record i + 4) (omega arith);
+                    older = λ w a b.
+                        beyond w (omega arith)
+                        ∙ same-5 w (inl (omega (arith, z .compounds))) (inl (omega arith)) (inl (omega (arith, z .compounds))) (inr (omega arith))
+                        (inl (omega (arith, z .compounds)), inl (omega (arith, z .compounds))) (inl (omega (arith, z .compounds)));
+                    others = λ m h no.
+                        since-2 (vals + m) (omega arith) (omega (arith, z .pairs)) ∙ h₂ .others m no ∙ h₁ .kept .same (vals + m) (inl (omega arith));
+                    head = head-6;
+                    entries = entries-6;
+                    goals = goals-6;
+                    marks = λ w a b.
+                        beyond w (omega arith)
+                        ∙ same-5 w (inr (omega (arith, z .pairs))) (inr (omega (arith, z .compounds))) (inr (omega (arith, z .pairs))) (inr (omega arith))
+                        (inr (omega arith), inl (omega arith)) (inl (omega arith));
+                    failed = λ w a b.
+                        beyond w (omega arith)
+                        ∙ same-5 w (inr (omega (arith, z .pairs))) (inr (omega (arith, z .compounds))) (inr (omega (arith, z .pairs))) (inr (omega arith))
+                        (inr (omega arith), inr (omega (arith, z .used))) (inr (omega arith));
+                    log = log-6;
+                    queue = queue-6;
+                  }

@@ -1,0 +1,11 @@
+pub mod Closing
+pub mod Deciding
+pub mod Leaving
+pub mod Listed
+pub mod Log
+pub mod LogSteps
+pub mod Presents
+pub mod Ring
+pub mod Shifting
+pub mod Turning
+pub mod Waking

@@ -1,0 +1,32 @@
+-- Frames of a reduction: nothing changed, one change after another, one word or one region of two changed.
+use Prim.Native.Nat.{ℕ, _≤_, _<_}
+use mathlib.Core.Path.{_≡_, refl, _∙_}
+use mathlib.Core.Logic.{_⊎_, inl, inr}
+use mathlib.Core.List.{List}
+use native.Mathlib.Omega.{arith}
+use lib.ListN.{length, getD, set, length-set}
+use lib.Seq.{getD-set-other}
+use Rattle.term.specs.Frames.{Only}
+use Rattle.reduction.specs.Reducing.{Apart, Kept}
+
+-- A word of a region is none apart from it.
+pub not-apart : (lo hi k i : ℕ) → Apart lo hi k → lo ≤ i → i < hi → k ≡ i → ⊥
+not-apart lo hi k i (inl a) l h e = omega arith
+not-apart lo hi k i (inr a) l h e = omega arith
+
+pub only-apart : (lo hi k : ℕ) (s s′ : List ℕ) → Only lo hi s s′ → Apart lo hi k → getD s′ k 0 ≡ getD s k 0
+only-apart lo hi k s s′ o (inl a) = o .below k a
+only-apart lo hi k s s′ o (inr a) = o .above k a
+
+module _ (P : ℕ → Type 0) where
+  pub kept-same : (s : List ℕ) → Kept P s s
+  kept-same s = record { size = refl; same = λ k h. refl }
+
+  pub kept-then : (s t u : List ℕ) → Kept P s t → Kept P t u → Kept P s u
+  kept-then s t u a b = record { size = b .size ∙ a .size; same = λ k h. b .same k h ∙ a .same k h }
+
+  pub kept-set : (s : List ℕ) (i v : ℕ) → ((k : ℕ) → P k → k ≡ i → ⊥) → Kept P s (set s i v)
+  kept-set s i v not = record { size = length-set s i v; same = λ k h. getD-set-other s i k v 0 (not k h) }
+
+  pub kept-only : (lo hi : ℕ) (s s′ : List ℕ) → ((k : ℕ) → P k → Apart lo hi k) → Only lo hi s s′ → Kept P s s′
+  kept-only lo hi s s′ apart o = record { size = o .size; same = λ k h. only-apart lo hi k s s′ o (apart k h) }

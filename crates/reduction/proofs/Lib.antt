@@ -1,0 +1,12 @@
+pub mod Added
+pub mod Assigned
+pub mod Awaking
+pub mod Copies
+pub mod CopyCalls
+pub mod Copying
+pub mod Emptying
+pub mod HitSlots
+pub mod Hits
+pub mod Inserting
+pub mod Keeping
+pub mod ReduceCalls

@@ -1,0 +1,176 @@
+// A reduction: what the trial has given becomes the pairs' values, the body's goals and then the woken goals join the queue.
+use crate::build::copy;
+use queues::goals::leave;
+use queues::goals::push;
+use queues::goals::take;
+use term::layout::TRIAL;
+ghost use mathlib.Core.Path.{_≡_};
+ghost use mathlib.Core.List.{List};
+ghost use Prim.Native.Nat.{ℕ, _+_, _*_, _/_, _≤_, _<_};
+ghost use lib.ListN.{length, getD, set};
+ghost use Rattle.meaning.specs.Terms.{Named};
+ghost use Rattle.term.specs.Cells.{Places};
+ghost use Rattle.trial.specs.Gifts.{Entry};
+ghost use Rattle.reduction.specs.Build.{Item};
+ghost use Rattle.queues.specs.Log.{Slot};
+ghost use Rattle.reduction.specs.Reducing.{HeadAssigned, Assigning, GoalAssigned, Adding, Added, Wakes, Waked, AddsWoken, WokenAdded, Inserts, Inserted};
+
+// Where the places of the woken goals in the log stand, in the trial's region behind the waiting readers.
+pub const WOKEN: usize = 40464;
+
+fn index(w: u64) -> usize
+    ensures { λ r. ⌜ r ≡ w ⌝ }
+{
+    w as usize
+}
+
+fn word(n: usize) -> u64
+    ensures { λ r. ⌜ r ≡ n ⌝ }
+{
+    n as u64
+}
+
+// A word at so many words from a place, and setting it.
+fn word_at(s: &[u64], from: usize, i: usize) -> u64
+    requires { ⌜ from + i < length (now s) ⌝ }
+    ensures { λ r. ⌜ r ≡ getD (now (s .entry)) (from + i) 0 ⌝ }
+{
+    s[from + i]
+}
+
+fn set_at(s: &mut [u64], from: usize, i: usize, w: u64)
+    requires { ⌜ from + i < length (now s) ⌝ }
+    ensures { λ r. ⌜ now (s .exit) ≡ set (now (s .entry)) (from + i) w ⌝ }
+{
+    s[from + i] = w;
+}
+
+// X := what the head's writers were given, the clause's pairs lying from a pair on.
+pub fn assign_head(s: &mut [u64], values: usize, pair: usize, pairs: usize)
+    requires { ⌜ (pairs ≤ 16) × (40704 ≤ values) × (values + pair + pairs ≤ length (now s)) ⌝ }
+    ensures { λ r. ⌜ HeadAssigned (now (s .entry)) (now (s .exit)) values pair pairs ⌝ }
+{
+    let mut x = 0;
+    while x < pairs {
+        let w = word_at(s, TRIAL, x);
+        set_at(s, values + pair, x, w);
+        x += 1;
+    }
+}
+
+// Z := the head's term, for each of the goal's pairs that is given one.
+pub fn assign_goal(s: &mut [u64], values: usize, pair: usize, shift: usize, n: usize)
+    requires { ⌜ ((x : Item) × (unit : Places) × (bound : ℕ) × (low : ℕ) × (high : ℕ) × (list : List Entry)
+        × Assigning (now s) x unit values bound pair shift low high n list) ⌝ }
+    ensures { λ r. ⌜ ((x : Item) (unit : Places) (bound low high : ℕ) (list : List Entry)
+        → Assigning (now (s .entry)) x unit values bound pair shift low high n list
+        → GoalAssigned (now (s .entry)) (now (s .exit)) x unit values bound pair shift low high list) ⌝ }
+{
+    let mut i = 0;
+    while i < n {
+        let z = index(word_at(s, TRIAL + 16, 2 * i));
+        let h = word_at(s, TRIAL + 17, 2 * i);
+        let w = copy(s, pair, shift, h);
+        set_at(s, values, z, w);
+        i += 1;
+    }
+}
+
+// A place of the log joins the list of so many, in which places rise.
+fn insert(s: &mut [u64], place: usize, woken: usize)
+    requires { ⌜ Inserts (now s) place woken ⌝ }
+    ensures { λ r. ⌜ Inserted (now (s .entry)) (now (s .exit)) place woken ⌝ }
+{
+    let mut i = woken;
+    while 0 < i {
+        let before = word_at(s, WOKEN, i - 1);
+        if index(before) < place {
+            break;
+        }
+        set_at(s, WOKEN, i, before);
+        i -= 1;
+    }
+    set_at(s, WOKEN, i, word(place));
+}
+
+// The goal that waits on one of the trial's pairs, for each: its place in the log is listed, in the order in which they began to wait. How many.
+pub fn wake(s: &mut [u64], log: usize, waiters: usize, sets: usize, n: usize) -> usize
+    requires { ⌜ ((pairs : ℕ) × (slots : List Slot) × Wakes (now s) log waiters sets pairs slots n) ⌝ }
+    ensures { λ r. ⌜ ((pairs : ℕ) (slots : List Slot) → Wakes (now (s .entry)) log waiters sets pairs slots n
+        → Waked (now (s .entry)) (now (s .exit)) log waiters sets pairs slots n r) ⌝ }
+{
+    let mut woken = 0;
+    let mut i = 0;
+    while i < n {
+        let z = index(word_at(s, TRIAL + 16, 2 * i));
+        let waiter = index(word_at(s, waiters, z));
+        if waiter != 0 {
+            leave(s, log, waiters, sets, waiter - 1);
+            insert(s, waiter - 1, woken);
+            woken += 1;
+        }
+        i += 1;
+    }
+    woken
+}
+
+// The word of a goal of a query, by the word of its term.
+fn goal_of(w: u64, query: usize) -> u64
+    requires { ⌜ (query < 8) × (w < 9223372036854775808) ⌝ }
+    ensures { λ r. ⌜ r ≡ 8 * (w / 8) + query ⌝ }
+{
+    8 * (w / 8) + word(query)
+}
+
+// Goals of an item, whose words stand from a place on, are copied and join the queue in order.
+pub fn add_goals(
+    s: &mut [u64],
+    from: usize,
+    n: usize,
+    pair: usize,
+    shift: usize,
+    query: usize,
+    queue: usize,
+    size: usize,
+    front: usize,
+    active: usize,
+)
+    requires { ⌜ ((x : Item) × (low : ℕ) × (high : ℕ) × (goals : List Named)
+        × Adding (now s) x from n pair shift low high query queue size front active goals) ⌝ }
+    ensures { λ r. ⌜ ((x : Item) (low high : ℕ) (goals : List Named)
+        → Adding (now (s .entry)) x from n pair shift low high query queue size front active goals
+        → Added (now (s .entry)) (now (s .exit)) x n pair shift low high query queue size front active goals) ⌝ }
+{
+    let mut i = 0;
+    while i < n {
+        let h = word_at(s, from, i);
+        let w = copy(s, pair, shift, h);
+        push(s, queue, size, front, active + i, goal_of(w, query));
+        i += 1;
+    }
+}
+
+// The woken goals join the queue, in the order in which they began to wait.
+pub fn add_woken(
+    s: &mut [u64],
+    log: usize,
+    n: usize,
+    queue: usize,
+    size: usize,
+    front: usize,
+    active: usize,
+)
+    requires { ⌜ ((waiters : ℕ) × (sets : ℕ) × (pairs : ℕ) × (slots : List Slot) × (zs : List ℕ)
+        × AddsWoken (now s) log waiters sets pairs slots zs n queue size front active) ⌝ }
+    ensures { λ r. ⌜ ((waiters sets pairs : ℕ) (slots : List Slot) (zs : List ℕ)
+        → AddsWoken (now (s .entry)) log waiters sets pairs slots zs n queue size front active
+        → WokenAdded (now (s .entry)) (now (s .exit)) log waiters sets pairs slots zs n queue size front active) ⌝ }
+{
+    let mut i = 0;
+    while i < n {
+        let place = index(word_at(s, WOKEN, i));
+        let goal = take(s, log, place);
+        push(s, queue, size, front, active + i, goal);
+        i += 1;
+    }
+}
