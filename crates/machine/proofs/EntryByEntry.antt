@@ -15,8 +15,8 @@ use Rattle.meaning.proofs.Trial.Values.{value-assigned-other}
 use Rattle.term.specs.Cells.{Places, term-word}
 use Rattle.term.specs.Holds.{Holds}
 use Rattle.term.specs.Setting.{Setting}
-use Rattle.trial.specs.Gifts.{Gift, to-head, to-goal, assignments, Entry, entries-of, renamed-entries}
-use Rattle.trial.specs.Compare.{Template, HeadTerm, AllEntries}
+use Rattle.compare.specs.Gifts.{Gift, to-head, to-goal, assignments, Entry, entries-of, renamed-entries}
+use Rattle.compare.specs.Compare.{Template, HeadTerm, AllEntries}
 use Rattle.reduction.specs.Reducing.{EntriesGiven, NoEntry}
 
 -- An entry of a pair, or none.

@@ -28,8 +28,8 @@ use Rattle.term.specs.Setting.{UnitStands}
 use Rattle.term.specs.States.{Atlas, setting, setting-at, goal-word, ring, listed, Lies, UnitsStand, FirstPair, AllStand, QueueStands, WaitingStand, FailedStand, HoldsState}
 use Rattle.term.specs.declared.state.Standing.{Standing}
 use Rattle.term.proofs.Jobs.{holds-job-kept}
-use Rattle.trial.specs.Gifts.{Entry}
-use Rattle.trial.specs.Compare.{Gave}
+use Rattle.compare.specs.Gifts.{Entry}
+use Rattle.compare.specs.Compare.{Gave}
 use Rattle.trial.specs.Choosing.{template, MarksBelow}
 use Rattle.queues.specs.Log.{Slot, LogOk, present}
 use Rattle.reduction.specs.Reducing.{NoEntry, EntriesGiven, GoalsHeld, hits, woken, emptied, hit, goal-in}

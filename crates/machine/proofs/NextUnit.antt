@@ -19,8 +19,8 @@ use Rattle.term.specs.Cells.{Places, term-word}
 use Rattle.term.specs.Holds.{Holds, HoldsValue, value-word}
 use Rattle.term.specs.Setting.{Setting, OfUnit, UnitTerm, UnitStands}
 use Rattle.term.specs.States.{setting}
-use Rattle.trial.specs.Gifts.{Entry, assignments, entries-of}
-use Rattle.trial.specs.Compare.{Gave, HeadTerm}
+use Rattle.compare.specs.Gifts.{Entry, assignments, entries-of}
+use Rattle.compare.specs.Compare.{Gave, HeadTerm}
 use Rattle.trial.proofs.Once.{AllApart, once-apart, assigned-is, to-clause}
 use Rattle.trial.specs.Choosing.{template}
 use Rattle.machine.specs.Extended.{extended}

@@ -30,8 +30,8 @@ use Rattle.term.specs.States.{Atlas, setting, goal-word, ring, listed, Lies, Al
 use Rattle.term.specs.declared.state.Standing.{Standing}
 use Rattle.term.proofs.Holds.{holds-alike}
 use Rattle.term.proofs.Jobs.{holds-clause-kept}
-use Rattle.trial.specs.Gifts.{Entry, EntriesAt, entries-of, assignments}
-use Rattle.trial.specs.Compare.{Template, item-places, HeadTerm, AllEntries, Gave}
+use Rattle.compare.specs.Gifts.{Entry, EntriesAt, entries-of, assignments}
+use Rattle.compare.specs.Compare.{Template, item-places, HeadTerm, AllEntries, Gave}
 use Rattle.trial.proofs.Once.{AllApart, once-apart, no-entry, entries-differ, entry-words, entry-held}
 use Rattle.reduction.specs.Build.{Item, Goes, ItemTerm, Moved, CopiesKept}
 use Rattle.trial.specs.Choosing.{template}

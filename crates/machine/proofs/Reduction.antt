@@ -22,7 +22,7 @@ use Rattle.term.specs.declared.state.Standing.{Standing}
 use Rattle.machine.specs.declared.step.Stepped.{Stepped}
 use Rattle.machine.specs.declared.step.Stepped.the-variants.{Next, NoRoom}
 use Rattle.queues.specs.Log.{Slot}
-use Rattle.trial.specs.Gifts.{Entry}
+use Rattle.compare.specs.Gifts.{Entry}
 use Rattle.reduction.specs.Build.{Item}
 use Rattle.reduction.specs.Reducing.{HeadAssigned, Assigning, GoalAssigned, Wakes, Waked, Adding, Added, AddsWoken, WokenAdded, entry-places, hits, emptied}
 use Rattle.queues.specs.Ring.{Passed}

@@ -19,8 +19,8 @@ use Rattle.meaning.proofs.Lists.EachOf.{Each, each-in}
 use Rattle.term.specs.Cells.{Places}
 use Rattle.term.specs.Setting.{Setting}
 use Rattle.term.specs.States.{Atlas, goal-word}
-use Rattle.trial.specs.Gifts.{Entry, EntriesAt}
-use Rattle.trial.specs.Compare.{Template, AllEntries}
+use Rattle.compare.specs.Gifts.{Entry, EntriesAt}
+use Rattle.compare.specs.Compare.{Template, AllEntries}
 use Rattle.queues.specs.Log.{Slot, gone, waits, slot, gathered, goal-of, present}
 use Rattle.reduction.specs.Reducing.{entry-places, hit, hits, goal-in, woken, emptied}
 use Rattle.machine.specs.Running.{slot-of}

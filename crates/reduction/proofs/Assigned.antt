@@ -14,7 +14,7 @@ use Rattle.meaning.specs.Terms.{Term, renamed}
 use Rattle.term.specs.Cells.{Places, term-word}
 use Rattle.term.specs.Holds.{Holds}
 use Rattle.term.specs.Frames.{Only}
-use Rattle.trial.specs.Gifts.{Entry, EntriesAt}
+use Rattle.compare.specs.Gifts.{Entry, EntriesAt}
 use Rattle.reduction.specs.Build.{Item, Goes, ItemTerm, Original, Moved, Copied, WordsStay}
 use Rattle.reduction.specs.Reducing.{Apart, Kept, HeadAssigned, EntryTerms, Assigning, EntriesGiven, NoEntry, GoalAssigned}
 use Rattle.reduction.proofs.Copies.{stays-same, stays-then, stay-behind, item-term-on, copy-stays, copies-kept}

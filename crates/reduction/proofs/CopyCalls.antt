@@ -7,7 +7,7 @@ use lib.ListN.{length, getD, set}
 use Rattle.meaning.specs.Terms.{Functor, Term, Terms, compound}
 use Rattle.term.specs.Words.{view}
 use Rattle.term.specs.declared.word.View.the-variants.{Writer, Reader, Compound}
-use Rattle.trial.proofs.Depth.{height}
+use Rattle.circle.proofs.Depth.{height}
 use Rattle.reduction.specs.Build.{Item, Original, Copied}
 use Rattle.reduction.proofs.Copying.{
   writer-few,

@@ -30,8 +30,8 @@ use Rattle.term.specs.declared.word.View.the-variants.{Nothing, Writer, Reader,
 use Rattle.term.specs.Cells.{Places, content, term-word, functor-word}
 use Rattle.term.specs.Holds.{CellAt, Holds, HoldsFrom}
 use Rattle.term.specs.Setting.{Within, AllWithin}
-use Rattle.trial.proofs.Seen.{seen-term, seen-writer, seen-reader}
-use Rattle.trial.proofs.Depth.{depth, depths, height, height-is, shallow}
+use Rattle.compare.proofs.Seen.{seen-term, seen-writer, seen-reader}
+use Rattle.circle.proofs.Depth.{depth, depths, height, height-is, shallow}
 use Rattle.reduction.specs.Build.{Item, Goes, ItemTerm, Original, Moved, Copied, moved-as, moved, WordsStay}
 use Rattle.reduction.proofs.Copies.{
   count-renamed,

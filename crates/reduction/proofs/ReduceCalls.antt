@@ -6,7 +6,7 @@ use native.Mathlib.Omega.{arith}
 use lib.ListN.{length, getD, set}
 use Rattle.meaning.specs.Terms.{Named, as-term}
 use Rattle.term.specs.Cells.{Places}
-use Rattle.trial.specs.Gifts.{Entry}
+use Rattle.compare.specs.Gifts.{Entry}
 use Rattle.reduction.specs.Build.{Item}
 use Rattle.queues.specs.Ring.{RingOk, Pushed}
 use Rattle.reduction.specs.Reducing.{Assigning, GoalAssigned, Adding, Added}

@@ -13,7 +13,7 @@ use Rattle.term.specs.Holds.{Holds}
 use Rattle.term.specs.Jobs.{HoldsGoals}
 use Rattle.term.specs.Setting.{Within}
 use Rattle.term.specs.States.{ring, listed}
-use Rattle.trial.specs.Gifts.{Entry, EntriesAt}
+use Rattle.compare.specs.Gifts.{Entry, EntriesAt}
 use Rattle.reduction.specs.Build.{Item, Goes, ItemTerm, Moved, CopiesKept}
 use Rattle.queues.specs.Ring.{RingOk}
 use Rattle.queues.specs.Log.{Slot, gone, waits, pairs-in, LogOk}

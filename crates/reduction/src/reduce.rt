@@ -10,7 +10,7 @@ ghost use Prim.Native.Nat.{ℕ, _+_, _*_, _/_, _≤_, _<_};
 ghost use lib.ListN.{length, getD, set};
 ghost use Rattle.meaning.specs.Terms.{Named};
 ghost use Rattle.term.specs.Cells.{Places};
-ghost use Rattle.trial.specs.Gifts.{Entry};
+ghost use Rattle.compare.specs.Gifts.{Entry};
 ghost use Rattle.reduction.specs.Build.{Item};
 ghost use Rattle.queues.specs.Log.{Slot};
 ghost use Rattle.reduction.specs.Reducing.{HeadAssigned, Assigning, GoalAssigned, Adding, Added, Wakes, Waked, AddsWoken, WokenAdded, Inserts, Inserted};

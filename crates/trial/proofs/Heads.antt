@@ -27,9 +27,9 @@ use Rattle.term.specs.Setting.{Within, AllWithin, Ranged, AllRanged, RangedCons
 use Rattle.term.specs.States.{setting}
 use Rattle.term.proofs.Held.{head-first}
 use Rattle.term.proofs.Jobs.{goals-numbered-order}
-use Rattle.trial.specs.Compare.{AllAgainst, TrialStands, places-outcome}
+use Rattle.compare.specs.Compare.{AllAgainst, TrialStands, places-outcome}
 use Rattle.trial.specs.Choosing.{unit-of, Trying, Candidate, template}
-use Rattle.trial.proofs.Given.{compared-outcome}
+use Rattle.compare.proofs.Given.{compared-outcome}
 
 -- What fits is within the clause's pairs and compounds, and its integers are in range.
 constant-ranged : (b : Bounds) (k : Constant) → ConstantFits b k → RangedConstant k

@@ -17,8 +17,8 @@ use Rattle.meaning.proofs.Single.{AssignedOnce}
 use Rattle.meaning.proofs.Trial.Values.{value-assigned-other, value-set-same}
 use Rattle.term.specs.Cells.{Places, term-word}
 use Rattle.term.specs.Setting.{Setting, UnitTerm}
-use Rattle.trial.specs.Gifts.{Gift, to-head, to-goal, assignments, Entry, entries-of, EntriesAt}
-use Rattle.trial.specs.Compare.{Template, HeadTerm, AllGiven, AllEntries}
+use Rattle.compare.specs.Gifts.{Gift, to-head, to-goal, assignments, Entry, entries-of, EntriesAt}
+use Rattle.compare.specs.Compare.{Template, HeadTerm, AllGiven, AllEntries}
 
 -- No two for one pair.
 abbrev pub AllApart : List Assignment → Type 0

@@ -19,8 +19,8 @@ use Rattle.term.specs.Setting.{Setting, Within, AllWithin, UnitTerm, UnitStands
 use Rattle.term.specs.States.{setting, listed}
 use Rattle.term.proofs.Holds.{holds-alike, EveryValue, holds-values-alike}
 use Rattle.term.proofs.Jobs.{holds-clause-kept, holds-job-kept, linked-map}
-use Rattle.trial.specs.Gifts.{Gift, to-head, to-goal, Entry, EntriesAt}
-use Rattle.trial.specs.Compare.{Template, item, HeadTerm, AllEntries, AllGiven}
+use Rattle.compare.specs.Gifts.{Gift, to-head, to-goal, Entry, EntriesAt}
+use Rattle.compare.specs.Compare.{Template, item, HeadTerm, AllEntries, AllGiven}
 use Rattle.trial.specs.Choosing.{unit-of, Trying, TrialOnly, MarksBelow}
 
 -- Frames: nothing changed, one change after another, a wider region, a change of the trial's region, of marks, of one word.

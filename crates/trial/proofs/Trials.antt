@@ -29,14 +29,14 @@ use Rattle.term.specs.Cells.{Places}
 use Rattle.term.specs.Frames.{Only}
 use Rattle.term.specs.Setting.{Setting, UnitTerm}
 use Rattle.term.specs.States.{setting}
-use Rattle.trial.specs.declared.compare.Result.{Result as Result′}
-use Rattle.trial.specs.declared.compare.Result.the-variants.{Agrees, Waits, Fails}
+use Rattle.compare.specs.declared.compare.Result.{Result as Result′}
+use Rattle.compare.specs.declared.compare.Result.the-variants.{Agrees, Waits, Fails}
 use Rattle.trial.specs.declared.choice.Outcome.the-variants.{Succeeds, Waits as WaitsOn, Fails as FailsAll}
-use Rattle.trial.specs.Gifts.{Gift, assignments, Entry as GiftEntry, entries-of, EntriesAt}
-use Rattle.trial.specs.Circle.{Trial, Entry, Tried, Tested, entry-pair}
-use Rattle.trial.specs.Compare.{Template, item, AllAgainst, AllEntries, Agreed, Answers, Gave, places-outcome}
+use Rattle.compare.specs.Gifts.{Gift, assignments, Entry as GiftEntry, entries-of, EntriesAt}
+use Rattle.circle.specs.Circle.{Trial, Entry, Tried, Tested, entry-pair}
+use Rattle.compare.specs.Compare.{Template, item, AllAgainst, AllEntries, Agreed, Answers, Gave, places-outcome}
 use Rattle.trial.specs.Choosing.{unit-of, Trying, TrialOnly, MarksBelow, template, Candidate, TrialIs}
-use Rattle.trial.proofs.Given.{entries-length, entries-at, entries-held, gave}
+use Rattle.compare.proofs.Given.{entries-length, entries-at, entries-held, gave}
 use Rattle.trial.proofs.Heads.{rules-kept, one-of-the-job, head-end, against, compared-is}
 use Rattle.trial.proofs.Once.{once-apart, assigned-is, no-entry, entry-assigned, entries-differ, to-clause, to-unit, entry-words, entry-held}
 use Rattle.trial.proofs.Staying.{

@@ -16,7 +16,7 @@ use Rattle.term.specs.Cells.{Places}
 use Rattle.term.specs.Jobs.{HoldsJob, ClauseAt}
 use Rattle.term.specs.Setting.{Setting, UnitTerm, UnitStands}
 use Rattle.term.specs.States.{setting, listed}
-use Rattle.trial.specs.Compare.{Template, Gave}
+use Rattle.compare.specs.Compare.{Template, Gave}
 use Rattle.trial.specs.declared.choice.Outcome.{Outcome}
 use Rattle.trial.specs.declared.choice.Outcome.the-variants.{Succeeds, Waits, Fails}
 use Rattle.trial.specs.declared.choice.Fate.{Fate}

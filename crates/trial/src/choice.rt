@@ -1,7 +1,7 @@
 // The trial of a clause, and the choice of a clause among those of a procedure.
-use crate::circle::circle;
-use crate::compare::Result;
-use crate::compare::places;
+use circle::circle::circle;
+use compare::compare::Result;
+use compare::compare::places;
 use term::layout::CLAUSES;
 use term::layout::PROCEDURES;
 use term::layout::TRIAL;

@@ -7,7 +7,7 @@ use lib.ListN.{length}
 use borrow.Fn.Kinds.{In}
 use borrow.Fn.PlainCycle.{Measures, is, falls, and}
 use Rattle.term.specs.declared.word.View.the-variants.{Writer, Reader}
-use Rattle.trial.proofs.Depth.{height}
+use Rattle.circle.proofs.Depth.{height}
 use Rattle.reduction.proofs.CopyCalls as calls
 use Rattle.reduction.proofs.Copying.{leaf-copied}
 use Rattle.reduction.proofs.build.copy.Reads as copy

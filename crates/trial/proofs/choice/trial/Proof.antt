@@ -3,7 +3,7 @@ use mathlib.Core.Path.{_∙_}
 use borrow.Author.Needs.{needs}
 use Rattle.meaning.specs.Terms.{named}
 use Rattle.term.specs.States.{setting}
-use Rattle.trial.specs.declared.compare.Result.the-variants.{Agrees, Waits, Fails}
+use Rattle.compare.specs.declared.compare.Result.the-variants.{Agrees, Waits, Fails}
 use Rattle.trial.specs.Choosing.{unit-of, template}
 use Rattle.trial.proofs.Trials as trials
 use Rattle.trial.proofs.choice.trial.Statement.{statement}

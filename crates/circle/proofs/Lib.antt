@@ -1,0 +1,13 @@
+pub mod Calls
+pub mod Depth
+pub mod Entries
+pub mod Measure
+pub mod Parts
+pub mod Scenes
+pub mod SetBack
+pub mod Stamps
+pub mod Starts
+pub mod Through
+pub mod Unseen
+pub mod Visit
+pub mod Walk

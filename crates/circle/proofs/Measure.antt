@@ -1,0 +1,91 @@
+-- What falls in the search: the words not yet marked; then, on the way from a term of the head to what its variables are given, the side;
+-- then the depth of the term at hand.
+use Prim.Native.Nat.{ℕ, _+_, _*_, _≤_, _<_}
+use mathlib.Core.Path.{_≡_, ap}
+use mathlib.Core.Bool.{Bool, true, false}
+use mathlib.Core.List.{List}
+use mathlib.Core.Option.{Option, none, some}
+use native.Mathlib.Nat.{mul-le-mul-right, suc-mul}
+use native.Mathlib.Numerals.{add-one}
+use native.Mathlib.Omega.{arith}
+use lib.ListN.{length, getD, set, take, length-set}
+use lib.Seq.{take-set-le}
+use Rattle.meaning.specs.Terms.{Term}
+use Rattle.circle.specs.Search.{Scene, side, Told, Searching, Stamped}
+use Rattle.circle.proofs.Depth.{height, height-within, height-is, shallow, flat}
+use Rattle.circle.proofs.Unseen.{unseen, unseen-set, unseen-less}
+use Rattle.circle.proofs.Stamps.{front-length, searching-on}
+use Rattle.circle.proofs.Walk.{value-depth}
+
+abbrev lift : ℕ → Bool → ℕ
+lift n true = n + 2
+lift n false = 0
+
+lift-within : (n : ℕ) (b : Bool) → lift n b ≤ n + 2
+lift-within n true = omega arith
+lift-within n false = omega arith
+
+unfoldable pub pair-weight : List ℕ → ℕ → Bool → ℕ
+pair-weight s stamp b = unseen stamp s * (2 * length s + 5) + lift (length s) b
+
+unfoldable pub term-weight : List ℕ → ℕ → ℕ → Bool → ℕ → ℕ
+term-weight s marks stamp b w = pair-weight s stamp b + 1 + height (length (take marks s)) (take marks s) w
+
+pub falls-to-pair : (s : List ℕ) (marks stamp : ℕ) (b : Bool) (w : ℕ) → pair-weight s stamp b < term-weight s marks stamp b w
+unfolding term-weight
+falls-to-pair s marks stamp b w = omega arith
+
+module _ (x : Scene) (values marks place stamp z : ℕ) (s : List ℕ) (h : Searching s x values marks place stamp z) where
+  height-short : (w : ℕ) → height (length (take marks s)) (take marks s) w ≤ length s
+  height-short w =
+      omega (
+        arith,
+        height-within (length (take marks s)) (take marks s) w,
+        ap length (h .front),
+        front-length s x values marks place stamp z h,
+        h .room,
+      )
+
+  pub falls-to-given : (w : ℕ) → term-weight s marks stamp false w < pair-weight s stamp true
+  unfolding term-weight pair-weight
+  falls-to-given w = omega (arith, height-short w)
+
+  -- A new mark outweighs any term.
+  pub falls-to-value : (p : ℕ) → marks + p < length s → (getD s (marks + p) 0 ≡ stamp → ⊥) → (b : Bool) (w : ℕ)
+      → term-weight (set s (marks + p) stamp) marks stamp b w < pair-weight s stamp false
+  unfolding term-weight pair-weight
+  falls-to-value p inside d b w =
+      let less : unseen stamp (set s (marks + p) stamp) + 1 ≤ unseen stamp s = unseen-set stamp s (marks + p) inside d in
+      let times : (unseen stamp (set s (marks + p) stamp) + 1) * (2 * length s + 5) ≤ unseen stamp s * (2 * length s + 5) =
+      mul-le-mul-right (2 * length s + 5) less in
+      let one-more : (unseen stamp (set s (marks + p) stamp) + 1) * (2 * length s + 5)
+      ≡ unseen stamp (set s (marks + p) stamp) * (2 * length s + 5) + (2 * length s + 5) = plus-one (unseen stamp (set s (marks + p) stamp)) (2 * length s + 5) in
+      rw (take-set-le marks s (marks + p) stamp (omega arith), length-set s (marks + p) stamp)
+      (omega (arith, height-short w, lift-within (length s) b))
+    where
+      plus-one : (a n : ℕ) → (a + 1) * n ≡ a * n + n
+      plus-one a n = rw (add-one a) (suc-mul a n)
+
+  -- The depth that a word tells is that of its term.
+  told-height : (b : Bool) (w : ℕ) (v : Option Term) → Told x b w v → height (length (take marks s)) (take marks s) w ≡ value-depth v
+  told-height b w none told = flat (length (take marks s)) (take marks s) w (λ e. omega (arith, told .word))
+  told-height b w (some t) told =
+      rw (h .front, told .word) (height-is (x .front) (side x b) (length (x .front)) t (told .held) (shallow (x .front) (side x b) t (told .held)))
+
+pub falls-to-argument : (x : Scene) (values marks place stamp z : ℕ) (s₀ s : List ℕ) → Searching s₀ x values marks place stamp z
+    → Stamped marks (x .pairs) stamp s₀ s
+    → (b : Bool) (w a : ℕ) (v u : Option Term) → Told x b w v → Told x b a u → value-depth u < value-depth v
+    → term-weight s marks stamp b a < term-weight s₀ marks stamp b w
+unfolding term-weight pair-weight
+falls-to-argument x values marks place stamp z s₀ s h st b w a v u told-v told-u lower =
+    let fewer : unseen stamp s * (2 * length s₀ + 5) ≤ unseen stamp s₀ * (2 * length s₀ + 5) =
+    mul-le-mul-right (2 * length s₀ + 5) (unseen-less stamp s₀ s (st .size) (st .others)) in
+    let here = searching-on x marks stamp z s₀ s st values place h in
+    rw (told-height x values marks place stamp z s here b a u told-u, told-height x values marks place stamp z s₀ h b w v told-v, st .size)
+    (omega arith)
+
+pub lighter : (a b c t : ℕ) → c ≡ t → b ≤ c → a < b → a < t
+lighter a b c t e h l = omega arith
+
+pub no-heavier : (a b c : ℕ) → b ≤ c → a < b → a ≤ c
+no-heavier a b c h l = omega arith

@@ -1,0 +1,325 @@
+-- Argument by argument: what was given so far, and what is left of both lists; the outcome of the whole is that of what is left, with what was given.
+use Prim.Native.Nat.{ℕ, _+_, _*_, _-_, _%_, _≤_, _<_}
+use mathlib.Core.Path.{_≡_, refl, sym, ap, _∙_}
+use mathlib.Core.List.{List, [], _++_, append-nil}
+use native.Mathlib.Omega.{arith}
+use lib.ListN.{length, getD}
+use Rattle.meaning.specs.Terms.{Functor, cell, named, Term, Terms, end, more, count, all-renamed}
+use Rattle.meaning.specs.Compare.{Result as Outcome, succeeds, waits-on, followed, with-assignments, and-then, place, places}
+use Rattle.term.specs.Cells.{Places, term-word, functor-word, AllKnown, AllNumbered}
+use Rattle.term.specs.Holds.{HoldsFrom}
+use Rattle.term.specs.Frames.{Only}
+use Rattle.term.proofs.Cells.{numbered-order, all-numbered-order}
+use Rattle.term.proofs.Frames.{only-same, only-then}
+use Rattle.compare.specs.declared.compare.Result.the-variants.{Agrees, Waits, Fails}
+use Rattle.term.specs.Setting.{Setting, AllWithin, AllRanged, UnitTerm, UnitTerms}
+use Rattle.compare.specs.Follow.{Reads}
+use Rattle.compare.specs.Gifts.{Gift, assignments, entries, recorded}
+use Rattle.compare.specs.Compare.{Template, item, HeadTerm, HeadTerms, TrialStands, Against, AllAgainst, AllGiven, Answers, place-outcome, places-outcome}
+use Rattle.compare.proofs.Kept.{only-back, trial-kept, unit-terms-kept, head-terms-kept, all-given-kept}
+use Rattle.compare.proofs.Gifts.{assignments-append, entries-append, recorded-append, given-append, with-none, with-both}
+use Rattle.compare.proofs.Descent.{depth, argument-depth}
+use Rattle.compare.proofs.Seen.{seen}
+
+-- The next argument of both, where one is left.
+pub record Facing (s : List ℕ) (x : Setting) (y : Template) (m l j lo hi : ℕ) (heads goals : Terms) : Type 0 where
+  pub t : Term
+  pub u : Term
+  pub us : Terms
+  pub ts : Terms
+  pub mid : ℕ
+  pub heads-are : heads ≡ more t us
+  pub goals-are : goals ≡ more u ts
+  pub head-word : getD s (8 * (640 + 32 * y .number + m) + 1 + j) 0 ≡ term-word (item x y) t
+  pub goal-word : getD s (8 * x .places .compound l + 1 + j) 0 ≡ term-word (x .places) u
+  pub head : HeadTerm s x y lo mid t
+  pub goal : UnitTerm s x u
+  pub heads-left : HeadTerms s x y m (j + 1) mid hi us
+  pub goals-left : UnitTerms s x l (j + 1) ts
+  pub low : lo ≤ mid
+  pub mid-high : mid ≤ hi
+
+facing : (s : List ℕ) (x : Setting) (y : Template) (m l j lo hi : ℕ) (heads goals : Terms) → HeadTerms s x y m j lo hi heads
+    → UnitTerms s x l j goals → count heads ≡ count goals → 0 < count heads → Facing s x y m l j lo hi heads goals
+unfolding count HoldsFrom AllWithin AllRanged AllKnown AllNumbered
+facing s x y m l j lo hi end goals a b e p = absurd (omega arith)
+facing s x y m l j lo hi (more t us) end a b e p = absurd (omega arith)
+facing s x y m l j lo hi (more t us) (more u ts) a b e p =
+    let mid = a .numbered .0 in
+    let low : lo ≤ mid = numbered-order lo mid t (a .numbered .1) in
+    let high : mid ≤ hi = all-numbered-order mid hi us (a .numbered .2) in
+    record {
+      t = t;
+      u = u;
+      us = us;
+      ts = ts;
+      mid = mid;
+      heads-are = refl;
+      goals-are = refl;
+      head-word = a .held .0;
+      goal-word = b .held .0;
+      head =
+          record {
+            held = a .held .1;
+            within = a .within .0;
+            known = a .known .0;
+            ranged = a .ranged .0;
+            numbered = a .numbered .1;
+            high = omega (arith, a .high);
+          };
+      goal =
+          record { held = b .held .1; of = record { within = b .within .0; known = b .known .0; ranged = b .ranged .0 } };
+      heads-left =
+          record {
+            held = a .held .2;
+            within = a .within .1;
+            known = a .known .1;
+            ranged = a .ranged .1;
+            numbered = a .numbered .2;
+            high = a .high;
+            rising = omega (arith, a .rising);
+          };
+      goals-left = record { held = b .held .2; within = b .within .1; known = b .known .1; ranged = b .ranged .1 };
+      low = low;
+      mid-high = high;
+    }
+
+-- So far, before the i-th argument: s₀ was the scratch at first, given the entries made.
+pub record Partly (s₀ s : List ℕ) (x : Setting) (y : Template) (from links m : ℕ) (us : Terms) (lo hi l : ℕ) (ts : Terms) (n k given i : ℕ) : Type 0 where
+  pub whole : k ≡ count us
+  pub j : ℕ
+  pub at : i ≡ j + 1
+  pub heads : Terms
+  pub goals : Terms
+  pub low : ℕ
+  pub gifts : List Gift
+  pub only : Only 39936 40336 s₀ s
+  pub scratch : s ≡ recorded (item x y) (x .places) n gifts s₀
+  pub counted : given ≡ n + entries gifts
+  pub held : AllGiven s₀ x y gifts
+  pub trial : TrialStands s x y from
+  pub head : HeadTerms s x y m j low hi heads
+  pub goal : UnitTerms s x l j goals
+  pub counts : count heads ≡ count goals
+  pub left : j + count heads ≡ count us
+  pub fits : given + count heads + 6 * lo ≤ n + count us + 6 * low
+  pub outcome : places-outcome x links us ts
+      ≡ with-assignments (assignments (length (x .values)) (x .compounds) gifts) (places-outcome x links heads goals)
+
+first-count : (places : Places) (f : Functor) (k : ℕ) → k ≤ 6 → functor-word places f k % 8 ≡ k
+first-count places cell k few = omega arith
+first-count places (named f) k few = omega arith
+
+module _ (links : ℕ) {s₀ : List ℕ} {x : Setting} {y : Template} {from m : ℕ} {g : Functor} {us : Terms} {lo hi l : ℕ} {f : Functor} {ts : Terms} {p q n : ℕ}
+    (a : AllAgainst s₀ x y from m g us lo hi l f ts p q n) where
+  pub head-inside : 8 * p + 8 ≤ length s₀
+  head-inside = omega (arith, a .head-cell .inside, a .head-place)
+
+  pub goal-inside : 8 * q + 8 ≤ length s₀
+  goal-inside = omega (arith, a .goal-cell .inside, a .goal-place)
+
+  pub first-partly : (k : ℕ) → k ≡ getD s₀ (8 * p) 0 % 8 → Partly s₀ s₀ x y from links m us lo hi l ts n k n 1
+  unfolding assignments entries recorded AllGiven
+  first-partly k e = record {
+    whole = e ∙ rw (a .head-place, a .head-cell .functor) (first-count (item x y) g (count us) (a .head-cell .few));
+    j = 0;
+    at = refl;
+    heads = us;
+    goals = ts;
+    low = lo;
+    gifts = [];
+    only = only-same 39936 40336 s₀;
+    scratch = refl;
+    counted = omega arith;
+    held = tt;
+    trial = a .trial;
+    head = a .head;
+    goal = a .goal;
+    counts = a .counts;
+    left = omega arith;
+    fits = omega arith;
+    outcome = sym (with-none (places-outcome x links us ts));
+  }
+
+  module _ {s : List ℕ} {k given i : ℕ} (P : Partly s₀ s x y from links m us lo hi l ts n k given i) where
+    -- Within the compounds' places, while an argument is left.
+    pub arguments-inside : i ≤ k → (8 * p + i < length s) × (8 * q + i < length s)
+    arguments-inside h = (
+      omega (arith, head-inside, P .only .size, P .whole, a .head-cell .few),
+      omega (arith, goal-inside, P .only .size, P .whole, a .head-cell .few),
+    )
+
+    pub next : i ≤ k → Facing s x y m l (P .j) (P .low) hi (P .heads) (P .goals)
+    next h =
+        facing s x y m l (P .j) (P .low) hi (P .heads) (P .goals) (P .head) (P .goal) (P .counts)
+        (omega (arith, P .at, P .left, P .whole))
+
+    module _ (F : Facing s x y m l (P .j) (P .low) hi (P .heads) (P .goals)) where
+      pub head-read : {h : ℕ} → h ≡ getD s (8 * p + i) 0 → h ≡ term-word (item x y) (F .t)
+      head-read e =
+          let same : 8 * p + i ≡ 8 * (640 + 32 * y .number + m) + 1 + P .j = omega (arith, a .head-place, P .at) in
+          e ∙ ap (λ c. getD s c 0) same ∙ F .head-word
+
+      pub goal-read : {w′ : ℕ} → w′ ≡ getD s (8 * q + i) 0 → Reads s x from (F .u) w′
+      goal-read e =
+          let same : 8 * q + i ≡ 8 * x .places .compound l + 1 + P .j = omega (arith, a .goal-place, P .at) in
+          record { stands = P .trial .unit; term = F .goal; word = e ∙ ap (λ c. getD s c 0) same ∙ F .goal-word }
+
+      pub next-against : {h w : ℕ} → h ≡ getD s (8 * p + i) 0 → Reads s x from (followed links (x .values) (F .u)) w
+          → Against s x y from (P .low) (F .mid) (F .t) (followed links (x .values) (F .u)) h w given
+      unfolding count
+      next-against e r = record {
+        trial = P .trial;
+        head = F .head;
+        goal = r .term;
+        head-word = head-read e;
+        goal-word = r .word;
+        room =
+            omega (
+              arith,
+              a .room,
+              P .fits,
+              F .low,
+              F .mid-high,
+              counted-left,
+            );
+      }
+        where
+          counted-left : 1 ≤ count (P .heads)
+          counted-left = rw (F .heads-are) (omega arith)
+
+      pub next-depth : {h : ℕ} → h ≡ getD s (8 * p + i) 0 → depth (seen h) < 2 * (4992 - p)
+      next-depth {h} e =
+          argument-depth x y m (P .low) (F .mid) h p (F .t) (P .head .rising) (omega (arith, F .head .high, a .trial .compounds))
+          (a .trial .number) (F .head .numbered) (F .low) (head-read e) (a .head-place)
+
+    module _ (F : Facing s x y m l (P .j) (P .low) hi (P .heads) (P .goals)) where
+      abbrev pub one : Outcome
+      one = place-outcome x links (F .t) (followed links (x .values) (F .u))
+
+      split : places-outcome x links us ts
+          ≡ with-assignments (assignments (length (x .values)) (x .compounds) (P .gifts))
+          (and-then one (places-outcome x links (F .us) (F .ts)))
+      unfolding places all-renamed
+      split = rw (F .heads-are, F .goals-are) at (P .outcome)
+
+      counted-heads : count (P .heads) ≡ count (F .us) + 1
+      unfolding count
+      counted-heads = rw (F .heads-are) (omega arith)
+
+      counted-goals : count (P .goals) ≡ count (F .ts) + 1
+      unfolding count
+      counted-goals = rw (F .goals-are) (omega arith)
+
+      -- One argument more agrees.
+      module _ {s′ : List ℕ} {m′ : ℕ} (r : Answers s s′ x y given (P .low) (given + 6 * F .mid + 1) one (Agrees m′)) where
+        pub one-more : Partly s₀ s′ x y from links m us lo hi l ts n k m′ (i + 1)
+        unfolding and-then
+        one-more = record {
+          whole = P .whole;
+          j = P .j + 1;
+          at = omega (arith, P .at);
+          heads = F .us;
+          goals = F .ts;
+          low = F .mid;
+          gifts = P .gifts ++ more-gifts;
+          only = only-then 39936 40336 s₀ s s′ (P .only) (r .only);
+          scratch = recorded-on;
+          counted = omega (arith, P .counted, r .told .1 .counted, entries-append (P .gifts) more-gifts);
+          held =
+              given-append s₀ x y (P .gifts) more-gifts (P .held)
+              (all-given-kept s s₀ (only-back 39936 40336 s₀ s (P .only)) x y from (P .trial) more-gifts (r .told .1 .given));
+          trial = trial-kept s s′ (r .only) x y from (P .trial);
+          head =
+              head-terms-kept s s′ (r .only) x y (a .trial .number) (a .trial .compounds) m (P .j + 1) (F .mid) hi (F .us)
+              (omega (arith, F .heads-left .rising, F .mid-high, F .heads-left .high))
+              (omega (arith, P .left, a .head-cell .few, counted-heads))
+              (F .heads-left);
+          goal =
+              unit-terms-kept s s′ (r .only) x (a .trial .outside) l (P .j + 1) (F .ts) (a .goal-number)
+              (omega (arith, P .left, a .head-cell .few, counted-heads, counted-goals, P .counts))
+              (F .goals-left);
+          counts = omega (arith, counted-heads, counted-goals, P .counts);
+          left = omega (arith, P .left, counted-heads);
+          fits = omega (arith, P .fits, r .told .0, counted-heads);
+          outcome = outcome-on;
+        }
+          where
+            more-gifts : List Gift
+            more-gifts = r .told .1 .gifts
+
+            recorded-on : s′ ≡ recorded (item x y) (x .places) n (P .gifts ++ more-gifts) s₀
+            recorded-on =
+                let there : s′ ≡ recorded (item x y) (x .places) given more-gifts s = r .told .1 .scratch in
+                let back = recorded-append (item x y) (x .places) n (P .gifts) more-gifts s₀ in
+                let onward : recorded (item x y) (x .places) given more-gifts s
+                ≡ recorded (item x y) (x .places) (n + entries (P .gifts)) more-gifts (recorded (item x y) (x .places) n (P .gifts) s₀) =
+                ap (λ e. recorded (item x y) (x .places) e more-gifts s) (P .counted)
+                ∙ ap (λ e. recorded (item x y) (x .places) (n + entries (P .gifts)) more-gifts e) (P .scratch)
+                in
+                there ∙ onward ∙ sym back
+
+            outcome-on : places-outcome x links us ts
+                ≡ with-assignments (assignments (length (x .values)) (x .compounds) (P .gifts ++ more-gifts)) (places-outcome x links (F .us) (F .ts))
+            outcome-on =
+                let b = length (x .values) in
+                let c = x .compounds in
+                let rest = places-outcome x links (F .us) (F .ts) in
+                let first = rw (r .told .1 .outcome) at split in
+                first
+                ∙ with-both (assignments b c (P .gifts)) (assignments b c more-gifts) rest
+                ∙ ap (λ e. with-assignments e rest) (sym (assignments-append b c (P .gifts) more-gifts))
+
+      -- It waits, or fails, at the first argument that does.
+      pub waits-here : {s′ : List ℕ} {z : ℕ} → Answers s s′ x y given (P .low) (given + 6 * F .mid + 1) one (Waits z)
+          → Answers s₀ s′ x y n lo (n + 6 * hi + count us) (places-outcome x links us ts) (Waits z)
+      unfolding and-then with-assignments waits-on
+      waits-here {s′} r = record {
+        only = only-then 39936 40336 s₀ s s′ (P .only) (r .only);
+        told = record {
+          pair = r .told .pair;
+          outcome = rw (r .told .outcome) at split;
+          inside = r .told .inside;
+          place = r .told .place;
+        };
+      }
+
+      pub fails-here : {s′ : List ℕ} → Answers s s′ x y given (P .low) (given + 6 * F .mid + 1) one Fails
+          → Answers s₀ s′ x y n lo (n + 6 * hi + count us) (places-outcome x links us ts) Fails
+      unfolding and-then with-assignments
+      fails-here {s′} r = record {
+        only = only-then 39936 40336 s₀ s s′ (P .only) (r .only);
+        told = rw (r .told) at split;
+      }
+
+    -- No argument is left.
+    none-left : (heads goals : Terms) → count heads ≡ count goals → count heads ≡ 0 → places-outcome x links heads goals ≡ succeeds []
+    unfolding places all-renamed count
+    none-left end end e z = refl
+    none-left end (more u ts′) e z = absurd (omega arith)
+    none-left (more t us′) goals e z = absurd (omega arith)
+
+    pub all-agree : k < i → Answers s₀ s x y n lo (n + 6 * hi + count us) (places-outcome x links us ts) (Agrees given)
+    unfolding with-assignments
+    all-agree h = record {
+      only = P .only;
+      told = (
+        omega (arith, P .fits, empty, all-numbered-order (P .low) hi (P .heads) (P .head .numbered)),
+        record {
+          gifts = P .gifts;
+          outcome = outcome-end;
+          scratch = P .scratch;
+          counted = P .counted;
+          given = P .held;
+        },
+      );
+    }
+      where
+        empty : count (P .heads) ≡ 0
+        empty = omega (arith, P .at, P .left, P .whole)
+
+        outcome-end : places-outcome x links us ts ≡ succeeds (assignments (length (x .values)) (x .compounds) (P .gifts))
+        outcome-end =
+            let g = assignments (length (x .values)) (x .compounds) (P .gifts) in
+            let whole = rw (none-left (P .heads) (P .goals) (P .counts) empty) at (P .outcome) in
+            whole ∙ ap succeeds (append-nil g)

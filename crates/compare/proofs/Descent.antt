@@ -1,0 +1,149 @@
+-- Two compounds: their first words decide whether they differ; if not, their arguments are compared, deeper in the head.
+use Prim.Native.Nat.{ℕ, suc, _+_, _*_, _-_, _≤_, _<_}
+use mathlib.Core.Path.{_≡_, refl, ap}
+use mathlib.Core.Bool.{Bool, true, false, _&&_, not}
+use mathlib.Core.List.{List}
+use native.Mathlib.Omega.{arith}
+use lib.Dec.{eqb}
+use lib.ListN.{length, getD}
+use borrow.Author.Tests.{eqb-true}
+use Rattle.meaning.specs.Bytes.{if_then_else_}
+use Rattle.meaning.specs.Terms.{writer, reader, Constant, Functor, Term, Terms, end, more, count, renamed, all-renamed, same-functor}
+use Rattle.meaning.specs.Compare.{Result as Outcome, fails, place}
+use Rattle.meaning.proofs.Lists.Tests.{and-right}
+use Rattle.term.specs.Words.{view-of}
+use Rattle.term.specs.Cells.{content, term-word, Known, Numbered}
+use Rattle.term.specs.Holds.{Holds}
+use Rattle.term.specs.declared.word.View.{View}
+use Rattle.term.specs.declared.word.View.the-variants.{Nothing, Writer, Reader, Integer, Name, Empty, Compound}
+use Rattle.term.proofs.Cells.{all-numbered-order}
+use Rattle.compare.specs.declared.compare.Result.{Result}
+use Rattle.compare.specs.declared.compare.Result.the-variants.{Agrees, Waits, Fails}
+use Rattle.term.specs.Setting.{Setting, Within, Ranged}
+use Rattle.compare.specs.Compare.{Template, item, Against, AllAgainst, Answers, place-outcome, places-outcome}
+use Rattle.compare.proofs.Seen.{seen, seen-term}
+use Rattle.compare.proofs.Equal.{functors-equal}
+
+-- How deep a head's term can lead: the places of its compounds rise.
+unfoldable pub depth : View → ℕ
+depth Nothing = 0
+depth (Writer p) = 0
+depth (Reader p) = 0
+depth (Integer n) = 0
+depth (Name n) = 0
+depth Empty = 0
+depth (Compound p) = 2 * (4992 - p) + 1
+
+depth-below : (x : Setting) (y : Template) (m lo hi : ℕ) (t : Term) → m < lo → hi ≤ 32 → y .number < 128 → Numbered lo hi t
+    → depth (view-of (content (item x y) t)) < 2 * (4992 - (640 + 32 * y .number + m))
+unfolding depth Numbered
+depth-below x y m lo hi (Term.variable writer n) a b e k = omega arith
+depth-below x y m lo hi (Term.variable reader n) a b e k = omega arith
+depth-below x y m lo hi (Term.constant (Constant.integer i)) a b e k = omega arith
+depth-below x y m lo hi (Term.constant (Constant.name f)) a b e k = omega arith
+depth-below x y m lo hi (Term.constant Constant.empty) a b e k = omega arith
+depth-below x y m lo hi (Term.compound n f ts) a b e k = omega (arith, k .0, all-numbered-order (lo + 1) hi ts (k .2))
+
+-- An argument of a compound leads less deep than the compound.
+pub argument-depth : (x : Setting) (y : Template) (m lo hi h p : ℕ) (t : Term) → m < lo → hi ≤ 32 → y .number < 128 → Numbered lo hi t
+    → lo ≤ hi → h ≡ term-word (item x y) t → p ≡ 640 + 32 * y .number + m → depth (seen h) < 2 * (4992 - p)
+argument-depth x y m lo hi h p t a b e k order word at =
+    rw (seen-term (item x y) t h word, at) (depth-below x y m lo hi t a b e k)
+
+count-renamed : (p c : ℕ) (ts : Terms) → count (all-renamed p c ts) ≡ count ts
+unfolding count all-renamed
+count-renamed p c end = refl
+count-renamed p c (more t ts) = ap suc (count-renamed p c ts)
+
+-- The answer to an outcome is the answer to an equal one, where the bound on the entries allows it.
+pub answers-as : (s s′ : List ℕ) (x : Setting) (y : Template) (n lo top lo′ top′ : ℕ) (o o′ : Outcome) (r : Result)
+    → o′ ≡ o → ((m : ℕ) → m + 6 * lo ≤ top → m + 6 * lo′ ≤ top′)
+    → Answers s s′ x y n lo top o r → Answers s s′ x y n lo′ top′ o′ r
+answers-as s s′ x y n lo top lo′ top′ o o′ (Agrees m) e f a =
+    rw e (record { only = a .only; told = (f m (a .told .0), a .told .1) })
+answers-as s s′ x y n lo top lo′ top′ o o′ (Waits z) e f a = rw e (record { only = a .only; told = a .told })
+answers-as s s′ x y n lo top lo′ top′ o o′ Fails e f a = rw e (record { only = a .only; told = a .told })
+
+module _ (s : List ℕ) (x : Setting) (y : Template) (from lo hi h w n links m : ℕ) (g : Functor) (us : Terms) (l : ℕ) (f : Functor) (ts : Terms)
+    (k : Against s x y from lo hi (Term.compound m g us) (Term.compound l f ts) h w n) where
+  unfoldable test : Bool
+  test = same-functor g f && eqb (count us) (count ts)
+
+  pub cells-inside : (8 * (640 + 32 * y .number + m) + 8 ≤ length s) × (8 * x .places .compound l + 8 ≤ length s)
+  unfolding Holds
+  cells-inside = (k .head .held .0 .inside, k .goal .held .0 .inside)
+
+  first-words : eqb (getD s (8 * (640 + 32 * y .number + m)) 0) (getD s (8 * x .places .compound l) 0) ≡ test
+  unfolding Holds Known test
+  first-words =
+      rw (k .head .held .0 .functor, k .goal .held .0 .functor)
+      (functors-equal (x .places) (item x y) refl g f (count us) (count ts) (k .head .held .0 .few) (k .goal .held .0 .few)
+      (k .head .known .0) (k .goal .of .known .0))
+
+  tested : place-outcome x links (Term.compound m g us) (Term.compound l f ts) ≡ (if test then places-outcome x links us ts else fails)
+  unfolding place renamed test
+  tested = rw (count-renamed (length (x .values)) (x .compounds) us)
+
+  pub differing : (b : Bool) → b ≡ not (eqb (getD s (8 * (640 + 32 * y .number + m)) 0) (getD s (8 * x .places .compound l) 0)) → b ≡ true
+      → place-outcome x links (Term.compound m g us) (Term.compound l f ts) ≡ fails
+  unfolding if_then_else_
+  differing b e c = go test refl
+    where
+      go : (a : Bool) → test ≡ a → place-outcome x links (Term.compound m g us) (Term.compound l f ts) ≡ fails
+      go true q =
+          let wrong : b ≡ not true = rw (first-words, q) at e in
+          let z : _≡_ {A = ℕ} 0 1 = cc in
+          absurd (omega arith)
+      go false q = rw q at tested
+
+  agreeing : (b : Bool) → b ≡ not (eqb (getD s (8 * (640 + 32 * y .number + m)) 0) (getD s (8 * x .places .compound l) 0)) → b ≡ false
+      → test ≡ true
+  agreeing b e c = go test refl
+    where
+      go : (a : Bool) → test ≡ a → test ≡ true
+      go true q = q
+      go false q =
+          let wrong : b ≡ not false = rw (first-words, q) at e in
+          let z : _≡_ {A = ℕ} 0 1 = cc in
+          absurd (omega arith)
+
+  pub deeper : (b : Bool) → b ≡ not (eqb (getD s (8 * (640 + 32 * y .number + m)) 0) (getD s (8 * x .places .compound l) 0)) → b ≡ false
+      → AllAgainst s x y from m g us (lo + 1) hi l f ts (640 + 32 * y .number + m) (x .places .compound l) n
+  unfolding Holds Within Known Ranged Numbered test
+  deeper b e c = record {
+    trial = k .trial;
+    head-cell = k .head .held .0;
+    head = record {
+      held = k .head .held .1;
+      within = k .head .within .1;
+      known = k .head .known .1;
+      ranged = k .head .ranged;
+      numbered = k .head .numbered .2;
+      high = k .head .high;
+      rising = omega (arith, k .head .numbered .0);
+    };
+    goal-cell = k .goal .held .0;
+    goal = record {
+      held = k .goal .held .1;
+      within = k .goal .of .within .1;
+      known = k .goal .of .known .1;
+      ranged = k .goal .of .ranged;
+    };
+    goal-number = k .goal .of .within .0;
+    counts = eqb-true (count us) (count ts) (and-right (same-functor g f) (eqb (count us) (count ts)) (agreeing b e c));
+    head-place = refl;
+    goal-place = refl;
+    room = omega (arith, k .room, k .head .held .0 .few);
+  }
+
+  pub deeper-answers : (b : Bool) → b ≡ not (eqb (getD s (8 * (640 + 32 * y .number + m)) 0) (getD s (8 * x .places .compound l) 0)) → b ≡ false
+      → (s′ : List ℕ) (r : Result) → Answers s s′ x y n (lo + 1) (n + 6 * hi + count us) (places-outcome x links us ts) r
+      → Answers s s′ x y n lo (n + 6 * hi + 1) (place-outcome x links (Term.compound m g us) (Term.compound l f ts)) r
+  unfolding Holds if_then_else_
+  deeper-answers b e c s′ r a =
+      answers-as s s′ x y n (lo + 1) (n + 6 * hi + count us) lo (n + 6 * hi + 1) (places-outcome x links us ts)
+      (place-outcome x links (Term.compound m g us) (Term.compound l f ts)) r
+      (go (agreeing b e c)) (λ i q. omega (arith, k .head .held .0 .few)) a
+    where
+      go : test ≡ true → place-outcome x links (Term.compound m g us) (Term.compound l f ts) ≡ places-outcome x links us ts
+      go q = rw q at tested

@@ -1,0 +1,50 @@
+-- Gifts, one list behind the other: their assignments, their entries and what the region records compose.
+use Prim.Native.Nat.{ℕ, _+_}
+use mathlib.Core.Path.{_≡_, refl, sym, ap}
+use mathlib.Core.List.{List, [], _∷_, _++_, append-assoc}
+use native.Mathlib.Omega.{arith}
+use Rattle.meaning.specs.Compare.{Assignment, Result, succeeds, waits, fails, with-assignments}
+use Rattle.term.specs.Cells.{Places, term-word}
+use Rattle.term.specs.Setting.{Setting}
+use Rattle.compare.specs.Gifts.{Gift, to-head, to-goal, assignment, assignments, entries, head-written, goal-written, recorded}
+use Rattle.compare.specs.Compare.{Template, AllGiven}
+
+pub assignments-append : (p c : ℕ) (a b : List Gift) → assignments p c (a ++ b) ≡ assignments p c a ++ assignments p c b
+unfolding assignments
+assignments-append p c [] b = refl
+assignments-append p c (g ∷ a) b = ap (λ l. assignment p c g ∷ l) (assignments-append p c a b)
+
+pub entries-append : (a b : List Gift) → entries (a ++ b) ≡ entries a + entries b
+unfolding entries
+entries-append [] b = omega arith
+entries-append (to-head n u ∷ a) b = entries-append a b
+entries-append (to-goal z t ∷ a) b = omega (arith, entries-append a b)
+
+pub recorded-append : (item unit : Places) (n : ℕ) (a b : List Gift) (s : List ℕ)
+    → recorded item unit n (a ++ b) s ≡ recorded item unit (n + entries a) b (recorded item unit n a s)
+unfolding recorded entries
+recorded-append item unit n [] b s =
+    let same : n + 0 ≡ n = omega arith in
+    rw same
+recorded-append item unit n (to-head x u ∷ a) b s = recorded-append item unit n a b (head-written x (term-word unit u) s)
+recorded-append item unit n (to-goal z t ∷ a) b s =
+    let same : n + (entries a + 1) ≡ n + 1 + entries a = omega arith in
+    rw same (recorded-append item unit (n + 1) a b (goal-written n (unit .pair z) (term-word item t) s))
+
+pub given-append : (s : List ℕ) (x : Setting) (y : Template) (a b : List Gift) → AllGiven s x y a → AllGiven s x y b → AllGiven s x y (a ++ b)
+unfolding AllGiven
+given-append s x y [] b k l = l
+given-append s x y (g ∷ a) b k l = (k .0, given-append s x y a b (k .1) l)
+
+-- "The comparison stops at the first place that fails or waits."
+pub with-none : (o : Result) → with-assignments [] o ≡ o
+unfolding with-assignments
+with-none (succeeds given) = refl
+with-none (waits readers) = refl
+with-none fails = refl
+
+pub with-both : (a b : List Assignment) (o : Result) → with-assignments a (with-assignments b o) ≡ with-assignments (a ++ b) o
+unfolding with-assignments
+with-both a b (succeeds given) = ap succeeds (sym (append-assoc a b given))
+with-both a b (waits readers) = refl
+with-both a b fails = refl

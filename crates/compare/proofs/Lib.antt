@@ -1,0 +1,11 @@
+pub mod Arguments
+pub mod Descent
+pub mod Equal
+pub mod Following
+pub mod Gifts
+pub mod Given
+pub mod Kept
+pub mod Place
+pub mod Rows
+pub mod Seen
+pub mod Table

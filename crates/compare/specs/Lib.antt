@@ -1,0 +1,4 @@
+pub mod Compare
+pub mod Follow
+pub mod Gifts
+pub mod Rows
