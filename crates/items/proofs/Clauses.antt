@@ -34,7 +34,7 @@ use Rattle.tables.specs.Places.{Place, Placed, spellings, names-over, variables
 use Rattle.openings.specs.Reading.{piece, counted-at, Stands}
 use Rattle.tables.specs.Rules.{none-twice, halves-alike}
 use Rattle.image.specs.Image.{so-far, clause-stored, head-word}
-use Rattle.goals.specs.Endings.{rule-part, Ended, RuleIs}
+use Rattle.bodies.specs.Endings.{rule-part, Ended, RuleIs}
 use Rattle.items.specs.Outcomes.{Begins, TookClause, Took}
 use Rattle.openings.specs.declared.cursor.Cursor.{Cursor}
 use Rattle.tables.proofs.Numbering.{spellings-length}

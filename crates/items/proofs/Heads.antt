@@ -21,14 +21,14 @@ use Rattle.tables.specs.Places.{Place, Placed, spellings, before, with-name, wi
 use Rattle.openings.specs.Reading.{piece, counted-at, half-place, Stands, Open, Gave}
 use Rattle.tokens.specs.Nexts.{SignAt, one-of, Stops}
 use Rattle.image.specs.Image.{goals-stored, head-word}
-use Rattle.goals.specs.Endings.{goals-part, rule-part, Ended, EndIs, RuleIs}
+use Rattle.bodies.specs.Endings.{goals-part, rule-part, Ended, EndIs, RuleIs}
 use Rattle.openings.specs.declared.cursor.Cursor.{Cursor}
 use Rattle.openings.specs.declared.cursor.Read.{Read as Answer}
 use Rattle.openings.specs.declared.cursor.Read.the-variants.{Got, Malformed, Passed}
 use Rattle.openings.proofs.Expected.{piece-open, piece-stop, either-first, either-second, either-none}
 use Rattle.openings.proofs.Passing.{More, names-append, variables-append, before-append, open-append, names-more}
-use Rattle.goals.proofs.GoalLists.{places-more, still-stored, still-named}
-use Rattle.goals.proofs.Partly.{behind-it, stands-behind, gave-only}
+use Rattle.bodies.proofs.GoalLists.{places-more, still-stored, still-named}
+use Rattle.bodies.proofs.Partly.{behind-it, stands-behind, gave-only}
 
 rule-suc : (counted counted′ : Counted) (ts us : Tokens) (g : Named) → goal counted ts ≡ read g counted′ us
     → rule counted ts

@@ -34,7 +34,7 @@ use Rattle.openings.specs.Reading.{piece, counted-at, Stands, Open}
 use Rattle.tables.specs.Rules.{none-twice}
 use Rattle.image.specs.Kept.{pairs-kept}
 use Rattle.image.specs.Image.{so-far, query-stored, places-stored}
-use Rattle.goals.specs.Endings.{goals-part, Ended}
+use Rattle.bodies.specs.Endings.{goals-part, Ended}
 use Rattle.items.specs.Outcomes.{Begins, TookQuery, Took, shifted}
 use Rattle.openings.specs.declared.cursor.Cursor.{Cursor}
 use Rattle.tables.proofs.Numbering.{spellings-length}

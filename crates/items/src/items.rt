@@ -1,6 +1,6 @@
 // Items: "`head.`, `head :- goal,..,goal.` or `?- goal,..,goal.`", each read into its places of the scratch.
-use goals::goals::goal;
-use goals::goals::goals;
+use bodies::goals::goal;
+use bodies::goals::goals;
 use image::keep::keep_places;
 use openings::cursor::Cursor;
 use openings::cursor::Read;
@@ -23,7 +23,7 @@ ghost use Rattle.meaning.specs.Tokens.{Tokens, token, name, sign};
 ghost use Rattle.tokens.specs.Fronts.{tokens-in};
 ghost use Rattle.items.specs.Outcomes.{ItemIs, Begins, Lent};
 ghost use Rattle.openings.specs.Reading.{Stands};
-ghost use Rattle.goals.specs.Endings.{RuleIs};
+ghost use Rattle.bodies.specs.Endings.{RuleIs};
 
 fn word(n: usize) -> u64
     ensures { λ r. ⌜ r ≡ n ⌝ }

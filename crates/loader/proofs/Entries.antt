@@ -25,7 +25,7 @@ use Rattle.image.specs.Image.{
 }
 use Rattle.loader.specs.Loading.{with-entries, EntriesKnown}
 use Rattle.openings.proofs.Passing.{More}
-use Rattle.goals.proofs.GoalLists.{still-known, still-goals, still-stored}
+use Rattle.bodies.proofs.GoalLists.{still-known, still-goals, still-stored}
 use Rattle.items.proofs.Heads.{still-head}
 
 pub with-snoc : (es : List Entry) (e : Entry) (r : Reading) → with-entries (es ++ (e ∷ [])) r ≡ with-entries es (with-entries (e ∷ []) r)

@@ -4,7 +4,7 @@ use mathlib.Core.Path.{_≡_, refl, ap, sym, _∙_}
 use lib.ListN.{length, length-set}
 use Rattle.tables.specs.Places.{names-over, variables-over}
 use Rattle.openings.proofs.Expected.{never}
-use Rattle.goals.proofs.Partly.{stands-behind}
+use Rattle.bodies.proofs.Partly.{stands-behind}
 use Rattle.items.proofs.Heads.{head-body, head-stop, head-other, head-malformed, head-passed}
 use native.Mathlib.Omega.{arith}
 use borrow.Author.Needs.{needs}

@@ -19,11 +19,11 @@ use Rattle.tables.specs.Places.{Place, Placed, spellings, before, with-name, wi
 use Rattle.openings.specs.Reading.{piece, counted-at, half-place, Stands, Open, Gave}
 use Rattle.tokens.specs.Nexts.{SignAt, one-of, Stops}
 use Rattle.image.specs.Image.{goals-stored}
-use Rattle.goals.specs.Endings.{goals-part, Ended, Partly}
+use Rattle.bodies.specs.Endings.{goals-part, Ended, Partly}
 use Rattle.openings.specs.declared.cursor.Cursor.{Cursor}
 use Rattle.openings.proofs.Passing.{names-append, variables-append, before-append, open-append, names-more}
-use Rattle.goals.proofs.GoalLists.{goals-snoc, occurrences-snoc, known-snoc, length-snoc, still-known, still-goals}
-use Rattle.goals.proofs.Commas.{goals-comma, goals-stop, goals-other, goals-malformed, goals-passed, behind-goals}
+use Rattle.bodies.proofs.GoalLists.{goals-snoc, occurrences-snoc, known-snoc, length-snoc, still-known, still-goals}
+use Rattle.bodies.proofs.Commas.{goals-comma, goals-stop, goals-other, goals-malformed, goals-passed, behind-goals}
 
 -- The cursor behind a sign.
 abbrev pub behind-it : Cursor → ℕ → Cursor

@@ -17,7 +17,7 @@ use Rattle.tables.specs.Places.{Place, Placed, before, names-over, variables-ov
 use Rattle.openings.specs.Reading.{piece, counted-at, half-place, Stands, Open}
 use Rattle.tables.specs.Tables.{VariablesIn}
 use Rattle.image.specs.Image.{goals-stored}
-use Rattle.goals.specs.Endings.{goals-part, EndIs, NinthIs, Partly}
+use Rattle.bodies.specs.Endings.{goals-part, EndIs, NinthIs, Partly}
 use Rattle.tokens.specs.declared.token.Token.the-variants.{End, Name, Writer, Reader, Integer as AnInteger, Sign, Bad}
 use Rattle.openings.specs.declared.cursor.Cursor.{Cursor}
 use Rattle.openings.specs.declared.cursor.Read.{Read as Answer}

@@ -1,14 +1,14 @@
--- `goals::goals::goal` meets its contract: behind a goal's name and parenthesis it answers what `compound` answers.
+-- `bodies::goals::goal` meets its contract: behind a goal's name and parenthesis it answers what `compound` answers.
 use Prim.Native.Nat.{ℕ, _+_, _*_, _≤_}
 use mathlib.Core.Path.{_≡_, refl, ap, sym, _∙_}
 use Rattle.term.proofs.Frames.{only-same}
 use Rattle.tables.specs.Places.{with-place}
-use Rattle.goals.proofs.GoalRead.{goal-is}
+use Rattle.bodies.proofs.GoalRead.{goal-is}
 use native.Mathlib.Omega.{arith}
 use borrow.Author.Needs.{needs}
 use borrow.Author.Needs.{needs}
-use Rattle.goals.proofs.goals.goal.Statement.{statement}
-use Rattle.goals.proofs.goals.goal.Tie as tie
+use Rattle.bodies.proofs.goals.goal.Statement.{statement}
+use Rattle.bodies.proofs.goals.goal.Tie as tie
 
 goal-name-requires : tie.Need-goal-name-requires
 goal-name-requires c κs = search needs

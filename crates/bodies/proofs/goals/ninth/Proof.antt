@@ -1,10 +1,10 @@
--- `goals::goals::ninth` meets its contract: a name passes the figure, any other token cannot stand.
-use Rattle.goals.proofs.Ninth.{ninth-name, ninth-writer, ninth-reader, ninth-integer, ninth-sign, ninth-bad, ninth-ends}
+-- `bodies::goals::ninth` meets its contract: a name passes the figure, any other token cannot stand.
+use Rattle.bodies.proofs.Ninth.{ninth-name, ninth-writer, ninth-reader, ninth-integer, ninth-sign, ninth-bad, ninth-ends}
 use native.Mathlib.Omega.{arith}
 use borrow.Author.Needs.{needs}
 use borrow.Author.Needs.{needs}
-use Rattle.goals.proofs.goals.ninth.Statement.{statement}
-use Rattle.goals.proofs.goals.ninth.Tie as tie
+use Rattle.bodies.proofs.goals.ninth.Statement.{statement}
+use Rattle.bodies.proofs.goals.ninth.Tie as tie
 
 front-requires : tie.Need-front-requires
 front-requires c κs = search needs

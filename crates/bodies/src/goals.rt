@@ -16,7 +16,7 @@ ghost use Rattle.meaning.specs.Terms.{as-term};
 ghost use Rattle.meaning.specs.Items.{goal as goal-reader, goals as goals-reader};
 ghost use Rattle.tables.specs.Places.{Place};
 ghost use Rattle.openings.specs.Reading.{Stands, ReadIs};
-ghost use Rattle.goals.specs.Endings.{NinthIs, EndIs, goals-part};
+ghost use Rattle.bodies.specs.Endings.{NinthIs, EndIs, goals-part};
 
 // A goal; the parenthesis is the first of the 16 brackets.
 pub fn goal(

@@ -1,4 +1,4 @@
--- `goals::goals::goals` meets its contract. Goals have been read, each with its comma, as many as were counted; the next one comes, up to
+-- `bodies::goals::goals` meets its contract. Goals have been read, each with its comma, as many as were counted; the next one comes, up to
 -- eight of them, and what is left of the eight falls.
 use Prim.Native.Nat.{ℕ, _+_, _*_, _-_, _≤_, _<_}
 use mathlib.Core.Path.{_≡_, refl, ap, sym, _∙_}
@@ -8,15 +8,15 @@ use Rattle.meaning.specs.Terms.{Named}
 use Rattle.term.proofs.Frames.{only-then, only-wider}
 use Rattle.tables.specs.Places.{Place, Placed, names-over, variables-over}
 use Rattle.openings.specs.Reading.{Stands}
-use Rattle.goals.specs.Endings.{Partly}
+use Rattle.bodies.specs.Endings.{Partly}
 use Rattle.openings.proofs.Expected.{never}
-use Rattle.goals.proofs.GoalLists.{length-snoc}
-use Rattle.goals.proofs.Ninth.{partly-none, partly-ninth}
-use Rattle.goals.proofs.Partly.{partly-comma, partly-stop, partly-other, partly-malformed, partly-passed, grown-only}
+use Rattle.bodies.proofs.GoalLists.{length-snoc}
+use Rattle.bodies.proofs.Ninth.{partly-none, partly-ninth}
+use Rattle.bodies.proofs.Partly.{partly-comma, partly-stop, partly-other, partly-malformed, partly-passed, grown-only}
 use native.Mathlib.Omega.{arith}
 use borrow.Author.Needs.{needs}
-use Rattle.goals.proofs.goals.goals.Statement.{statement}
-use Rattle.goals.proofs.goals.goals.Tie as tie
+use Rattle.bodies.proofs.goals.goals.Statement.{statement}
+use Rattle.bodies.proofs.goals.goals.Tie as tie
 
 abbrev Inv-loop : tie.InvT-loop
 Inv-loop text rest from s₀ names₀ item₀ base place d₀ i₀ s names item d i = ((known : List Place) (vars : List Place) → Stands text rest from names₀ item₀ d₀ known vars
