@@ -1,0 +1,80 @@
+// The call for hosts: one exported function, with the number as its result and line and length through references.
+use job::call::Answer;
+use job::call::call;
+ghost use mathlib.Core.Path.{_≡_};
+ghost use Rattle.meaning.specs.Call.{number, line-of, length-of, call as call-of};
+ghost use Rattle.term.specs.Layout.{need-of};
+ghost use Rattle.job.specs.Calling.{answer-of, room-of, given};
+ghost use Rattle.troscunel.specs.Exported.{Exports};
+
+// Document 01's number of an answer.
+fn number_of(a: Answer) -> u32
+    ensures { λ r. ⌜ r ≡ number (answer-of a) ⌝ }
+{
+    match a {
+        Answer::Ran(_) => 0,
+        Answer::OutOfRange => 1,
+        Answer::ScratchShort => 2,
+        Answer::TextLong => 3,
+        Answer::NoItems(_) => 4,
+        Answer::OccurrenceBroken(_) => 5,
+        Answer::FigurePassed(_) => 6,
+        Answer::QueriesPassRoom => 7,
+        Answer::ReportLong(_) => 8,
+    }
+}
+
+fn line_of(a: Answer) -> usize
+    ensures { λ r. ⌜ r ≡ line-of (answer-of a) ⌝ }
+{
+    match a {
+        Answer::NoItems(at) => at,
+        Answer::OccurrenceBroken(at) => at,
+        Answer::FigurePassed(at) => at,
+        Answer::Ran(_) => 0,
+        Answer::OutOfRange => 0,
+        Answer::ScratchShort => 0,
+        Answer::TextLong => 0,
+        Answer::QueriesPassRoom => 0,
+        Answer::ReportLong(_) => 0,
+    }
+}
+
+fn length_of(a: Answer) -> usize
+    ensures { λ r. ⌜ r ≡ length-of (answer-of a) ⌝ }
+{
+    match a {
+        Answer::Ran(n) => n,
+        Answer::ReportLong(n) => n,
+        Answer::OutOfRange => 0,
+        Answer::ScratchShort => 0,
+        Answer::TextLong => 0,
+        Answer::NoItems(_) => 0,
+        Answer::OccurrenceBroken(_) => 0,
+        Answer::FigurePassed(_) => 0,
+        Answer::QueriesPassRoom => 0,
+    }
+}
+
+// Text, budget, room figures, scratch in 64-bit words, report buffer; a slice is a pointer and a length.
+#[no_mangle]
+pub extern "C" fn troscunel_call(
+    text: &[u8],
+    budget: usize,
+    pairs: usize,
+    compounds: usize,
+    goals: usize,
+    scratch: &mut [u64],
+    buffer: &mut [u8],
+    line: &mut usize,
+    length: &mut usize,
+) -> u32
+    ensures { λ r. ⌜ Exports
+        (call-of need-of (given (now (text .entry)) budget (room-of pairs compounds goals) (now (scratch .entry)) (now (buffer .entry))))
+        r (now (line .exit)) (now (length .exit)) (now (buffer .exit)) (now (scratch .exit)) ⌝ }
+{
+    let answer = call(text, budget, pairs, compounds, goals, scratch, buffer);
+    *line = line_of(answer);
+    *length = length_of(answer);
+    number_of(answer)
+}
