@@ -11,6 +11,7 @@ mod corners;
 mod edges;
 mod figures;
 pub mod frame;
+pub mod heavy;
 mod layout;
 pub mod options;
 mod programs;
