@@ -13,7 +13,7 @@ enum troscunel_number {
     TROSCUNEL_SCRATCH_SHORT = 2,     /* the scratch has fewer words than TROSCUNEL_NEED */
     TROSCUNEL_TEXT_LONG = 3,         /* the text is longer than 16,384 bytes */
     TROSCUNEL_NO_ITEM = 4,           /* no item can be read at this line */
-    TROSCUNEL_OCCURRENCE_RULE = 5,   /* an item that ends at this line breaks an occurrence rule */
+    TROSCUNEL_OCCURRENCE_RULE = 5,   /* the item that begins at this line breaks an occurrence rule */
     TROSCUNEL_FIGURE = 6,            /* an item passes a figure at this line; line 0: the text has no query */
     TROSCUNEL_QUERIES_PASS_ROOM = 7, /* the queries alone pass a room figure */
     TROSCUNEL_REPORT_LONG = 8        /* the report is longer than its buffer or than 16,777,216 bytes */
