@@ -61,7 +61,7 @@ int main(void) {
             return fail(1, "a guard byte has changed");
         if (!all(report, number == TROSCUNEL_RAN ? length : 0, size, FULL_STOP))
             return fail(1, "a byte of the buffer has changed that is no byte of a report");
-        size_t cleared = number == TROSCUNEL_RAN || TROSCUNEL_NO_ITEM <= number ? 8 * own : 0;
+        size_t cleared = number == TROSCUNEL_RAN || TROSCUNEL_NO_ITEMS <= number ? 8 * own : 0;
         if (!all(scratch + GUARD, 0, cleared, 0) || !all(scratch + GUARD, cleared, 8 * words, MARK))
             return fail(1, "the scratch is not as document 01 has it");
         printf("%u %zu %zu\n", (unsigned)number, line, length);
