@@ -16,7 +16,7 @@ enum troscunel_number {
     TROSCUNEL_OUT_OF_RANGE = 1,      /* the budget is over 1,000,000, or a room figure is not 1 to 65,535 */
     TROSCUNEL_SCRATCH_SHORT = 2,     /* the scratch has fewer words than TROSCUNEL_NEED */
     TROSCUNEL_TEXT_LONG = 3,         /* the text is longer than 16,384 bytes */
-    TROSCUNEL_NO_ITEMS = 4,          /* no item can be read: the token at this line is bad or cannot stand there */
+    TROSCUNEL_NO_ITEMS = 4,          /* no item can be read: at this line a token is bad or cannot stand, or the text ends */
     TROSCUNEL_OCCURRENCE_BROKEN = 5, /* the item that begins at this line breaks an occurrence rule */
     TROSCUNEL_FIGURE_PASSED = 6,     /* the item that begins at this line passes a figure of docs/LIMITS.md; line 0: the text has no query */
     TROSCUNEL_QUERIES_PASS_ROOM = 7, /* the queries alone pass a room figure */

@@ -14,7 +14,7 @@
 #include <stdlib.h>
 #include <string.h>
 
-#include "../../include/troscunel.h"
+#include "need.h"
 
 enum { USAGE = 64, NO_FILE = 66, NO_SYSTEM = 71, NO_IO = 74 };
 
@@ -62,13 +62,7 @@ static size_t decimal(const char *name, const char *digits) {
     return number;
 }
 
-static int in_range(size_t figure) { return 1 <= figure && figure <= TROSCUNEL_LARGEST_ROOM; }
-
-/* As many words as the room needs. Figures that are out of range are refused before the scratch is looked at: they need none. */
-static size_t need(const size_t *figures) {
-    size_t pairs = figures[PAIRS], compounds = figures[COMPOUNDS], goals = figures[GOALS];
-    return in_range(pairs) && in_range(compounds) && in_range(goals) ? TROSCUNEL_NEED(pairs, compounds, goals) : 0;
-}
+static size_t need(const size_t *figures) { return need_of(figures[PAIRS], figures[COMPOUNDS], figures[GOALS]); }
 
 /* Sets the figures and gives the file's name. */
 static const char *options(int count, char **words, size_t *figures) {
