@@ -1,4 +1,5 @@
 // One step: the goal at the front is reduced, waits or fails.
+use compare::ends::keep_ends;
 use queues::goals::behind;
 use queues::goals::close_up;
 use queues::goals::fail;
@@ -178,6 +179,7 @@ fn join_waiting(
         → JoiningWaiting (now (s .entry)) j (figures room) limit atlas g goal query readers rs
         → StepIs (now (s .entry)) (now (s .exit)) text names j (figures room) limit atlas g others t r) ⌝ }
 {
+    keep_ends(s, layout::values(room), room.pairs, index(goal / 8));
     let log = free_place(s, room, t.log);
     wait(
         s,
@@ -244,7 +246,7 @@ pub fn step(s: &mut [u64], room: Room, t: Standing) -> Stepped
         s,
         layout::values(room),
         layout::marks(room),
-        t.pairs,
+        room.pairs,
         index(goal / 8),
         word(t.steps) * 32768 + 1,
     ) {
