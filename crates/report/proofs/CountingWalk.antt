@@ -26,7 +26,8 @@ use Rattle.report.proofs.Settled.{settled-in}
 use Rattle.report.proofs.Again.{seen-again, shown-again}
 use Rattle.report.proofs.Told.{seen as look, seen-term, compound-told}
 use Rattle.report.proofs.Leaves.{opening-length, length-more}
-use Rattle.report.proofs.Keeping.{changed-none, changed-then, front-kept, all-within-every, shows-kept}
+use Rattle.report.proofs.Keeping.{changed-none, changed-then, front-kept, shows-kept}
+use Rattle.term.proofs.Units.{all-within-every}
 use Rattle.report.proofs.Walking.{position-first}
 use Rattle.report.proofs.Writing.{some-argument, whole-is}
 

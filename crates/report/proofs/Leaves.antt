@@ -22,7 +22,7 @@ use Rattle.term.proofs.Numbers.{number-below, same-equal}
 use Rattle.term.proofs.Spellings.{holds-spelling-at}
 use Rattle.report.specs.Threaded.{full}
 use Rattle.report.specs.Walk.{Opens, opening-bytes}
-use Rattle.report.specs.Facts.{fact-place, value-of, Readable, Led}
+use Rattle.report.specs.Facts.{fact-place, Readable, Led}
 use Rattle.report.proofs.Full.{full-constant, full-unassigned}
 use Rattle.report.proofs.Told.{seen, seen-term, writer-told, reader-told, integer-told, name-told, empty-told, nothing-told}
 

@@ -36,7 +36,7 @@ use Rattle.report.specs.declared.groups.Group.{Group}
 use Rattle.report.specs.Sections.{Variables, GoalsHeld, Listed}
 use Rattle.report.specs.Whole.{Uncounted}
 use Rattle.report.specs.All.{Sections, Stands, no-query, made-of}
-use Rattle.report.proofs.Keeping.{within-every}
+use Rattle.term.proofs.Units.{within-every}
 use Rattle.report.proofs.SoundRun.{sound-values, sound-queue, sound-waiting, sound-failed}
 use Rattle.report.proofs.StateLists.{listed-active, listed-waiting, listed-failed}
 

@@ -23,7 +23,8 @@ use Rattle.term.specs.declared.word.View.{View}
 use Rattle.term.specs.declared.word.View.the-variants.{Empty, Compound}
 use Rattle.report.specs.Threaded.{full, all-full, seen-after, seen-after-all}
 use Rattle.report.specs.Sound.{Sound, AllSound, SoundFunctor}
-use Rattle.report.specs.Facts.{value-of, Led, Readable, Shows}
+use Rattle.term.specs.Chains.{value-of}
+use Rattle.report.specs.Facts.{Led, Readable, Shows}
 use Rattle.report.specs.Walk.{opening-bytes, Opens, StandsAt, after, rest, Position, Found}
 use Rattle.report.specs.declared.cells.Next.{Next}
 use Rattle.report.specs.declared.cells.Next.the-variants.{Goes, Ends}
