@@ -97,7 +97,7 @@ pub record Partly (s₀ s : List ℕ) (x : Setting) (y : Template) (from links m
   pub scratch : s ≡ recorded (item x y) (x .places) n gifts s₀
   pub counted : given ≡ n + entries gifts
   pub held : AllGiven s₀ x y gifts
-  pub trial : TrialStands s x y from
+  pub trial : TrialStands s x y from links
   pub head : HeadTerms s x y m j low hi heads
   pub goal : UnitTerms s x l j goals
   pub counts : count heads ≡ count goals
@@ -106,12 +106,12 @@ pub record Partly (s₀ s : List ℕ) (x : Setting) (y : Template) (from links m
   pub outcome : places-outcome x links us ts
       ≡ with-assignments (assignments (length (x .values)) (x .compounds) gifts) (places-outcome x links heads goals)
 
-first-count : (places : Places) (f : Functor) (k : ℕ) → k ≤ 6 → functor-word places f k % 8 ≡ k
+pub first-count : (places : Places) (f : Functor) (k : ℕ) → k ≤ 6 → functor-word places f k % 8 ≡ k
 first-count places cell k few = omega arith
 first-count places (named f) k few = omega arith
 
 module _ (links : ℕ) {s₀ : List ℕ} {x : Setting} {y : Template} {from m : ℕ} {g : Functor} {us : Terms} {lo hi l : ℕ} {f : Functor} {ts : Terms} {p q n : ℕ}
-    (a : AllAgainst s₀ x y from m g us lo hi l f ts p q n) where
+    (a : AllAgainst s₀ x y from links m g us lo hi l f ts p q n) where
   pub head-inside : 8 * p + 8 ≤ length s₀
   head-inside = omega (arith, a .head-cell .inside, a .head-place)
 
@@ -160,13 +160,13 @@ module _ (links : ℕ) {s₀ : List ℕ} {x : Setting} {y : Template} {from m : 
           let same : 8 * p + i ≡ 8 * (640 + 32 * y .number + m) + 1 + P .j = omega (arith, a .head-place, P .at) in
           e ∙ ap (λ c. getD s c 0) same ∙ F .head-word
 
-      pub goal-read : {w′ : ℕ} → w′ ≡ getD s (8 * q + i) 0 → Reads s x from (F .u) w′
+      pub goal-read : {w′ : ℕ} → w′ ≡ getD s (8 * q + i) 0 → Reads s x from links (F .u) w′
       goal-read e =
           let same : 8 * q + i ≡ 8 * x .places .compound l + 1 + P .j = omega (arith, a .goal-place, P .at) in
-          record { stands = P .trial .unit; term = F .goal; word = e ∙ ap (λ c. getD s c 0) same ∙ F .goal-word }
+          record { chained = P .trial .unit; term = F .goal; word = e ∙ ap (λ c. getD s c 0) same ∙ F .goal-word }
 
-      pub next-against : {h w : ℕ} → h ≡ getD s (8 * p + i) 0 → Reads s x from (followed links (x .values) (F .u)) w
-          → Against s x y from (P .low) (F .mid) (F .t) (followed links (x .values) (F .u)) h w given
+      pub next-against : {h w : ℕ} → h ≡ getD s (8 * p + i) 0 → Reads s x from links (followed links (x .values) (F .u)) w
+          → Against s x y from links (P .low) (F .mid) (F .t) (followed links (x .values) (F .u)) h w given
       unfolding count
       next-against e r = record {
         trial = P .trial;
@@ -228,8 +228,8 @@ module _ (links : ℕ) {s₀ : List ℕ} {x : Setting} {y : Template} {from m : 
           counted = omega (arith, P .counted, r .told .1 .counted, entries-append (P .gifts) more-gifts);
           held =
               given-append s₀ x y (P .gifts) more-gifts (P .held)
-              (all-given-kept s s₀ (only-back 39936 40336 s₀ s (P .only)) x y from (P .trial) more-gifts (r .told .1 .given));
-          trial = trial-kept s s′ (r .only) x y from (P .trial);
+              (all-given-kept s s₀ (only-back 39936 40336 s₀ s (P .only)) x y from links (P .trial) more-gifts (r .told .1 .given));
+          trial = trial-kept s s′ (r .only) x y from links (P .trial);
           head =
               head-terms-kept s s′ (r .only) x y (a .trial .number) (a .trial .compounds) m (P .j + 1) (F .mid) hi (F .us)
               (omega (arith, F .heads-left .rising, F .mid-high, F .heads-left .high))

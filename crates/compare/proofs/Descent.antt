@@ -65,7 +65,7 @@ answers-as s s′ x y n lo top lo′ top′ o o′ (Waits z) e f a = rw e (recor
 answers-as s s′ x y n lo top lo′ top′ o o′ Fails e f a = rw e (record { only = a .only; told = a .told })
 
 module _ (s : List ℕ) (x : Setting) (y : Template) (from lo hi h w n links m : ℕ) (g : Functor) (us : Terms) (l : ℕ) (f : Functor) (ts : Terms)
-    (k : Against s x y from lo hi (Term.compound m g us) (Term.compound l f ts) h w n) where
+    (k : Against s x y from links lo hi (Term.compound m g us) (Term.compound l f ts) h w n) where
   unfoldable test : Bool
   test = same-functor g f && eqb (count us) (count ts)
 
@@ -108,7 +108,7 @@ module _ (s : List ℕ) (x : Setting) (y : Template) (from lo hi h w n links m :
           absurd (omega arith)
 
   pub deeper : (b : Bool) → b ≡ not (eqb (getD s (8 * (640 + 32 * y .number + m)) 0) (getD s (8 * x .places .compound l) 0)) → b ≡ false
-      → AllAgainst s x y from m g us (lo + 1) hi l f ts (640 + 32 * y .number + m) (x .places .compound l) n
+      → AllAgainst s x y from links m g us (lo + 1) hi l f ts (640 + 32 * y .number + m) (x .places .compound l) n
   unfolding Holds Within Known Ranged Numbered test
   deeper b e c = record {
     trial = k .trial;

@@ -1,149 +1,129 @@
--- Following a term of the unit: each value found is a term of the unit again, and as many links are left as the definition has.
-use Prim.Native.Nat.{ℕ, zero, suc, _+_, _-_, _<_}
-use mathlib.Core.Path.{_≡_, refl, _∙_, sym}
+-- Following a term of the unit: each term found is a term of the unit again, has the same end and is nearer to it.
+use Prim.Native.Nat.{ℕ, suc, _+_, _-_, _*_, _<_}
+use mathlib.Core.Path.{_≡_, refl, _∙_, sym, ap}
+use mathlib.Core.Logic.{_≢_}
 use mathlib.Core.List.{List}
 use mathlib.Core.Option.{Option, none, some}
 use native.Mathlib.Omega.{arith}
 use lib.ListN.{length, getD}
-use Rattle.meaning.specs.Terms.{Half, writer, reader, Constant, Term}
-use Rattle.meaning.specs.State.{Values, value}
+use Rattle.meaning.specs.Terms.{Half, writer, reader, Term}
+use Rattle.meaning.specs.State.{value}
 use Rattle.meaning.specs.Compare.{followed}
-use Rattle.term.specs.Cells.{Places, term-word}
+use Rattle.term.specs.Chains.{value-of, Leads, end-place}
 use Rattle.term.specs.Holds.{value-word}
-use Rattle.term.specs.declared.word.View.the-variants.{Writer, Reader}
-use Rattle.compare.proofs.Seen.{seen, seen-term, seen-writer, seen-reader, NoVariable, no-variable}
 use Rattle.term.specs.Setting.{Setting, Within}
-use Rattle.compare.specs.Follow.{Reads, value-of, FollowedTo}
-
--- No term has the word 0.
-pub word-positive : (places : Places) (t : Term) → 0 < term-word places t
-word-positive places (Term.variable writer n) = omega arith
-word-positive places (Term.variable reader n) = omega arith
-word-positive places (Term.constant (Constant.integer i)) = omega arith
-word-positive places (Term.constant (Constant.name f)) = omega arith
-word-positive places (Term.constant Constant.empty) = omega arith
-word-positive places (Term.compound n f ts) = omega arith
-
-pub followed-none : (links : ℕ) (values : Values) (t : Term) → value-of values t ≡ none → followed links values t ≡ t
-unfolding followed
-followed-none zero values t e = refl
-followed-none (suc links) values (Term.variable h n) e = rw (e, followed)
-followed-none (suc links) values (Term.constant k) e = refl
-followed-none (suc links) values (Term.compound n f ts) e = refl
-
-followed-suc : (links : ℕ) (values : Values) (t u : Term) → value-of values t ≡ some u
-    → followed (suc links) values t ≡ followed links values u
-unfolding followed
-followed-suc links values (Term.variable h n) u e = rw (e, followed)
-followed-suc links values (Term.constant k) u e = let z : _≡_ {A = ℕ} 0 1 = cc in absurd (omega arith)
-followed-suc links values (Term.compound n f ts) u e = let z : _≡_ {A = ℕ} 0 1 = cc in absurd (omega arith)
-
-pub followed-some : (left : ℕ) (values : Values) (t u : Term) → 0 < left → value-of values t ≡ some u
-    → followed left values t ≡ followed (left - 1) values u
-followed-some zero values t u h e = absurd (omega arith)
-followed-some (suc left) values t u h e =
-    let one : suc left - 1 ≡ left = omega arith in
-    rw one (followed-suc left values t u e)
-
-module _ (s : List ℕ) (x : Setting) (from : ℕ) where
-  -- A variable's value stands in the scratch.
-  pub variable-inside : (n w : ℕ) (h : Half) → Reads s x from (Term.variable h n) w → from + x .places .pair n < length s
-  unfolding Within
-  variable-inside n w h r =
-      omega (arith, r .stands .held .inside, r .stands .held .place n (r .term .of .within))
-
-  pub variable-value : (n w : ℕ) (h : Half) → Reads s x from (Term.variable h n) w
-      → getD s (from + x .places .pair n) 0 ≡ value-word (x .places) (value (x .values) n)
-  unfolding Within
-  variable-value n w h r = r .stands .held .stands n (r .term .of .within)
-
-  -- A value that is not 0 is the word of a term of the unit.
-  value-reads : (n w v : ℕ) (h : Half) → Reads s x from (Term.variable h n) w → (o : Option Term) → value (x .values) n ≡ o
-      → v ≡ value-word (x .places) o → 0 < v
-      → (u : Term) × (o ≡ some u) × Reads s x from u v
-  unfolding Within
-  value-reads n w v h r none e f p = absurd (omega arith)
-  value-reads n w v h r (some u) e f p = (
-    u,
-    refl,
-    record {
-      stands = r .stands;
-      term = record {
-        held = rw e at (r .stands .held .held n (r .term .of .within));
-        of = r .stands .of n u (r .term .of .within) e;
-      };
-      word = f;
-    },
-  )
-
-  pub next-reads : (t : Term) (w v : ℕ) → Reads s x from t w → v ≡ value-word (x .places) (value-of (x .values) t) → 0 < v
-      → (u : Term) × (value-of (x .values) t ≡ some u) × Reads s x from u v
-  next-reads (Term.variable h n) w v r e p = value-reads n w v h r (value (x .values) n) refl e p
-  next-reads (Term.constant k) w v r e p = absurd (omega arith)
-  next-reads (Term.compound n f ts) w v r e p = absurd (omega arith)
-
-  none-of-zero : (o : Option Term) → 0 ≡ value-word (x .places) o → o ≡ none
-  none-of-zero none e = refl
-  none-of-zero (some u) e = absurd (omega (arith, word-positive (x .places) u))
-
-  -- Where the value is 0 the term is followed already.
-  pub stays : (links : ℕ) (t : Term) (v : ℕ) → v ≡ value-word (x .places) (value-of (x .values) t) → v ≡ 0
-      → followed links (x .values) t ≡ t
-  stays links t v e z = followed-none links (x .values) t (none-of-zero (value-of (x .values) t) (sym z ∙ e))
-
-  -- What a look at the word of a variable, or of another term, says of its value.
-  pub writer-read : (t : Term) (w p : ℕ) → Reads s x from t w → seen w ≡ Writer p
-      → (from + p < length s) × (getD s (from + p) 0 ≡ value-word (x .places) (value-of (x .values) t))
-  writer-read t w p r e = go (seen-writer (x .places) t w p (r .word) e)
-    where
-      go : (n : ℕ) × (t ≡ Term.variable writer n) × (p ≡ x .places .pair n)
-          → (from + p < length s) × (getD s (from + p) 0 ≡ value-word (x .places) (value-of (x .values) t))
-      go (n, a, b) =
-          let r′ : Reads s x from (Term.variable writer n) w = rw a at r in
-          rw (a, b) (variable-inside n w writer r′, variable-value n w writer r′)
-
-  pub reader-read : (t : Term) (w p : ℕ) → Reads s x from t w → seen w ≡ Reader p
-      → (from + p < length s) × (getD s (from + p) 0 ≡ value-word (x .places) (value-of (x .values) t))
-  reader-read t w p r e = go (seen-reader (x .places) t w p (r .word) e)
-    where
-      go : (n : ℕ) × (t ≡ Term.variable reader n) × (p ≡ x .places .pair n)
-          → (from + p < length s) × (getD s (from + p) 0 ≡ value-word (x .places) (value-of (x .values) t))
-      go (n, a, b) =
-          let r′ : Reads s x from (Term.variable reader n) w = rw a at r in
-          rw (a, b) (variable-inside n w reader r′, variable-value n w reader r′)
-
-  pub other-read : (t : Term) (w : ℕ) → Reads s x from t w → NoVariable (seen w)
-      → 0 ≡ value-word (x .places) (value-of (x .values) t)
-  other-read (Term.variable h n) w r k =
-      absurd (no-variable (seen w) h (x .places .pair n) (seen-term (x .places) (Term.variable h n) w (r .word)) k)
-  other-read (Term.constant c) w r k = refl
-  other-read (Term.compound n f ts) w r k = refl
-
--- So far: what is left to follow from the word w ends where the whole term t does.
-pub record Passed (s : List ℕ) (x : Setting) (from links left : ℕ) (t : Term) (w : ℕ) : Type 0 where
-  pub term : Term
-  pub reads : Reads s x from term w
-  pub ends : followed left (x .values) term ≡ followed links (x .values) t
+use Rattle.term.specs.declared.word.View.the-variants.{Writer, Reader}
+use Rattle.term.proofs.Cells.{word-positive}
+use Rattle.term.proofs.Chains.{followed-none, same-end, nearer}
+use Rattle.compare.specs.Follow.{Reads, FollowedTo, PairAt, Ahead}
+use Rattle.compare.proofs.Seen.{seen, seen-term, seen-writer, seen-reader, NoVariable, no-variable}
 
 module _ (s : List ℕ) (x : Setting) (from links : ℕ) where
-  pub start-passed : (t : Term) (w : ℕ) → Reads s x from t w → Passed s x from links links t w
-  start-passed t w r = record { term = t; reads = r; ends = refl }
+  -- A pair's words stand in the scratch.
+  pub pair-inside : (n p : ℕ) → PairAt s x from links n p → from + 4 * links + p < length s
+  pair-inside n p a =
+      omega (arith, a .chained .ends .inside, a .chained .links-are, a .chained .stands .held .place n (a .inside), a .place)
 
-  pub pass-on : (left : ℕ) (t : Term) (w v : ℕ) (p : Passed s x from links left t w)
-      → v ≡ value-word (x .places) (value-of (x .values) (p .term)) → (v ≡ 0 → ⊥) → 0 < left
+  -- A pair leads to its value.
+  pub value-ahead : (n p v : ℕ) (h : Half) → PairAt s x from links n p → v ≡ getD s (from + p) 0 → Ahead s x from links (Term.variable h n) v
+  unfolding Leads
+  value-ahead n p v h a e =
+      by (value (x .values) n) refl (e ∙ ap (λ m. getD s (from + m) 0) (a .place) ∙ a .chained .stands .held .stands n (a .inside))
+    where
+      by : (o : Option Term) → value (x .values) n ≡ o → v ≡ value-word (x .places) o → Ahead s x from links (Term.variable h n) v
+      by none q f = record { stops = λ z. q; goes = λ d. absurd (d f) }
+      by (some u) q f = record {
+        stops = λ z. absurd (omega (arith, word-positive (x .places) u));
+        goes = λ d. record {
+          next = u;
+          over = 1;
+          more = omega arith;
+          leads = (u, q, refl);
+          reads = record {
+            chained = a .chained;
+            term = record { held = rw q at (a .chained .stands .held .held n (a .inside)); of = a .chained .stands .of n u (a .inside) q };
+            word = f;
+          };
+        };
+      }
+
+  -- It leads to the end that is kept of it.
+  pub end-ahead : (n p e : ℕ) (h : Half) → PairAt s x from links n p → e ≡ getD s (from + 4 * links + p) 0 → e ≢ 0
+      → Ahead s x from links (Term.variable h n) e
+  unfolding Leads
+  end-ahead n p e h a f d =
+      let same : from + 4 * links + p ≡ end-place x from n = omega (arith, a .chained .links-are, a .place) in
+      let word : e ≡ getD s (end-place x from n) 0 = f ∙ ap (λ m. getD s m 0) same in
+      let k = a .chained .ends .kept n (a .inside) (λ z. d (word ∙ z)) in record {
+        stops = λ z. absurd (d z);
+        goes = λ z. record {
+          next = k .last;
+          over = suc (k .links);
+          more = omega arith;
+          leads = (k .first, k .assigned, k .leads);
+          reads = record { chained = a .chained; term = k .term; word = word ∙ k .word };
+        };
+      }
+
+  -- What a look at the word of a variable, or of another term, says.
+  pair-at : (n w p : ℕ) (h : Half) → Reads s x from links (Term.variable h n) w → p ≡ x .places .pair n → PairAt s x from links n p
+  unfolding Within
+  pair-at n w p h r e = record { chained = r .chained; inside = r .term .of .within; place = e }
+
+  pub writer-pair : (t : Term) (w p : ℕ) → Reads s x from links t w → seen w ≡ Writer p
+      → (n : ℕ) × (t ≡ Term.variable writer n) × PairAt s x from links n p
+  writer-pair t w p r e = go (seen-writer (x .places) t w p (r .word) e)
+    where
+      go : (n : ℕ) × (t ≡ Term.variable writer n) × (p ≡ x .places .pair n) → (n : ℕ) × (t ≡ Term.variable writer n) × PairAt s x from links n p
+      go (n, a, b) = (n, a, pair-at n w p writer (rw a at r) b)
+
+  pub reader-pair : (t : Term) (w p : ℕ) → Reads s x from links t w → seen w ≡ Reader p
+      → (n : ℕ) × (t ≡ Term.variable reader n) × PairAt s x from links n p
+  reader-pair t w p r e = go (seen-reader (x .places) t w p (r .word) e)
+    where
+      go : (n : ℕ) × (t ≡ Term.variable reader n) × (p ≡ x .places .pair n) → (n : ℕ) × (t ≡ Term.variable reader n) × PairAt s x from links n p
+      go (n, a, b) = (n, a, pair-at n w p reader (rw a at r) b)
+
+  pub other-ahead : (t : Term) (w : ℕ) → Reads s x from links t w → NoVariable (seen w) → Ahead s x from links t 0
+  other-ahead (Term.variable h n) w r k =
+      absurd (no-variable (seen w) h (x .places .pair n) (seen-term (x .places) (Term.variable h n) w (r .word)) k)
+  other-ahead (Term.constant c) w r k = record { stops = λ z. refl; goes = λ d. absurd (d refl) }
+  other-ahead (Term.compound n f ts) w r k = record { stops = λ z. refl; goes = λ d. absurd (d refl) }
+
+-- So far: the term at hand, of the word w, has the end of the whole term t, within the links that are left.
+pub record Passed (s : List ℕ) (x : Setting) (from links left : ℕ) (t : Term) (w : ℕ) : Type 0 where
+  pub term : Term
+  pub reads : Reads s x from links term w
+  pub near : value-of (x .values) (followed left (x .values) term) ≡ none
+  pub same : followed links (x .values) term ≡ followed links (x .values) t
+
+module _ (s : List ℕ) (x : Setting) (from links : ℕ) where
+  all-end : (t : Term) (w : ℕ) → Reads s x from links t w → (u : Term) → value-of (x .values) (followed links (x .values) u) ≡ none
+  all-end t w r u = rw (r .chained .links-are) (r .chained .ends .ended u)
+
+  pub start-passed : (t : Term) (w : ℕ) → Reads s x from links t w → Passed s x from links links t w
+  start-passed t w r = record { term = t; reads = r; near = all-end t w r t; same = refl }
+
+  pub pass-on : (left : ℕ) (t : Term) (w v : ℕ) (p : Passed s x from links left t w) → Ahead s x from links (p .term) v → v ≢ 0
       → Passed s x from links (left - 1) t v
-  pass-on left t w v p e nonzero more =
-      let n = next-reads s x from (p .term) w v (p .reads) e (omega arith) in
-      record { term = n .0; reads = n .2; ends = sym (followed-some left (x .values) (p .term) (n .0) more (n .1)) ∙ p .ends }
+  pass-on left t w v p a d =
+      let g = a .goes d in record {
+        term = g .next;
+        reads = g .reads;
+        near = nearer (x .values) (g .over) left (p .term) (g .next) (g .more) (g .leads) (p .near);
+        same = same-end (x .values) (g .over) links (p .term) (g .next) (g .leads) (all-end (p .term) w (p .reads) (p .term)) ∙ p .same;
+      }
+
+  passed-all : (left : ℕ) (t : Term) (w : ℕ) (p : Passed s x from links left t w) → value-of (x .values) (p .term) ≡ none
+      → FollowedTo s x from links t w
+  passed-all left t w p e =
+      let same : p .term ≡ followed links (x .values) t = sym (followed-none (x .values) links (p .term) e) ∙ p .same in
+      rw same at (p .reads)
 
   pub pass-end : (left : ℕ) (t : Term) (w : ℕ) → Passed s x from links left t w → left ≡ 0 → FollowedTo s x from links t w
   unfolding followed
-  pass-end left t w p z =
-      let same : p .term ≡ followed links (x .values) t = rw z at (p .ends) in
-      rw same at (p .reads)
+  pass-end left t w p z = passed-all left t w p (rw z at (p .near))
 
-  pub pass-stop : (left : ℕ) (t : Term) (w v : ℕ) (p : Passed s x from links left t w)
-      → v ≡ value-word (x .places) (value-of (x .values) (p .term)) → v ≡ 0 → FollowedTo s x from links t w
-  pass-stop left t w v p e z =
-      let same : p .term ≡ followed links (x .values) t = sym (stays s x from left (p .term) v e z) ∙ p .ends in
-      rw same at (p .reads)
+  pub pass-stop : (left : ℕ) (t : Term) (w v : ℕ) (p : Passed s x from links left t w) → Ahead s x from links (p .term) v → v ≡ 0
+      → FollowedTo s x from links t w
+  pass-stop left t w v p a z = passed-all left t w p (a .stops z)

@@ -215,9 +215,9 @@ gave s s′ x y given m k large room few cleared = record {
     free a h = getD-append-add (x .values) (replicate (y .pairs) none) a none ∙ getD-replicate (y .pairs) a none none h
 
 -- The same of the answer to a whole head, whose entries are at most 192.
-pub answers-gave : {s s′ : List ℕ} {x : Setting} {y : Template} {from h : ℕ} {g : Functor} {us : Terms} {lo hi l : ℕ} {f : Functor} {ts : Terms} {p q m : ℕ}
+pub answers-gave : {s s′ : List ℕ} {x : Setting} {y : Template} {from links h : ℕ} {g : Functor} {us : Terms} {lo hi l : ℕ} {f : Functor} {ts : Terms} {p q m : ℕ}
     {o : Result}
-    → AllAgainst s x y from h g us lo hi l f ts p q 0
+    → AllAgainst s x y from links h g us lo hi l f ts p q 0
     → Answers s s′ x y 0 lo (0 + 6 * hi + count us) o (Agrees m)
     → ((a : ℕ) → a < y .pairs → getD s (39936 + a) 0 ≡ 0)
     → (given : List Assignment) × (o ≡ succeeds given) × Gave s s′ x y given m

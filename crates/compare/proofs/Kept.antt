@@ -1,17 +1,18 @@
--- What a change of the trial's region alone leaves as it was: terms whose compounds lie outside it, and the unit's values behind it.
+-- What a change of the trial's region alone leaves as it was: terms whose compounds lie outside it, and the unit's values and ends behind it.
 use Prim.Native.Nat.{ℕ, _+_, _*_, _≤_, _<_}
-use mathlib.Core.Path.{_≡_, refl, sym, _∙_}
+use mathlib.Core.Path.{_≡_, sym, _∙_}
 use mathlib.Core.Logic.{inl, inr}
 use mathlib.Core.List.{List, [], _∷_}
-use mathlib.Core.Option.{Option, none, some}
 use native.Mathlib.Omega.{arith}
 use lib.ListN.{length, getD}
 use Rattle.meaning.specs.Terms.{Functor, Term, Terms, end, more, count}
-use Rattle.meaning.specs.State.{value}
 use Rattle.term.specs.Cells.{Places}
-use Rattle.term.specs.Holds.{CellAt, Holds, HoldsFrom, HoldsValue}
+use Rattle.term.specs.Chains.{end-place}
+use Rattle.term.specs.Holds.{CellAt, Holds, HoldsFrom}
 use Rattle.term.specs.Frames.{Only}
-use Rattle.term.specs.Setting.{Setting, Within, AllWithin, UnitTerm, UnitTerms, UnitStands}
+use Rattle.term.specs.Setting.{Setting, Within, AllWithin, UnitTerm, UnitTerms}
+use Rattle.term.proofs.Units.{unit-term-alike, unit-terms-alike, unit-stands-alike, ends-stand-alike}
+use Rattle.compare.specs.Follow.{Chained}
 use Rattle.compare.specs.Gifts.{Gift, to-head, to-goal}
 use Rattle.compare.specs.Compare.{Template, item, HeadTerm, HeadTerms, Outside, TrialStands, Given, AllGiven}
 
@@ -51,35 +52,20 @@ module _ (s s′ : List ℕ) (o : Only 39936 40336 s s′) where
       )
 
   module _ (x : Setting) (outside : (n : ℕ) → n < x .compounds → Outside (x .places .compound n)) where
+    words-kept : (n : ℕ) → n < x .compounds → (k : ℕ) → 8 * x .places .compound n ≤ k → k < 8 * x .places .compound n + 8 → getD s′ k 0 ≡ getD s k 0
+    words-kept n h k = cell-kept (x .places .compound n) k (outside n h)
+
     pub unit-term-kept : (t : Term) → UnitTerm s x t → UnitTerm s′ x t
-    unit-term-kept t k = record {
-      held = holds-kept (x .places) (length (x .values)) (x .compounds) outside t (k .of .within) (k .held);
-      of = k .of;
-    }
+    unit-term-kept = unit-term-alike s s′ x (omega (arith, o .size)) words-kept
 
     pub unit-terms-kept : (n i : ℕ) (ts : Terms) → n < x .compounds → i + count ts ≤ 6 → UnitTerms s x n i ts → UnitTerms s′ x n i ts
-    unit-terms-kept n i ts h few k = record {
-      held = holds-from-kept (x .places) (length (x .values)) (x .compounds) outside n i ts h few (k .within) (k .held);
-      within = k .within;
-      known = k .known;
-      ranged = k .ranged;
-    }
+    unit-terms-kept = unit-terms-alike s s′ x (omega (arith, o .size)) words-kept
 
-    value-kept : (from n : ℕ) (u : UnitStands s x from) → n < length (x .values) → (v : Option Term) → value (x .values) n ≡ v
-        → HoldsValue s (x .places) v → HoldsValue s′ (x .places) v
-    value-kept from n u h none e k = tt
-    value-kept from n u h (some t) e k =
-        holds-kept (x .places) (length (x .values)) (x .compounds) outside t (u .of n t h e .within) k
-
-    pub unit-kept : (from : ℕ) → 40336 ≤ from → UnitStands s x from → UnitStands s′ x from
-    unit-kept from b u = record {
-      held = record {
-        inside = rw (o .size) (u .held .inside);
-        place = u .held .place;
-        stands = λ n h. o .above (from + x .places .pair n) (omega arith) ∙ u .held .stands n h;
-        held = λ n h. value-kept from n u h (value (x .values) n) refl (u .held .held n h);
-      };
-      of = u .of;
+    chained-kept : (from links : ℕ) → 40336 ≤ from → Chained s x from links → Chained s′ x from links
+    chained-kept from links b c = record {
+      stands = unit-stands-alike s s′ x (omega (arith, o .size)) words-kept from (λ k l h. o .above k (omega arith)) (c .stands);
+      links-are = c .links-are;
+      ends = ends-stand-alike s s′ x (omega (arith, o .size)) words-kept from (λ n h. o .above (end-place x from n) (omega arith)) (c .ends);
     }
 
   module _ (x : Setting) (y : Template) (small : y .number < 128) (few : y .compounds ≤ 32) where
@@ -111,10 +97,10 @@ module _ (s s′ : List ℕ) (o : Only 39936 40336 s s′) where
       rising = k .rising;
     }
 
-  pub trial-kept : (x : Setting) (y : Template) (from : ℕ) → TrialStands s x y from → TrialStands s′ x y from
-  trial-kept x y from t = record {
+  pub trial-kept : (x : Setting) (y : Template) (from links : ℕ) → TrialStands s x y from links → TrialStands s′ x y from links
+  trial-kept x y from links t = record {
     large = rw (o .size) (t .large);
-    unit = unit-kept x (t .outside) from (t .behind) (t .unit);
+    unit = chained-kept x (t .outside) from links (t .behind) (t .unit);
     behind = t .behind;
     outside = t .outside;
     number = t .number;
@@ -122,7 +108,7 @@ module _ (s s′ : List ℕ) (o : Only 39936 40336 s s′) where
     compounds = t .compounds;
   }
 
-  module _ (x : Setting) (y : Template) (from : ℕ) (t : TrialStands s x y from) where
+  module _ (x : Setting) (y : Template) (from links : ℕ) (t : TrialStands s x y from links) where
     given-kept : (g : Gift) → Given s x y g → Given s′ x y g
     given-kept (to-head n u) k = (k .0, unit-term-kept x (t .outside) u (k .1))
     given-kept (to-goal z h) k = (k .0, k .1, k .2, head-term-kept x y (t .number) (t .compounds) (k .1) (k .2) h (k .3))

@@ -4,6 +4,7 @@ pub mod Equal
 pub mod Following
 pub mod Gifts
 pub mod Given
+pub mod Keeping
 pub mod Kept
 pub mod Place
 pub mod Rows

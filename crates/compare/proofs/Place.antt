@@ -28,14 +28,14 @@ pub record Deeper (s s′ : List ℕ) (x : Setting) (y : Template) (from links l
   pub l : ℕ
   pub f : Functor
   pub ts : Terms
-  pub against : AllAgainst s′ x y from m g us (lo + 1) hi l f ts p q n
+  pub against : AllAgainst s′ x y from links m g us (lo + 1) hi l f ts p q n
   pub back : (s₂ : List ℕ) (r : Result) → Answers s′ s₂ x y n (lo + 1) (n + 6 * hi + count us) (places-outcome x links us ts) r
       → Answers s s₂ x y n lo (n + 6 * hi + 1) (place-outcome x links t u) r
 
 -- The two compounds known.
 module _ (s s′ : List ℕ) (x : Setting) (y : Template) (from links lo hi n h w : ℕ) (t u : Term) (p q : ℕ)
-    (k : Against s x y from lo hi t u h w n) (D : Descends x y t u p q) (same : s′ ≡ s) where
-  terms : Against s x y from lo hi (Term.compound (D .m) (D .g) (D .us)) (Term.compound (D .l) (D .f) (D .ts)) h w n
+    (k : Against s x y from links lo hi t u h w n) (D : Descends x y t u p q) (same : s′ ≡ s) where
+  terms : Against s x y from links lo hi (Term.compound (D .m) (D .g) (D .us)) (Term.compound (D .l) (D .f) (D .ts)) h w n
   terms = rw (D .head, D .goal) at k
 
   two-cells : (8 * p < length s′) × (8 * q < length s′)
@@ -74,9 +74,9 @@ module _ (s s′ : List ℕ) (x : Setting) (y : Template) (from links lo hi n h 
     }
 
 module _ (links : ℕ) {s s′ : List ℕ} {x : Setting} {y : Template} {from lo hi n h w : ℕ} {t u : Term} {a : Met}
-    (k : Against s x y from lo hi t u h w n) (d : Done s s′ n h w (row (eqb h w) (seen h) (seen w)) a) where
+    (k : Against s x y from links lo hi t u h w n) (d : Done s s′ n h w (row (eqb h w) (seen h) (seen w)) a) where
   found : Found s s′ x y n (place-outcome x links t u) t u a
-  found = table-found s s′ x y from lo hi n h w (followed links (x .values)) a t u k d
+  found = table-found s s′ x y from links lo hi n h w (followed links (x .values)) a t u k d
 
   pub place-agrees : {m : ℕ} → a ≡ met.Agrees m → Answers s s′ x y n lo (n + 6 * hi + 1) (place-outcome x links t u) (Agrees m)
   place-agrees {m} e =

@@ -92,7 +92,7 @@ compound-constant places (Constant.integer i) p = refl
 compound-constant places (Constant.name f) p = refl
 compound-constant places Constant.empty p = refl
 
-against-room : {s : List ℕ} {x : Setting} {y : Template} {from lo hi : ℕ} {t u : Term} {h w n : ℕ} → Against s x y from lo hi t u h w n → n < 192
+against-room : {s : List ℕ} {x : Setting} {y : Template} {from links lo hi : ℕ} {t u : Term} {h w n : ℕ} → Against s x y from links lo hi t u h w n → n < 192
 against-room {lo = lo} {hi = hi} {t = t} k = omega (arith, k .room, numbered-order lo hi t (k .head .numbered))
 
 -- Only the trial's region changes.
@@ -188,11 +188,11 @@ abbrev RowOf : Setting → Template → Term → Term → Row
 RowOf x y t u =
     row (eqb (term-word (item x y) t) (term-word (x .places) u)) (view-of (content (item x y) t)) (view-of (content (x .places) u))
 
-module _ (s s′ : List ℕ) (x : Setting) (y : Template) (from lo hi n h w : ℕ) (look : Term → Term) (met : Met) where
+module _ (s s′ : List ℕ) (x : Setting) (y : Template) (from links lo hi n h w : ℕ) (look : Term → Term) (met : Met) where
   abbrev Outcome-of : Term → Term → Outcome
   Outcome-of t u = place look (renamed (length (x .values)) (x .compounds) t) u
 
-  by-terms : (t u : Term) → Against s x y from lo hi t u h w n → Done s s′ n h w (RowOf x y t u) met
+  by-terms : (t u : Term) → Against s x y from links lo hi t u h w n → Done s s′ n h w (RowOf x y t u) met
       → Found s s′ x y n (Outcome-of t u) t u met
   unfolding place renamed row writer-row reader-row constant-row compound-row Within Known Ranged if_then_else_
   by-terms (Term.variable writer a) (Term.variable writer z) k d = fails-found s s′ x y n h w _ _ met _ d refl
@@ -227,22 +227,22 @@ module _ (s s′ : List ℕ) (x : Setting) (y : Template) (from lo hi n h w : �
   by-terms (Term.compound m g us) (Term.compound l f ts) k d = below-found s s′ x y n h w m g us l f ts met _ d
 
 -- What the code's row has done is what the table says.
-pub table-found : (s s′ : List ℕ) (x : Setting) (y : Template) (from lo hi n h w : ℕ) (look : Term → Term) (met : Met) (t u : Term)
-    → Against s x y from lo hi t u h w n → Done s s′ n h w (row (eqb h w) (seen h) (seen w)) met
+pub table-found : (s s′ : List ℕ) (x : Setting) (y : Template) (from links lo hi n h w : ℕ) (look : Term → Term) (met : Met) (t u : Term)
+    → Against s x y from links lo hi t u h w n → Done s s′ n h w (row (eqb h w) (seen h) (seen w)) met
     → Found s s′ x y n (place look (renamed (length (x .values)) (x .compounds) t) u) t u met
-table-found s s′ x y from lo hi n h w look met t u k d =
+table-found s s′ x y from links lo hi n h w look met t u k d =
     let same : row (eqb h w) (seen h) (seen w) ≡ RowOf x y t u =
     rw (seen-term (item x y) t h (k .head-word), seen-term (x .places) u w (k .goal-word), k .head-word, k .goal-word)
     in
-    by-terms s s′ x y from lo hi n h w look met t u k (rw same at d)
+    by-terms s s′ x y from links lo hi n h w look met t u k (rw same at d)
 
 -- What the code's table asks: a head's writer is one of the clause's pairs.
-pub table-asks : (s : List ℕ) (x : Setting) (y : Template) (from lo hi n h w : ℕ) (t u : Term) → Against s x y from lo hi t u h w n
+pub table-asks : (s : List ℕ) (x : Setting) (y : Template) (from links lo hi n h w : ℕ) (t u : Term) → Against s x y from links lo hi t u h w n
     → (40336 ≤ length s) × (n < 192) × ((a : ℕ) → seen h ≡ Writer a → a < 16)
 unfolding Within
-table-asks s x y from lo hi n h w t u k = (k .trial .large, against-room k, λ a e. go t k (seen-writer (item x y) t h a (k .head-word) e))
+table-asks s x y from links lo hi n h w t u k = (k .trial .large, against-room k, λ a e. go t k (seen-writer (item x y) t h a (k .head-word) e))
   where
-    go : {a : ℕ} (t : Term) → Against s x y from lo hi t u h w n → (m : ℕ) × (t ≡ Term.variable writer m) × (a ≡ item x y .pair m) → a < 16
+    go : {a : ℕ} (t : Term) → Against s x y from links lo hi t u h w n → (m : ℕ) × (t ≡ Term.variable writer m) × (a ≡ item x y .pair m) → a < 16
     go t k (m, e, b) =
         let within : Within (y .pairs) (y .compounds) (Term.variable writer m) = rw e at (k .head .within) in
         omega (arith, within, b, k .trial .pairs)

@@ -17,7 +17,8 @@ use Rattle.term.specs.Frames.{Only}
 use Rattle.compare.specs.declared.compare.Result.{Result}
 use Rattle.compare.specs.declared.compare.Result.the-variants.{Agrees, Waits, Fails}
 use Rattle.compare.specs.Gifts.{Gift, to-head, to-goal, assignments, entries, recorded, Entry, entries-of, EntriesAt, renamed-entries}
-use Rattle.term.specs.Setting.{Setting, Within, AllWithin, Ranged, AllRanged, UnitTerm, UnitTerms, UnitStands}
+use Rattle.term.specs.Setting.{Setting, Within, AllWithin, Ranged, AllRanged, UnitTerm, UnitTerms}
+use Rattle.compare.specs.Follow.{Chained}
 
 -- Where the terms of clause k lie: pairs by their own numbers, compounds 32 a clause.
 abbrev pub item-places : List Bytes → ℕ → Places
@@ -54,10 +55,10 @@ pub record HeadTerms (s : List ℕ) (x : Setting) (y : Template) (m i lo hi : �
 abbrev pub Outside : ℕ → Type 0
 Outside place = (place < 4992) ⊎ (5042 ≤ place)
 
--- The scratch of a trial: the unit's values stand behind the trial's region, and its compounds outside it.
-pub record TrialStands (s : List ℕ) (x : Setting) (y : Template) (from : ℕ) : Type 0 where
+-- The scratch of a trial: the unit's values and ends stand behind the trial's region, and its compounds outside it.
+pub record TrialStands (s : List ℕ) (x : Setting) (y : Template) (from links : ℕ) : Type 0 where
   pub large : 40336 ≤ length s
-  pub unit : UnitStands s x from
+  pub unit : Chained s x from links
   pub behind : 40336 ≤ from
   pub outside : (n : ℕ) → n < x .compounds → Outside (x .places .compound n)
   pub number : y .number < 128
@@ -66,8 +67,8 @@ pub record TrialStands (s : List ℕ) (x : Setting) (y : Template) (from : ℕ) 
 
 -- One place: h is the word of the head's term t, w that of the goal's term u, already followed; n entries are made, and there is room for as
 -- many more as t can need.
-pub record Against (s : List ℕ) (x : Setting) (y : Template) (from lo hi : ℕ) (t u : Term) (h w n : ℕ) : Type 0 where
-  pub trial : TrialStands s x y from
+pub record Against (s : List ℕ) (x : Setting) (y : Template) (from links lo hi : ℕ) (t u : Term) (h w n : ℕ) : Type 0 where
+  pub trial : TrialStands s x y from links
   pub head : HeadTerm s x y lo hi t
   pub goal : UnitTerm s x u
   pub head-word : h ≡ term-word (item x y) t
@@ -75,9 +76,9 @@ pub record Against (s : List ℕ) (x : Setting) (y : Template) (from lo hi : ℕ
   pub room : n + 6 * hi + 1 ≤ 192 + 6 * lo
 
 -- The arguments of two compounds, m of the head at p and l of the goal at q, of the same number.
-pub record AllAgainst (s : List ℕ) (x : Setting) (y : Template) (from m : ℕ) (g : Functor) (us : Terms) (lo hi l : ℕ) (f : Functor) (ts : Terms)
+pub record AllAgainst (s : List ℕ) (x : Setting) (y : Template) (from links m : ℕ) (g : Functor) (us : Terms) (lo hi l : ℕ) (f : Functor) (ts : Terms)
     (p q n : ℕ) : Type 0 where
-  pub trial : TrialStands s x y from
+  pub trial : TrialStands s x y from links
   pub head-cell : CellAt s (item x y) m g (count us)
   pub head : HeadTerms s x y m 0 lo hi us
   pub goal-cell : CellAt s (x .places) l f (count ts)

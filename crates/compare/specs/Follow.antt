@@ -1,26 +1,70 @@
--- What following a goal's term asks and gives: the word of a term of the unit, and that of the term followed.
-use Prim.Native.Nat.{ℕ}
+-- What following a goal's term asks and gives: the word of a term of the unit, and that of the term followed. What keeping the ends of a goal's
+-- arguments asks and gives.
+use Prim.Native.Nat.{ℕ, _+_, _*_, _≤_, _<_}
 use mathlib.Core.Path.{_≡_}
+use mathlib.Core.Logic.{_≢_}
 use mathlib.Core.List.{List}
-use mathlib.Core.Option.{Option, none}
-use Rattle.meaning.specs.Terms.{Term}
-use Rattle.meaning.specs.State.{Values, value}
+use mathlib.Core.Option.{none}
+use lib.ListN.{length, getD}
+use Rattle.meaning.specs.Terms.{Functor, Term, Terms}
 use Rattle.meaning.specs.Compare.{followed}
 use Rattle.term.specs.Cells.{term-word}
+use Rattle.term.specs.Chains.{value-of, Leads, end-place, EndsStand}
 use Rattle.term.specs.Setting.{Setting, UnitTerm, UnitStands}
 
--- w is the word of t, a term of the unit whose values stand from a place on.
-pub record Reads (s : List ℕ) (x : Setting) (from : ℕ) (t : Term) (w : ℕ) : Type 0 where
+-- The unit's values stand from a place on, and the ends behind them; a chain has no more links than the room has pairs.
+pub record Chained (s : List ℕ) (x : Setting) (from links : ℕ) : Type 0 where
   pub stands : UnitStands s x from
+  pub links-are : links ≡ x .pairs
+  pub ends : EndsStand s x from
+
+-- w is the word of t, a term of the unit.
+pub record Reads (s : List ℕ) (x : Setting) (from links : ℕ) (t : Term) (w : ℕ) : Type 0 where
+  pub chained : Chained s x from links
   pub term : UnitTerm s x t
   pub word : w ≡ term-word (x .places) t
 
--- What a variable was assigned, if anything.
-abbrev pub value-of : Values → Term → Option Term
-value-of values (Term.variable h n) = value values n
-value-of values (Term.constant k) = none
-value-of values (Term.compound n f ts) = none
-
 -- r is the word of t followed, which the scratch holds too.
 abbrev pub FollowedTo : List ℕ → Setting → ℕ → ℕ → Term → ℕ → Type 0
-FollowedTo s x from links t r = Reads s x from (followed links (x .values) t) r
+FollowedTo s x from links t r = Reads s x from links (followed links (x .values) t) r
+
+-- A term leads on to the word r: that of its value, or of a term further on; 0 if it is no assigned variable.
+pub record Onward (s : List ℕ) (x : Setting) (from links : ℕ) (t : Term) (r : ℕ) : Type 0 where
+  pub next : Term
+  pub over : ℕ
+  pub more : 0 < over
+  pub leads : Leads (x .values) over t next
+  pub reads : Reads s x from links next r
+
+pub record Ahead (s : List ℕ) (x : Setting) (from links : ℕ) (t : Term) (r : ℕ) : Type 0 where
+  pub stops : r ≡ 0 → value-of (x .values) t ≡ none
+  pub goes : r ≢ 0 → Onward s x from links t r
+
+-- The pair n at its place.
+pub record PairAt (s : List ℕ) (x : Setting) (from links n p : ℕ) : Type 0 where
+  pub chained : Chained s x from links
+  pub inside : n < length (x .values)
+  pub place : p ≡ x .places .pair n
+
+-- Ends can be kept: the pairs have places of their own, and the unit's compounds stand before the values.
+pub record Keepable (s : List ℕ) (x : Setting) (from links : ℕ) : Type 0 where
+  pub chained : Chained s x from links
+  pub apart : (n m : ℕ) → n < length (x .values) → m < length (x .values) → x .places .pair n ≡ x .places .pair m → n ≡ m
+  pub before : (n : ℕ) → n < x .compounds → 8 * x .places .compound n + 8 ≤ from
+
+-- Of a term with the word w.
+pub record KeepsOf (s : List ℕ) (x : Setting) (from links : ℕ) (t : Term) (w : ℕ) : Type 0 where
+  pub keepable : Keepable s x from links
+  pub reads : Reads s x from links t w
+
+-- Of the arguments of the compound l.
+pub record Keeps (s : List ℕ) (x : Setting) (from links l : ℕ) (f : Functor) (ts : Terms) (goal : ℕ) : Type 0 where
+  pub keepable : Keepable s x from links
+  pub term : UnitTerm s x (Term.compound l f ts)
+  pub place : goal ≡ x .places .compound l
+
+-- Only ends of the unit's pairs have changed, and those that stand are right.
+pub record Kept (s s′ : List ℕ) (x : Setting) (from links : ℕ) : Type 0 where
+  pub size : length s′ ≡ length s
+  pub others : (k : ℕ) → ((n : ℕ) → n < length (x .values) → k ≢ end-place x from n) → getD s′ k 0 ≡ getD s k 0
+  pub keepable : Keepable s′ x from links

@@ -132,7 +132,7 @@ fn differ(s: &[u64], p: usize, q: usize) -> bool
 }
 
 // The number of a compound's arguments.
-fn count(s: &[u64], p: usize) -> usize
+pub fn count(s: &[u64], p: usize) -> usize
     requires { ⌜ 8 * p < length (now s) ⌝ }
     ensures { λ r. ⌜ r ≡ getD (now (s .entry)) (8 * p) 0 % 8 ⌝ }
 {
@@ -141,7 +141,7 @@ fn count(s: &[u64], p: usize) -> usize
 }
 
 // A compound's i-th argument, from 1 on.
-fn argument(s: &[u64], p: usize, i: usize) -> u64
+pub fn argument(s: &[u64], p: usize, i: usize) -> u64
     requires { ⌜ 8 * p + i < length (now s) ⌝ }
     ensures { λ r. ⌜ r ≡ getD (now (s .entry)) (8 * p + i) 0 ⌝ }
 {
@@ -149,8 +149,8 @@ fn argument(s: &[u64], p: usize, i: usize) -> u64
 }
 
 pub fn place(s: &mut [u64], values: usize, links: usize, h: u64, w: u64, n: usize) -> Result
-    requires { ⌜ ((x : Setting) × (y : Template) × (lo : ℕ) × (hi : ℕ) × (t : Term) × (u : Term) × Against (now s) x y values lo hi t u h w n) ⌝ }
-    ensures { λ r. ⌜ ((x : Setting) (y : Template) (lo hi : ℕ) (t u : Term) → Against (now (s .entry)) x y values lo hi t u h w n
+    requires { ⌜ ((x : Setting) × (y : Template) × (lo : ℕ) × (hi : ℕ) × (t : Term) × (u : Term) × Against (now s) x y values links lo hi t u h w n) ⌝ }
+    ensures { λ r. ⌜ ((x : Setting) (y : Template) (lo hi : ℕ) (t u : Term) → Against (now (s .entry)) x y values links lo hi t u h w n
         → Answers (now (s .entry)) (now (s .exit)) x y n lo (n + 6 * hi + 1) (place-outcome x links t u) r) ⌝ }
 {
     match table(s, h, w, n) {
@@ -169,9 +169,9 @@ pub fn place(s: &mut [u64], values: usize, links: usize, h: u64, w: u64, n: usiz
 // "From left to right and depth first", up to "the first place that fails or waits".
 pub fn places(s: &mut [u64], values: usize, links: usize, p: usize, q: usize, n: usize) -> Result
     requires { ⌜ ((x : Setting) × (y : Template) × (m : ℕ) × (g : Functor) × (us : Terms) × (lo : ℕ) × (hi : ℕ) × (l : ℕ) × (f : Functor) × (ts : Terms)
-        × AllAgainst (now s) x y values m g us lo hi l f ts p q n) ⌝ }
+        × AllAgainst (now s) x y values links m g us lo hi l f ts p q n) ⌝ }
     ensures { λ r. ⌜ ((x : Setting) (y : Template) (m : ℕ) (g : Functor) (us : Terms) (lo hi l : ℕ) (f : Functor) (ts : Terms)
-        → AllAgainst (now (s .entry)) x y values m g us lo hi l f ts p q n
+        → AllAgainst (now (s .entry)) x y values links m g us lo hi l f ts p q n
         → Answers (now (s .entry)) (now (s .exit)) x y n lo (n + 6 * hi + size us) (places-outcome x links us ts) r) ⌝ }
 {
     let k = count(s, p);

@@ -1,21 +1,29 @@
 // "A goal term that is an assigned variable is followed to its value, again and again."
 ghost use mathlib.Core.Path.{_≡_};
-ghost use Rattle.meaning.specs.Terms.{Term};
-ghost use Rattle.term.specs.Holds.{value-word};
+ghost use Prim.Native.Nat.{ℕ, _+_, _<_};
+ghost use lib.ListN.{length, getD};
+ghost use Rattle.meaning.specs.Terms.{Half, Term, variable};
 ghost use Rattle.term.specs.Setting.{Setting};
-ghost use Rattle.compare.specs.Follow.{Reads, value-of, FollowedTo};
+ghost use Rattle.compare.specs.Follow.{Reads, FollowedTo, PairAt, Ahead};
 use term::word::View;
 use term::word::look;
 
-// The pairs' values stand from a place on; a chain has no more links than there are pairs.
+pub fn word_at(s: &[u64], from: usize, i: usize) -> u64
+    requires { ⌜ from + i < length (now s) ⌝ }
+    ensures { λ r. ⌜ r ≡ getD (now (s .entry)) (from + i) 0 ⌝ }
+{
+    s[from + i]
+}
+
+// The pairs' values stand from a place on, and the ends that are kept behind four words a pair; there are as many pairs as links at most.
 pub fn follow(s: &[u64], values: usize, links: usize, w: u64) -> u64
-    requires { ⌜ ((x : Setting) × (t : Term) × Reads (now s) x values t w) ⌝ }
-    ensures { λ r. ⌜ ((x : Setting) (t : Term) → Reads (now (s .entry)) x values t w → FollowedTo (now (s .entry)) x values links t r) ⌝ }
+    requires { ⌜ ((x : Setting) × (t : Term) × Reads (now s) x values links t w) ⌝ }
+    ensures { λ r. ⌜ ((x : Setting) (t : Term) → Reads (now (s .entry)) x values links t w → FollowedTo (now (s .entry)) x values links t r) ⌝ }
 {
     let mut t = w;
     let mut left = links;
     while 0 < left {
-        let v = value_of(s, values, t);
+        let v = ahead(s, values, links, t);
         if v == 0 {
             return t;
         }
@@ -25,14 +33,31 @@ pub fn follow(s: &[u64], values: usize, links: usize, w: u64) -> u64
     t
 }
 
-// What a variable was assigned; 0 for one that was not, and for any other term.
-pub fn value_of(s: &[u64], values: usize, w: u64) -> u64
-    requires { ⌜ ((x : Setting) × (t : Term) × Reads (now s) x values t w) ⌝ }
-    ensures { λ r. ⌜ ((x : Setting) (t : Term) → Reads (now (s .entry)) x values t w → r ≡ value-word (x .places) (value-of (x .values) t)) ⌝ }
+// What a variable leads to: its value, or a term further on; 0 for an unassigned one and for any other term.
+fn ahead(s: &[u64], values: usize, links: usize, w: u64) -> u64
+    requires { ⌜ ((x : Setting) × (t : Term) × Reads (now s) x values links t w) ⌝ }
+    ensures { λ r. ⌜ ((x : Setting) (t : Term) → Reads (now (s .entry)) x values links t w → Ahead (now (s .entry)) x values links t r) ⌝ }
 {
     match look(w) {
-        View::Writer(p) => s[values + p],
-        View::Reader(p) => s[values + p],
+        View::Writer(p) => led(s, values, links, p),
+        View::Reader(p) => led(s, values, links, p),
         _ => 0,
     }
+}
+
+// The same of a pair. The end that is kept is asked for only where the value is a reader.
+fn led(s: &[u64], values: usize, links: usize, p: usize) -> u64
+    requires { ⌜ ((x : Setting) × (n : ℕ) × PairAt (now s) x values links n p) ⌝ }
+    ensures { λ r. ⌜ ((x : Setting) (n : ℕ) → PairAt (now (s .entry)) x values links n p
+        → (h : Half) → Ahead (now (s .entry)) x values links (variable h n) r) ⌝ }
+{
+    let v = word_at(s, values, p);
+    if v % 8 != 2 {
+        return v;
+    }
+    let e = word_at(s, values + 4 * links, p);
+    if e == 0 {
+        return v;
+    }
+    e
 }

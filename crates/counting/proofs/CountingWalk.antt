@@ -26,7 +26,8 @@ use Rattle.facts.proofs.Settled.{settled-in}
 use Rattle.facts.proofs.Again.{seen-again, shown-again}
 use Rattle.facts.proofs.Told.{seen as look, seen-term, compound-told}
 use Rattle.facts.proofs.Leaves.{opening-length, length-more}
-use Rattle.facts.proofs.Keeping.{changed-none, changed-then, front-kept, all-within-every, shows-kept}
+use Rattle.facts.proofs.Keeping.{changed-none, changed-then, front-kept, shows-kept}
+use Rattle.term.proofs.Units.{all-within-every}
 use Rattle.facts.proofs.Walking.{position-first}
 use Rattle.facts.proofs.Wholes.{some-argument, whole-is}
 

@@ -1,5 +1,5 @@
 -- Following a term over the ends that are kept and the values: each link has the same values applied, and no more links are left than the definition has.
-use Prim.Native.Nat.{ℕ, zero, suc, _+_, _-_, _*_, _≤_, _<_}
+use Prim.Native.Nat.{ℕ, _+_, _-_, _*_, _≤_, _<_}
 use mathlib.Core.Path.{_≡_, refl, _∙_, sym, ap}
 use mathlib.Core.Logic.{_≢_}
 use mathlib.Core.Bool.{Bool, true, false}
@@ -13,53 +13,23 @@ use borrow.Author.Tests.{eqb-true, eqb-false}
 use Rattle.meaning.specs.Bytes.{Bytes}
 use Rattle.meaning.specs.Terms.{Half, Constant, Term}
 use Rattle.meaning.specs.State.{Values, value}
-use Rattle.meaning.specs.Circle.{circle}
 use Rattle.meaning.specs.Compare.{followed}
-use Rattle.meaning.proofs.Circle.Following.{followed-within, followed-unassigned}
 use Rattle.term.specs.Cells.{term-word}
+use Rattle.term.specs.Chains.{value-of, Leads as LeadsOver}
 use Rattle.term.specs.Holds.{value-word}
 use Rattle.term.specs.Setting.{Setting, Within, UnitTerm}
+use Rattle.term.proofs.Cells.{word-positive}
+use Rattle.term.proofs.Chains.{followed-none, chains-end, nearer}
 use Rattle.facts.specs.Threaded.{full}
 use Rattle.facts.specs.Sound.{Sound}
 use Rattle.facts.specs.Pairs.{pair-seen}
-use Rattle.facts.specs.Facts.{fact-place, value-of, Led, EndAt, Readable, Shows, To, LeadsOn, Changed, Leads, Counting, LengthAt}
+use Rattle.facts.specs.Facts.{fact-place, Led, EndAt, Readable, Shows, To, LeadsOn, Changed, Leads, Counting, LengthAt}
 use Rattle.facts.proofs.Full.{full-constant, full-compound, full-unassigned, full-assigned}
-use Rattle.facts.proofs.Told.{seen, pair-told, no-pair-told, no-variable-value, word-positive}
+use Rattle.facts.proofs.Told.{seen, pair-told, no-pair-told, no-variable-value}
 use Rattle.facts.proofs.Keeping.{changed-none, readable-kept, ends-kept, led-kept, unit-kept}
-
-pub followed-none : (links : ℕ) (values : Values) (t : Term) → value-of values t ≡ none → followed links values t ≡ t
-unfolding followed
-followed-none zero values t e = refl
-followed-none (suc links) values (Term.variable h n) e = rw (e, followed)
-followed-none (suc links) values (Term.constant k) e = refl
-followed-none (suc links) values (Term.compound n f ts) e = refl
-
-followed-some : (links : ℕ) (values : Values) (h : Half) (n : ℕ) (u : Term) → value values n ≡ some u
-    → followed (suc links) values (Term.variable h n) ≡ followed links values u
-unfolding followed
-followed-some links values h n u e = rw (e, followed)
 
 some-none : (u : Term) → _≡_ {A = Option Term} (some u) none → ⊥
 some-none u e = let z : _≡_ {A = ℕ} 0 1 = cc in omega arith
-
--- A variable that was assigned comes one link nearer.
-nearer-value : (values : Values) (h : Half) (n : ℕ) (u : Term) → value values n ≡ some u → (links : ℕ)
-    → value-of values (followed links values (Term.variable h n)) ≡ none → value-of values (followed (links - 1) values u) ≡ none
-unfolding followed
-nearer-value values h n u e zero k = absurd (some-none u (sym e ∙ k))
-nearer-value values h n u e (suc links) k =
-    let one : suc links - 1 ≡ links = omega arith in
-    rw one (rw (followed-some links values h n u e) at k)
-
--- Every chain ends.
-ended-by : (values : Values) → circle values ≡ false → (v t : Term) → followed (length values) values t ≡ v → value-of values v ≡ none
-ended-by values c (Term.variable h n) t e = followed-unassigned values c t h n e
-ended-by values c (Term.constant k) t e = refl
-ended-by values c (Term.compound n f ts) t e = refl
-
-pub chains-end : (values : Values) → circle values ≡ false → (links : ℕ) → length values ≤ links → (t : Term)
-    → value-of values (followed links values t) ≡ none
-chains-end values c links h t = ended-by values c (followed links values t) t (sym (followed-within values c links h t))
 
 module _ (s : List ℕ) (text : Bytes) (x : Setting) (facts : ℕ) (r : Readable s text x facts) where
   -- A variable's pair lies among the unit's.
@@ -98,7 +68,7 @@ module _ (s : List ℕ) (text : Bytes) (x : Setting) (facts : ℕ) (r : Readable
           next = l .last;
           shows = record { term = l .term; sound = l .sound; word = l .word };
           same = full-assigned (x .values) (r .no-circle) h n u q ∙ l .same;
-          nearer = λ links k. rw (followed-none (links - 1) (x .values) (l .last) (l .ended)) (l .ended);
+          nearer = λ links k. rw (followed-none (x .values) (links - 1) (l .last) (l .ended)) (l .ended);
           assigned = (u, q);
         };
       }
@@ -116,6 +86,7 @@ module _ (s : List ℕ) (text : Bytes) (x : Setting) (facts : ℕ) (r : Readable
   -- It goes to the value.
   value-leads : (h : Half) (n e : ℕ) → n < length (x .values) → (v : Option Term) → value (x .values) n ≡ v
       → e ≡ value-word (x .places) v → LeadsOn s x (Term.variable h n) e
+  unfolding LeadsOver
   value-leads h n e b none q i = record { stops = λ z. q; goes = λ d. absurd (d i) }
   value-leads h n e b (some u) q i = record {
     stops = λ z. absurd (omega (arith, word-positive (x .places) u));
@@ -127,7 +98,7 @@ module _ (s : List ℕ) (text : Bytes) (x : Setting) (facts : ℕ) (r : Readable
         word = i;
       };
       same = full-assigned (x .values) (r .no-circle) h n u q;
-      nearer = nearer-value (x .values) h n u q;
+      nearer = λ links k. nearer (x .values) 1 links (Term.variable h n) u (omega arith) (u, q, refl) k;
       assigned = (u, q);
     };
   }

@@ -8,26 +8,14 @@ use native.Mathlib.Omega.{arith}
 use lib.ListN.{length, getD, set, length-set}
 use lib.Seq.{getD-set-same, getD-set-other}
 use Rattle.meaning.specs.Bytes.{Bytes}
-use Rattle.meaning.specs.Terms.{Term, Terms, end, more}
+use Rattle.meaning.specs.Terms.{Term, end}
 use Rattle.meaning.specs.State.{Values, value}
 use Rattle.term.specs.Cells.{term-word}
-use Rattle.term.specs.Every.{Every, EveryOf}
-use Rattle.term.specs.Setting.{Setting, Within, AllWithin, UnitTerm, UnitTerms, UnitStands}
+use Rattle.term.specs.Setting.{Setting, UnitTerm, UnitTerms, UnitStands}
 use Rattle.term.proofs.Holds.{holds-alike, holds-from-alike, holds-values-alike, EveryValue}
 use Rattle.term.proofs.Spellings.{holds-spellings-kept}
+use Rattle.term.proofs.Units.{within-every}
 use Rattle.facts.specs.Facts.{fact-place, Led, EndAt, Readable, Shows, Changed, Counting, LengthAt}
-
-mutual
-  unfolding Within AllWithin Every EveryOf
-
-  pub within-every : (p c : ℕ) (t : Term) → Within p c t → Every (λ n. n < c) t
-  within-every p c (Term.variable h n) w = tt
-  within-every p c (Term.constant k) w = tt
-  within-every p c (Term.compound n f ts) w = (w .0, all-within-every p c ts (w .1))
-
-  pub all-within-every : (p c : ℕ) (ts : Terms) → AllWithin p c ts → EveryOf (λ n. n < c) ts
-  all-within-every p c end w = tt
-  all-within-every p c (more t ts) w = (within-every p c t (w .0), all-within-every p c ts (w .1))
 
 pub changed-none : (s : List ℕ) (x : Setting) (facts : ℕ) → Changed s s x facts
 changed-none s x facts = record { size = refl; others = λ k a b. refl }

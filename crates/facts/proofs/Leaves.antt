@@ -22,7 +22,7 @@ use Rattle.term.proofs.Numbers.{number-below, same-equal}
 use Rattle.term.proofs.Spellings.{holds-spelling-at}
 use Rattle.facts.specs.Threaded.{full}
 use Rattle.facts.specs.Walk.{Opens, opening-bytes}
-use Rattle.facts.specs.Facts.{fact-place, value-of, Readable, Led}
+use Rattle.facts.specs.Facts.{fact-place, Readable, Led}
 use Rattle.facts.proofs.Full.{full-constant, full-unassigned}
 use Rattle.facts.proofs.Told.{seen, seen-term, writer-told, reader-told, integer-told, name-told, empty-told, nothing-told}
 

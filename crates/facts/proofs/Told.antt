@@ -13,11 +13,11 @@ use Rattle.meaning.specs.Terms.{Half, writer, reader, Integer, Constant, Functo
 use Rattle.meaning.specs.State.{Values}
 use Rattle.term.specs.Words.{Content, view, view-of}
 use Rattle.term.specs.Cells.{Places, bits, number-of, content, term-word}
+use Rattle.term.specs.Chains.{value-of}
 use Rattle.term.specs.declared.word.View.{View}
 use Rattle.term.specs.declared.word.View.the-variants.{Nothing, Writer, Reader, Integer as AnInteger, Name, Empty, Compound}
 use Rattle.term.proofs.Words.{view-word}
 use Rattle.facts.specs.Pairs.{pair-seen, NoCompound}
-use Rattle.facts.specs.Facts.{value-of}
 
 -- What a look at a word says.
 abbrev pub seen : ℕ → View
@@ -38,14 +38,6 @@ tag (Compound q) = 6
 -- Two views of different tags are apart.
 tags : (v u : View) → v ≡ u → tag v ≡ tag u
 tags v u e = rw e
-
-pub word-positive : (places : Places) (t : Term) → 0 < term-word places t
-word-positive places (Term.variable writer n) = omega arith
-word-positive places (Term.variable reader n) = omega arith
-word-positive places (Term.constant (Constant.integer i)) = omega arith
-word-positive places (Term.constant (Constant.name f)) = omega arith
-word-positive places (Term.constant Constant.empty) = omega arith
-word-positive places (Term.compound n f ts) = omega arith
 
 module _ (places : Places) where
   pub writer-told : (t : Term) (p : ℕ) → view-of (content places t) ≡ Writer p → (n : ℕ) × (t ≡ Term.variable writer n) × (p ≡ places .pair n)

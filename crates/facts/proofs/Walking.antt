@@ -23,7 +23,8 @@ use Rattle.term.specs.declared.word.View.{View}
 use Rattle.term.specs.declared.word.View.the-variants.{Empty, Compound}
 use Rattle.facts.specs.Threaded.{full, all-full, seen-after, seen-after-all}
 use Rattle.facts.specs.Sound.{Sound, AllSound, SoundFunctor}
-use Rattle.facts.specs.Facts.{value-of, Led, Readable, Shows}
+use Rattle.term.specs.Chains.{value-of}
+use Rattle.facts.specs.Facts.{Led, Readable, Shows}
 use Rattle.facts.specs.Walk.{opening-bytes, Opens, StandsAt, after, rest, Position, Found}
 use Rattle.facts.specs.declared.cells.Next.{Next}
 use Rattle.facts.specs.declared.cells.Next.the-variants.{Goes, Ends}

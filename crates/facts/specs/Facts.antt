@@ -14,6 +14,7 @@ use Rattle.meaning.specs.Circle.{circle}
 use Rattle.meaning.specs.Compare.{followed}
 use Rattle.meaning.specs.Report.{alone, number-in}
 use Rattle.term.specs.Cells.{term-word}
+use Rattle.term.specs.Chains.{value-of}
 use Rattle.term.specs.Frames.{Only}
 use Rattle.term.specs.Setting.{Setting, UnitTerm, UnitStands}
 use Rattle.term.specs.Spellings.{HoldsSpellings}
@@ -22,12 +23,6 @@ use Rattle.facts.specs.Sound.{Sound, SoundValues}
 
 abbrev pub fact-place : Setting → ℕ → ℕ → ℕ
 fact-place x facts n = facts + 4 * x .places .pair n
-
--- What a variable was assigned, if anything.
-abbrev pub value-of : Values → Term → Option Term
-value-of values (Term.variable h n) = value values n
-value-of values (Term.constant k) = none
-value-of values (Term.compound n f ts) = none
 
 -- A term has its chain's end in the word w: a term of the unit that is no assigned variable, with the same values applied.
 pub record Led (s : List ℕ) (x : Setting) (t : Term) (w : ℕ) : Type 0 where

@@ -24,7 +24,7 @@ use Rattle.machine.specs.Running.{Running, StepIs}
 use Rattle.machine.specs.Taking.{Taken, JoiningFailed}
 use Rattle.machine.specs.declared.step.Stepped.the-variants.{Next}
 use Rattle.machine.proofs.FramesRunning.{few-units, tries-below, front-stands}
-use Rattle.machine.proofs.Joining.{JoinKept, counted, join-run-only, join-job-kept, active-some, others-fit, failed-standing, held-failed}
+use Rattle.machine.proofs.Joining.{JoinKept, counted, join-run-only, join-job-kept, active-some, others-fit, failed-standing, held-failed, ends-failed}
 use Rattle.queues.proofs.Listed.{listed-kept}
 use Rattle.machine.proofs.Next.{run-next}
 use Rattle.queues.proofs.Waking.{log-kept}
@@ -144,6 +144,9 @@ module _ (s s₁ s′ : List ℕ) (text : Bytes) (names : List Bytes) (j : Job) 
         log-number = r .log-number;
         waiting = rw its-next (r .waiting);
         marks = marks-after s text names j figures limit atlas slots g others t k (g .query) s′ kept;
+        ends = rw its-next
+            (ends-failed s s′ names figures (j .queries) atlas state t (r .state) (r .held .few-queries)
+            (few-units s text names j figures limit atlas slots t (t .steps * 32768 + 32769) r) g others (k .front) kept (r .ends));
       }
 
   pub step-failed : StepIs s s′ text names j figures limit atlas g others t (Next (failed-standing t front′))

@@ -12,7 +12,7 @@ use Rattle.meaning.specs.State.{Room, start}
 use Rattle.meaning.specs.Run.{run}
 use Rattle.term.specs.Jobs.{query-record, EachFrom, HoldsJob, JobKept}
 use Rattle.term.specs.Spellings.{SpelledAt, HoldsSpellings, HoldsVariables, HoldsText}
-use Rattle.term.specs.Layout.{values-region, waiters-region, sets-region, marks-region, numbers-region, queue-region, waiting-region, need-of}
+use Rattle.term.specs.Layout.{values-region, waiters-region, sets-region, marks-region, ends-region, queue-region, waiting-region, need-of}
 use Rattle.term.specs.States.{Atlas, HoldsState, Ready, Finished, verdict-of}
 use Rattle.term.specs.declared.state.Standing.{Standing}
 use Rattle.term.specs.declared.state.Verdict.{Verdict}
@@ -50,6 +50,7 @@ entered-running s text names j figures atlas t e =
         log-number = e .log;
         waiting = rw (run-starts j figures) refl;
         marks = λ k l m. omega (arith, e .room-zero k (omega arith) (omega arith));
+        ends = λ p l d. absurd (d (e .room-zero (ends-region figures + p) (omega arith) (omega arith)));
       },
       none,
     )
@@ -134,7 +135,6 @@ finished figures s₀ s₁ s text names j atlas first limit v t ready e entered 
         verdict = g .0;
         atlas = g .1;
         state = g .2;
-        numbers = λ k l m. r .numbers k l m ∙ entered .room-zero k (omega arith) (omega arith);
       },
     )
 

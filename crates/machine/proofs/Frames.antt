@@ -93,12 +93,12 @@ pub record UnitsKept (figures : Room) (compounds : ℕ) (s s′ : List ℕ) : Ty
 
 module _ (s s′ : List ℕ) (names : List Bytes) (figures : Room) (atlas : Atlas) (units units′ : List QueryUnit) (pairs compounds : ℕ)
     (lies : Lies names figures atlas units pairs compounds) (kept : UnitsKept figures compounds s s′) (alike : UnitsAlike units units′) where
-  cells-at : (q : ℕ) → q < length units → (n : ℕ) → n < unit-at q units .compounds
+  pub cells-at : (q : ℕ) → q < length units → (n : ℕ) → n < unit-at q units .compounds
       → (k : ℕ) → 8 * atlas q .compound n ≤ k → k < 8 * atlas q .compound n + 8 → getD s′ k 0 ≡ getD s k 0
   cells-at q h n l k a b =
       kept .cells k (omega (arith, lies .compound-behind q n h l)) (omega (arith, lies .compound-below q n h l))
 
-  same-setting : (q : ℕ) → setting-at figures atlas units′ q ≡ setting-at figures atlas units q
+  pub same-setting : (q : ℕ) → setting-at figures atlas units′ q ≡ setting-at figures atlas units q
   same-setting q =
       let v = alike .values q in
       let c = alike .compounds q in

@@ -9,18 +9,22 @@ use Rattle.meaning.specs.Bytes.{Bytes}
 use Rattle.meaning.specs.Terms.{Query, Job, as-term}
 use Rattle.meaning.specs.State.{Room, QueryUnit, Goal, Goals, State, unit-at, number-of}
 use Rattle.meaning.specs.Run.{run}
+use Rattle.meaning.proofs.Circle.{run-no-circle}
 use Rattle.meaning.proofs.Lists.Sums.{sum}
 use Rattle.meaning.proofs.Runs.{steps-are-the-tries, charged-pairs-are-the-units}
 use Rattle.meaning.proofs.Runs.Charges.{run-units}
 use Rattle.term.specs.Jobs.{query-record, JobKept}
 use Rattle.term.specs.Layout.{values-region, waiters-region, sets-region, marks-region, queue-region, waiting-region, need-of}
 use Rattle.term.specs.Setting.{Within}
-use Rattle.term.specs.States.{Atlas, goal-word, ring, GoalStands, AllStand, QueueStands, HoldsState}
+use Rattle.term.specs.Chains.{EndsStand}
+use Rattle.term.specs.States.{Atlas, setting-at, goal-word, ring, GoalStands, AllStand, QueueStands, HoldsState}
 use Rattle.term.specs.declared.state.Standing.{Standing}
+use Rattle.term.proofs.Chains.{chains-end}
 use Rattle.term.proofs.Jobs.{holds-job-kept}
 use Rattle.trial.specs.Choosing.{Trying, MarksBelow, TrialOnly}
 use Rattle.queues.specs.Log.{Slot}
-use Rattle.machine.specs.Running.{RunOnly, Running}
+use Rattle.machine.specs.Running.{RunOnly, AllEnds, Running}
+use Rattle.machine.proofs.Ends.{ends-alike}
 use Rattle.machine.proofs.Frames.{UnitsKept, units-same, units-kept, goals-kept, first-pairs-kept, queue-kept, failed-kept, waiting-kept}
 use Rattle.queues.proofs.Ring.{round-below}
 use Rattle.queues.proofs.Waking.{log-kept}
@@ -32,6 +36,14 @@ pub record StateKept (figures : Room) (s s′ : List ℕ) : Type 0 where
   pub tries : (q : ℕ) → q < 8 → getD s′ (query-record q + 4) 0 ≡ getD s (query-record q + 4) 0
   pub units : (k : ℕ) → 40704 ≤ k → k < waiters-region figures → getD s′ k 0 ≡ getD s k 0
   pub goals : (k : ℕ) → queue-region figures ≤ k → k < need-of figures → getD s′ k 0 ≡ getD s k 0
+
+pub state-units-kept : (figures : Room) (s s′ : List ℕ) (compounds : ℕ) → compounds ≤ figures .compounds → StateKept figures s s′
+    → UnitsKept figures compounds s s′
+state-units-kept figures s s′ compounds fits kept = record {
+  size = kept .size;
+  cells = λ k a b. kept .units k a (omega arith);
+  values = λ k a b. kept .units k (omega arith) b;
+}
 
 -- How many goals there are in each list.
 pub queue-fits : (goals : Goals) (n : ℕ) → number-of goals ≤ n → length (goals .queue) + length (goals .waiting) + length (goals .failed) ≤ n
@@ -45,12 +57,7 @@ state-kept s s′ names figures queries atlas state t few few-units kept h =
     let units = state .units in
     let pairs = state .pairs in
     let compounds = state .compounds in
-    let own : UnitsKept figures compounds s s′ = record {
-      size = kept .size;
-      cells = λ k a b. kept .units k a (omega (arith, h .lies .compounds-fit));
-      values = λ k a b. kept .units k (omega arith) b;
-    }
-    in
+    let own = state-units-kept figures s s′ compounds (h .lies .compounds-fit) kept in
     let stay = goals-kept s s′ names figures atlas units units pairs compounds (h .lies) own (units-same units) in
     let all = queue-fits (state .goals) (figures .goals) (h .fits) in
     record {
@@ -99,8 +106,9 @@ module _ (s : List ℕ) (text : Bytes) (names : List Bytes) (j : Job) (figures :
   pub running-kept : (s′ : List ℕ) (stamp′ : ℕ) → StateKept figures s s′ → JobKept s s′
       → ((k : ℕ) → waiters-region figures ≤ k → k < marks-region figures → getD s′ k 0 ≡ getD s k 0)
       → MarksBelow s′ (marks-region figures) (figures .pairs) stamp′
+      → AllEnds s′ figures atlas (run j limit figures .state .units)
       → Running s′ text names j figures limit atlas slots t stamp′
-  running-kept s′ stamp′ kept job own marks = record {
+  running-kept s′ stamp′ kept job own marks ends = record {
     in-range = r .in-range;
     inside = omega (arith, r .inside, kept .size);
     reads = r .reads;
@@ -114,6 +122,7 @@ module _ (s : List ℕ) (text : Bytes) (names : List Bytes) (j : Job) (figures :
     log-number = r .log-number;
     waiting = r .waiting;
     marks = marks;
+    ends = ends;
   }
 
 -- What the choice changes: the trial's region and the marks.
@@ -141,7 +150,6 @@ module _ (figures : Room) (s s′ : List ℕ) (only : TrialOnly 40464 (marks-reg
     before = λ k h. only .same k (inl (omega arith)) (inl (omega arith));
     records = λ q i h m x. only .same (query-record q + i) (inl (omega arith)) (inl (omega arith));
     items = λ k a b. only .same k (inl b) (inl (omega arith));
-    numbers = λ k a b. only .same k (inr (omega arith)) (inr (omega arith));
     behind = λ k a. only .same k (inr (omega arith)) (inr (omega arith));
   }
 
@@ -151,7 +159,6 @@ run-only-then figures s t u a b = record {
   before = λ k h. b .before k h ∙ a .before k h;
   records = λ q i h m x. b .records q i h m x ∙ a .records q i h m x;
   items = λ k l h. b .items k l h ∙ a .items k l h;
-  numbers = λ k l h. b .numbers k l h ∙ a .numbers k l h;
   behind = λ k h. b .behind k h ∙ a .behind k h;
 }
 
@@ -161,6 +168,10 @@ pub running-tried : (s s′ : List ℕ) (text : Bytes) (names : List Bytes) (j :
 running-tried s s′ text names j figures limit atlas slots t stamp stamp′ r only marks =
     running-kept s text names j figures limit atlas slots t stamp r s′ stamp′ (trial-state-kept figures s s′ only) (trial-job-kept figures s s′ only)
     (λ k a b. only .same k (inr (omega arith)) (inl (omega arith))) marks
+    (ends-alike s s′ names figures atlas (run j limit figures .state .units) (run j limit figures .state .units) (run j limit figures .state .pairs)
+    (run j limit figures .state .compounds) (r .state .lies) (state-units-kept figures s s′ (run j limit figures .state .compounds) (r .state .lies .compounds-fit)
+    (trial-state-kept figures s s′ only)) (units-same (run j limit figures .state .units))
+    (λ k a b. only .same k (inr (omega arith)) (inr (omega arith))) (r .ends))
 
 -- The goal in front: its word, and what the choice asks.
 first-of-ring : (s : List ℕ) (figures : Room) (atlas : Atlas) (front active : ℕ) (g : Goal) (others : List Goal)
@@ -195,10 +206,32 @@ module _ (s : List ℕ) (names : List Bytes) (figures : Room) (queries : List Qu
   pub front-place : 5088 ≤ atlas (g .query) .compound (g .goal .number)
   front-place = h .lies .compound-behind (g .query) (g .goal .number) (front-stands .query) front-number
 
+-- The ends of a query's own unit.
+pub unit-ends : (s : List ℕ) (text : Bytes) (names : List Bytes) (j : Job) (figures : Room) (limit : ℕ) (atlas : Atlas) (slots : List Slot) (t : Standing)
+    (stamp : ℕ) → Running s text names j figures limit atlas slots t stamp → (q : ℕ) → q < length (run j limit figures .state .units)
+    → EndsStand s (setting-at figures atlas (run j limit figures .state .units) q) (values-region figures)
+unit-ends s text names j figures limit atlas slots t stamp r q h =
+    let state = run j limit figures .state in
+    record {
+      inside = omega (arith, r .inside);
+      ended = chains-end (unit-at q (state .units) .values) (run-no-circle j limit figures q) (figures .pairs)
+          (omega (
+            arith,
+            unit-in-sum (λ u. length (u .values)) (state .units) q h,
+            charged-pairs-are-the-units j limit figures,
+            r .state .lies .pairs-fit,
+          ));
+      kept = λ n b d.
+          let low : atlas q .pair n < figures .pairs = omega (arith, r .state .lies .pair-below q n h b, r .state .lies .pairs-fit) in
+          let a = r .ends (atlas q .pair n) low d in
+          let same = r .state .lies .pair-apart (a .query) q (a .pair) n (a .known) h (a .inside) b (a .place) in
+          rw (same .0, same .1) at (a .end);
+    }
+
 pub trying : (s : List ℕ) (text : Bytes) (names : List Bytes) (j : Job) (figures : Room) (limit : ℕ) (atlas : Atlas) (slots : List Slot) (t : Standing)
     (stamp : ℕ) (g : Goal) (others : List Goal) → Running s text names j figures limit atlas slots t stamp
     → run j limit figures .state .goals .queue ≡ g ∷ others
-    → Trying s text names j limit figures (atlas (g .query)) g others (values-region figures) (marks-region figures) (t .pairs)
+    → Trying s text names j limit figures (atlas (g .query)) g others (values-region figures) (marks-region figures) (figures .pairs)
     (atlas (g .query) .compound (g .goal .number))
 trying s text names j figures limit atlas slots t stamp g others r front =
     let state = run j limit figures .state in
@@ -223,6 +256,9 @@ trying s text names j figures limit atlas slots t stamp g others r front =
         arith,
         unit-in-sum (λ u. length (u .values)) (state .units) q (goal .query),
         charged-pairs-are-the-units j limit figures,
-        h .pairs,
+        h .lies .pairs-fit,
       );
+      links-are = refl;
+      ends-behind = omega arith;
+      ends = unit-ends s text names j figures limit atlas slots t stamp r q (goal .query);
     }

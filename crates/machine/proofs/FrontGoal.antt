@@ -39,7 +39,7 @@ front-inside s text names j figures limit atlas slots t stamp r = omega (arith, 
 word-query : (q n : ℕ) → q < 8 → (q + 8 * n) % 8 ≡ q
 word-query q n h = omega arith
 
-word-place : (q n : ℕ) → q < 8 → (q + 8 * n) / 8 ≡ n
+pub word-place : (q n : ℕ) → q < 8 → (q + 8 * n) / 8 ≡ n
 word-place q n h = omega arith
 
 module _ (s : List ℕ) (text : Bytes) (names : List Bytes) (j : Job) (figures : Room) (limit : ℕ) (atlas : Atlas) (slots : List Slot)
@@ -63,7 +63,7 @@ module _ (s : List ℕ) (text : Bytes) (names : List Bytes) (j : Job) (figures :
   its-place : place ≡ atlas (g .query) .compound (g .goal .number)
   its-place = f .place-is ∙ ap (λ w. w / 8) its-word ∙ word-place (g .query) (atlas (g .query) .compound (g .goal .number)) few-queries
 
-  pub choice-tries : Trying s text names j limit figures (atlas (g .query)) g others values marks (t .pairs) place
+  pub choice-tries : Trying s text names j limit figures (atlas (g .query)) g others values marks (figures .pairs) place
   choice-tries =
       rw (f .values-is, f .marks-is, its-place) (trying s text names j figures limit atlas slots t (t .steps * 32768 + 1) g others r front)
 

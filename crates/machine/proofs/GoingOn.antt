@@ -44,7 +44,6 @@ goes-starts s text names j figures budget t atlas slots r none few =
         before = λ k h. refl;
         records = λ q i h m a. refl;
         items = λ k h m. refl;
-        numbers = λ k h m. refl;
         behind = λ k h. refl;
       };
       running = rw stamp r;

@@ -17,7 +17,8 @@ use Rattle.term.specs.Layout.{waiters-region, marks-region, queue-region, waiti
 use Rattle.term.specs.States.{Atlas, goal-word, ring, listed, logged, Lies, UnitsStand, FirstPair, GoalStands, AllStand, QueueStands, HoldsState}
 use Rattle.term.specs.declared.state.Standing.{Standing}
 use Rattle.queues.specs.Ring.{Passed}
-use Rattle.machine.specs.Running.{RunOnly}
+use Rattle.machine.specs.Running.{RunOnly, AllEnds}
+use Rattle.machine.proofs.Ends.{ends-alike}
 use Rattle.machine.proofs.Frames.{UnitsKept, units-set, units-tried, goals-kept, lies-kept, first-pairs-kept, failed-kept, waiting-kept}
 use Rattle.machine.proofs.FramesRunning.{queue-fits, front-stands, others-stand}
 use Rattle.machine.proofs.Logged.{map-both}
@@ -63,7 +64,6 @@ module _ (figures : Room) (q : ℕ) (s s′ : List ℕ) (kept : JoinKept figures
     before = kept .before;
     records = kept .records;
     items = λ k a b. kept .words k a (omega arith);
-    numbers = λ k a b. kept .ring-words k (omega arith) (omega arith);
     behind = kept .behind;
   }
 
@@ -149,6 +149,20 @@ module _ (s s′ : List ℕ) (names : List Bytes) (figures : Room) (queries : Li
     goals-next =
         goals-kept s s′ names figures atlas (state .units) (set (state .units) (g .query) u) (state .pairs) (state .compounds) (h .lies) own
         (units-set (state .units) (g .query) u its-query v c)
+
+    ends-next : AllEnds s figures atlas (state .units) → AllEnds s′ figures atlas (set (state .units) (g .query) u)
+    ends-next =
+        ends-alike s s′ names figures atlas (state .units) (set (state .units) (g .query) u) (state .pairs) (state .compounds) (h .lies) own
+        (units-set (state .units) (g .query) u its-query v c) (λ k a b. kept .ring-words k (omega arith) (omega arith))
+
+  pub ends-failed : AllEnds s figures atlas (state .units) → AllEnds s′ figures atlas (step joins-failed g others state .units)
+  unfolding step unit-after
+  ends-failed = ends-next (unit-after joins-failed (unit-at (g .query) (state .units))) refl refl
+
+  pub ends-waiting : (readers : List ℕ) → AllEnds s figures atlas (state .units)
+      → AllEnds s′ figures atlas (step (joins-waiting readers) g others state .units)
+  unfolding step unit-after
+  ends-waiting readers = ends-next (unit-after (joins-waiting readers) (unit-at (g .query) (state .units))) refl refl
 
   pub first-pairs-next : EachFrom (FirstPair s′ atlas) 0 queries
   first-pairs-next = first-pairs-kept s s′ atlas queries few (λ k l. kept .records k 3 l (omega arith) (λ e. omega arith)) (h .first-pairs)

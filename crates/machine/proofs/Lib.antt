@@ -1,6 +1,7 @@
 pub mod Adjoining
 pub mod BodyGoals
 pub mod Enlarging
+pub mod Ends
 pub mod EnterCalls
 pub mod Entering
 pub mod EntryByEntry
@@ -14,6 +15,7 @@ pub mod Going
 pub mod GoingOn
 pub mod Growing
 pub mod Joining
+pub mod KeepingEnds
 pub mod Logged
 pub mod Next
 pub mod NextState

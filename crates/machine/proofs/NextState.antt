@@ -3,12 +3,14 @@ use Prim.Native.Nat.{ℕ, zero, suc, _+_, _-_, _*_, _≤_, _<_}
 use mathlib.Core.Path.{_≡_, refl, sym, ap, _∙_}
 use mathlib.Core.Bool.{Bool, true, false, not}
 use mathlib.Core.List.{List, [], _∷_, _++_, map, append-assoc}
+use mathlib.Core.Option.{some}
 use native.Mathlib.Omega.{arith}
 use lib.ListN.{length, getD, length-append, length-map}
 use Rattle.meaning.specs.Bytes.{Bytes, those, if_then_else_}
-use Rattle.meaning.specs.Terms.{Clause, Job, Query, Named}
+use Rattle.meaning.specs.Terms.{Term, Clause, Job, Query, Named}
 use Rattle.meaning.specs.Items.{job, reading}
-use Rattle.meaning.specs.State.{Room, QueryUnit, Goal, Waiting, State, unit-at, number-of, goals-at}
+use Rattle.meaning.specs.State.{Room, QueryUnit, Goal, Waiting, State, value, unit-at, number-of, goals-at}
+use Rattle.meaning.proofs.Circle.{run-no-circle, step-values-stay}
 use Rattle.meaning.specs.Compare.{Assignment}
 use Rattle.meaning.specs.Trial.{reduces}
 use Rattle.meaning.specs.Step.{unit-after, body-goals, wakes, goals-after, pairs-charged, compounds-charged, without-front, step}
@@ -23,7 +25,7 @@ use Rattle.meaning.proofs.Single.{reduction-assigns-once}
 use Rattle.meaning.proofs.Trial.Chosen.{reduces-agrees}
 use Rattle.term.specs.Cells.{Places}
 use Rattle.term.specs.Jobs.{query-record, GoalsKnown, EachFrom, HoldsJob, ClauseAt, JobKept}
-use Rattle.term.specs.Layout.{values-region, waiters-region, sets-region, marks-region, numbers-region, queue-region, waiting-region, failed-region, need-of}
+use Rattle.term.specs.Layout.{values-region, waiters-region, sets-region, marks-region, ends-region, queue-region, waiting-region, failed-region, need-of}
 use Rattle.term.specs.Setting.{UnitStands}
 use Rattle.term.specs.States.{Atlas, setting, setting-at, goal-word, ring, listed, Lies, UnitsStand, FirstPair, AllStand, QueueStands, WaitingStand, FailedStand, HoldsState}
 use Rattle.term.specs.declared.state.Standing.{Standing}
@@ -34,7 +36,8 @@ use Rattle.trial.specs.Choosing.{template, MarksBelow}
 use Rattle.queues.specs.Log.{Slot, LogOk, present}
 use Rattle.reduction.specs.Reducing.{NoEntry, EntriesGiven, GoalsHeld, hits, woken, emptied, hit, goal-in}
 use Rattle.queues.specs.Ring.{Passed}
-use Rattle.machine.specs.Running.{slot-of, RunOnly, Running}
+use Rattle.machine.specs.Running.{slot-of, RunOnly, AllEnds, Running}
+use Rattle.machine.proofs.Ends.{ends-grow}
 use Rattle.machine.specs.Taking.{Taken, Reducing}
 use Rattle.machine.proofs.BodyGoals.{body-fits, body-goals-stand, body-words}
 use Rattle.machine.proofs.EntryByEntry.{no-entry-of, entry-stands}
@@ -43,7 +46,7 @@ use Rattle.queues.proofs.Listed.{listed-kept}
 use Rattle.machine.proofs.Logged.{map-both, waiting-logged}
 use Rattle.machine.proofs.Next.{run-next}
 use Rattle.machine.proofs.NextUnit.{after-unit, enlarged, UnitReduced, next-unit-stands}
-use Rattle.machine.proofs.NextUnits.{atlas-after, units-after, Enlarges, grown-here, goals-grow, goal-words-same, lies-after, units-stand, first-pairs-after}
+use Rattle.machine.proofs.NextUnits.{atlas-after, units-after, Enlarges, as-many, grown-here, grown, goals-grow, goal-words-same, lies-after, units-stand, first-pairs-after}
 use Rattle.machine.proofs.OwnPairs.{run-own-pairs}
 use Rattle.machine.proofs.WaitingPairs.{OwnReaders, waiting-readers, slots-same}
 
@@ -66,6 +69,7 @@ pub record Reduced (s s′ : List ℕ) (figures : Room) (atlas : Atlas) (units :
       ≡ (ring s (queue-region figures) (figures .goals) front active
       ++ map (λ g. q + 8 * enlarged (atlas q) (unit-at q units) P C .compound (unit-at q units .compounds + g .number)) (c .body))
       ++ woken zs slots
+  pub ends : (k : ℕ) → ends-region figures ≤ k → k < queue-region figures → getD s′ k 0 ≡ getD s k 0
 
 -- The standing after it.
 pub record StandingAfter (t u : Standing) (c : Clause) (front n : ℕ) : Type 0 where
@@ -368,6 +372,16 @@ module _ (s s′ : List ℕ) (text : Bytes) (names : List Bytes) (j : Job) (figu
   marks-now : MarksBelow s′ (marks-region figures) (figures .pairs) (u .steps * 32768 + 1)
   marks-now x a b = rw (done .marks x a b) (omega (arith, taken .running .marks x a b, after .steps))
 
+  stays : (i m : ℕ) (v : Term) → value (unit-at i (σ .units) .values) m ≡ some v
+      → value (unit-at i (step (reduces c given) g others σ .units) .values) m ≡ some v
+  stays i m v e = rw (red .chosen) at (step-values-stay (j .clauses) σ g others (run-no-circle j limit figures) i m v e)
+
+  ends-now : AllEnds s′ figures atlas′ (step (reduces c given) g others σ .units)
+  unfolding step unit-after
+  ends-now =
+      ends-grow s s′ figures atlas atlas′ (σ .units) units′ (omega (arith, as-many s s′ names figures atlas (σ .units) q P C c given enlarges))
+      (grown s s′ names figures atlas (σ .units) q P C c given enlarges) stays (done .ends) (taken .running .ends)
+
   pub running-now : Running s′ text names j figures (limit + 1) atlas′ (emptied zs slots) u (u .steps * 32768 + 1)
   running-now =
       record {
@@ -382,4 +396,5 @@ module _ (s s′ : List ℕ) (text : Bytes) (names : List Bytes) (j : Job) (figu
         log-number = log-number-now;
         waiting = rw next-is left-now;
         marks = marks-now;
+        ends = rw next-is ends-now;
       }

@@ -24,7 +24,7 @@ use Rattle.term.specs.Cells.{Places, term-word}
 use Rattle.term.specs.Every.{Every, EveryOf}
 use Rattle.term.specs.Holds.{Holds}
 use Rattle.term.specs.Jobs.{clause-record, clause-base, query-record, places-from, HoldsGoals, HoldsClause, ClauseAt}
-use Rattle.term.specs.Layout.{values-region, waiters-region, sets-region, marks-region, numbers-region, queue-region, waiting-region, failed-region, need-of, InRange}
+use Rattle.term.specs.Layout.{values-region, waiters-region, sets-region, marks-region, ends-region, queue-region, waiting-region, failed-region, need-of, InRange}
 use Rattle.term.specs.Setting.{Setting, Within, AllWithin}
 use Rattle.term.specs.States.{Atlas, setting, goal-word, ring, listed, Lies, AllStand, HoldsState}
 use Rattle.term.specs.declared.state.Standing.{Standing}
@@ -495,10 +495,6 @@ module _ {s : List ℕ} {text : Bytes} {names : List Bytes} {j : Job} {figures :
                         getD-set-other s₅ (query-record q + 4) (query-record i + w) (getD s₅ (query-record q + 4) 0 + 1) 0 (λ e. omega arith)
                         ∙ low-5 (query-record i + w) (omega arith);
                     items = λ w a b. beyond w a ∙ low-5 w (omega arith);
-                    numbers = λ w a b.
-                        beyond w (omega arith)
-                        ∙ same-5 w (inr (omega (arith, z .pairs))) (inr (omega (arith, z .compounds))) (inr (omega (arith, z .pairs))) (inr (omega arith))
-                        (inr (omega arith), inl (omega arith)) (inl b);
                     behind = λ w a.
                         beyond w (omega arith)
                         ∙ same-5 w (inr (omega (arith, z .pairs))) (inr (omega (arith, z .compounds))) (inr (omega (arith, z .pairs))) (inr (omega arith))
@@ -614,4 +610,8 @@ module _ {s : List ℕ} {text : Bytes} {names : List Bytes} {j : Job} {figures :
                         (inr (omega arith), inr (omega (arith, z .used))) (inr (omega arith));
                     log = log-6;
                     queue = queue-6;
+                    ends = λ w a b.
+                        beyond w (omega arith)
+                        ∙ same-5 w (inr (omega (arith, z .pairs))) (inr (omega (arith, z .compounds))) (inr (omega (arith, z .pairs))) (inr (omega arith))
+                        (inr (omega arith), inl (omega arith)) (inl b);
                   }

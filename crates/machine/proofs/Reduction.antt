@@ -78,7 +78,6 @@ run-only-same figures s =
       before = λ w h. refl;
       records = λ i w h l other. refl;
       items = λ w a b. refl;
-      numbers = λ w a b. refl;
       behind = λ w a. refl;
     }
 

@@ -24,7 +24,7 @@ use Rattle.machine.specs.Taking.{LogHere, FreePlace, Taken, JoiningWaiti
 use Rattle.machine.specs.declared.step.Stepped.the-variants.{Next}
 use Rattle.machine.proofs.Failing.{front-query, query-below, tries-small, goals-fit, marks-after}
 use Rattle.machine.proofs.FramesRunning.{few-units, front-place}
-use Rattle.machine.proofs.Joining.{JoinKept, counted, join-run-only, join-job-kept, waiting-standing, held-waiting}
+use Rattle.machine.proofs.Joining.{JoinKept, counted, join-run-only, join-job-kept, waiting-standing, held-waiting, ends-waiting}
 use Rattle.queues.proofs.Listed.{listed-kept}
 use Rattle.machine.proofs.Logged.{map-both, waiting-logged}
 use Rattle.machine.proofs.Next.{run-next}
@@ -179,6 +179,9 @@ module _ (s s₁ : List ℕ) (text : Bytes) (names : List Bytes) (j : Job) (figu
             log-number = sym more-slots;
             waiting = rw its-next slots-waiting;
             marks = marks-after s text names j figures limit atlas slots g others t k (g .query) s′ kept;
+            ends = rw its-next
+                (ends-waiting s s′ names figures (j .queries) atlas state t (r .state) (r .held .few-queries)
+                (few-units s text names j figures limit atlas slots t (t .steps * 32768 + 32769) r) g others (k .front) kept readers (r .ends));
           }
 
       pub step-waiting : StepIs s s′ text names j figures limit atlas g others t (Next (waiting-standing t front′ place))

@@ -11,7 +11,7 @@ use Rattle.meaning.specs.Items.{job, reading}
 use Rattle.meaning.specs.State.{Room, start}
 use Rattle.meaning.specs.Run.{queries-fit}
 use Rattle.term.specs.Jobs.{query-record, HoldsJob}
-use Rattle.term.specs.Layout.{values-region, waiters-region, marks-region, numbers-region, queue-region, need-of, InRange}
+use Rattle.term.specs.Layout.{values-region, waiters-region, marks-region, queue-region, need-of, InRange}
 use Rattle.term.specs.States.{Atlas, HoldsState}
 use Rattle.term.specs.declared.state.Standing.{Standing}
 
@@ -20,7 +20,7 @@ unfoldable pub record-sum : List ℕ → ℕ → ℕ → ℕ
 record-sum s at zero = 0
 record-sum s at (suc n) = record-sum s at n + getD s (query-record n + at) 0
 
--- What entering may change: of the queries' records where their own pairs begin, and what the room has, but for waiters, sets, marks and numbers.
+-- What entering may change: of the queries' records where their own pairs begin, and what the room has, but for waiters, sets, marks and ends.
 pub record EnterOnly (figures : Room) (s s′ : List ℕ) : Type 0 where
   pub size : length s′ ≡ length s
   pub before : (k : ℕ) → k < 4608 → getD s′ k 0 ≡ getD s k 0

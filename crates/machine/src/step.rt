@@ -1,4 +1,5 @@
 // One step: the goal at the front is reduced, waits or fails.
+use compare::ends::keep_ends;
 use queues::goals::behind;
 use queues::goals::close_up;
 use queues::goals::fail;
@@ -162,7 +163,7 @@ fn free_place(s: &mut [u64], room: Room, log: usize) -> usize
 }
 
 // The goal joins the end of the waiting goals with so many readers.
-fn join_waiting(
+fn add_waiting(
     s: &mut [u64],
     room: Room,
     t: Standing,
@@ -200,6 +201,27 @@ fn join_waiting(
         failed: t.failed,
         steps: t.steps + 1,
     })
+}
+
+// The goal waits on so many readers: the ends to which its arguments lead are kept, and it joins the end of the waiting goals.
+fn join_waiting(
+    s: &mut [u64],
+    room: Room,
+    t: Standing,
+    goal: u64,
+    query: usize,
+    readers: usize,
+) -> Stepped
+    requires { ⌜ ((text : Bytes) × (names : List Bytes) × (j : Job) × (limit : ℕ) × (atlas : Atlas) × (slots : List Slot) × (g : Goal) × (others : List Goal) × (rs : List ℕ)
+        × Taken (now s) text names j (figures room) limit atlas slots g others t
+        × JoiningWaiting (now s) j (figures room) limit atlas g goal query readers rs) ⌝ }
+    ensures { λ r. ⌜ ((text : Bytes) (names : List Bytes) (j : Job) (limit : ℕ) (atlas : Atlas) (slots : List Slot) (g : Goal) (others : List Goal) (rs : List ℕ)
+        → Taken (now (s .entry)) text names j (figures room) limit atlas slots g others t
+        → JoiningWaiting (now (s .entry)) j (figures room) limit atlas g goal query readers rs
+        → StepIs (now (s .entry)) (now (s .exit)) text names j (figures room) limit atlas g others t r) ⌝ }
+{
+    keep_ends(s, layout::values(room), room.pairs, index(goal / 8));
+    add_waiting(s, room, t, goal, query, readers)
 }
 
 // The goal joins the end of the failed goals.
@@ -244,7 +266,7 @@ pub fn step(s: &mut [u64], room: Room, t: Standing) -> Stepped
         s,
         layout::values(room),
         layout::marks(room),
-        t.pairs,
+        room.pairs,
         index(goal / 8),
         word(t.steps) * 32768 + 1,
     ) {

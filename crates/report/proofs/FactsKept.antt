@@ -21,7 +21,7 @@ use Rattle.sections.specs.Header.{tallies-of, header-of}
 use Rattle.sections.specs.Sections.{Variables, GoalsHeld, Listed, SectionAt}
 use Rattle.sections.specs.Whole.{section-bytes, lines-shown}
 use Rattle.report.specs.All.{Made, FactsOnly, bytes-of, sections-bytes}
-use Rattle.facts.proofs.Keeping.{within-every}
+use Rattle.term.proofs.Units.{within-every}
 
 pub facts-none : (figures : Room) (s : List ℕ) → FactsOnly figures s s
 facts-none figures s = record { size = refl; counter = λ k h. refl; before = λ k l h. refl; behind = λ k h. refl }

@@ -36,7 +36,7 @@ use Rattle.sections.specs.declared.groups.Group.{Group}
 use Rattle.sections.specs.Sections.{Variables, GoalsHeld, Listed}
 use Rattle.sections.specs.Whole.{Uncounted}
 use Rattle.report.specs.All.{Sections, Stands, no-query, made-of}
-use Rattle.facts.proofs.Keeping.{within-every}
+use Rattle.term.proofs.Units.{within-every}
 use Rattle.report.proofs.SoundRun.{sound-values, sound-queue, sound-waiting, sound-failed}
 use Rattle.report.proofs.StateLists.{listed-active, listed-waiting, listed-failed}
 

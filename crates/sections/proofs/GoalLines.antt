@@ -11,10 +11,10 @@ use Rattle.meaning.specs.State.{Values, Goal}
 use Rattle.meaning.specs.Report.{alone}
 use Rattle.term.specs.States.{round}
 use Rattle.term.specs.Holds.{Holds, HoldsFrom, CellAt}
-use Rattle.term.specs.Setting.{Setting, UnitTerm, Within, AllWithin}
-use Rattle.term.specs.Every.{Every, EveryOf}
+use Rattle.term.specs.Setting.{Setting, UnitTerm}
 use Rattle.term.proofs.Holds.{holds-alike}
-use Rattle.meaning.specs.Terms.{Terms, end, more}
+use Rattle.term.proofs.Units.{within-every}
+use Rattle.meaning.specs.Terms.{more}
 use Rattle.meaning.proofs.Lists.Tests.{false-not-true}
 use Rattle.facts.specs.Threaded.{full, seen-after, shown, shown-goals, seen-after-goals}
 use Rattle.facts.specs.Sound.{Sound}
@@ -30,19 +30,6 @@ use Rattle.sections.proofs.GoalPlaces.{own-in, own-out, own-end}
 -- A goal's word.
 abbrev pub word-of : Setting → ℕ → Goal → ℕ
 word-of x q h = q + 8 * x .places .compound (h .goal .number)
-
--- A term's compounds are the unit's.
-mutual
-  unfolding Within AllWithin Every EveryOf
-
-  within-every : (p c : ℕ) (t : Term) → Within p c t → Every (λ n. n < c) t
-  within-every p c (Term.variable h n) w = tt
-  within-every p c (Term.constant k) w = tt
-  within-every p c (Term.compound n f ts) w = (w .0, all-within-every p c ts (w .1))
-
-  all-within-every : (p c : ℕ) (ts : Terms) → AllWithin p c ts → EveryOf (λ n. n < c) ts
-  all-within-every p c end w = tt
-  all-within-every p c (more t ts) w = (within-every p c t (w .0), all-within-every p c ts (w .1))
 
 -- A term of the unit stays held when facts change.
 pub term-kept : (s s′ : List ℕ) (text : Bytes) (x : Setting) (facts : ℕ) → Readable s text x facts → Changed s s′ x facts → (t : Term) → UnitTerm s x t → UnitTerm s′ x t

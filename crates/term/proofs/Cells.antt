@@ -6,10 +6,19 @@ use mathlib.Core.List.{List}
 use native.Mathlib.Omega.{arith}
 use lib.ListN.{set}
 use lib.Seq.{set-comm}
-use Rattle.meaning.specs.Terms.{Term, Terms, end, more, count}
+use Rattle.meaning.specs.Terms.{writer, reader, Constant, Term, Terms, end, more, count}
 use Rattle.term.specs.Cells.{Places, term-word, functor-word, stored, arguments-stored, Numbered, AllNumbered}
 use Rattle.term.specs.Frames.{Only}
 use Rattle.term.proofs.Frames.{only-same, only-set, only-then, only-wider}
+
+-- No term has the word 0.
+pub word-positive : (places : Places) (t : Term) → 0 < term-word places t
+word-positive places (Term.variable writer n) = omega arith
+word-positive places (Term.variable reader n) = omega arith
+word-positive places (Term.constant (Constant.integer i)) = omega arith
+word-positive places (Term.constant (Constant.name f)) = omega arith
+word-positive places (Term.constant Constant.empty) = omega arith
+word-positive places (Term.compound n f ts) = omega arith
 
 mutual
   unfolding Numbered AllNumbered

@@ -1,5 +1,6 @@
 pub mod Ceiling
 pub mod Cells
+pub mod Chains
 pub mod Frames
 pub mod Held
 pub mod Holds
@@ -9,4 +10,5 @@ pub mod Names
 pub mod Numbers
 pub mod Regions
 pub mod Spellings
+pub mod Units
 pub mod Words

@@ -31,7 +31,7 @@ trial-region = 39936
 abbrev pub compounds-region : ℕ
 compounds-region = 40704
 
--- Behind the compounds: of each pair its value, its waiter, the next pair of the same waiting goal, its mark, its number.
+-- Behind the compounds: of each pair its value, its waiter, the next pair of the same waiting goal, its mark, the end of its chain.
 abbrev pub values-region : Room → ℕ
 values-region room = 40704 + 8 * room .compounds
 
@@ -44,8 +44,8 @@ sets-region room = values-region room + 2 * room .pairs
 abbrev pub marks-region : Room → ℕ
 marks-region room = values-region room + 3 * room .pairs
 
-abbrev pub numbers-region : Room → ℕ
-numbers-region room = values-region room + 4 * room .pairs
+abbrev pub ends-region : Room → ℕ
+ends-region room = values-region room + 4 * room .pairs
 
 -- The goals: the queue, the waiting log of two places a goal and two words a place, the failed goals.
 abbrev pub queue-region : Room → ℕ

@@ -1,4 +1,5 @@
 pub mod Cells
+pub mod Chains
 pub mod Every
 pub mod Frames
 pub mod Holds

@@ -16,7 +16,7 @@ use Rattle.term.specs.Cells.{Places}
 use Rattle.term.specs.Jobs.{query-record, EachFrom, HoldsJob}
 use Rattle.term.specs.Spellings.{HoldsText}
 use Rattle.term.specs.Setting.{Setting, UnitTerm, UnitStands}
-use Rattle.term.specs.Layout.{values-region, numbers-region, queue-region, waiting-region, failed-region, need-of, InRange}
+use Rattle.term.specs.Layout.{values-region, queue-region, waiting-region, failed-region, need-of, InRange}
 use Rattle.term.specs.declared.state.Standing.{Standing}
 use Rattle.term.specs.declared.state.Verdict.{Verdict as Told}
 use Rattle.term.specs.declared.state.Verdict.the-variants.{Rest, Budget, Room as NoRoom}
@@ -135,7 +135,7 @@ verdict-of Rest = rest
 verdict-of Budget = budget
 verdict-of NoRoom = room
 
--- The job when it has run: how it ended, and its last state in the scratch; the words for the report's numbers are still zero.
+-- The job when it has run: how it ended, and its last state in the scratch.
 pub record Finished (s : List ℕ) (text : Bytes) (names : List Bytes) (figures : Room) (j : Job) (limit : ℕ) (v : Told) (t : Standing) : Type 0 where
   pub in-range : InRange figures
   pub inside : need-of figures ≤ length s
@@ -147,4 +147,3 @@ pub record Finished (s : List ℕ) (text : Bytes) (names : List Bytes) (figures 
   pub verdict : verdict-of v ≡ run j limit figures .verdict
   pub atlas : Atlas
   pub state : HoldsState s names figures (j .queries) atlas (run j limit figures .state) t
-  pub numbers : (k : ℕ) → numbers-region figures ≤ k → k < queue-region figures → getD s k 0 ≡ 0

@@ -12,13 +12,15 @@
 //         waiters     1 a pair: the place in the waiting log of the goal that waits on it, plus one
 //         sets        1 a pair: the next pair that the same goal waits on, plus one
 //         marks       1 a pair: for the circle test
-//         numbers     1 a pair: for the report
+//         ends        1 a pair: where its chain was seen to lead, or 0
 //         queue       1 a goal
 //         waiting     4 a goal: two places a goal, each with the goal and the first pair it waits on
 //         failed      1 a goal
+//
+// The report has waiters to ends as four words a pair for purposes of its own.
 
 ghost use mathlib.Core.Path.{_≡_};
-ghost use Rattle.term.specs.Layout.{need-of, figures, InRange, values-region, waiters-region, sets-region, marks-region, numbers-region, queue-region, waiting-region, failed-region};
+ghost use Rattle.term.specs.Layout.{need-of, figures, InRange, values-region, waiters-region, sets-region, marks-region, ends-region, queue-region, waiting-region, failed-region};
 
 pub const PROCEDURES: usize = 512;
 
@@ -76,9 +78,9 @@ pub fn marks(room: Room) -> usize
     40704 + 8 * room.compounds + 3 * room.pairs
 }
 
-pub fn numbers(room: Room) -> usize
+pub fn ends(room: Room) -> usize
     requires { ⌜ InRange (figures room) ⌝ }
-    ensures { λ r. ⌜ r ≡ numbers-region (figures room) ⌝ }
+    ensures { λ r. ⌜ r ≡ ends-region (figures room) ⌝ }
 {
     40704 + 8 * room.compounds + 4 * room.pairs
 }

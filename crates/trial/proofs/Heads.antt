@@ -95,10 +95,10 @@ module _ {s : List ℕ} {text : Bytes} {names : List Bytes} {j : Job} {limit : �
   clause-held : ClauseAt s (at .names) k c
   clause-held = subst (λ l. ClauseAt s l k c) (sym (t .names-are)) (m .at)
 
-  stands : TrialStands s (setting figures at (unit-of j limit figures g)) (template k c) values
+  stands : TrialStands s (setting figures at (unit-of j limit figures g)) (template k c) values links
   stands = record {
     large = omega (arith, t .held .inside);
-    unit = t .unit;
+    unit = record { stands = t .unit; links-are = t .links-are; ends = t .ends };
     behind = omega (arith, t .values-behind);
     outside = λ n h. inr (omega (arith, t .compound-behind n h));
     number = m .at .number;
@@ -111,7 +111,7 @@ module _ {s : List ℕ} {text : Bytes} {names : List Bytes} {j : Job} {limit : �
   unfolding GoalsNumbered
   head-end = m .at .held .laid .numbered .0
 
-  pub against : AllAgainst s (setting figures at (unit-of j limit figures g)) (template k c) values
+  pub against : AllAgainst s (setting figures at (unit-of j limit figures g)) (template k c) values links
       (c .head .number) (named (c .head .name)) (c .head .arguments) 1 head-end
       (g .goal .number) (named (g .goal .name)) (g .goal .arguments) (640 + 32 * k) goal 0
   unfolding GoalsNumbered GoalsKnown Numbered Known Holds Within Ranged as-term head-end

@@ -3,22 +3,22 @@ use Prim.Native.Nat.{ℕ, zero, suc, _+_, _*_, _≤_, _<_}
 use mathlib.Core.Path.{_≡_, refl, _∙_}
 use mathlib.Core.Logic.{_⊎_, inl, inr}
 use mathlib.Core.List.{List, [], _∷_}
-use mathlib.Core.Option.{Option, none, some}
 use native.Mathlib.Omega.{arith}
 use lib.ListN.{length, getD, set, length-set}
 use lib.Seq.{getD-set-other}
 use Rattle.meaning.specs.Bytes.{Bytes}
-use Rattle.meaning.specs.Terms.{Term, Terms, end, more, Clause, Job, as-term}
-use Rattle.meaning.specs.State.{Room, Goal, value}
+use Rattle.meaning.specs.Terms.{Term, Clause, Job, as-term}
+use Rattle.meaning.specs.State.{Room, Goal}
 use Rattle.term.specs.Cells.{Places}
-use Rattle.term.specs.Every.{Every, EveryOf}
+use Rattle.term.specs.Chains.{end-place, EndsStand}
 use Rattle.term.specs.Frames.{Only}
 use Rattle.term.specs.Holds.{Holds}
 use Rattle.term.specs.Jobs.{clause-record, query-record, ClauseAt, Linked, JobKept}
-use Rattle.term.specs.Setting.{Setting, Within, AllWithin, UnitTerm, UnitStands}
+use Rattle.term.specs.Setting.{Setting, Within, UnitTerm, UnitStands}
 use Rattle.term.specs.States.{setting, listed}
-use Rattle.term.proofs.Holds.{holds-alike, EveryValue, holds-values-alike}
+use Rattle.term.proofs.Holds.{holds-alike}
 use Rattle.term.proofs.Jobs.{holds-clause-kept, holds-job-kept, linked-map}
+use Rattle.term.proofs.Units.{within-every, unit-stands-alike, ends-stand-alike}
 use Rattle.compare.specs.Gifts.{Gift, to-head, to-goal, Entry, EntriesAt}
 use Rattle.compare.specs.Compare.{Template, item, HeadTerm, AllEntries, AllGiven}
 use Rattle.trial.specs.Choosing.{unit-of, Trying, TrialOnly, MarksBelow}
@@ -59,19 +59,6 @@ trial-only-set top marks pairs i v s l h = record { size = length-set s i v; sam
     go k (inl a) = getD-set-other s i k v 0 (λ e. omega arith)
     go k (inr a) = getD-set-other s i k v 0 (λ e. omega arith)
 
--- A term's compounds are below the bound on them.
-mutual
-  unfolding Within AllWithin Every EveryOf
-
-  within-every : (p c : ℕ) (t : Term) → Within p c t → Every (λ n. n < c) t
-  within-every p c (Term.variable h n) w = tt
-  within-every p c (Term.constant k) w = tt
-  within-every p c (Term.compound n f ts) w = (w .0, all-within-every p c ts (w .1))
-
-  all-within-every : (p c : ℕ) (ts : Terms) → AllWithin p c ts → EveryOf (λ n. n < c) ts
-  all-within-every p c end w = tt
-  all-within-every p c (more t ts) w = (within-every p c t (w .0), all-within-every p c ts (w .1))
-
 -- A compound's place is below the trial's region, or behind it and before the marks.
 abbrev pub Apart : ℕ → ℕ → Type 0
 Apart marks place = (place < 4992) ⊎ ((5088 ≤ place) × (8 * place + 8 ≤ marks))
@@ -100,22 +87,17 @@ module _ (marks pairs : ℕ) (s s′ : List ℕ) (o : TrialOnly 40704 marks pair
       of = k .of;
     }
 
-    every-value : (from n : ℕ) → UnitStands s x from → n < length (x .values) → (v : Option Term) → value (x .values) n ≡ v
-        → EveryValue (λ m. m < x .compounds) v
-    unfolding EveryValue
-    every-value from n u h none e = tt
-    every-value from n u h (some t) e = within-every (length (x .values)) (x .compounds) t (u .of n t h e .within)
+    words-stay : (n : ℕ) → n < x .compounds → (k : ℕ) → 8 * x .places .compound n ≤ k → k < 8 * x .places .compound n + 8 → getD s′ k 0 ≡ getD s k 0
+    words-stay n l k = place-stays (x .places .compound n) k (apart n l)
 
     pub unit-stays : (from : ℕ) → 40704 ≤ from → from + x .pairs ≤ marks → UnitStands s x from → UnitStands s′ x from
-    unit-stays from a b u = record {
-      held =
-          holds-values-alike s s′ (x .places) (λ m. m < x .compounds) (omega (arith, o .size))
-          (λ n l k. place-stays (x .places .compound n) k (apart n l)) from (x .pairs) (x .values)
-          (λ k l h. high-stays k (omega arith) (omega arith))
-          (λ n h. every-value from n u h (value (x .values) n) refl)
-          (u .held);
-      of = u .of;
-    }
+    unit-stays from a b u =
+        unit-stands-alike s s′ x (omega (arith, o .size)) words-stay from (λ k l h. high-stays k (omega arith) (omega arith)) u
+
+    pub ends-stay : (from : ℕ) → marks + pairs ≤ from + 4 * x .pairs → EndsStand s x from → EndsStand s′ x from
+    ends-stay from a e =
+        ends-stand-alike s s′ x (omega (arith, o .size)) words-stay from
+        (λ n h. o .same (end-place x from n) (inr (omega arith)) (inr (omega arith))) e
 
   module _ (x : Setting) (y : Template) (small : y .number < 128) (few : y .compounds ≤ 32) where
     head-apart : (n : ℕ) → n < y .compounds → Apart marks (item x y .compound n)
@@ -199,6 +181,9 @@ trying-stays {s} {s′} {names = names} {j} {limit} {figures} {at} {g} {values =
       marks-behind = t .marks-behind;
       inside = omega (arith, t .inside, o .size);
       enough = t .enough;
+      links-are = t .links-are;
+      ends-behind = t .ends-behind;
+      ends = ends-stay marks (figures .pairs) s s′ o behind x (compounds-apart t) values (t .ends-behind) (t .ends);
     }
 
 -- The marks, where only the trial's region has changed.

@@ -77,7 +77,7 @@ module _ {s s₁ : List ℕ} {text : Bytes} {names : List Bytes} {j : Job} {limi
   abbrev pub to : ℕ
   to = head-end begun-trying begun-candidate
 
-  pub comparing : AllAgainst s₁ (setting figures at (unit-of j limit figures g)) (template k c) values
+  pub comparing : AllAgainst s₁ (setting figures at (unit-of j limit figures g)) (template k c) values links
       (c .head .number) (named (c .head .name)) (c .head .arguments) 1 to
       (g .goal .number) (named (g .goal .name)) (g .goal .arguments) (640 + 32 * k) goal 0
   comparing = against begun-trying begun-candidate
@@ -90,7 +90,7 @@ module _ {s s₁ : List ℕ} {text : Bytes} {names : List Bytes} {j : Job} {limi
 
   pub comparison : (s₂ : List ℕ) (r r′ : Result′)
       → ((x : Setting) (y : Template) (h : ℕ) (f : Functor) (us : Terms) (lo hi l : ℕ) (e : Functor) (ts : Terms)
-      → AllAgainst s₁ x y values h f us lo hi l e ts (640 + 32 * k) goal 0
+      → AllAgainst s₁ x y values links h f us lo hi l e ts (640 + 32 * k) goal 0
       → Answers s₁ s₂ x y 0 lo (0 + 6 * hi + count us) (places-outcome x links us ts) r)
       → r ≡ r′ → Comparison s₂ r′
   comparison s₂ r r′ tells e =

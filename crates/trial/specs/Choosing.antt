@@ -13,6 +13,7 @@ use Rattle.meaning.specs.Compare.{Assignment, Result, succeeds, waits-on, fails
 use Rattle.meaning.specs.Trial.{Choice, reduces, joins-waiting, joins-failed, procedure, trial, choice}
 use Rattle.meaning.specs.Run.{run}
 use Rattle.term.specs.Cells.{Places}
+use Rattle.term.specs.Chains.{EndsStand}
 use Rattle.term.specs.Jobs.{HoldsJob, ClauseAt}
 use Rattle.term.specs.Setting.{Setting, UnitTerm, UnitStands}
 use Rattle.term.specs.States.{setting, listed}
@@ -26,7 +27,7 @@ use Rattle.trial.specs.declared.choice.Fate.the-variants.{Reduces, Waits
 abbrev pub unit-of : Job → ℕ → Room → Goal → QueryUnit
 unit-of j limit figures g = unit-at (g .query) (run j limit figures .state .units)
 
--- The scratch holds the job, the goal at a place, and its unit: values from a word on, marks behind them, compounds before them.
+-- The scratch holds the job, the goal at a place, and its unit: values from a word on, marks and then ends behind them, compounds before them.
 pub record Trying (s : List ℕ) (text : Bytes) (names : List Bytes) (j : Job) (limit : ℕ) (figures : Room) (places : Places)
     (g : Goal) (others : List Goal) (values marks links goal : ℕ) : Type 0 where
   pub reads : reading text ≡ job j
@@ -44,6 +45,9 @@ pub record Trying (s : List ℕ) (text : Bytes) (names : List Bytes) (j : Job) (
   pub marks-behind : values + figures .pairs ≤ marks
   pub inside : marks + figures .pairs ≤ length s
   pub enough : length (unit-of j limit figures g .values) ≤ links
+  pub links-are : links ≡ figures .pairs
+  pub ends-behind : marks + figures .pairs ≤ values + 4 * figures .pairs
+  pub ends : EndsStand s (setting figures places (unit-of j limit figures g)) values
 
 -- Stamps from this one on are unused.
 abbrev pub MarksBelow : List ℕ → ℕ → ℕ → ℕ → Type 0

@@ -65,7 +65,7 @@ places-below t = and 1 places-kinds.ps (falls 1 places-kinds.ps _<_ μ-places t)
 abbrev places-Inv-loop : places-lts.InvT-loop
 places-Inv-loop s₀ values links p q n k given₀ i₀ s given i =
     (x : Setting) (y : Template) (m : ℕ) (g : Functor) (us : Terms) (lo hi l : ℕ) (f : Functor) (ts : Terms)
-    → AllAgainst s₀ x y values m g us lo hi l f ts p q n → Partly s₀ s x y values links m us lo hi l ts n k given i
+    → AllAgainst s₀ x y values links m g us lo hi l f ts p q n → Partly s₀ s x y values links m us lo hi l ts n k given i
 
 abbrev places-μ-loop : places-lts.MeasureT-loop
 places-μ-loop s₀ values links p q n k given₀ i₀ s given i = k + 1 - i
@@ -86,7 +86,7 @@ pub +place+places-spec : {M : Type 1} → statement M
     let start = c .before .before in
     let a = start .args in
     let pre = start .pre .1 in
-    table-asks (a .s .now) (pre .0) (pre .1) (a .values) (pre .2) (pre .3) (a .n) (a .h) (a .w) (pre .4) (pre .5) (pre .6))
+    table-asks (a .s .now) (pre .0) (pre .1) (a .values) (a .links) (pre .2) (pre .3) (a .n) (a .h) (a .w) (pre .4) (pre .5) (pre .6))
     -- place-enum-known-m
     (λ c.
     c .match .keys1)

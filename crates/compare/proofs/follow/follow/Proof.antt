@@ -1,4 +1,4 @@
--- `machine::follow::follow` meets its contract. The invariant: what is left to follow from here ends where the whole does.
+-- `compare::follow::follow` meets its contract. The invariant: the term at hand ends where the whole does, within the links that are left.
 use native.Mathlib.Omega.{arith}
 use borrow.Author.Needs.{needs}
 use Rattle.meaning.specs.Terms.{Term}
@@ -10,7 +10,7 @@ use Rattle.compare.proofs.follow.follow.Tie as tie
 
 abbrev Inv-loop : tie.InvT-loop
 Inv-loop s values links w t₀ left₀ t left =
-    (x : Setting) (u : Term) → Reads s x values u w → Passed s x values links left u t
+    (x : Setting) (u : Term) → Reads s x values links u w → Passed s x values links left u t
 
 abbrev μ-loop : tie.MeasureT-loop
 μ-loop s values links w t₀ left₀ t left = left
@@ -18,8 +18,8 @@ abbrev μ-loop : tie.MeasureT-loop
 loop-holds : tie.Need-loop-holds Inv-loop μ-loop
 loop-holds c x u r = start-passed (c .before .args .s .now) x (c .before .args .values) (c .before .args .links) u (c .before .args .w) r
 
-value-of-requires : tie.Need-value-of-requires Inv-loop μ-loop
-value-of-requires c κs =
+ahead-requires : tie.Need-ahead-requires Inv-loop μ-loop
+ahead-requires c κs =
     let start = c .before .before .before in
     let p = c .before .loop .inv (start .pre .0) (start .pre .1) (start .pre .2) in
     (start .pre .0, p .term, p .reads)
@@ -28,8 +28,8 @@ returns : tie.Need-returns Inv-loop μ-loop
 returns c x u r =
     let start = c .before .before .before .before .before in
     let p = c .before .before .before .loop .inv x u r in
-    pass-stop (start .args .s .now) x (start .args .values) (start .args .links) (c .before .before .before .loop .left) u (c .before .before .before .loop .t) (c .before .value-of .result) p
-    (c .before .value-of .ensures x (p .term) (p .reads)) (c .if1 .taken)
+    pass-stop (start .args .s .now) x (start .args .values) (start .args .links) (c .before .before .before .loop .left) u (c .before .before .before .loop .t) (c .before .ahead .result) p
+    (c .before .ahead .ensures x (p .term) (p .reads)) (c .if1 .taken)
 
 sub-left : tie.Need-sub-left Inv-loop μ-loop
 sub-left c = search needs
@@ -41,8 +41,8 @@ loop-again : tie.Need-loop-again Inv-loop μ-loop
 loop-again c x u r =
     let start = c .before .before .before .before .before in
     let p = c .before .before .before .loop .inv x u r in
-    pass-on (start .args .s .now) x (start .args .values) (start .args .links) (c .before .before .before .loop .left) u (c .before .before .before .loop .t) (c .before .value-of .result) p
-    (c .before .value-of .ensures x (p .term) (p .reads)) (c .if1 .left) (omega arith)
+    pass-on (start .args .s .now) x (start .args .values) (start .args .links) (c .before .before .before .loop .left) u (c .before .before .before .loop .t) (c .before .ahead .result) p
+    (c .before .ahead .ensures x (p .term) (p .reads)) (c .if1 .left)
 
 returns-2 : tie.Need-returns-2 Inv-loop μ-loop
 returns-2 c x u r =
@@ -56,7 +56,7 @@ follow-spec =
     Inv-loop
     μ-loop
     loop-holds
-    value-of-requires
+    ahead-requires
     returns
     sub-left
     loop-less

@@ -69,7 +69,7 @@ module _ (w : tie.After-word) (text : Bytes) (names : List Bytes) (j : Job) (lim
     (r : Running (start w .args .s .now) text names j (figures (start w .args .room)) limit atlas slots (start w .args .t) (start w .args .t .steps * 32768 + 1))
     (more : start w .args .t .steps < 1000000) (front : run j limit (figures (start w .args .room)) .state .goals .queue ≡ g ∷ others) where
   tries : Trying (start w .args .s .now) text names j limit (figures (start w .args .room)) (atlas (g .query)) g others (values w) (marks w)
-      (start w .args .t .pairs) (place w)
+      (start w .args .room .pairs) (place w)
   tries =
       choice-tries (start w .args .s .now) text names j (figures (start w .args .room)) limit atlas slots g others (start w .args .t)
       (goal w) (query w) (place w) (values w) (marks w) (steps w) r more front (fetched w)
