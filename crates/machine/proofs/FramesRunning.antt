@@ -20,8 +20,9 @@ use Rattle.term.specs.declared.state.Standing.{Standing}
 use Rattle.term.proofs.Jobs.{holds-job-kept}
 use Rattle.trial.specs.Choosing.{Trying, MarksBelow, TrialOnly}
 use Rattle.queues.specs.Log.{Slot}
-use Rattle.machine.specs.Running.{RunOnly, Running}
+use Rattle.machine.specs.Running.{RunOnly, GroundMarks, Running}
 use Rattle.machine.proofs.Frames.{UnitsKept, units-same, units-kept, goals-kept, first-pairs-kept, queue-kept, failed-kept, waiting-kept}
+use Rattle.machine.proofs.GroundMarks.{grounds-of}
 use Rattle.queues.proofs.Ring.{round-below}
 use Rattle.queues.proofs.Waking.{log-kept}
 
@@ -99,8 +100,9 @@ module _ (s : List ℕ) (text : Bytes) (names : List Bytes) (j : Job) (figures :
   pub running-kept : (s′ : List ℕ) (stamp′ : ℕ) → StateKept figures s s′ → JobKept s s′
       → ((k : ℕ) → waiters-region figures ≤ k → k < marks-region figures → getD s′ k 0 ≡ getD s k 0)
       → MarksBelow s′ (marks-region figures) (figures .pairs) stamp′
+      → GroundMarks s′ figures atlas (run j limit figures .state .units)
       → Running s′ text names j figures limit atlas slots t stamp′
-  running-kept s′ stamp′ kept job own marks = record {
+  running-kept s′ stamp′ kept job own marks grounds = record {
     in-range = r .in-range;
     inside = omega (arith, r .inside, kept .size);
     reads = r .reads;
@@ -114,6 +116,7 @@ module _ (s : List ℕ) (text : Bytes) (names : List Bytes) (j : Job) (figures :
     log-number = r .log-number;
     waiting = r .waiting;
     marks = marks;
+    grounds = grounds;
   }
 
 -- What the choice changes: the trial's region and the marks.
@@ -157,10 +160,11 @@ run-only-then figures s t u a b = record {
 
 pub running-tried : (s s′ : List ℕ) (text : Bytes) (names : List Bytes) (j : Job) (figures : Room) (limit : ℕ) (atlas : Atlas) (slots : List Slot) (t : Standing)
     (stamp stamp′ : ℕ) → Running s text names j figures limit atlas slots t stamp → TrialOnly 40464 (marks-region figures) (figures .pairs) s s′
-    → MarksBelow s′ (marks-region figures) (figures .pairs) stamp′ → Running s′ text names j figures limit atlas slots t stamp′
-running-tried s s′ text names j figures limit atlas slots t stamp stamp′ r only marks =
+    → MarksBelow s′ (marks-region figures) (figures .pairs) stamp′ → GroundMarks s′ figures atlas (run j limit figures .state .units)
+    → Running s′ text names j figures limit atlas slots t stamp′
+running-tried s s′ text names j figures limit atlas slots t stamp stamp′ r only marks grounds =
     running-kept s text names j figures limit atlas slots t stamp r s′ stamp′ (trial-state-kept figures s s′ only) (trial-job-kept figures s s′ only)
-    (λ k a b. only .same k (inr (omega arith)) (inl (omega arith))) marks
+    (λ k a b. only .same k (inr (omega arith)) (inl (omega arith))) marks grounds
 
 -- The goal in front: its word, and what the choice asks.
 first-of-ring : (s : List ℕ) (figures : Room) (atlas : Atlas) (front active : ℕ) (g : Goal) (others : List Goal)
@@ -225,4 +229,5 @@ trying s text names j figures limit atlas slots t stamp g others r front =
         charged-pairs-are-the-units j limit figures,
         h .pairs,
       );
+      grounds = grounds-of s names figures atlas (state .units) (state .pairs) (state .compounds) (h .lies) (r .grounds) q (goal .query);
     }

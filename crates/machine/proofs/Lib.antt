@@ -12,6 +12,7 @@ pub mod FreePlaces
 pub mod FrontGoal
 pub mod Going
 pub mod GoingOn
+pub mod GroundMarks
 pub mod Growing
 pub mod Joining
 pub mod Logged

@@ -3,12 +3,13 @@ use Prim.Native.Nat.{ℕ, zero, suc, _+_, _-_, _*_, _≤_, _<_}
 use mathlib.Core.Path.{_≡_, refl, sym, ap, _∙_}
 use mathlib.Core.Bool.{Bool, true, false, not}
 use mathlib.Core.List.{List, [], _∷_, _++_, map, append-assoc}
+use mathlib.Core.Option.{some}
 use native.Mathlib.Omega.{arith}
 use lib.ListN.{length, getD, length-append, length-map}
 use Rattle.meaning.specs.Bytes.{Bytes, those, if_then_else_}
-use Rattle.meaning.specs.Terms.{Clause, Job, Query, Named}
+use Rattle.meaning.specs.Terms.{Term, Clause, Job, Query, Named}
 use Rattle.meaning.specs.Items.{job, reading}
-use Rattle.meaning.specs.State.{Room, QueryUnit, Goal, Waiting, State, unit-at, number-of, goals-at}
+use Rattle.meaning.specs.State.{Room, QueryUnit, Goal, Waiting, State, value, unit-at, number-of, goals-at}
 use Rattle.meaning.specs.Compare.{Assignment}
 use Rattle.meaning.specs.Trial.{reduces}
 use Rattle.meaning.specs.Step.{unit-after, body-goals, wakes, goals-after, pairs-charged, compounds-charged, without-front, step}
@@ -19,7 +20,7 @@ use Rattle.meaning.proofs.Reading.{accepted-keeps-the-occurrence-rules}
 use Rattle.meaning.proofs.Runs.{run-within-room}
 use Rattle.meaning.proofs.Runs.Charges.{run-units}
 use Rattle.meaning.proofs.Runs.Counts.{within-says, after-within}
-use Rattle.meaning.proofs.Single.{reduction-assigns-once}
+use Rattle.meaning.proofs.Single.{reduction-assigns-once, value-stays}
 use Rattle.meaning.proofs.Trial.Chosen.{reduces-agrees}
 use Rattle.term.specs.Cells.{Places}
 use Rattle.term.specs.Jobs.{query-record, GoalsKnown, EachFrom, HoldsJob, ClauseAt, JobKept}
@@ -34,16 +35,17 @@ use Rattle.trial.specs.Choosing.{template, MarksBelow}
 use Rattle.queues.specs.Log.{Slot, LogOk, present}
 use Rattle.reduction.specs.Reducing.{NoEntry, EntriesGiven, GoalsHeld, hits, woken, emptied, hit, goal-in}
 use Rattle.queues.specs.Ring.{Passed}
-use Rattle.machine.specs.Running.{slot-of, RunOnly, Running}
+use Rattle.machine.specs.Running.{slot-of, RunOnly, GroundMarks, Running}
 use Rattle.machine.specs.Taking.{Taken, Reducing}
 use Rattle.machine.proofs.BodyGoals.{body-fits, body-goals-stand, body-words}
 use Rattle.machine.proofs.EntryByEntry.{no-entry-of, entry-stands}
 use Rattle.machine.proofs.Frames.{failed-kept}
+use Rattle.machine.proofs.GroundMarks.{grounds-grow}
 use Rattle.queues.proofs.Listed.{listed-kept}
 use Rattle.machine.proofs.Logged.{map-both, waiting-logged}
 use Rattle.machine.proofs.Next.{run-next}
 use Rattle.machine.proofs.NextUnit.{after-unit, enlarged, UnitReduced, next-unit-stands}
-use Rattle.machine.proofs.NextUnits.{atlas-after, units-after, Enlarges, grown-here, goals-grow, goal-words-same, lies-after, units-stand, first-pairs-after}
+use Rattle.machine.proofs.NextUnits.{atlas-after, units-after, Enlarges, as-many, grown, grown-here, goals-grow, goal-words-same, lies-after, units-stand, first-pairs-after}
 use Rattle.machine.proofs.OwnPairs.{run-own-pairs}
 use Rattle.machine.proofs.WaitingPairs.{OwnReaders, waiting-readers, slots-same}
 
@@ -365,10 +367,29 @@ module _ (s s′ : List ℕ) (text : Bytes) (names : List Bytes) (j : Job) (figu
   unfolding step goals-after without-front
   left-now = left-is
 
-  marks-now : MarksBelow s′ (marks-region figures) (figures .pairs) (u .steps * 32768 + 1)
+  marks-now : MarksBelow s′ (marks-region figures) (figures .pairs) (u .steps * 32768 + 2)
   marks-now x a b = rw (done .marks x a b) (omega (arith, taken .running .marks x a b, after .steps))
 
-  pub running-now : Running s′ text names j figures (limit + 1) atlas′ (emptied zs slots) u (u .steps * 32768 + 1)
+  stays-now : (i : ℕ) → i < length (σ .units) → (m : ℕ) (v : Term) → value (unit-at i (σ .units) .values) m ≡ some v
+      → value (unit-at i units′ .values) m ≡ some v
+  unfolding step unit-after
+  stays-now i h m v e =
+      rw (red .chosen) at
+      (value-stays j (accepted-keeps-the-occurrence-rules text j (taken .running .reads)) limit figures g others (taken .front) i
+      (omega (arith, run-units j limit figures)) m v e)
+
+  grounds-now : GroundMarks s′ figures atlas′ units′
+  grounds-now =
+      grounds-grow s s′ figures atlas atlas′ (σ .units) units′ (done .marks) (omega (arith, as-many s s′ names figures atlas (σ .units) q P C c given enlarges))
+      (λ i h. grown s s′ names figures atlas (σ .units) q P C c given enlarges i h .more-pairs)
+      (λ i m h l. grown s s′ names figures atlas (σ .units) q P C c given enlarges i h .agree .pair m l)
+      stays-now (taken .running .grounds)
+
+  next-grounds : GroundMarks s′ figures atlas′ (step (reduces c given) g others σ .units)
+  unfolding step unit-after
+  next-grounds = grounds-now
+
+  pub running-now : Running s′ text names j figures (limit + 1) atlas′ (emptied zs slots) u (u .steps * 32768 + 2)
   running-now =
       record {
         in-range = taken .running .in-range;
@@ -382,4 +403,5 @@ module _ (s s′ : List ℕ) (text : Bytes) (names : List Bytes) (j : Job) (figu
         log-number = log-number-now;
         waiting = rw next-is left-now;
         marks = marks-now;
+        grounds = rw next-is next-grounds;
       }

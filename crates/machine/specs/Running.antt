@@ -8,13 +8,14 @@ use lib.ListN.{length, getD}
 use Rattle.meaning.specs.Bytes.{Bytes}
 use Rattle.meaning.specs.Terms.{Job}
 use Rattle.meaning.specs.Items.{job, reading}
-use Rattle.meaning.specs.State.{Room, Goal, Waiting, State}
+use Rattle.meaning.specs.State.{Room, QueryUnit, Goal, Waiting, State, unit-at}
 use Rattle.meaning.specs.Step.{without-front}
 use Rattle.meaning.specs.Run.{fits, choice-for, queries-fit, run}
 use Rattle.term.specs.Jobs.{query-record, HoldsJob}
 use Rattle.term.specs.Layout.{values-region, waiters-region, sets-region, marks-region, numbers-region, queue-region, waiting-region, need-of, InRange}
 use Rattle.term.specs.States.{Atlas, goal-word, HoldsState, Finished, verdict-of}
 use Rattle.term.specs.declared.state.Standing.{Standing}
+use Rattle.circle.specs.Ground.{GroundAt}
 use Rattle.trial.specs.Choosing.{MarksBelow}
 use Rattle.queues.specs.Log.{Slot, waits, gathered, present, LogOk}
 use Rattle.machine.specs.declared.step.Stepped.{Stepped}
@@ -35,6 +36,11 @@ pub record RunOnly (figures : Room) (s s′ : List ℕ) : Type 0 where
   pub numbers : (k : ℕ) → numbers-region figures ≤ k → k < queue-region figures → getD s′ k 0 ≡ getD s k 0
   pub behind : (k : ℕ) → need-of figures ≤ k → getD s′ k 0 ≡ getD s k 0
 
+-- A pair that is marked as ground is so, in the unit of some query.
+abbrev pub GroundMarks : List ℕ → Room → Atlas → List QueryUnit → Type 0
+GroundMarks s figures atlas units = (p : ℕ) → p < figures .pairs → getD s (marks-region figures + p) 0 ≡ 1
+    → (k : ℕ) × (k < length units) × GroundAt (atlas k) (unit-at k units .values) p
+
 -- The job's run after `limit` steps; the stamps from one on are unused.
 pub record Running (s : List ℕ) (text : Bytes) (names : List Bytes) (j : Job) (figures : Room) (limit : ℕ) (atlas : Atlas) (slots : List Slot) (t : Standing)
     (stamp : ℕ) : Type 0 where
@@ -49,6 +55,7 @@ pub record Running (s : List ℕ) (text : Bytes) (names : List Bytes) (j : Job) 
   pub log-number : t .log ≡ length slots
   pub waiting : present slots (length slots) ≡ map (slot-of atlas) (run j limit figures .state .goals .waiting)
   pub marks : MarksBelow s (marks-region figures) (figures .pairs) stamp
+  pub grounds : GroundMarks s figures atlas (run j limit figures .state .units)
 
 -- After a step: the next state of the run; or the reduction does not fit, and the state is as it was.
 abbrev pub SteppedIs : List ℕ → Bytes → List Bytes → Job → Room → ℕ → Atlas → Goal → List Goal → Standing → Stepped → Type 0
@@ -56,7 +63,7 @@ SteppedIs s′ text names j figures limit atlas g others t (Next u) =
     (fits figures (choice-for (j .clauses) (run j limit figures .state) g) (run j limit figures .state)
     (without-front others (run j limit figures .state .goals)) ≡ true)
     × (atlas′ : Atlas) × (slots′ : List Slot) × (u .steps ≡ t .steps + 1)
-    × Running s′ text names j figures (limit + 1) atlas′ slots′ u (u .steps * 32768 + 1)
+    × Running s′ text names j figures (limit + 1) atlas′ slots′ u (u .steps * 32768 + 2)
 SteppedIs s′ text names j figures limit atlas g others t NoRoom =
     (fits figures (choice-for (j .clauses) (run j limit figures .state) g) (run j limit figures .state)
     (without-front others (run j limit figures .state .goals)) ≡ false)
