@@ -1,10 +1,13 @@
 pub mod Calls
 pub mod Depth
 pub mod Entries
+pub mod Grounds
+pub mod Lasts
 pub mod Measure
 pub mod Parts
 pub mod Scenes
 pub mod SetBack
+pub mod Settle
 pub mod Stamps
 pub mod Starts
 pub mod Through

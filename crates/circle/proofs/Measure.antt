@@ -11,7 +11,7 @@ use native.Mathlib.Omega.{arith}
 use lib.ListN.{length, getD, set, take, length-set}
 use lib.Seq.{take-set-le}
 use Rattle.meaning.specs.Terms.{Term}
-use Rattle.circle.specs.Search.{Scene, side, Told, Searching, Stamped}
+use Rattle.circle.specs.Search.{Scene, side, Told, Searching, visited, Stamped}
 use Rattle.circle.proofs.Depth.{height, height-within, height-is, shallow, flat}
 use Rattle.circle.proofs.Unseen.{unseen, unseen-set, unseen-less}
 use Rattle.circle.proofs.Stamps.{front-length, searching-on}
@@ -25,15 +25,15 @@ lift-within : (n : ℕ) (b : Bool) → lift n b ≤ n + 2
 lift-within n true = omega arith
 lift-within n false = omega arith
 
-unfoldable pub pair-weight : List ℕ → ℕ → Bool → ℕ
-pair-weight s stamp b = unseen stamp s * (2 * length s + 5) + lift (length s) b
+unfoldable pub pair-weight : List ℕ → (ℕ → Bool) → Bool → ℕ
+pair-weight s marked b = unseen marked s * (2 * length s + 5) + lift (length s) b
 
-unfoldable pub term-weight : List ℕ → ℕ → ℕ → Bool → ℕ → ℕ
-term-weight s marks stamp b w = pair-weight s stamp b + 1 + height (length (take marks s)) (take marks s) w
+unfoldable pub term-weight : List ℕ → ℕ → (ℕ → Bool) → Bool → ℕ → ℕ
+term-weight s marks marked b w = pair-weight s marked b + 1 + height (length (take marks s)) (take marks s) w
 
-pub falls-to-pair : (s : List ℕ) (marks stamp : ℕ) (b : Bool) (w : ℕ) → pair-weight s stamp b < term-weight s marks stamp b w
+pub falls-to-pair : (s : List ℕ) (marks : ℕ) (marked : ℕ → Bool) (b : Bool) (w : ℕ) → pair-weight s marked b < term-weight s marks marked b w
 unfolding term-weight
-falls-to-pair s marks stamp b w = omega arith
+falls-to-pair s marks marked b w = omega arith
 
 module _ (x : Scene) (values marks place stamp z : ℕ) (s : List ℕ) (h : Searching s x values marks place stamp z) where
   height-short : (w : ℕ) → height (length (take marks s)) (take marks s) w ≤ length s
@@ -46,21 +46,20 @@ module _ (x : Scene) (values marks place stamp z : ℕ) (s : List ℕ) (h : Sear
         h .room,
       )
 
-  pub falls-to-given : (w : ℕ) → term-weight s marks stamp false w < pair-weight s stamp true
+  pub falls-to-given : (marked : ℕ → Bool) (w : ℕ) → term-weight s marks marked false w < pair-weight s marked true
   unfolding term-weight pair-weight
-  falls-to-given w = omega (arith, height-short w)
+  falls-to-given marked w = omega (arith, height-short w)
 
   -- A new mark outweighs any term.
-  pub falls-to-value : (p : ℕ) → marks + p < length s → (getD s (marks + p) 0 ≡ stamp → ⊥) → (b : Bool) (w : ℕ)
-      → term-weight (set s (marks + p) stamp) marks stamp b w < pair-weight s stamp false
+  pub falls-to-value : (marked : ℕ → Bool) (p m : ℕ) → marks + p < length s → marked (getD s (marks + p) 0) ≡ false → marked m ≡ true
+      → (b : Bool) (w : ℕ) → term-weight (set s (marks + p) m) marks marked b w < pair-weight s marked false
   unfolding term-weight pair-weight
-  falls-to-value p inside d b w =
-      let less : unseen stamp (set s (marks + p) stamp) + 1 ≤ unseen stamp s = unseen-set stamp s (marks + p) inside d in
-      let times : (unseen stamp (set s (marks + p) stamp) + 1) * (2 * length s + 5) ≤ unseen stamp s * (2 * length s + 5) =
-      mul-le-mul-right (2 * length s + 5) less in
-      let one-more : (unseen stamp (set s (marks + p) stamp) + 1) * (2 * length s + 5)
-      ≡ unseen stamp (set s (marks + p) stamp) * (2 * length s + 5) + (2 * length s + 5) = plus-one (unseen stamp (set s (marks + p) stamp)) (2 * length s + 5) in
-      rw (take-set-le marks s (marks + p) stamp (omega arith), length-set s (marks + p) stamp)
+  falls-to-value marked p m inside d e b w =
+      let left = unseen marked (set s (marks + p) m) in
+      let less : left + 1 ≤ unseen marked s = unseen-set marked s (marks + p) m inside d e in
+      let times : (left + 1) * (2 * length s + 5) ≤ unseen marked s * (2 * length s + 5) = mul-le-mul-right (2 * length s + 5) less in
+      let one-more : (left + 1) * (2 * length s + 5) ≡ left * (2 * length s + 5) + (2 * length s + 5) = plus-one left (2 * length s + 5) in
+      rw (take-set-le marks s (marks + p) m (omega arith), length-set s (marks + p) m)
       (omega (arith, height-short w, lift-within (length s) b))
     where
       plus-one : (a n : ℕ) → (a + 1) * n ≡ a * n + n
@@ -73,16 +72,20 @@ module _ (x : Scene) (values marks place stamp z : ℕ) (s : List ℕ) (h : Sear
       rw (h .front, told .word) (height-is (x .front) (side x b) (length (x .front)) t (told .held) (shallow (x .front) (side x b) t (told .held)))
 
 pub falls-to-argument : (x : Scene) (values marks place stamp z : ℕ) (s₀ s : List ℕ) → Searching s₀ x values marks place stamp z
-    → Stamped marks (x .pairs) stamp s₀ s
+    → Stamped x marks stamp s₀ s → (marked : ℕ → Bool) → unseen marked s ≤ unseen marked s₀
     → (b : Bool) (w a : ℕ) (v u : Option Term) → Told x b w v → Told x b a u → value-depth u < value-depth v
-    → term-weight s marks stamp b a < term-weight s₀ marks stamp b w
+    → term-weight s marks marked b a < term-weight s₀ marks marked b w
 unfolding term-weight pair-weight
-falls-to-argument x values marks place stamp z s₀ s h st b w a v u told-v told-u lower =
-    let fewer : unseen stamp s * (2 * length s₀ + 5) ≤ unseen stamp s₀ * (2 * length s₀ + 5) =
-    mul-le-mul-right (2 * length s₀ + 5) (unseen-less stamp s₀ s (st .size) (st .others)) in
+falls-to-argument x values marks place stamp z s₀ s h st marked less b w a v u told-v told-u lower =
+    let fewer : unseen marked s * (2 * length s₀ + 5) ≤ unseen marked s₀ * (2 * length s₀ + 5) = mul-le-mul-right (2 * length s₀ + 5) less in
     let here = searching-on x marks stamp z s₀ s st values place h in
     rw (told-height x values marks place stamp z s here b a u told-u, told-height x values marks place stamp z s₀ h b w v told-v, st .size)
     (omega arith)
+
+-- Marks that a search makes take words away.
+pub fewer-unseen : (x : Scene) (marks stamp : ℕ) (s₀ s : List ℕ) → Stamped x marks stamp s₀ s
+    → unseen (visited stamp) s ≤ unseen (visited stamp) s₀
+fewer-unseen x marks stamp s₀ s st = unseen-less (visited stamp) s₀ s (st .size) (st .others)
 
 pub lighter : (a b c t : ℕ) → c ≡ t → b ≤ c → a < b → a < t
 lighter a b c t e h l = omega arith

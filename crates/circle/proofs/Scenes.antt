@@ -11,6 +11,7 @@ use lib.ListN.{length, getD, take}
 use lib.Seq.{getD-take, length-take-le}
 use Rattle.meaning.specs.Terms.{Term}
 use Rattle.meaning.specs.State.{value}
+use Rattle.meaning.proofs.Trial.Values.{assigned-below}
 use Rattle.term.specs.Holds.{HoldsValue, value-word}
 use Rattle.term.specs.Setting.{Within}
 use Rattle.circle.specs.Circle.{entry-pair, entry-term, Held, Trial, old, Tried}
@@ -24,6 +25,7 @@ scene y values front =
       front = front;
       values = values;
       pairs = y .unit .pairs;
+      before = y .unit .values;
       after = y .after;
       old = old y;
       unit = y .unit .places;
@@ -92,8 +94,9 @@ module _ (s₀ s : List ℕ) (y : Trial) (values marks n stamp : ℕ) (tried : T
 
   -- A pair of the unit, an entry's or not.
   unit-shown : (j : ℕ) → j < old y
-      → Told x false (getD (take marks s) (values + y .unit .places .pair j) 0) (value (y .after) j)
-      ⊎ Given x (getD (take marks s) (values + y .unit .places .pair j) 0) (value (y .after) j)
+      → ((value (y .after) j ≡ value (y .unit .values) j)
+      × Told x false (getD (take marks s) (values + y .unit .places .pair j) 0) (value (y .after) j))
+      ⊎ ((value (y .unit .values) j ≡ none) × Given x (getD (take marks s) (values + y .unit .places .pair j) 0) (value (y .after) j))
   unit-shown j l = go (entry-or-not s₀ n (y .unit .places .pair j))
     where
       at : getD (take marks s) (values + y .unit .places .pair j) 0 ≡ getD s (values + y .unit .places .pair j) 0
@@ -101,23 +104,45 @@ module _ (s₀ s : List ℕ) (y : Trial) (values marks n stamp : ℕ) (tried : T
 
       go : ((i : ℕ) × (i < n) × (y .unit .places .pair j ≡ entry-pair s₀ i))
           ⊎ ((i : ℕ) → i < n → y .unit .places .pair j ≡ entry-pair s₀ i → ⊥)
-          → Told x false (getD (take marks s) (values + y .unit .places .pair j) 0) (value (y .after) j)
-          ⊎ Given x (getD (take marks s) (values + y .unit .places .pair j) 0) (value (y .after) j)
+          → ((value (y .after) j ≡ value (y .unit .values) j)
+          × Told x false (getD (take marks s) (values + y .unit .places .pair j) 0) (value (y .after) j))
+          ⊎ ((value (y .unit .values) j ≡ none) × Given x (getD (take marks s) (values + y .unit .places .pair j) 0) (value (y .after) j))
       go (inl (i, h, e)) =
           let is : j ≡ tried .entry i h .pair = tried .unit-apart j (tried .entry i h .pair) l (tried .entry i h .of-unit) (e ∙ tried .entry i h .place) in
-          inr (record {
-            number = i;
-            word = at ∙ ap (λ k. getD s (values + k) 0) e ∙ held .entry i h;
-            inside = omega (arith, front-marks, tried .marks-behind, tried .entries-before);
-            told = subst (λ k. Told x true (entry-term (take marks s) i) (value (y .after) k)) (sym is) (entry-told i h);
-          })
+          inr (
+            ap (value (y .unit .values)) is ∙ tried .entry i h .unassigned,
+            record {
+              number = i;
+              word = at ∙ ap (λ k. getD s (values + k) 0) e ∙ held .entry i h;
+              inside = omega (arith, front-marks, tried .marks-behind, tried .entries-before);
+              told = subst (λ k. Told x true (entry-term (take marks s) i) (value (y .after) k)) (sym is) (entry-told i h);
+            },
+          )
       go (inr d) =
           let same = tried .others j l d in
           let word : getD (take marks s) (values + y .unit .places .pair j) 0 ≡ value-word (y .unit .places) (value (y .unit .values) j) =
           at ∙ held .others (values + y .unit .places .pair j) (λ i h e. d i h (omega arith)) ∙ tried .unit .held .stands j l in
-          inl (subst (Told x false (getD (take marks s) (values + y .unit .places .pair j) 0)) (sym same)
-          (unit-told (getD (take marks s) (values + y .unit .places .pair j) 0) (value (y .unit .values) j) word
-          (tried .unit .held .held j l) (λ t e. tried .unit .of j t l e .within)))
+          inl (
+            same,
+            subst (Told x false (getD (take marks s) (values + y .unit .places .pair j) 0)) (sym same)
+                (unit-told (getD (take marks s) (values + y .unit .places .pair j) 0) (value (y .unit .values) j) word
+                (tried .unit .held .held j l) (λ t e. tried .unit .of j t l e .within)),
+          )
+
+  -- A pair that had a value is no entry's.
+  stays : (j : ℕ) (t : Term) → value (y .unit .values) j ≡ some t → value (y .after) j ≡ some t
+  stays j t e = tried .others j low (λ i h f. differ (sym (unassigned i h f) ∙ e)) ∙ e
+    where
+      low : j < old y
+      low = assigned-below (y .unit .values) j t e
+
+      unassigned : (i : ℕ) (h : i < n) → y .unit .places .pair j ≡ entry-pair s₀ i → value (y .unit .values) j ≡ none
+      unassigned i h f =
+          let is : j ≡ tried .entry i h .pair = tried .unit-apart j (tried .entry i h .pair) low (tried .entry i h .of-unit) (f ∙ tried .entry i h .place) in
+          ap (value (y .unit .values)) is ∙ tried .entry i h .unassigned
+
+      differ : none ≡ some t → ⊥
+      differ f = let z : _≡_ {A = ℕ} 0 1 = cc in absurd (omega arith)
 
   pub shown : Shown (scene y values (take marks s))
   shown = record {
@@ -127,5 +152,7 @@ module _ (s₀ s : List ℕ) (y : Trial) (values marks n stamp : ℕ) (tried : T
     clause-inside = λ j on.
         omega (arith, clause-place j (on .0), on .0, on .1, tried .after-length, tried .few, tried .entries-before, front-marks, tried .marks-behind);
     clause-value = clause-told;
+    old-is = refl;
+    stays = stays;
     unit-value = unit-shown;
   }

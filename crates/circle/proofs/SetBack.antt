@@ -8,6 +8,7 @@ use native.Mathlib.Omega.{arith}
 use lib.ListN.{getD}
 use Rattle.term.specs.Holds.{value-word}
 use Rattle.circle.specs.Circle.{entry-pair, Entries, Held, Trial, Tried, Answered, Tested}
+use Rattle.circle.proofs.Grounds.{new-then, new-same}
 use Rattle.circle.proofs.Through.{one-or-none}
 
 module _ (s₀ : List ℕ) (y : Trial) (values marks n stamp : ℕ) (tried : Tried s₀ y values marks n stamp) where
@@ -67,4 +68,9 @@ module _ (s₀ : List ℕ) (y : Trial) (values marks n stamp : ℕ) (tried : Tri
               unheld k (behind k (omega arith)) ∙ answered .only .above k l ∙ held .others k (behind k (omega arith));
         };
         stamps-new = λ k l h. omega (arith, unheld k (behind k l), answered .stamps-new k l h);
+        grounds =
+            new-then (y .unit .places) (y .unit .values) marks s₀ s₁ s₃
+            (new-same (y .unit .places) (y .unit .values) marks s₀ s₁ (λ p. held .others (marks + p) (behind (marks + p) (omega arith))))
+            (new-then (y .unit .places) (y .unit .values) marks s₁ s₂ s₃ (answered .grounds)
+            (new-same (y .unit .places) (y .unit .values) marks s₂ s₃ (λ p. unheld (marks + p) (behind (marks + p) (omega arith)))));
       }

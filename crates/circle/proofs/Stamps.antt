@@ -1,48 +1,101 @@
 -- Marks only grow: what one part of a search visited and closed stays so in the next.
 use Prim.Native.Nat.{ℕ, _+_, _<_}
-use mathlib.Core.Path.{_≡_, refl, sym, _∙_}
+use mathlib.Core.Path.{_≡_, refl, sym, ap, subst, _∙_}
+use mathlib.Core.Logic.{_⊎_, inl, inr}
+use mathlib.Core.Bool.{Bool, true, false, true≢false}
 use mathlib.Core.List.{List}
 use native.Mathlib.Decide.{ℕ-discrete}
 use native.Mathlib.Omega.{arith}
+use lib.Dec.{eqb}
 use lib.ListN.{length, getD, set, take, length-set}
 use lib.Seq.{getD-set-same, getD-set-other, take-set-le, getD-take, length-take-le}
+use borrow.Author.Tests.{eq-eqb, ne-eqb}
+use Rattle.meaning.specs.Bytes.{if_then_else_}
 use Rattle.meaning.proofs.Circle.Leaning.{Leans}
-use Rattle.circle.specs.Search.{Scene, Searching, Stamped, Marked, Seen, Closed}
+use Rattle.circle.specs.Ground.{GroundAt}
+use Rattle.circle.specs.Search.{Scene, Searching, visited, Visited, Stamped, Marked, Seen, Closed}
+use Rattle.circle.proofs.Grounds.{new-none, new-then, grounds-on}
 
-module _ (marks pairs stamp : ℕ) where
-  pub stamped-same : (s : List ℕ) → Stamped marks pairs stamp s s
-  stamped-same s = record { size = refl; front = refl; above = λ k h. refl; others = λ k d. refl }
+-- The marks of visited pairs.
+pub visited-stamp : (stamp : ℕ) → Visited stamp stamp
+unfolding visited if_then_else_
+visited-stamp stamp = go (eqb stamp 1)
+  where
+    go : (b : Bool) → (if b then true else eqb stamp stamp) ≡ true
+    go true = refl
+    go false = eq-eqb stamp stamp refl
 
-  pub stamped-then : (s t u : List ℕ) → Stamped marks pairs stamp s t → Stamped marks pairs stamp t u → Stamped marks pairs stamp s u
+pub visited-ground : (stamp : ℕ) → Visited stamp 1
+unfolding visited if_then_else_
+visited-ground stamp = refl
+
+pub not-visited : (stamp m : ℕ) → (m ≡ 1 → ⊥) → (m ≡ stamp → ⊥) → visited stamp m ≡ false
+unfolding visited if_then_else_
+not-visited stamp m d e = rw (ne-eqb m 1 d) (ne-eqb m stamp e)
+
+pub visited-below : (stamp m : ℕ) → m < stamp → Visited stamp m → m ≡ 1
+unfolding visited if_then_else_
+visited-below stamp m l v = go (ℕ-discrete m 1)
+  where
+    go : Dec (m ≡ 1) → m ≡ 1
+    go (yes e) = e
+    go (no d) =
+        let none : (if eqb m 1 then true else eqb m stamp) ≡ false = rw (ne-eqb m 1 d) (ne-eqb m stamp (λ e. omega arith)) in
+        absurd (true≢false (sym v ∙ none))
+
+pub or-visited : (stamp m : ℕ) → Dec (Visited stamp m)
+or-visited stamp m = go (visited stamp m) refl
+  where
+    go : (b : Bool) → visited stamp m ≡ b → Dec (Visited stamp m)
+    go true e = yes e
+    go false e = no (λ f. true≢false (sym f ∙ e))
+
+module _ (x : Scene) (marks stamp : ℕ) where
+  pub stamped-same : (s : List ℕ) → Stamped x marks stamp s s
+  stamped-same s =
+      record { size = refl; front = refl; above = λ k h. refl; others = λ k d. refl; grounds = new-none (x .unit) (x .before) marks s }
+
+  pub stamped-then : (s t u : List ℕ) → Stamped x marks stamp s t → Stamped x marks stamp t u → Stamped x marks stamp s u
   stamped-then s t u a b = record {
     size = b .size ∙ a .size;
     front = b .front ∙ a .front;
     above = λ k h. b .above k h ∙ a .above k h;
-    others = λ k d. b .others k d ∙ a .others k (λ e. d (b .others k d ∙ e));
+    others = λ k d. b .others k d ∙ a .others k (λ e. d (ap (visited stamp) (b .others k d) ∙ e));
+    grounds = new-then (x .unit) (x .before) marks s t u (a .grounds) (b .grounds);
   }
 
-  pub stamped-set : (s : List ℕ) (p : ℕ) → p < pairs → marks + p < length s → Stamped marks pairs stamp s (set s (marks + p) stamp)
-  stamped-set s p h inside = record {
-    size = length-set s (marks + p) stamp;
-    front = take-set-le marks s (marks + p) stamp (omega arith);
-    above = λ k l. getD-set-other s (marks + p) k stamp 0 (λ e. omega arith);
+  -- A mark is set: the stamp's, or that of a ground pair.
+  pub stamped-set : (s : List ℕ) (p w : ℕ) → p < x .pairs → marks + p < length s → Visited stamp w
+      → (w ≡ 1 → GroundAt (x .unit) (x .before) p) → Stamped x marks stamp s (set s (marks + p) w)
+  stamped-set s p w h inside v known = record {
+    size = length-set s (marks + p) w;
+    front = take-set-le marks s (marks + p) w (omega arith);
+    above = λ k l. getD-set-other s (marks + p) k w 0 (λ e. omega arith);
     others = λ k d. go k d (ℕ-discrete k (marks + p));
+    grounds = λ q e. new q e (ℕ-discrete q p);
   }
     where
-      go : (k : ℕ) → (getD (set s (marks + p) stamp) k 0 ≡ stamp → ⊥) → Dec (k ≡ marks + p)
-          → getD (set s (marks + p) stamp) k 0 ≡ getD s k 0
-      go k d (yes e) = absurd (d (rw e (getD-set-same s (marks + p) stamp 0 inside)))
-      go k d (no e) = getD-set-other s (marks + p) k stamp 0 e
+      go : (k : ℕ) → (Visited stamp (getD (set s (marks + p) w) k 0) → ⊥) → Dec (k ≡ marks + p)
+          → getD (set s (marks + p) w) k 0 ≡ getD s k 0
+      go k d (yes e) = absurd (d (rw (e, getD-set-same s (marks + p) w 0 inside) v))
+      go k d (no e) = getD-set-other s (marks + p) k w 0 e
+
+      new : (q : ℕ) → getD (set s (marks + p) w) (marks + q) 0 ≡ 1 → Dec (q ≡ p)
+          → (getD s (marks + q) 0 ≡ 1) ⊎ GroundAt (x .unit) (x .before) q
+      new q e (yes f) =
+          inr (subst (GroundAt (x .unit) (x .before)) (sym f)
+          (known (sym (getD-set-same s (marks + p) w 0 inside) ∙ ap (λ k. getD (set s (marks + p) w) (marks + k) 0) (sym f) ∙ e)))
+      new q e (no d) = inl (sym (getD-set-other s (marks + p) (marks + q) w 0 (λ f. d (omega arith))) ∙ e)
 
   -- A mark stays.
-  pub stamp-stays : (s t : List ℕ) → Stamped marks pairs stamp s t → (k : ℕ) → getD s k 0 ≡ stamp → getD t k 0 ≡ stamp
-  stamp-stays s t a k e = go (ℕ-discrete (getD t k 0) stamp)
+  pub stamp-stays : (s t : List ℕ) → Stamped x marks stamp s t → (k : ℕ) → Visited stamp (getD s k 0) → Visited stamp (getD t k 0)
+  stamp-stays s t a k e = go (or-visited stamp (getD t k 0))
     where
-      go : Dec (getD t k 0 ≡ stamp) → getD t k 0 ≡ stamp
+      go : Dec (Visited stamp (getD t k 0)) → Visited stamp (getD t k 0)
       go (yes f) = f
-      go (no f) = a .others k f ∙ e
+      go (no f) = ap (visited stamp) (a .others k f) ∙ e
 
-module _ (x : Scene) (marks stamp z : ℕ) (s t : List ℕ) (a : Stamped marks (x .pairs) stamp s t) where
+module _ (x : Scene) (marks stamp z : ℕ) (s t : List ℕ) (a : Stamped x marks stamp s t) where
   pub searching-on : (values place : ℕ) → Searching s x values marks place stamp z → Searching t x values marks place stamp z
   searching-on values place h = record {
     shown = h .shown;
@@ -51,11 +104,16 @@ module _ (x : Scene) (marks stamp z : ℕ) (s t : List ℕ) (a : Stamped marks (
     room = omega (arith, a .size, h .room);
     unit-pair = h .unit-pair;
     place-at = h .place-at;
+    unassigned = h .unassigned;
+    stamp-above = h .stamp-above;
+    grounds =
+        grounds-on (x .unit) (x .before) marks (λ i j l m. h .shown .apart i j (rw (h .shown .old-is) l) (rw (h .shown .old-is) m)) s t
+        (a .grounds) (h .grounds);
   }
 
   pub marked-on : (j : ℕ) → Marked s x marks stamp z j → Marked t x marks stamp z j
   marked-on j m = record {
-    stamped = stamp-stays marks (x .pairs) stamp s t a (marks + x .unit .pair j) (m .stamped);
+    stamped = stamp-stays x marks stamp s t a (marks + x .unit .pair j) (m .stamped);
     other = m .other;
   }
 
@@ -63,10 +121,11 @@ module _ (x : Scene) (marks stamp z : ℕ) (s t : List ℕ) (a : Stamped marks (
   seen-on j h = record { unit = λ l. marked-on j (h .unit l); clause = λ l i r. marked-on i (h .clause l i r) }
 
   pub closed-then : (r : List ℕ) → Closed r s x marks stamp z → Closed s t x marks stamp z → Closed r t x marks stamp z
-  closed-then r b c = record { new = λ j h d e i l. go j h d e i l (ℕ-discrete (getD s (marks + x .unit .pair j) 0) stamp) }
+  closed-then r b c = record { new = λ j h d e i l. go j h d e i l (or-visited stamp (getD s (marks + x .unit .pair j) 0)) }
     where
-      go : (j : ℕ) → j < x .old → (getD r (marks + x .unit .pair j) 0 ≡ stamp → ⊥) → getD t (marks + x .unit .pair j) 0 ≡ stamp
-          → (i : ℕ) → Leans (x .after) j i → Dec (getD s (marks + x .unit .pair j) 0 ≡ stamp) → Seen t x marks stamp z i
+      go : (j : ℕ) → j < x .old → (Visited stamp (getD r (marks + x .unit .pair j) 0) → ⊥)
+          → Visited stamp (getD t (marks + x .unit .pair j) 0) → (i : ℕ) → Leans (x .after) j i
+          → Dec (Visited stamp (getD s (marks + x .unit .pair j) 0)) → Seen t x marks stamp z i
       go j h d e i l (yes f) = seen-on i (b .new j h d f i l)
       go j h d e i l (no f) = c .new j h f e i l
 

@@ -5,7 +5,7 @@ use mathlib.Core.Path.{_≡_, refl, sym, ap, subst, _∙_}
 use mathlib.Core.Logic.{_⊎_, inl, inr, ⊎-elim}
 use mathlib.Core.Bool.{true, false}
 use mathlib.Core.List.{List}
-use mathlib.Core.Option.{some}
+use mathlib.Core.Option.{none, some}
 use native.Mathlib.Decide.{ℕ-discrete, decLt}
 use native.Mathlib.Omega.{arith}
 use lib.ListN.{length, getD}
@@ -13,7 +13,10 @@ use Rattle.meaning.specs.State.{value}
 use Rattle.meaning.proofs.Circle.Leaning.{Leans, Links, one, first, links-join}
 use Rattle.meaning.proofs.Circle.Search.{no-circle-says, leaning-below}
 use Rattle.circle.specs.Circle.{entry-pair, Trial, old, Tried}
-use Rattle.circle.specs.Search.{Scene, On, StandsAt, Shown, Seen, Searched}
+use Rattle.circle.specs.Ground.{Ground}
+use Rattle.circle.specs.Search.{Scene, On, StandsAt, Shown, Visited, Seen, Searched}
+use Rattle.circle.proofs.Grounds.{ground-reaches}
+use Rattle.circle.proofs.Stamps.{or-visited}
 use Rattle.circle.proofs.Visit.{stands-of}
 use Rattle.circle.proofs.Parts.{within-stands}
 
@@ -114,23 +117,35 @@ module _ (s : List ℕ) (y : Trial) (values marks n stamp : ℕ) (tried : Tried 
       go (no d) (one l) = absurd (d (clause-leans a a (omega arith) l))
       go (no d) (first {j = k} l p) = unit-circle k (clause-leans a k (omega arith) l) (links-join p (one l))
 
--- After a search with no pair marked before, which did not meet pair z, no path leads from z to z.
-module _ (x : Scene) (marks stamp z : ℕ) (s s′ : List ℕ) (shown : Shown x) (unit-pair : z < x .old)
-    (fresh : (j : ℕ) → j < x .old → getD s (marks + x .unit .pair j) 0 ≡ stamp → ⊥)
+-- After a search before which the marked pairs were ground, and which did not meet pair z, no path leads from z to z.
+module _ (x : Scene) (marks stamp z : ℕ) (s s′ : List ℕ) (shown : Shown x) (unit-pair : z < x .old) (unassigned : value (x .before) z ≡ none)
+    (fresh : (j : ℕ) → j < x .old → Visited stamp (getD s (marks + x .unit .pair j) 0) → Ground (x .before) j)
     (searched : Searched s s′ x marks stamp z (λ j. StandsAt j (value (x .after) z)) false) where
-  seen-on-seen : (j k : ℕ) → Seen s′ x marks stamp z j → Leans (x .after) j k → Seen s′ x marks stamp z k
+  seen-on-seen : (j k : ℕ) → Seen s′ x marks stamp z j → Leans (x .after) j k → Ground (x .before) j ⊎ Seen s′ x marks stamp z k
   seen-on-seen j k seen l = go (decLt j (x .old))
     where
-      go : Dec (j < x .old) → Seen s′ x marks stamp z k
-      go (yes h) = searched .closed refl .new j h (fresh j h) (seen .unit h .stamped) k l
+      unit : (h : j < x .old) → Dec (Visited stamp (getD s (marks + x .unit .pair j) 0)) → Ground (x .before) j ⊎ Seen s′ x marks stamp z k
+      unit h (yes v) = inl (fresh j h v)
+      unit h (no d) = inr (searched .closed refl .new j h d (seen .unit h .stamped) k l)
+
+      go : Dec (j < x .old) → Ground (x .before) j ⊎ Seen s′ x marks stamp z k
+      go (yes h) = unit h (or-visited stamp (getD s (marks + x .unit .pair j) 0))
       go (no d) =
           let on : On x true j = (omega arith, leaning-below (x .after) j k l) in
           let low : k < x .old = shown .clause-value j on .pairs k (stands-of (x .after) k j l) in
-          record { unit = λ h. seen .clause (omega arith) k l; clause = λ h. absurd (omega arith) }
+          inr (record { unit = λ h. seen .clause (omega arith) k l; clause = λ h. absurd (omega arith) })
+
+  from-ground : {j : ℕ} → Ground (x .before) j → Links (x .after) j z → ⊥
+  from-ground g p = ground-reaches (x .before) (x .after) (shown .stays) g p unassigned
 
   not-from-seen : {j : ℕ} → Seen s′ x marks stamp z j → Links (x .after) j z → ⊥
-  not-from-seen {j} seen (one l) = seen-on-seen j z seen l .unit unit-pair .other refl
-  not-from-seen {j} seen (first {j = k} l p) = not-from-seen (seen-on-seen j k seen l) p
+  not-from-seen {j} seen (one l) =
+      ⊎-elim (λ g. from-ground g (one l)) (λ next. next .unit unit-pair .other refl) (seen-on-seen j z seen l)
+  not-from-seen {j} seen (first {j = k} l p) = further (seen-on-seen j k seen l) (λ next. not-from-seen next p)
+    where
+      further : Ground (x .before) j ⊎ Seen s′ x marks stamp z k → (Seen s′ x marks stamp z k → ⊥) → ⊥
+      further (inl g) rest = from-ground g (first l p)
+      further (inr next) rest = rest next
 
   pub not-around : Links (x .after) z z → ⊥
   not-around (one l) = searched .visited refl z (stands-of (x .after) z z l) .unit unit-pair .other refl

@@ -1,40 +1,39 @@
--- How many words are not the stamp: a new mark takes one away, and marks never add any.
+-- How many words have not a mark: a new mark takes one away, and marks never add any.
 use Prim.Native.Nat.{ℕ, zero, suc, _+_, _≤_, _<_}
-use mathlib.Core.Path.{_≡_, refl}
-use mathlib.Core.Bool.{Bool, true, false}
+use mathlib.Core.Path.{_≡_, refl, sym, _∙_}
+use mathlib.Core.Bool.{Bool, true, false, true≢false}
 use mathlib.Core.List.{List, [], _∷_}
 use native.Mathlib.Omega.{arith}
-use lib.Dec.{eqb}
 use lib.ListN.{length, getD, set}
-use borrow.Author.Tests.{eq-eqb, ne-eqb, eqb-false}
 use Rattle.meaning.specs.Bytes.{if_then_else_}
 
-unfoldable pub unseen : ℕ → List ℕ → ℕ
-unseen stamp [] = 0
-unseen stamp (n ∷ ns) = (if eqb n stamp then 0 else 1) + unseen stamp ns
+unfoldable pub unseen : (ℕ → Bool) → List ℕ → ℕ
+unseen marked [] = 0
+unseen marked (n ∷ ns) = (if marked n then 0 else 1) + unseen marked ns
 
-pub unseen-set : (stamp : ℕ) (s : List ℕ) (i : ℕ) → i < length s → (getD s i 0 ≡ stamp → ⊥) → unseen stamp (set s i stamp) + 1 ≤ unseen stamp s
+pub unseen-set : (marked : ℕ → Bool) (s : List ℕ) (i w : ℕ) → i < length s → marked (getD s i 0) ≡ false → marked w ≡ true
+    → unseen marked (set s i w) + 1 ≤ unseen marked s
 unfolding unseen if_then_else_
-unseen-set stamp [] i h d = absurd (omega arith)
-unseen-set stamp (n ∷ ns) zero h d = rw (eq-eqb stamp stamp refl, ne-eqb n stamp d) (omega arith)
-unseen-set stamp (n ∷ ns) (suc i) h d = omega (arith, unseen-set stamp ns i (omega arith) d)
+unseen-set marked [] i w h d e = absurd (omega arith)
+unseen-set marked (n ∷ ns) zero w h d e = rw (d, e) (omega arith)
+unseen-set marked (n ∷ ns) (suc i) w h d e = omega (arith, unseen-set marked ns i w (omega arith) d e)
 
-one-seen : (stamp m n : ℕ) → ((m ≡ stamp → ⊥) → m ≡ n) → (if eqb m stamp then 0 else 1) ≤ (if eqb n stamp then 0 else 1)
+one-seen : (marked : ℕ → Bool) (m n : ℕ) → ((marked m ≡ true → ⊥) → m ≡ n) → (if marked m then 0 else 1) ≤ (if marked n then 0 else 1)
 unfolding if_then_else_
-one-seen stamp m n others = go (eqb m stamp) refl
+one-seen marked m n others = go (marked m) refl
   where
-    go : (b : Bool) → eqb m stamp ≡ b → (if b then 0 else 1) ≤ (if eqb n stamp then 0 else 1)
+    go : (b : Bool) → marked m ≡ b → (if b then 0 else 1) ≤ (if marked n then 0 else 1)
     go true e = omega arith
     go false e =
-        let same : m ≡ n = others (eqb-false m stamp e) in
-        let e′ : eqb n stamp ≡ false = rw same at e in
+        let same : m ≡ n = others (λ f. true≢false (sym f ∙ e)) in
+        let e′ : marked n ≡ false = rw same at e in
         rw e′ (omega arith)
 
-pub unseen-less : (stamp : ℕ) (s s′ : List ℕ) → length s′ ≡ length s
-    → ((k : ℕ) → (getD s′ k 0 ≡ stamp → ⊥) → getD s′ k 0 ≡ getD s k 0) → unseen stamp s′ ≤ unseen stamp s
+pub unseen-less : (marked : ℕ → Bool) (s s′ : List ℕ) → length s′ ≡ length s
+    → ((k : ℕ) → (marked (getD s′ k 0) ≡ true → ⊥) → getD s′ k 0 ≡ getD s k 0) → unseen marked s′ ≤ unseen marked s
 unfolding unseen
-unseen-less stamp [] [] e others = omega arith
-unseen-less stamp [] (m ∷ ms) e others = absurd (omega arith)
-unseen-less stamp (n ∷ ns) [] e others = absurd (omega arith)
-unseen-less stamp (n ∷ ns) (m ∷ ms) e others =
-    omega (arith, one-seen stamp m n (others 0), unseen-less stamp ns ms (omega arith) (λ k. others (suc k)))
+unseen-less marked [] [] e others = omega arith
+unseen-less marked [] (m ∷ ms) e others = absurd (omega arith)
+unseen-less marked (n ∷ ns) [] e others = absurd (omega arith)
+unseen-less marked (n ∷ ns) (m ∷ ms) e others =
+    omega (arith, one-seen marked m n (others 0), unseen-less marked ns ms (omega arith) (λ k. others (suc k)))

@@ -13,8 +13,19 @@ use Rattle.meaning.specs.Terms.{writer, reader, Constant, Term}
 use Rattle.meaning.specs.State.{Values, value}
 use Rattle.meaning.proofs.Terms.Standing.{Stands}
 use Rattle.meaning.proofs.Circle.Leaning.{Leans, Links, one, first}
-use Rattle.circle.specs.Search.{Scene, side, On, Told, Given, StandsAt, Searching, Stamped, Seen, Reaches, Searched}
-use Rattle.circle.proofs.Stamps.{stamped-same, stamped-then, stamped-set, stamp-stays, searching-on, closed-same, front-length, front-word}
+use Rattle.circle.specs.Ground.{Ground, ground}
+use Rattle.circle.specs.Search.{Scene, side, On, Told, Given, StandsAt, Searching, visited, Visited, Stamped, Seen, Reaches, Searched, Firm}
+use Rattle.circle.proofs.Stamps.{
+  visited-stamp,
+  stamped-same,
+  stamped-then,
+  stamped-set,
+  stamp-stays,
+  searching-on,
+  closed-same,
+  front-length,
+  front-word,
+}
 
 -- What stands in the value of a pair is what the pair leans on.
 pub leans-of : (values : Values) (i j : ℕ) → StandsAt i (value values j) → Leans values j i
@@ -40,19 +51,29 @@ pub record Variable (x : Scene) (marks stamp z : ℕ) (b : Bool) (w : ℕ) (v : 
   pub place : w / 8 ≡ side x b .pair pair
   pub answer : (s s′ : List ℕ) (r : Bool) → Searched s s′ x marks stamp z (λ i. i ≡ pair) r
       → Searched s s′ x marks stamp z (λ j. StandsAt j v) r
+  pub firm : Ground (x .before) pair → Firm x v
+  pub stands : StandsAt pair v
 
 pub variable-of : (x : Scene) (marks stamp z : ℕ) (b : Bool) (w : ℕ) (v : Option Term) → Told x b w v
     → (w % 8 ≡ 6 → ⊥) → (w % 8 ≡ 0 → ⊥) → w % 8 ≤ 2 → Variable x marks stamp z b w v
 unfolding Stands
 variable-of x marks stamp z b w none told c d le = absurd (d (omega (arith, told .word)))
 variable-of x marks stamp z b w (some (Term.variable writer n)) told c d le =
-    record { pair = n; on = told .pairs n refl; place = omega (arith, told .word); answer = λ s s′ r a. a }
+    record { pair = n; on = told .pairs n refl; place = omega (arith, told .word); answer = λ s s′ r a. a; firm = λ g j e. subst (Ground (x .before)) (sym e) g; stands = refl }
 variable-of x marks stamp z b w (some (Term.variable reader n)) told c d le =
-    record { pair = n; on = told .pairs n refl; place = omega (arith, told .word); answer = λ s s′ r a. a }
+    record { pair = n; on = told .pairs n refl; place = omega (arith, told .word); answer = λ s s′ r a. a; firm = λ g j e. subst (Ground (x .before)) (sym e) g; stands = refl }
 variable-of x marks stamp z b w (some (Term.constant (Constant.integer i))) told c d le = absurd (omega (arith, told .word))
 variable-of x marks stamp z b w (some (Term.constant (Constant.name f))) told c d le = absurd (omega (arith, told .word))
 variable-of x marks stamp z b w (some (Term.constant Constant.empty)) told c d le = absurd (omega (arith, told .word))
 variable-of x marks stamp z b w (some (Term.compound n f ts)) told c d le = absurd (omega (arith, told .word))
+
+-- A pair whose value is firm is ground.
+pub ground-of : (x : Scene) (n : ℕ) → value (x .after) n ≡ value (x .before) n → Firm x (value (x .after) n) → Ground (x .before) n
+ground-of x n same firm = go (value (x .before) n) refl (rw same at firm)
+  where
+    go : (v : Option Term) → value (x .before) n ≡ v → Firm x v → Ground (x .before) n
+    go none e f = absurd f
+    go (some t) e f = ground t e f
 
 -- No term's word has the tag 7.
 pub told-tag : (x : Scene) (b : Bool) (w : ℕ) (v : Option Term) → Told x b w v → w % 8 ≡ 7 → ⊥
@@ -96,7 +117,7 @@ module _ (x : Scene) (values marks place stamp z : ℕ) (s : List ℕ) (h : Sear
     goal-answer same =
         let is : j ≡ z = h .shown .apart j z on (h .unit-pair) (sym e ∙ same ∙ h .place-at) in
         record {
-          stamped = stamped-same marks (x .pairs) stamp s;
+          stamped = stamped-same x marks stamp s;
           found = λ f. (j, refl, inl is);
           visited = λ f. absurd (true≢false f);
           closed = λ f. absurd (true≢false f);
@@ -108,23 +129,24 @@ module _ (x : Scene) (values marks place stamp z : ℕ) (s : List ℕ) (h : Sear
     pub mark-inside : marks + p < length s
     mark-inside = omega (arith, h .room, h .shown .place j on)
 
-    seen-unit : (s′ : List ℕ) → (p ≡ place → ⊥) → getD s′ (marks + p) 0 ≡ stamp → (i : ℕ) → i ≡ j → Seen s′ x marks stamp z i
+    seen-unit : (s′ : List ℕ) → (p ≡ place → ⊥) → Visited stamp (getD s′ (marks + p) 0) → (i : ℕ) → i ≡ j → Seen s′ x marks stamp z i
     seen-unit s′ d m i f = subst (Seen s′ x marks stamp z) (sym f) (record {
       unit = λ l. record { stamped = rw e at m; other = other d };
       clause = λ l. absurd (omega arith);
     })
 
     -- A pair that was visited.
-    pub marked-answer : (p ≡ place → ⊥) → getD s (marks + p) 0 ≡ stamp → Searched s s x marks stamp z (λ i. i ≡ j) false
+    pub marked-answer : (p ≡ place → ⊥) → Visited stamp (getD s (marks + p) 0) → Searched s s x marks stamp z (λ i. i ≡ j) false
     marked-answer d m = record {
-      stamped = stamped-same marks (x .pairs) stamp s;
+      stamped = stamped-same x marks stamp s;
       found = λ f. absurd (true≢false (sym f));
       visited = λ f. seen-unit s d m;
       closed = λ f. closed-same x marks stamp z s;
     }
 
-    pub marking : Stamped marks (x .pairs) stamp s (set s (marks + p) stamp)
-    marking = stamped-set marks (x .pairs) stamp s p (omega (arith, h .shown .place j on)) mark-inside
+    pub marking : Stamped x marks stamp s (set s (marks + p) stamp)
+    marking = stamped-set x marks stamp s p stamp (omega (arith, h .shown .place j on)) mark-inside (visited-stamp stamp)
+        (λ f. absurd (omega (arith, h .stamp-above)))
 
     pub marked-searching : Searching (set s (marks + p) stamp) x values marks place stamp z
     marked-searching = searching-on x marks stamp z s (set s (marks + p) stamp) marking values place h
@@ -142,12 +164,12 @@ module _ (x : Scene) (values marks place stamp z : ℕ) (s : List ℕ) (h : Sear
 
     -- Its value, a term of the unit or one of the head.
     pub unit-told : (v : ℕ) → v ≡ getD (set s (marks + p) stamp) (values + p) 0 → (v % 8 ≡ 7 → ⊥) → Told x false v (value (x .after) j)
-    unit-told v f d = ⊎-elim (λ t. rw (f ∙ value-word-at) t)
-        (λ g. absurd (d (omega (arith, g .word, f ∙ value-word-at)))) (h .shown .unit-value j on)
+    unit-told v f d = ⊎-elim (λ (same, t). rw (f ∙ value-word-at) t)
+        (λ (none-before, g). absurd (d (omega (arith, g .word, f ∙ value-word-at)))) (h .shown .unit-value j on)
 
     head-given : (v : ℕ) → v ≡ getD (set s (marks + p) stamp) (values + p) 0 → v % 8 ≡ 7 → Given x v (value (x .after) j)
-    head-given v f d = ⊎-elim (λ t. absurd (told-tag x false v (value (x .after) j) (rw (f ∙ value-word-at) t) d))
-        (λ g. rw (f ∙ value-word-at) g) (h .shown .unit-value j on)
+    head-given v f d = ⊎-elim (λ (same, t). absurd (told-tag x false v (value (x .after) j) (rw (f ∙ value-word-at) t) d))
+        (λ (none-before, g). rw (f ∙ value-word-at) g) (h .shown .unit-value j on)
 
     pub head-inside : (v i : ℕ) → v ≡ getD (set s (marks + p) stamp) (values + p) 0 → v % 8 ≡ 7 → i ≡ v / 8 → 39953 + 2 * i < length s
     head-inside v i f d at =
@@ -163,22 +185,27 @@ module _ (x : Scene) (values marks place stamp z : ℕ) (s : List ℕ) (h : Sear
         front-word (set s (marks + p) stamp) x values marks place stamp z marked-searching (39953 + 2 * g .number) (g .inside) in
         rw (is, words) (g .told)
 
-    pub new-answer : (p ≡ place → ⊥) → (getD s (marks + p) 0 ≡ stamp → ⊥) → (s′ : List ℕ) (r : Bool)
+    -- A pair whose value is a term of the unit had it before the trial.
+    pub unit-same : (v : ℕ) → v ≡ getD (set s (marks + p) stamp) (values + p) 0 → (v % 8 ≡ 7 → ⊥) → value (x .after) j ≡ value (x .before) j
+    unit-same v f d = ⊎-elim (λ (same, t). same)
+        (λ (none-before, g). absurd (d (omega (arith, g .word, f ∙ value-word-at)))) (h .shown .unit-value j on)
+
+    pub new-answer : (p ≡ place → ⊥) → (Visited stamp (getD s (marks + p) 0) → ⊥) → (s′ : List ℕ) (r : Bool)
         → Searched (set s (marks + p) stamp) s′ x marks stamp z (λ i. StandsAt i (value (x .after) j)) r
         → Searched s s′ x marks stamp z (λ i. i ≡ j) r
     new-answer d new s′ r a = record {
-      stamped = stamped-then marks (x .pairs) stamp s (set s (marks + p) stamp) s′ marking (a .stamped);
+      stamped = stamped-then x marks stamp s (set s (marks + p) stamp) s′ marking (a .stamped);
       found = λ f. let (i, q, l) = a .found f in (j, refl, inr (link x z i j q l));
       visited = λ f. seen-unit s′ d
-          (stamp-stays marks (x .pairs) stamp (set s (marks + p) stamp) s′ (a .stamped) (marks + p)
-          (getD-set-same s (marks + p) stamp 0 mark-inside));
+          (stamp-stays x marks stamp (set s (marks + p) stamp) s′ (a .stamped) (marks + p)
+          (ap (visited stamp) (getD-set-same s (marks + p) stamp 0 mark-inside) ∙ visited-stamp stamp));
       closed = λ f. record { new = λ i l n m k q. go f i l n m k q (ℕ-discrete i j) };
     }
       where
-        go : r ≡ false → (i : ℕ) → i < x .old → (getD s (marks + x .unit .pair i) 0 ≡ stamp → ⊥) → getD s′ (marks + x .unit .pair i) 0 ≡ stamp
-            → (k : ℕ) → Leans (x .after) i k → Dec (i ≡ j) → Seen s′ x marks stamp z k
+        go : r ≡ false → (i : ℕ) → i < x .old → (Visited stamp (getD s (marks + x .unit .pair i) 0) → ⊥)
+            → Visited stamp (getD s′ (marks + x .unit .pair i) 0) → (k : ℕ) → Leans (x .after) i k → Dec (i ≡ j) → Seen s′ x marks stamp z k
         go f i l n m k q (yes is) = a .visited f k (stands-of (x .after) k j (rw is at q))
         go f i l n m k q (no isnt) =
             a .closed f .new i l
-            (λ g. n (sym (getD-set-other s (marks + p) (marks + x .unit .pair i) stamp 0
-            (λ b. isnt (h .shown .apart i j l on (omega arith)))) ∙ g)) m k q
+            (λ g. n (ap (visited stamp) (sym (getD-set-other s (marks + p) (marks + x .unit .pair i) stamp 0
+            (λ b. isnt (h .shown .apart i j l on (omega arith))))) ∙ g)) m k q

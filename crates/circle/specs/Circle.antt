@@ -12,6 +12,7 @@ use Rattle.term.specs.Cells.{Places, term-word}
 use Rattle.term.specs.Holds.{Holds, value-word}
 use Rattle.term.specs.Frames.{Only}
 use Rattle.term.specs.Setting.{Setting, Within, UnitStands}
+use Rattle.circle.specs.Ground.{Grounds, NewGrounds}
 
 -- The place of the pair of the i-th entry, and the word of its term of the head.
 abbrev pub entry-pair : List ℕ → ℕ → ℕ
@@ -86,15 +87,19 @@ pub record Tried (s : List ℕ) (y : Trial) (values marks n stamp : ℕ) : Type 
   pub no-circle : circle (y .unit .values) ≡ false
   pub stamps-fit : stamp + n < 2 ^ 64
   pub stamps-new : (k : ℕ) → marks ≤ k → k < marks + y .unit .pairs → getD s k 0 < stamp
+  pub stamp-above : 1 < stamp
+  pub grounds : Grounds (y .unit .places) (y .unit .values) marks s
 
--- After the test: its answer; only marks differ, and stamps from stamp + n on are unused.
+-- After the test: its answer; only marks differ, and stamps from stamp + n on are unused. Of the marks 1 is no stamp: it tells a ground pair.
 pub record Tested (s s′ : List ℕ) (y : Trial) (marks n stamp : ℕ) (r : Bool) : Type 0 where
   pub answer : r ≡ circle (y .after)
   pub only : Only marks (marks + y .unit .pairs) s s′
   pub stamps-new : (k : ℕ) → marks ≤ k → k < marks + y .unit .pairs → getD s′ k 0 < stamp + n
+  pub grounds : NewGrounds (y .unit .places) (y .unit .values) marks s s′
 
 -- After the search from the entries' own terms, before their pairs are set back.
 pub record Answered (s₀ s s′ : List ℕ) (y : Trial) (marks n stamp : ℕ) (r : Bool) : Type 0 where
   pub answer : r ≡ circle (y .after)
   pub only : Only marks (marks + y .unit .pairs) s s′
   pub stamps-new : (k : ℕ) → marks ≤ k → k < marks + y .unit .pairs → getD s′ k 0 < stamp + n
+  pub grounds : NewGrounds (y .unit .places) (y .unit .values) marks s s′

@@ -8,7 +8,8 @@ ghost use mathlib.Core.List.{List};
 ghost use lib.ListN.{length, getD, set};
 ghost use Rattle.meaning.specs.Terms.{Term};
 ghost use Rattle.circle.specs.Circle.{Entries, Held, held-word, entry-pair, Trial, Tried, Tested, Answered};
-ghost use Rattle.circle.specs.Search.{Scene, Told, StandsAt, Searching, Searched};
+ghost use Rattle.circle.specs.Ground.{GroundAt};
+ghost use Rattle.circle.specs.Search.{Scene, Told, Searching, LeadsIs, LastLeads, Settled, Names, begun-state, JoinedIs, SinceIs, SearchedFrom};
 
 fn index(w: u64) -> usize
     ensures { λ r. ⌜ r ≡ w ⌝ }
@@ -37,6 +38,9 @@ fn set_at(s: &mut [u64], from: usize, i: usize, w: u64)
     s[from + i] = w;
 }
 
+// The mark of a pair from which no unassigned pair is reached. Stamps are greater.
+const GROUND: u64 = 1;
+
 // The number of arguments of the compound at a place, and one of them.
 fn count(s: &[u64], q: usize) -> usize
     requires { ⌜ 8 * q < length (now s) ⌝ }
@@ -60,9 +64,109 @@ fn given_term(s: &[u64], i: usize) -> u64
     s[TRIAL + 17 + 2 * i]
 }
 
-// Whether pair z is reached from a term: the head's, whose variables stand for what they are given, or the goal's; a marked pair was visited.
-// Of the words' tags 6 is a compound's, and 1 and 2 are a pair's. The search goes on to a compound's last argument and to a pair's value in its
-// loop, and descends into the other arguments.
+// Whether a term is a compound or a variable: from any other no pair is reached.
+fn leads(w: u64) -> bool
+    ensures { λ r. ⌜ LeadsIs w r ⌝ }
+{
+    let tag = w % 8;
+    if tag == 6 {
+        return true;
+    }
+    if tag == 0 {
+        return false;
+    }
+    if tag > 2 {
+        return false;
+    }
+    true
+}
+
+// The last argument of the compound at a place from which a pair may be reached; 0 if there is none.
+fn last(s: &[u64], q: usize) -> usize
+    requires { ⌜ 8 * q + 7 < length (now s) ⌝ }
+    ensures { λ r. ⌜ LastLeads (now (s .entry)) q r ⌝ }
+{
+    let mut k = count(s, q);
+    while 0 < k {
+        let a = argument(s, q, k);
+        if leads(a) {
+            return k;
+        }
+        k -= 1;
+    }
+    0
+}
+
+// Marks a ground pair as such, and those to which the last arguments of its value lead, as far as they have the search's stamp.
+fn settle(s: &mut [u64], values: usize, marks: usize, stamp: u64, pair: usize)
+    requires { ⌜ ((x : Scene) × (place : ℕ) × (goal : ℕ) × Searching (now s) x values marks place stamp goal × GroundAt (x .unit) (x .before) pair) ⌝ }
+    ensures { λ r. ⌜ ((x : Scene) (place goal : ℕ) → Searching (now (s .entry)) x values marks place stamp goal → GroundAt (x .unit) (x .before) pair
+        → Settled x marks stamp (now (s .entry)) (now (s .exit))) ⌝ }
+{
+    let mut t = word(8 * pair + 1);
+    while leads(t) {
+        let q = index(t / 8);
+        if t % 8 == 6 {
+            let k = last(s, q);
+            if k == 0 {
+                return;
+            }
+            t = argument(s, q, k);
+            continue;
+        }
+        let m = word_at(s, marks, q);
+        if m != stamp {
+            return;
+        }
+        set_at(s, marks, q, GROUND);
+        t = word_at(s, values, q);
+    }
+}
+
+// The end of a search that has not found the pair, where all that was left is ground: marks the pair that its state names. Whether it has met a pair that
+// may not be ground: 1; or 0.
+fn ended(s: &mut [u64], values: usize, marks: usize, stamp: u64, state: usize) -> u64
+    requires { ⌜ ((x : Scene) × (place : ℕ) × (goal : ℕ) × Searching (now s) x values marks place stamp goal × Names x state) ⌝ }
+    ensures settled { λ r. ⌜ ((x : Scene) (place goal : ℕ) → Searching (now (s .entry)) x values marks place stamp goal → Names x state
+        → Settled x marks stamp (now (s .entry)) (now (s .exit))) ⌝ }
+    ensures parity { λ r. ⌜ r ≡ state % 2 ⌝ }
+{
+    if state < 2 {
+        return word(state);
+    }
+    settle(s, values, marks, stamp, state / 2 - 1);
+    word(state % 2)
+}
+
+// The state of a search at its beginning. From a term of the head it never tells that all is ground.
+fn begun(head: bool) -> usize
+    ensures { λ r. ⌜ r ≡ begun-state head ⌝ }
+{
+    if head { 1 } else { 0 }
+}
+
+// The state when an argument was searched.
+fn joined(state: usize, r: u64) -> usize
+    ensures { λ o. ⌜ JoinedIs state r o ⌝ }
+{
+    if r == 0 { state } else { 1 }
+}
+
+// The state when a pair at a place is visited.
+fn since(state: usize, p: usize) -> usize
+    requires { ⌜ 2 * p + 4 < 2 ^ 64 ⌝ }
+    ensures { λ r. ⌜ SinceIs state p r ⌝ }
+{
+    if state > 1 {
+        return state;
+    }
+    state + 2 * p + 2
+}
+
+// Whether pair z is reached from a term: the head's, whose variables stand for what they are given, or the goal's. 2: it is; 0: it is not, and no
+// unassigned pair is; 1: else it is not. A pair with this search's stamp was visited.
+// Of the words' tags 6 is a compound's, and 1 and 2 are a pair's. The search goes on to a compound's last argument that leads on and to a pair's value in
+// its loop, and descends into the other arguments.
 fn from_term(
     s: &mut [u64],
     values: usize,
@@ -71,26 +175,33 @@ fn from_term(
     stamp: u64,
     head: bool,
     w: u64,
-) -> bool
+) -> u64
     requires { ⌜ ((x : Scene) × (goal : ℕ) × (v : Option Term) × Searching (now s) x values marks z stamp goal × Told x head w v) ⌝ }
     ensures { λ r. ⌜ ((x : Scene) (goal : ℕ) (v : Option Term) → Searching (now (s .entry)) x values marks z stamp goal → Told x head w v
-        → Searched (now (s .entry)) (now (s .exit)) x marks stamp goal (λ j. StandsAt j v) r) ⌝ }
+        → SearchedFrom (now (s .entry)) (now (s .exit)) x marks stamp goal v r) ⌝ }
 {
     let mut side = head;
+    let mut state = begun(head);
     let mut t = w;
     loop {
         let tag = t % 8;
         let p = index(t / 8);
         if tag == 6 {
-            let k = count(s, p);
+            let k = last(s, p);
             if k == 0 {
-                return false;
+                return ended(s, values, marks, stamp, state);
             }
             let mut i = 1;
             while i < k {
                 let a = argument(s, p, i);
-                if from_term(s, values, marks, z, stamp, side, a) {
-                    return true;
+                if leads(a) {
+                    let r = from_term(s, values, marks, z, stamp, side, a);
+                    if r == 2 {
+                        return 2;
+                    }
+                    state = joined(state, r);
+                    i += 1;
+                    continue;
                 }
                 i += 1;
             }
@@ -98,10 +209,10 @@ fn from_term(
             continue;
         }
         if tag == 0 {
-            return false;
+            return 1;
         }
         if tag > 2 {
-            return false;
+            return ended(s, values, marks, stamp, state);
         }
         if side {
             t = word_at(s, TRIAL, p);
@@ -109,19 +220,24 @@ fn from_term(
             continue;
         }
         if p == z {
-            return true;
+            return 2;
         }
         let m = word_at(s, marks, p);
+        if m == GROUND {
+            return ended(s, values, marks, stamp, state);
+        }
         if m == stamp {
-            return false;
+            return 1;
         }
         set_at(s, marks, p, stamp);
+        state = since(state, p);
         t = word_at(s, values, p);
         let kind = t % 8;
         if kind == 7 {
             let i = index(t / 8);
             t = given_term(s, i);
             side = true;
+            state = 1;
         }
     }
 }
@@ -166,7 +282,8 @@ fn from_entries(s: &mut [u64], values: usize, marks: usize, n: usize, stamp: u64
     while i < n {
         let z = entry_pair(s, i);
         let h = given_term(s, i);
-        if from_term(s, values, marks, z, stamp + word(i), true, h) {
+        let r = from_term(s, values, marks, z, stamp + word(i), true, h);
+        if r == 2 {
             return true;
         }
         i += 1;

@@ -8,9 +8,9 @@ use lib.ListN.{length, getD, set}
 use lib.Seq.{getD-set-other}
 use Rattle.meaning.specs.Bytes.{Bytes}
 use Rattle.meaning.specs.Terms.{Job}
-use Rattle.meaning.specs.State.{Room, Goal}
+use Rattle.meaning.specs.State.{Room, QueryUnit, Goal, unit-at}
 use Rattle.meaning.specs.Trial.{joins-failed}
-use Rattle.meaning.specs.Step.{goals-after, without-front, step}
+use Rattle.meaning.specs.Step.{unit-after, goals-after, without-front, step}
 use Rattle.meaning.specs.Run.{fits, choice-for, run}
 use Rattle.term.specs.Jobs.{query-record}
 use Rattle.term.specs.Layout.{waiters-region, sets-region, marks-region, waiting-region, failed-region}
@@ -20,9 +20,11 @@ use Rattle.term.proofs.Jobs.{holds-job-kept}
 use Rattle.trial.specs.Choosing.{MarksBelow}
 use Rattle.queues.specs.Log.{Slot, Failed}
 use Rattle.queues.specs.Ring.{Passed}
-use Rattle.machine.specs.Running.{Running, StepIs}
+use Rattle.machine.specs.Running.{GroundMarks, Running, StepIs}
 use Rattle.machine.specs.Taking.{Taken, JoiningFailed}
 use Rattle.machine.specs.declared.step.Stepped.the-variants.{Next}
+use Rattle.machine.proofs.Frames.{units-set}
+use Rattle.machine.proofs.GroundMarks.{grounds-alike}
 use Rattle.machine.proofs.FramesRunning.{few-units, tries-below, front-stands}
 use Rattle.machine.proofs.Joining.{JoinKept, counted, join-run-only, join-job-kept, active-some, others-fit, failed-standing, held-failed, ends-failed}
 use Rattle.queues.proofs.Listed.{listed-kept}
@@ -37,13 +39,13 @@ module _ (s : List ℕ) (text : Bytes) (names : List Bytes) (j : Job) (figures :
 
   pub query-below : g .query < 8
   query-below =
-      omega (arith, front-query, few-units s text names j figures limit atlas slots t (t .steps * 32768 + 32769) (k .running))
+      omega (arith, front-query, few-units s text names j figures limit atlas slots t (t .steps * 32768 + 32770) (k .running))
 
   pub tries-small : getD s (query-record (g .query) + 4) 0 ≤ 1000000
   tries-small =
       omega (
         arith,
-        tries-below s text names j figures limit atlas slots t (t .steps * 32768 + 32769) (k .running) (g .query) front-query,
+        tries-below s text names j figures limit atlas slots t (t .steps * 32768 + 32770) (k .running) (g .query) front-query,
         k .running .few-steps,
       )
 
@@ -62,8 +64,16 @@ module _ (s : List ℕ) (text : Bytes) (names : List Bytes) (j : Job) (figures :
   pub failed-space : failed-region figures + t .failed < length s
   failed-space = omega (arith, goals-fit, k .running .inside)
 
-  pub marks-after : (q : ℕ) (s′ : List ℕ) → JoinKept figures q s s′ → MarksBelow s′ (marks-region figures) (figures .pairs) ((t .steps + 1) * 32768 + 1)
+  pub marks-after : (q : ℕ) (s′ : List ℕ) → JoinKept figures q s s′ → MarksBelow s′ (marks-region figures) (figures .pairs) ((t .steps + 1) * 32768 + 2)
   marks-after q s′ kept x a b = rw (kept .ring-words x a (omega arith)) (omega (arith, k .running .marks x a b))
+
+  pub grounds-after : (q : ℕ) (s′ : List ℕ) → JoinKept figures q s s′ → (u : QueryUnit)
+      → u .values ≡ unit-at (g .query) (run j limit figures .state .units) .values
+      → u .compounds ≡ unit-at (g .query) (run j limit figures .state .units) .compounds
+      → GroundMarks s′ figures atlas (set (run j limit figures .state .units) (g .query) u)
+  grounds-after q s′ kept u v c =
+      grounds-alike s s′ figures atlas (run j limit figures .state .units) (set (run j limit figures .state .units) (g .query) u)
+      (λ x a b. kept .ring-words x a (omega arith)) (units-set (run j limit figures .state .units) (g .query) u front-query v c) (k .running .grounds)
 
 -- The try can be counted.
 pub fails-tries : (s s₁ : List ℕ) (text : Bytes) (names : List Bytes) (j : Job) (figures : Room) (limit : ℕ) (atlas : Atlas) (slots : List Slot)
@@ -118,8 +128,8 @@ module _ (s s₁ s′ : List ℕ) (text : Bytes) (names : List Bytes) (j : Job) 
       ∙ failed .items
       ∙ ap (λ w. listed s (failed-region figures) (t .failed) ++ (w ∷ [])) (joins .goal-is)
 
-  its-running : Running s′ text names j figures (limit + 1) atlas slots (failed-standing t front′) ((t .steps + 1) * 32768 + 1)
-  unfolding step goals-after without-front
+  its-running : Running s′ text names j figures (limit + 1) atlas slots (failed-standing t front′) ((t .steps + 1) * 32768 + 2)
+  unfolding step unit-after goals-after without-front
   its-running =
       let r = k .running in
       let state = run j limit figures .state in
@@ -134,7 +144,7 @@ module _ (s s₁ s′ : List ℕ) (text : Bytes) (names : List Bytes) (j : Job) 
         held = holds-job-kept s s′ names (join-job-kept figures (g .query) s s′ kept) j (r .held);
         state = rw its-next
             (held-failed s s′ names figures (j .queries) atlas state t (r .state) (r .held .few-queries)
-            (few-units s text names j figures limit atlas slots t (t .steps * 32768 + 32769) r) g others (k .front) kept front′ passed failed-words
+            (few-units s text names j figures limit atlas slots t (t .steps * 32768 + 32770) r) g others (k .front) kept front′ passed failed-words
             (λ x a b. other-words x (omega arith) (omega arith) (λ e. omega arith)));
         log = log-kept s s′ (waiting-region figures) (waiters-region figures) (sets-region figures) (figures .pairs) slots (r .log) (kept .size)
             (λ x a b. other-words x (omega arith) (omega arith) (λ e. omega arith))
@@ -147,6 +157,9 @@ module _ (s s₁ s′ : List ℕ) (text : Bytes) (names : List Bytes) (j : Job) 
         ends = rw its-next
             (ends-failed s s′ names figures (j .queries) atlas state t (r .state) (r .held .few-queries)
             (few-units s text names j figures limit atlas slots t (t .steps * 32768 + 32769) r) g others (k .front) kept (r .ends));
+        grounds = rw its-next
+            (grounds-after s text names j figures limit atlas slots g others t k (g .query) s′ kept
+            (unit-after joins-failed (unit-at (g .query) (state .units))) refl refl);
       }
 
   pub step-failed : StepIs s s′ text names j figures limit atlas g others t (Next (failed-standing t front′))

@@ -26,7 +26,7 @@ use Rattle.machine.proofs.Going.{run-starts}
 
 -- All queries are entered: the run is at its start, and nobody waits.
 pub entered-running : (s : List ℕ) (text : Bytes) (names : List Bytes) (j : Job) (figures : Room) (atlas : Atlas) (t : Standing)
-    → Entered s text names j figures (j .queries) atlas t → Running s text names j figures 0 atlas [] t 1 × (t .steps ≡ 0)
+    → Entered s text names j figures (j .queries) atlas t → Running s text names j figures 0 atlas [] t 2 × (t .steps ≡ 0)
 unfolding present start
 entered-running s text names j figures atlas t e =
     let none : t .steps ≡ 0 = e .state .steps in
@@ -51,6 +51,7 @@ entered-running s text names j figures atlas t e =
         waiting = rw (run-starts j figures) refl;
         marks = λ k l m. omega (arith, e .room-zero k (omega arith) (omega arith));
         ends = λ p l d. absurd (d (e .room-zero (ends-region figures + p) (omega arith) (omega arith)));
+        grounds = λ p l one. absurd (omega (arith, one, e .room-zero (marks-region figures + p) (omega arith) (omega arith)));
       },
       none,
     )

@@ -23,9 +23,10 @@ use Rattle.term.proofs.Chains.{chains-end}
 use Rattle.term.proofs.Jobs.{holds-job-kept}
 use Rattle.trial.specs.Choosing.{Trying, MarksBelow, TrialOnly}
 use Rattle.queues.specs.Log.{Slot}
-use Rattle.machine.specs.Running.{RunOnly, AllEnds, Running}
+use Rattle.machine.specs.Running.{RunOnly, AllEnds, Running, GroundMarks}
 use Rattle.machine.proofs.Ends.{ends-alike}
 use Rattle.machine.proofs.Frames.{UnitsKept, units-same, units-kept, goals-kept, first-pairs-kept, queue-kept, failed-kept, waiting-kept}
+use Rattle.machine.proofs.GroundMarks.{grounds-of}
 use Rattle.queues.proofs.Ring.{round-below}
 use Rattle.queues.proofs.Waking.{log-kept}
 
@@ -107,8 +108,9 @@ module _ (s : List ℕ) (text : Bytes) (names : List Bytes) (j : Job) (figures :
       → ((k : ℕ) → waiters-region figures ≤ k → k < marks-region figures → getD s′ k 0 ≡ getD s k 0)
       → MarksBelow s′ (marks-region figures) (figures .pairs) stamp′
       → AllEnds s′ figures atlas (run j limit figures .state .units)
+      → GroundMarks s′ figures atlas (run j limit figures .state .units)
       → Running s′ text names j figures limit atlas slots t stamp′
-  running-kept s′ stamp′ kept job own marks ends = record {
+  running-kept s′ stamp′ kept job own marks ends grounds = record {
     in-range = r .in-range;
     inside = omega (arith, r .inside, kept .size);
     reads = r .reads;
@@ -123,6 +125,7 @@ module _ (s : List ℕ) (text : Bytes) (names : List Bytes) (j : Job) (figures :
     waiting = r .waiting;
     marks = marks;
     ends = ends;
+    grounds = grounds;
   }
 
 -- What the choice changes: the trial's region and the marks.
@@ -164,14 +167,15 @@ run-only-then figures s t u a b = record {
 
 pub running-tried : (s s′ : List ℕ) (text : Bytes) (names : List Bytes) (j : Job) (figures : Room) (limit : ℕ) (atlas : Atlas) (slots : List Slot) (t : Standing)
     (stamp stamp′ : ℕ) → Running s text names j figures limit atlas slots t stamp → TrialOnly 40464 (marks-region figures) (figures .pairs) s s′
-    → MarksBelow s′ (marks-region figures) (figures .pairs) stamp′ → Running s′ text names j figures limit atlas slots t stamp′
-running-tried s s′ text names j figures limit atlas slots t stamp stamp′ r only marks =
+    → MarksBelow s′ (marks-region figures) (figures .pairs) stamp′ → GroundMarks s′ figures atlas (run j limit figures .state .units)
+    → Running s′ text names j figures limit atlas slots t stamp′
+running-tried s s′ text names j figures limit atlas slots t stamp stamp′ r only marks grounds =
     running-kept s text names j figures limit atlas slots t stamp r s′ stamp′ (trial-state-kept figures s s′ only) (trial-job-kept figures s s′ only)
     (λ k a b. only .same k (inr (omega arith)) (inl (omega arith))) marks
     (ends-alike s s′ names figures atlas (run j limit figures .state .units) (run j limit figures .state .units) (run j limit figures .state .pairs)
     (run j limit figures .state .compounds) (r .state .lies) (state-units-kept figures s s′ (run j limit figures .state .compounds) (r .state .lies .compounds-fit)
     (trial-state-kept figures s s′ only)) (units-same (run j limit figures .state .units))
-    (λ k a b. only .same k (inr (omega arith)) (inr (omega arith))) (r .ends))
+    (λ k a b. only .same k (inr (omega arith)) (inr (omega arith))) (r .ends)) grounds
 
 -- The goal in front: its word, and what the choice asks.
 first-of-ring : (s : List ℕ) (figures : Room) (atlas : Atlas) (front active : ℕ) (g : Goal) (others : List Goal)
@@ -261,4 +265,5 @@ trying s text names j figures limit atlas slots t stamp g others r front =
       links-are = refl;
       ends-behind = omega arith;
       ends = unit-ends s text names j figures limit atlas slots t stamp r q (goal .query);
+      grounds = grounds-of s names figures atlas (state .units) (state .pairs) (state .compounds) (h .lies) (r .grounds) q (goal .query);
     }

@@ -11,7 +11,7 @@ use Rattle.meaning.specs.Compare.{Assignment}
 use Rattle.meaning.specs.Trial.{choice}
 use Rattle.meaning.specs.Run.{choice-for, run}
 use Rattle.term.specs.Layout.{values-region, marks-region, queue-region}
-use Rattle.term.specs.States.{Atlas, goal-word, setting}
+use Rattle.term.specs.States.{Atlas, goal-word, setting, GoalStands}
 use Rattle.term.specs.declared.state.Standing.{Standing}
 use Rattle.trial.specs.Choosing.{unit-of, Trying, MarksBelow, ChoiceTold, ChoiceIs}
 use Rattle.queues.specs.Log.{Slot}
@@ -20,6 +20,7 @@ use Rattle.machine.specs.Taking.{Taken, Reducing, JoiningWaiting, Joinin
 use Rattle.machine.specs.declared.step.Stepped.{Stepped}
 use Rattle.trial.specs.declared.choice.Fate.{Fate}
 use Rattle.trial.specs.declared.choice.Fate.the-variants.{Reduces, Waits, Fails}
+use Rattle.machine.proofs.GroundMarks.{grounds-tried}
 use Rattle.machine.proofs.FramesRunning.{few-units, front-word, front-stands, trying, trial-run-only, run-only-then, running-tried}
 
 -- What the step has read.
@@ -44,17 +45,20 @@ word-place q n h = omega arith
 
 module _ (s : List ℕ) (text : Bytes) (names : List Bytes) (j : Job) (figures : Room) (limit : ℕ) (atlas : Atlas) (slots : List Slot)
     (g : Goal) (others : List Goal) (t : Standing) (goal query place values marks steps : ℕ)
-    (r : Running s text names j figures limit atlas slots t (t .steps * 32768 + 1)) (more : t .steps < 1000000)
+    (r : Running s text names j figures limit atlas slots t (t .steps * 32768 + 2)) (more : t .steps < 1000000)
     (front : run j limit figures .state .goals .queue ≡ g ∷ others) (f : Fetched s figures t goal query place values marks steps) where
   its-word : goal ≡ goal-word atlas g
   its-word = f .goal-is ∙ front-word s names figures (j .queries) atlas (run j limit figures .state) t (r .state) g others front
+
+  its-front : GoalStands s figures atlas (run j limit figures .state .units) g
+  its-front = front-stands s names figures (j .queries) atlas (run j limit figures .state) t (r .state) g others front
 
   few-queries : g .query < 8
   few-queries =
       omega (
         arith,
-        front-stands s names figures (j .queries) atlas (run j limit figures .state) t (r .state) g others front .query,
-        few-units s text names j figures limit atlas slots t (t .steps * 32768 + 1) r,
+        its-front .query,
+        few-units s text names j figures limit atlas slots t (t .steps * 32768 + 2) r,
       )
 
   its-query : query ≡ g .query
@@ -65,26 +69,27 @@ module _ (s : List ℕ) (text : Bytes) (names : List Bytes) (j : Job) (figures :
 
   pub choice-tries : Trying s text names j limit figures (atlas (g .query)) g others values marks (figures .pairs) place
   choice-tries =
-      rw (f .values-is, f .marks-is, its-place) (trying s text names j figures limit atlas slots t (t .steps * 32768 + 1) g others r front)
+      rw (f .values-is, f .marks-is, its-place) (trying s text names j figures limit atlas slots t (t .steps * 32768 + 2) g others r front)
 
-  pub choice-marks : MarksBelow s marks (figures .pairs) (steps * 32768 + 1)
+  pub choice-marks : MarksBelow s marks (figures .pairs) (steps * 32768 + 2)
   choice-marks = rw (f .marks-is, f .steps-are) (r .marks)
 
-  pub choice-stamps : steps * 32768 + 1 + 32768 < 2 ^ 64
-  choice-stamps = omega (arith, f .steps-are)
+  pub choice-stamps : (1 < steps * 32768 + 2) × (steps * 32768 + 2 + 32768 < 2 ^ 64)
+  choice-stamps = (omega arith, omega (arith, f .steps-are))
 
   -- The choice is made.
-  module _ (s₁ : List ℕ) (fate : Fate) (told : ChoiceIs s s₁ names j limit figures (atlas (g .query)) g marks (steps * 32768 + 1) fate) where
+  module _ (s₁ : List ℕ) (fate : Fate) (told : ChoiceIs s s₁ names j limit figures (atlas (g .query)) g marks (steps * 32768 + 2) fate) where
     tried-only : RunOnly figures s s₁
     tried-only = trial-run-only figures s s₁ (rw (f .marks-is) at (told .only))
 
     pub choice-taken : Taken s₁ text names j figures limit atlas slots g others t
     choice-taken =
         let only = rw (f .marks-is) at (told .only) in
-        let marked : MarksBelow s₁ (marks-region figures) (figures .pairs) (steps * 32768 + 1 + 32768) = rw (f .marks-is) at (told .marks-now) in
+        let marked : MarksBelow s₁ (marks-region figures) (figures .pairs) (steps * 32768 + 2 + 32768) = rw (f .marks-is) at (told .marks-now) in
         record {
-          running = running-tried s s₁ text names j figures limit atlas slots t (t .steps * 32768 + 1) (t .steps * 32768 + 32769) r only
-              (λ x a b. omega (arith, marked x a b, f .steps-are));
+          running = running-tried s s₁ text names j figures limit atlas slots t (t .steps * 32768 + 2) (t .steps * 32768 + 32770) r only
+              (λ x a b. omega (arith, marked x a b, f .steps-are))
+              (grounds-tried s s₁ figures atlas (run j limit figures .state .units) (g .query) (its-front .query) (rw (f .marks-is) at (told .grounds)) (r .grounds));
           front = front;
           more = more;
         }

@@ -26,15 +26,15 @@ pub record GoesOn (s₀ s : List ℕ) (text : Bytes) (names : List Bytes) (j : J
   pub atlas : Atlas
   pub slots : List Slot
   pub only : RunOnly figures s₀ s
-  pub running : Running s text names j figures limit atlas slots t (t .steps * 32768 + 1)
+  pub running : Running s text names j figures limit atlas slots t (t .steps * 32768 + 2)
   pub steps : t .steps ≡ limit
   pub left-is : limit + left ≡ budget
   pub few : budget ≤ 1000000
 
 pub goes-starts : (s : List ℕ) (text : Bytes) (names : List Bytes) (j : Job) (figures : Room) (budget : ℕ) (t : Standing) (atlas : Atlas) (slots : List Slot)
-    → Running s text names j figures 0 atlas slots t 1 → t .steps ≡ 0 → budget ≤ 1000000 → GoesOn s s text names j figures budget budget t
+    → Running s text names j figures 0 atlas slots t 2 → t .steps ≡ 0 → budget ≤ 1000000 → GoesOn s s text names j figures budget budget t
 goes-starts s text names j figures budget t atlas slots r none few =
-    let stamp : t .steps * 32768 + 1 ≡ 1 = omega (arith, none) in
+    let stamp : t .steps * 32768 + 2 ≡ 2 = omega (arith, none) in
     record {
       limit = 0;
       atlas = atlas;

@@ -13,6 +13,7 @@ pub mod FreePlaces
 pub mod FrontGoal
 pub mod Going
 pub mod GoingOn
+pub mod GroundMarks
 pub mod Growing
 pub mod Joining
 pub mod KeepingEnds

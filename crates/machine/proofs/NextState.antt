@@ -10,7 +10,6 @@ use Rattle.meaning.specs.Bytes.{Bytes, those, if_then_else_}
 use Rattle.meaning.specs.Terms.{Term, Clause, Job, Query, Named}
 use Rattle.meaning.specs.Items.{job, reading}
 use Rattle.meaning.specs.State.{Room, QueryUnit, Goal, Waiting, State, value, unit-at, number-of, goals-at}
-use Rattle.meaning.proofs.Circle.{run-no-circle, step-values-stay}
 use Rattle.meaning.specs.Compare.{Assignment}
 use Rattle.meaning.specs.Trial.{reduces}
 use Rattle.meaning.specs.Step.{unit-after, body-goals, wakes, goals-after, pairs-charged, compounds-charged, without-front, step}
@@ -21,6 +20,7 @@ use Rattle.meaning.proofs.Reading.{accepted-keeps-the-occurrence-rules}
 use Rattle.meaning.proofs.Runs.{run-within-room}
 use Rattle.meaning.proofs.Runs.Charges.{run-units}
 use Rattle.meaning.proofs.Runs.Counts.{within-says, after-within}
+use Rattle.meaning.proofs.Circle.{run-no-circle, step-values-stay}
 use Rattle.meaning.proofs.Single.{reduction-assigns-once}
 use Rattle.meaning.proofs.Trial.Chosen.{reduces-agrees}
 use Rattle.term.specs.Cells.{Places}
@@ -36,17 +36,18 @@ use Rattle.trial.specs.Choosing.{template, MarksBelow}
 use Rattle.queues.specs.Log.{Slot, LogOk, present}
 use Rattle.reduction.specs.Reducing.{NoEntry, EntriesGiven, GoalsHeld, hits, woken, emptied, hit, goal-in}
 use Rattle.queues.specs.Ring.{Passed}
-use Rattle.machine.specs.Running.{slot-of, RunOnly, AllEnds, Running}
+use Rattle.machine.specs.Running.{slot-of, RunOnly, AllEnds, Running, GroundMarks}
 use Rattle.machine.proofs.Ends.{ends-grow}
 use Rattle.machine.specs.Taking.{Taken, Reducing}
 use Rattle.machine.proofs.BodyGoals.{body-fits, body-goals-stand, body-words}
 use Rattle.machine.proofs.EntryByEntry.{no-entry-of, entry-stands}
 use Rattle.machine.proofs.Frames.{failed-kept}
+use Rattle.machine.proofs.GroundMarks.{grounds-grow}
 use Rattle.queues.proofs.Listed.{listed-kept}
 use Rattle.machine.proofs.Logged.{map-both, waiting-logged}
 use Rattle.machine.proofs.Next.{run-next}
 use Rattle.machine.proofs.NextUnit.{after-unit, enlarged, UnitReduced, next-unit-stands}
-use Rattle.machine.proofs.NextUnits.{atlas-after, units-after, Enlarges, as-many, grown-here, grown, goals-grow, goal-words-same, lies-after, units-stand, first-pairs-after}
+use Rattle.machine.proofs.NextUnits.{atlas-after, units-after, Enlarges, as-many, grown, grown-here, goals-grow, goal-words-same, lies-after, units-stand, first-pairs-after}
 use Rattle.machine.proofs.OwnPairs.{run-own-pairs}
 use Rattle.machine.proofs.WaitingPairs.{OwnReaders, waiting-readers, slots-same}
 
@@ -369,7 +370,7 @@ module _ (s s′ : List ℕ) (text : Bytes) (names : List Bytes) (j : Job) (figu
   unfolding step goals-after without-front
   left-now = left-is
 
-  marks-now : MarksBelow s′ (marks-region figures) (figures .pairs) (u .steps * 32768 + 1)
+  marks-now : MarksBelow s′ (marks-region figures) (figures .pairs) (u .steps * 32768 + 2)
   marks-now x a b = rw (done .marks x a b) (omega (arith, taken .running .marks x a b, after .steps))
 
   stays : (i m : ℕ) (v : Term) → value (unit-at i (σ .units) .values) m ≡ some v
@@ -382,7 +383,15 @@ module _ (s s′ : List ℕ) (text : Bytes) (names : List Bytes) (j : Job) (figu
       ends-grow s s′ figures atlas atlas′ (σ .units) units′ (omega (arith, as-many s s′ names figures atlas (σ .units) q P C c given enlarges))
       (grown s s′ names figures atlas (σ .units) q P C c given enlarges) stays (done .ends) (taken .running .ends)
 
-  pub running-now : Running s′ text names j figures (limit + 1) atlas′ (emptied zs slots) u (u .steps * 32768 + 1)
+  grounds-now : GroundMarks s′ figures atlas′ (step (reduces c given) g others σ .units)
+  unfolding step unit-after
+  grounds-now =
+      grounds-grow s s′ figures atlas atlas′ (σ .units) units′ (done .marks) (omega (arith, as-many s s′ names figures atlas (σ .units) q P C c given enlarges))
+      (λ i h. grown s s′ names figures atlas (σ .units) q P C c given enlarges i h .more-pairs)
+      (λ i m h l. grown s s′ names figures atlas (σ .units) q P C c given enlarges i h .agree .pair m l)
+      (λ i h. stays i) (taken .running .grounds)
+
+  pub running-now : Running s′ text names j figures (limit + 1) atlas′ (emptied zs slots) u (u .steps * 32768 + 2)
   running-now =
       record {
         in-range = taken .running .in-range;
@@ -397,4 +406,5 @@ module _ (s s′ : List ℕ) (text : Bytes) (names : List Bytes) (j : Job) (figu
         waiting = rw next-is left-now;
         marks = marks-now;
         ends = rw next-is ends-now;
+        grounds = rw next-is grounds-now;
       }

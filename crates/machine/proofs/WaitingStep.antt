@@ -8,9 +8,9 @@ use lib.ListN.{length, getD, set, length-append, length-map}
 use lib.Seq.{getD-set-other}
 use Rattle.meaning.specs.Bytes.{Bytes}
 use Rattle.meaning.specs.Terms.{Job}
-use Rattle.meaning.specs.State.{Room, Goal, Waiting}
+use Rattle.meaning.specs.State.{Room, Goal, Waiting, unit-at}
 use Rattle.meaning.specs.Trial.{joins-waiting}
-use Rattle.meaning.specs.Step.{goals-after, without-front, step}
+use Rattle.meaning.specs.Step.{unit-after, goals-after, without-front, step}
 use Rattle.meaning.specs.Run.{fits, choice-for, run}
 use Rattle.term.specs.Jobs.{query-record}
 use Rattle.term.specs.Layout.{waiters-region, sets-region, marks-region, waiting-region, failed-region}
@@ -22,7 +22,7 @@ use Rattle.queues.specs.Ring.{Passed}
 use Rattle.machine.specs.Running.{slot-of, Running, StepIs}
 use Rattle.machine.specs.Taking.{LogHere, FreePlace, Taken, JoiningWaiting}
 use Rattle.machine.specs.declared.step.Stepped.the-variants.{Next}
-use Rattle.machine.proofs.Failing.{front-query, query-below, tries-small, goals-fit, marks-after}
+use Rattle.machine.proofs.Failing.{front-query, query-below, tries-small, goals-fit, marks-after, grounds-after}
 use Rattle.machine.proofs.FramesRunning.{few-units, front-place}
 use Rattle.machine.proofs.Joining.{JoinKept, counted, join-run-only, join-job-kept, waiting-standing, held-waiting, ends-waiting}
 use Rattle.queues.proofs.Listed.{listed-kept}
@@ -159,8 +159,8 @@ module _ (s s₁ : List ℕ) (text : Bytes) (names : List Bytes) (j : Job) (figu
           (waiting-logged s′ (waiting-region figures) (waiters-region figures) (sets-region figures) (figures .pairs) slots-next atlas
           (run j limit figures .state .goals .waiting ++ (record { goal = g; readers = readers } ∷ [])) log-next slots-waiting)
 
-      its-running : Running s′ text names j figures (limit + 1) atlas slots-next (waiting-standing t front′ place) ((t .steps + 1) * 32768 + 1)
-      unfolding step goals-after without-front
+      its-running : Running s′ text names j figures (limit + 1) atlas slots-next (waiting-standing t front′ place) ((t .steps + 1) * 32768 + 2)
+      unfolding step unit-after goals-after without-front
       its-running =
           let r = k .running in
           let state = run j limit figures .state in
@@ -173,7 +173,7 @@ module _ (s s₁ : List ℕ) (text : Bytes) (names : List Bytes) (j : Job) (figu
             held = holds-job-kept s s′ names (join-job-kept figures (g .query) s s′ kept) j (r .held);
             state = rw its-next
                 (held-waiting s s′ names figures (j .queries) atlas state t (r .state) (r .held .few-queries)
-                (few-units s text names j figures limit atlas slots t (t .steps * 32768 + 32769) r) g others (k .front) kept front′ place readers passed
+                (few-units s text names j figures limit atlas slots t (t .steps * 32768 + 32770) r) g others (k .front) kept front′ place readers passed
                 logged-next place-inside (λ x a b. last-words x (omega arith) ∙ high x a));
             log = log-next;
             log-number = sym more-slots;
@@ -182,6 +182,9 @@ module _ (s s₁ : List ℕ) (text : Bytes) (names : List Bytes) (j : Job) (figu
             ends = rw its-next
                 (ends-waiting s s′ names figures (j .queries) atlas state t (r .state) (r .held .few-queries)
                 (few-units s text names j figures limit atlas slots t (t .steps * 32768 + 32769) r) g others (k .front) kept readers (r .ends));
+            grounds = rw its-next
+                (grounds-after s text names j figures limit atlas slots g others t k (g .query) s′ kept
+                (unit-after (joins-waiting readers) (unit-at (g .query) (state .units))) refl refl);
           }
 
       pub step-waiting : StepIs s s′ text names j figures limit atlas g others t (Next (waiting-standing t front′ place))

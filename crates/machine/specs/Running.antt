@@ -17,6 +17,7 @@ use Rattle.term.specs.Layout.{values-region, waiters-region, sets-region, marks
 use Rattle.term.specs.Chains.{EndOf}
 use Rattle.term.specs.States.{Atlas, setting-at, goal-word, HoldsState, Finished, verdict-of}
 use Rattle.term.specs.declared.state.Standing.{Standing}
+use Rattle.circle.specs.Ground.{GroundAt}
 use Rattle.trial.specs.Choosing.{MarksBelow}
 use Rattle.queues.specs.Log.{Slot, waits, gathered, present, LogOk}
 use Rattle.machine.specs.declared.step.Stepped.{Stepped}
@@ -50,6 +51,11 @@ abbrev pub AllEnds : List ℕ → Room → Atlas → List QueryUnit → Type 0
 AllEnds s figures atlas units =
     (p : ℕ) → p < figures .pairs → getD s (ends-region figures + p) 0 ≢ 0 → EndAt s figures atlas units p (getD s (ends-region figures + p) 0)
 
+-- A pair that is marked as ground is so, in the unit of some query.
+abbrev pub GroundMarks : List ℕ → Room → Atlas → List QueryUnit → Type 0
+GroundMarks s figures atlas units = (p : ℕ) → p < figures .pairs → getD s (marks-region figures + p) 0 ≡ 1
+    → (k : ℕ) × (k < length units) × GroundAt (atlas k) (unit-at k units .values) p
+
 -- The job's run after `limit` steps; the stamps from one on are unused.
 pub record Running (s : List ℕ) (text : Bytes) (names : List Bytes) (j : Job) (figures : Room) (limit : ℕ) (atlas : Atlas) (slots : List Slot) (t : Standing)
     (stamp : ℕ) : Type 0 where
@@ -65,6 +71,7 @@ pub record Running (s : List ℕ) (text : Bytes) (names : List Bytes) (j : Job) 
   pub waiting : present slots (length slots) ≡ map (slot-of atlas) (run j limit figures .state .goals .waiting)
   pub marks : MarksBelow s (marks-region figures) (figures .pairs) stamp
   pub ends : AllEnds s figures atlas (run j limit figures .state .units)
+  pub grounds : GroundMarks s figures atlas (run j limit figures .state .units)
 
 -- After a step: the next state of the run; or the reduction does not fit, and the state is as it was.
 abbrev pub SteppedIs : List ℕ → Bytes → List Bytes → Job → Room → ℕ → Atlas → Goal → List Goal → Standing → Stepped → Type 0
@@ -72,7 +79,7 @@ SteppedIs s′ text names j figures limit atlas g others t (Next u) =
     (fits figures (choice-for (j .clauses) (run j limit figures .state) g) (run j limit figures .state)
     (without-front others (run j limit figures .state .goals)) ≡ true)
     × (atlas′ : Atlas) × (slots′ : List Slot) × (u .steps ≡ t .steps + 1)
-    × Running s′ text names j figures (limit + 1) atlas′ slots′ u (u .steps * 32768 + 1)
+    × Running s′ text names j figures (limit + 1) atlas′ slots′ u (u .steps * 32768 + 2)
 SteppedIs s′ text names j figures limit atlas g others t NoRoom =
     (fits figures (choice-for (j .clauses) (run j limit figures .state) g) (run j limit figures .state)
     (without-front others (run j limit figures .state .goals)) ≡ false)

@@ -20,7 +20,7 @@ use Rattle.machine.specs.Running.{Running}
 -- The state is as it was; the choice has used this step's stamps.
 pub record Taken (s : List ℕ) (text : Bytes) (names : List Bytes) (j : Job) (figures : Room) (limit : ℕ) (atlas : Atlas) (slots : List Slot)
     (g : Goal) (others : List Goal) (t : Standing) : Type 0 where
-  pub running : Running s text names j figures limit atlas slots t (t .steps * 32768 + 32769)
+  pub running : Running s text names j figures limit atlas slots t (t .steps * 32768 + 32770)
   pub front : run j limit figures .state .goals .queue ≡ g ∷ others
   pub more : t .steps < 1000000
 

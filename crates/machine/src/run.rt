@@ -154,9 +154,9 @@ fn enter_all(s: &mut [u64], room: Room, queries: usize) -> Standing
 // "Before each step, in this order: queue empty; steps equal the budget; the step would be a reduction that doesn't fit."
 fn go_on(s: &mut [u64], room: Room, budget: usize, first: Standing) -> Ran
     requires { ⌜ ((text : Bytes) × (names : List Bytes) × (j : Job) × (atlas : Atlas) × (slots : List Slot)
-        × Running (now s) text names j (figures room) 0 atlas slots first 1 × (first .steps ≡ 0) × (budget ≤ 1000000)) ⌝ }
+        × Running (now s) text names j (figures room) 0 atlas slots first 2 × (first .steps ≡ 0) × (budget ≤ 1000000)) ⌝ }
     ensures { λ r. ⌜ ((text : Bytes) (names : List Bytes) (j : Job) (atlas : Atlas) (slots : List Slot)
-        → Running (now (s .entry)) text names j (figures room) 0 atlas slots first 1 → first .steps ≡ 0 → budget ≤ 1000000
+        → Running (now (s .entry)) text names j (figures room) 0 atlas slots first 2 → first .steps ≡ 0 → budget ≤ 1000000
         → RunOnly (figures room) (now (s .entry)) (now (s .exit)) × GoneOn (now (s .exit)) names j (figures room) budget r) ⌝ }
 {
     let mut t = first;

@@ -251,11 +251,11 @@ fn join_failed(s: &mut [u64], room: Room, t: Standing, goal: u64, query: usize) 
 // "A step takes the goal at the front." Every step has 32,768 stamps of its own: 256 a clause.
 pub fn step(s: &mut [u64], room: Room, t: Standing) -> Stepped
     requires { ⌜ ((text : Bytes) × (names : List Bytes) × (j : Job) × (limit : ℕ) × (atlas : Atlas) × (slots : List Slot) × (g : Goal) × (others : List Goal)
-        × Running (now s) text names j (figures room) limit atlas slots t (t .steps * 32768 + 1)
+        × Running (now s) text names j (figures room) limit atlas slots t (t .steps * 32768 + 2)
         × (t .steps < 1000000)
         × (run j limit (figures room) .state .goals .queue ≡ g ∷ others)) ⌝ }
     ensures { λ r. ⌜ ((text : Bytes) (names : List Bytes) (j : Job) (limit : ℕ) (atlas : Atlas) (slots : List Slot) (g : Goal) (others : List Goal)
-        → Running (now (s .entry)) text names j (figures room) limit atlas slots t (t .steps * 32768 + 1)
+        → Running (now (s .entry)) text names j (figures room) limit atlas slots t (t .steps * 32768 + 2)
         → t .steps < 1000000
         → run j limit (figures room) .state .goals .queue ≡ g ∷ others
         → StepIs (now (s .entry)) (now (s .exit)) text names j (figures room) limit atlas g others t r) ⌝ }
@@ -268,7 +268,7 @@ pub fn step(s: &mut [u64], room: Room, t: Standing) -> Stepped
         layout::marks(room),
         room.pairs,
         index(goal / 8),
-        word(t.steps) * 32768 + 1,
+        word(t.steps) * 32768 + 2,
     ) {
         Fate::Reduces(k, n) => reduce(s, room, t, query, k, n),
         Fate::Waits(readers) => join_waiting(s, room, t, goal, query, readers),

@@ -23,6 +23,8 @@ use Rattle.term.specs.Jobs.{clause-record, ClauseAt, Linked, procedure-place}
 use Rattle.term.specs.States.{listed}
 use Rattle.term.proofs.Held.{linked-none-left, linked-next}
 use Rattle.term.proofs.Numbers.{number-below}
+use Rattle.circle.specs.Ground.{NewGrounds}
+use Rattle.circle.proofs.Grounds.{new-none, new-then, new-same}
 use Rattle.trial.specs.declared.choice.Outcome.{Outcome}
 use Rattle.trial.specs.declared.choice.Outcome.the-variants.{Succeeds, Waits, Fails}
 use Rattle.trial.specs.declared.choice.Fate.the-variants.{Reduces, Waits as WaitsOn, Fails as FailsAll}
@@ -108,6 +110,7 @@ pub record Walk (s₀ s : List ℕ) (names : List Bytes) (j : Job) (limit : ℕ)
   pub below : AllBelow (length (unit-of j limit figures g .values)) waiting
   pub few : readers ≤ length passed
   pub same-choice : choice-from waiting rest (unit-of j limit figures g) (g .goal) ≡ choice (j .clauses) (unit-of j limit figures g) (g .goal)
+  pub grounds : NewGrounds at (unit-of j limit figures g .values) marks s₀ s
 
 -- For whatever the goal is in front of.
 abbrev pub Walking : List ℕ → ℕ → ℕ → ℕ → ℕ → ℕ → List ℕ → ℕ → ℕ → ℕ → Type 0
@@ -163,6 +166,7 @@ module _ {s : List ℕ} {text : Bytes} {names : List Bytes} {j : Job} {limit : �
     below = tt;
     few = omega arith;
     same-choice = refl;
+    grounds = new-none at (unit-of j limit figures g .values) marks s;
   }
 
 -- At most 128 clauses.
@@ -180,7 +184,7 @@ module _ {s₀ s : List ℕ} {text : Bytes} {names : List Bytes} {j : Job} {limi
   walked = trial-only-wider 40704 (omega arith) (w .only)
 
   pub walk-trying : Trying s text names j limit figures at g others values marks links goal
-  walk-trying = trying-stays walked t
+  walk-trying = trying-stays walked (w .grounds) t
 
   -- A clause is left.
   module _ (left : next ≢ 0) where
@@ -212,6 +216,9 @@ module _ {s₀ s : List ℕ} {text : Bytes} {names : List Bytes} {j : Job} {limi
       tried-frame : TrialOnly 40464 marks (figures .pairs) s₀ s₃
       tried-frame = trial-only-then (w .only) (trial-only-wider 40464 (omega arith) (told .only))
 
+      grounds-tried : NewGrounds at (unit-of j limit figures g .values) marks s₀ s₃
+      grounds-tried = new-then at (unit-of j limit figures g .values) marks s₀ s s₃ (w .grounds) (told .grounds)
+
       marks-tried : MarksBelow s₃ marks (figures .pairs) (first + 32768)
       marks-tried a l h = omega (arith, told .marks-now a l h, turn-stamp)
 
@@ -237,6 +244,7 @@ module _ {s₀ s : List ℕ} {text : Bytes} {names : List Bytes} {j : Job} {limi
               clause-stays marks (figures .pairs) s s₃ (trial-only-wider 40704 (omega arith) (told .only)) behind names (next - 1) (turn .0) (turn .3),
               is .told .2,
             );
+            grounds = grounds-tried;
           }
 
       -- It fails or waits: what is passed on, and what is kept of it in the scratch.
@@ -282,6 +290,7 @@ module _ {s₀ s : List ℕ} {text : Bytes} {names : List Bytes} {j : Job} {limi
             few = omega (arith, w .few, one-more);
             same-choice = rest-choice (w .waiting)
                 (from-fails (w .waiting) (turn .0) (turn .1) (unit-of j limit figures g) (g .goal) (is .told));
+            grounds = grounds-tried;
           }
 
       pub turn-waits : (p : ℕ) → r ≡ Waits p
@@ -312,6 +321,10 @@ module _ {s₀ s : List ℕ} {text : Bytes} {names : List Bytes} {j : Job} {limi
             few = omega (arith, w .few, one-more);
             same-choice = rest-choice (w .waiting ++ (pair ∷ []))
                 (from-waits (w .waiting) (turn .0) (turn .1) (unit-of j limit figures g) (g .goal) (pair ∷ []) (is .told .1));
+            grounds =
+                new-then at (unit-of j limit figures g .values) marks s₀ s₃ (set s₃ v p) grounds-tried
+                (new-same at (unit-of j limit figures g .values) marks s₃ (set s₃ v p)
+                (λ q. getD-set-other s₃ v (marks + q) p 0 (λ f. omega (arith, behind))));
           }
 
       -- Either way.
@@ -337,7 +350,7 @@ module _ {s₀ s : List ℕ} {text : Bytes} {names : List Bytes} {j : Job} {limi
 
     pub all-fail : readers ≡ 0 → ChoiceIs s₀ s names j limit figures at g marks first FailsAll
     unfolding none-succeeds
-    all-fail e = record { only = w .only; marks-now = marks-passed; told = go (w .waiting) as-many all-passed }
+    all-fail e = record { only = w .only; marks-now = marks-passed; told = go (w .waiting) as-many all-passed; grounds = w .grounds }
       where
         go : (l : List ℕ) → length l ≡ readers → none-succeeds l ≡ choice (j .clauses) (unit-of j limit figures g) (g .goal)
             → choice (j .clauses) (unit-of j limit figures g) (g .goal) ≡ joins-failed
@@ -350,6 +363,7 @@ module _ {s₀ s : List ℕ} {text : Bytes} {names : List Bytes} {j : Job} {limi
       only = w .only;
       marks-now = marks-passed;
       told = (w .waiting, go (w .waiting) as-many all-passed, omega (arith, w .few, few-clauses), w .words, w .below);
+      grounds = w .grounds;
     }
       where
         go : (l : List ℕ) → length l ≡ readers → none-succeeds l ≡ choice (j .clauses) (unit-of j limit figures g) (g .goal)
@@ -362,7 +376,7 @@ abbrev pub Asked : List ℕ → ℕ → ℕ → ℕ → ℕ → ℕ → Type 0
 Asked s values marks links goal first =
     (text : Bytes) × (names : List Bytes) × (j : Job) × (limit : ℕ) × (figures : Room) × (at : Places) × (g : Goal) × (others : List Goal)
     × Trying s text names j limit figures at g others values marks links goal
-    × MarksBelow s marks (figures .pairs) first × (first + 32768 < 2 ^ 64)
+    × MarksBelow s marks (figures .pairs) first × ((1 < first) × (first + 32768 < 2 ^ 64))
 
 pub record Turning (s₀ s : List ℕ) (first readers stamp next : ℕ) : Type 0 where
   pub large : 40704 ≤ length s
@@ -383,5 +397,5 @@ turning inv (text, names, j, limit, figures, at, g, others, t, new, fit) left =
       few-readers = omega (arith, w .few, turn-few t w left);
       number = turn t w left .3 .number;
       stamps = turn-stamp t w left;
-      stamps-fit = fit;
+      stamps-fit = fit .1;
     }

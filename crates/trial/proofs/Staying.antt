@@ -7,8 +7,8 @@ use native.Mathlib.Omega.{arith}
 use lib.ListN.{length, getD, set, length-set}
 use lib.Seq.{getD-set-other}
 use Rattle.meaning.specs.Bytes.{Bytes}
-use Rattle.meaning.specs.Terms.{Term, Clause, Job, as-term}
-use Rattle.meaning.specs.State.{Room, Goal}
+use Rattle.meaning.specs.Terms.{Term, Clause, Job, as-term, Terms, end, more}
+use Rattle.meaning.specs.State.{Room, Goal, Values, value}
 use Rattle.term.specs.Cells.{Places}
 use Rattle.term.specs.Chains.{end-place, EndsStand}
 use Rattle.term.specs.Frames.{Only}
@@ -19,6 +19,8 @@ use Rattle.term.specs.States.{setting, listed}
 use Rattle.term.proofs.Holds.{holds-alike}
 use Rattle.term.proofs.Jobs.{holds-clause-kept, holds-job-kept, linked-map}
 use Rattle.term.proofs.Units.{within-every, unit-stands-alike, ends-stand-alike}
+use Rattle.circle.specs.Ground.{NewGrounds}
+use Rattle.circle.proofs.Grounds.{new-same, grounds-on}
 use Rattle.compare.specs.Gifts.{Gift, to-head, to-goal, Entry, EntriesAt}
 use Rattle.compare.specs.Compare.{Template, item, HeadTerm, AllEntries, AllGiven}
 use Rattle.trial.specs.Choosing.{unit-of, Trying, TrialOnly, MarksBelow}
@@ -160,9 +162,10 @@ compounds-apart t n h = inr (t .compound-behind n h, omega (arith, t .compound-b
 pub trying-stays : {s s′ : List ℕ} {text : Bytes} {names : List Bytes} {j : Job} {limit : ℕ} {figures : Room} {at : Places}
     {g : Goal} {others : List Goal} {values marks links goal : ℕ}
     → TrialOnly 40704 marks (figures .pairs) s s′
+    → NewGrounds at (unit-of j limit figures g .values) marks s s′
     → Trying s text names j limit figures at g others values marks links goal
     → Trying s′ text names j limit figures at g others values marks links goal
-trying-stays {s} {s′} {names = names} {j} {limit} {figures} {at} {g} {values = values} {marks} o t =
+trying-stays {s} {s′} {names = names} {j} {limit} {figures} {at} {g} {values = values} {marks} o new t =
     let x = setting figures at (unit-of j limit figures g) in
     let behind : 40704 ≤ marks = omega (arith, t .values-behind, t .marks-behind) in
     record {
@@ -184,9 +187,14 @@ trying-stays {s} {s′} {names = names} {j} {limit} {figures} {at} {g} {values =
       links-are = t .links-are;
       ends-behind = t .ends-behind;
       ends = ends-stay marks (figures .pairs) s s′ o behind x (compounds-apart t) values (t .ends-behind) (t .ends);
+      grounds = grounds-on at (unit-of j limit figures g .values) marks (t .apart) s s′ new (t .grounds);
     }
 
 -- The marks, where only the trial's region has changed.
+pub grounds-stay : {hi : ℕ} {s s′ : List ℕ} (places : Places) (values : Values) (marks : ℕ) → hi ≤ marks → Only 39936 hi s s′
+    → NewGrounds places values marks s s′
+grounds-stay {s = s} {s′} places values marks h o = new-same places values marks s s′ (λ p. o .above (marks + p) (omega arith))
+
 pub marks-stay : {hi : ℕ} {s s′ : List ℕ} (marks pairs stamp : ℕ) → hi ≤ marks → Only 39936 hi s s′
     → MarksBelow s marks pairs stamp → MarksBelow s′ marks pairs stamp
 marks-stay marks pairs stamp h o m k a b = rw (o .above k (omega arith)) (m k a b)

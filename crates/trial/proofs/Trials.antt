@@ -34,6 +34,8 @@ use Rattle.compare.specs.declared.compare.Result.the-variants.{Agrees, Waits, F
 use Rattle.trial.specs.declared.choice.Outcome.the-variants.{Succeeds, Waits as WaitsOn, Fails as FailsAll}
 use Rattle.compare.specs.Gifts.{Gift, assignments, Entry as GiftEntry, entries-of, EntriesAt}
 use Rattle.circle.specs.Circle.{Trial, Entry, Tried, Tested, entry-pair}
+use Rattle.circle.specs.Ground.{NewGrounds}
+use Rattle.circle.proofs.Grounds.{new-then}
 use Rattle.compare.specs.Compare.{Template, item, AllAgainst, AllEntries, Agreed, Answers, Gave, places-outcome}
 use Rattle.trial.specs.Choosing.{unit-of, Trying, TrialOnly, MarksBelow, template, Candidate, TrialIs}
 use Rattle.compare.proofs.Given.{entries-length, entries-at, entries-held, gave}
@@ -45,6 +47,7 @@ use Rattle.trial.proofs.Staying.{
   trial-only-region,
   trial-only-marks,
   compounds-apart,
+  grounds-stay,
   trying-stays,
   clause-stays,
   unit-term-stays,
@@ -62,8 +65,14 @@ module _ {s s₁ : List ℕ} {text : Bytes} {names : List Bytes} {j : Job} {limi
   pub begun-frame : TrialOnly 40704 marks (figures .pairs) s s₁
   begun-frame = trial-only-region 40704 marks (figures .pairs) (omega arith) begun
 
+  marks-high : 40336 ≤ marks
+  marks-high = omega (arith, t .values-behind, t .marks-behind)
+
+  begun-grounds : NewGrounds at (unit-of j limit figures g .values) marks s s₁
+  begun-grounds = grounds-stay at (unit-of j limit figures g .values) marks (omega (arith, marks-high)) begun
+
   pub begun-trying : Trying s₁ text names j limit figures at g others values marks links goal
-  begun-trying = trying-stays begun-frame t
+  begun-trying = trying-stays begun-frame begun-grounds t
 
   pub begun-candidate : Candidate s₁ names j g k c
   begun-candidate = record {
@@ -104,7 +113,7 @@ module _ {s s₁ : List ℕ} {text : Bytes} {names : List Bytes} {j : Job} {limi
   cleared-all w e cleared a h = cleared a (omega (arith, m .at .held .pairs))
 
   -- Before the circle test, where all places agree.
-  module _ {s₂ : List ℕ} {n stamp : ℕ} (new : MarksBelow s marks (figures .pairs) stamp) (fit : stamp + 256 < 2 ^ 64)
+  module _ {s₂ : List ℕ} {n stamp : ℕ} (new : MarksBelow s marks (figures .pairs) stamp) (fit : (1 < stamp) × (stamp + 256 < 2 ^ 64))
       (cleared : (a : ℕ) → a < c .pairs → getD s₁ (39936 + a) 0 ≡ 0)
       (told : Comparison s₂ (Agrees n)) where
     abbrev pub x : Setting
@@ -151,8 +160,11 @@ module _ {s s₁ : List ℕ} {text : Bytes} {names : List Bytes} {j : Job} {limi
     agreed-frame : TrialOnly 40704 marks (figures .pairs) s₁ s₂
     agreed-frame = trial-only-region 40704 marks (figures .pairs) (omega arith) (told .only)
 
+    agreed-grounds : NewGrounds at (unit-of j limit figures g .values) marks s₁ s₂
+    agreed-grounds = grounds-stay at (unit-of j limit figures g .values) marks marks-high (told .only)
+
     agreed-trying : Trying s₂ text names j limit figures at g others values marks links goal
-    agreed-trying = trying-stays agreed-frame begun-trying
+    agreed-trying = trying-stays agreed-frame agreed-grounds begun-trying
 
     pub given-then : Gave s₁ s₂ x y given n
     given-then =
@@ -252,10 +264,12 @@ module _ {s s₁ : List ℕ} {text : Bytes} {names : List Bytes} {j : Job} {limi
           none-here (r .0) (omega (arith, r .1, counted)) (ap (at .pair) e ∙ r .2))
           ∙ value-with-pairs (c .pairs) (x .values) a;
       no-circle = run-no-circle j limit figures (g .query);
-      stamps-fit = omega (arith, few-entries);
+      stamps-fit = omega (arith, few-entries, fit .1);
       stamps-new =
           marks-stay marks (figures .pairs) stamp (omega (arith, t .values-behind, t .marks-behind)) (told .only)
           (marks-stay marks (figures .pairs) stamp (omega (arith, t .values-behind, t .marks-behind)) begun new);
+      stamp-above = fit .0;
+      grounds = agreed-trying .grounds;
     }
 
     -- After the circle test.
@@ -267,6 +281,11 @@ module _ {s s₁ : List ℕ} {text : Bytes} {names : List Bytes} {j : Job} {limi
       whole-frame =
           trial-only-then (trial-only-region 40336 marks (figures .pairs) (omega arith) begun)
           (trial-only-then (trial-only-region 40336 marks (figures .pairs) (omega arith) (told .only)) tested-frame)
+
+      grounds-after : NewGrounds at (unit-of j limit figures g .values) marks s s₃
+      grounds-after =
+          new-then at (unit-of j limit figures g .values) marks s s₁ s₃ begun-grounds
+          (new-then at (unit-of j limit figures g .values) marks s₁ s₂ s₃ agreed-grounds (answer .grounds))
 
       marks-after : MarksBelow s₃ marks (figures .pairs) (stamp + 256)
       marks-after a l h = omega (arith, answer .stamps-new a l h, few-entries)
@@ -280,7 +299,7 @@ module _ {s s₁ : List ℕ} {text : Bytes} {names : List Bytes} {j : Job} {limi
 
       pub circle-fails : found ≡ true → TrialIs s s₃ j limit figures at g marks stamp k c FailsAll
       unfolding if_then_else_
-      circle-fails e = record { only = whole-frame; marks-now = marks-after; told = rw e at tested-is }
+      circle-fails e = record { only = whole-frame; marks-now = marks-after; told = rw e at tested-is; grounds = grounds-after }
 
       pub no-circle-succeeds : found ≡ false → TrialIs s s₃ j limit figures at g marks stamp k c (Succeeds n)
       unfolding if_then_else_
@@ -314,6 +333,7 @@ module _ {s s₁ : List ℕ} {text : Bytes} {names : List Bytes} {j : Job} {limi
                 },
               ),
             );
+            grounds = grounds-after;
           }
 
   -- Where a place waits or fails.
@@ -322,6 +342,11 @@ module _ {s s₁ : List ℕ} {text : Bytes} {names : List Bytes} {j : Job} {limi
     frame r told =
         trial-only-then (trial-only-region 40336 marks (figures .pairs) (omega arith) begun)
         (trial-only-region 40336 marks (figures .pairs) (omega arith) (told .only))
+
+    grounds-still : (r : Result′) → Comparison s₂ r → NewGrounds at (unit-of j limit figures g .values) marks s s₂
+    grounds-still r told =
+        new-then at (unit-of j limit figures g .values) marks s s₁ s₂ begun-grounds
+        (grounds-stay at (unit-of j limit figures g .values) marks marks-high (told .only))
 
     marks-still : (r : Result′) → Comparison s₂ r → MarksBelow s₂ marks (figures .pairs) (stamp + 256)
     marks-still r told a l h =
@@ -338,6 +363,7 @@ module _ {s s₁ : List ℕ} {text : Bytes} {names : List Bytes} {j : Job} {limi
           only = frame (Waits z) told;
           marks-now = marks-still (Waits z) told;
           told = (told .told .pair, rw (waits-is, tested) refl, told .told .inside, told .told .place);
+          grounds = grounds-still (Waits z) told;
         }
 
     pub place-fails : Comparison s₂ Fails → TrialIs s s₂ j limit figures at g marks stamp k c FailsAll
@@ -348,4 +374,5 @@ module _ {s s₁ : List ℕ} {text : Bytes} {names : List Bytes} {j : Job} {limi
           only = frame Fails told;
           marks-now = marks-still Fails told;
           told = rw (fails-is, tested) refl;
+          grounds = grounds-still Fails told;
         }

@@ -18,6 +18,7 @@ use Rattle.term.specs.Jobs.{HoldsJob, ClauseAt}
 use Rattle.term.specs.Setting.{Setting, UnitTerm, UnitStands}
 use Rattle.term.specs.States.{setting, listed}
 use Rattle.compare.specs.Compare.{Template, Gave}
+use Rattle.circle.specs.Ground.{Grounds, NewGrounds}
 use Rattle.trial.specs.declared.choice.Outcome.{Outcome}
 use Rattle.trial.specs.declared.choice.Outcome.the-variants.{Succeeds, Waits, Fails}
 use Rattle.trial.specs.declared.choice.Fate.{Fate}
@@ -48,6 +49,7 @@ pub record Trying (s : List ℕ) (text : Bytes) (names : List Bytes) (j : Job) (
   pub links-are : links ≡ figures .pairs
   pub ends-behind : marks + figures .pairs ≤ values + 4 * figures .pairs
   pub ends : EndsStand s (setting figures places (unit-of j limit figures g)) values
+  pub grounds : Grounds places (unit-of j limit figures g .values) marks s
 
 -- Stamps from this one on are unused.
 abbrev pub MarksBelow : List ℕ → ℕ → ℕ → ℕ → Type 0
@@ -83,6 +85,7 @@ pub record TrialIs (s s′ : List ℕ) (j : Job) (limit : ℕ) (figures : Room) 
   pub only : TrialOnly 40336 marks (figures .pairs) s s′
   pub marks-now : MarksBelow s′ marks (figures .pairs) (stamp + 256)
   pub told : TrialTold s′ (setting figures places (unit-of j limit figures g)) k c (trial c (unit-of j limit figures g) (g .goal)) r
+  pub grounds : NewGrounds places (unit-of j limit figures g .values) marks s s′
 
 abbrev pub AllBelow : ℕ → List ℕ → Type 0
 AllBelow n [] = Unit {0}
@@ -102,3 +105,4 @@ pub record ChoiceIs (s s′ : List ℕ) (names : List Bytes) (j : Job) (limit : 
   pub only : TrialOnly 40464 marks (figures .pairs) s s′
   pub marks-now : MarksBelow s′ marks (figures .pairs) (stamp + 32768)
   pub told : ChoiceTold s′ names (setting figures places (unit-of j limit figures g)) (choice (j .clauses) (unit-of j limit figures g) (g .goal)) r
+  pub grounds : NewGrounds places (unit-of j limit figures g .values) marks s s′

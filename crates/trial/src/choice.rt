@@ -87,7 +87,7 @@ pub fn trial(
     requires { ⌜ ((text : Bytes) × (names : List Bytes) × (j : Job) × (limit : ℕ) × (figures : Room) × (at : Places) × (g : Goal) × (others : List Goal) × (c : Clause)
         × Trying (now s) text names j limit figures at g others values marks links goal
         × Candidate (now s) names j g k c
-        × MarksBelow (now s) marks (figures .pairs) stamp × (stamp + 256 < 2 ^ 64)) ⌝ }
+        × MarksBelow (now s) marks (figures .pairs) stamp × ((1 < stamp) × (stamp + 256 < 2 ^ 64))) ⌝ }
     ensures { λ r. ⌜ ((text : Bytes) (names : List Bytes) (j : Job) (limit : ℕ) (figures : Room) (at : Places) (g : Goal) (others : List Goal) (c : Clause)
         → Trying (now (s .entry)) text names j limit figures at g others values marks links goal
         → Candidate (now (s .entry)) names j g k c
@@ -136,7 +136,7 @@ pub fn choice(
 ) -> Fate
     requires { ⌜ ((text : Bytes) × (names : List Bytes) × (j : Job) × (limit : ℕ) × (figures : Room) × (at : Places) × (g : Goal) × (others : List Goal)
         × Trying (now s) text names j limit figures at g others values marks links goal
-        × MarksBelow (now s) marks (figures .pairs) first × (first + 32768 < 2 ^ 64)) ⌝ }
+        × MarksBelow (now s) marks (figures .pairs) first × ((1 < first) × (first + 32768 < 2 ^ 64))) ⌝ }
     ensures { λ r. ⌜ ((text : Bytes) (names : List Bytes) (j : Job) (limit : ℕ) (figures : Room) (at : Places) (g : Goal) (others : List Goal)
         → Trying (now (s .entry)) text names j limit figures at g others values marks links goal
         → MarksBelow (now (s .entry)) marks (figures .pairs) first

@@ -18,7 +18,7 @@ use Rattle.machine.proofs.run.go_on.Tie as tie
 abbrev Inv-loop : tie.InvT-loop
 Inv-loop s₀ room budget t₀ left₀ s t left =
     (text : Bytes) (names : List Bytes) (j : Job) (atlas : Atlas) (slots : List Slot)
-    → Running s₀ text names j (figures room) 0 atlas slots t₀ 1 → t₀ .steps ≡ 0 → budget ≤ 1000000
+    → Running s₀ text names j (figures room) 0 atlas slots t₀ 2 → t₀ .steps ≡ 0 → budget ≤ 1000000
     → GoesOn s₀ s text names j (figures room) budget left t
 
 abbrev μ-loop : tie.MeasureT-loop

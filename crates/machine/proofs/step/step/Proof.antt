@@ -66,7 +66,7 @@ module _ (w : tie.After-word) where
 
 -- What the choice asks.
 module _ (w : tie.After-word) (text : Bytes) (names : List Bytes) (j : Job) (limit : ℕ) (atlas : Atlas) (slots : List Slot) (g : Goal) (others : List Goal)
-    (r : Running (start w .args .s .now) text names j (figures (start w .args .room)) limit atlas slots (start w .args .t) (start w .args .t .steps * 32768 + 1))
+    (r : Running (start w .args .s .now) text names j (figures (start w .args .room)) limit atlas slots (start w .args .t) (start w .args .t .steps * 32768 + 2))
     (more : start w .args .t .steps < 1000000) (front : run j limit (figures (start w .args .room)) .state .goals .queue ≡ g ∷ others) where
   tries : Trying (start w .args .s .now) text names j limit (figures (start w .args .room)) (atlas (g .query)) g others (values w) (marks w)
       (start w .args .room .pairs) (place w)
@@ -74,12 +74,12 @@ module _ (w : tie.After-word) (text : Bytes) (names : List Bytes) (j : Job) (lim
       choice-tries (start w .args .s .now) text names j (figures (start w .args .room)) limit atlas slots g others (start w .args .t)
       (goal w) (query w) (place w) (values w) (marks w) (steps w) r more front (fetched w)
 
-  unmarked : MarksBelow (start w .args .s .now) (marks w) (start w .args .room .pairs) (steps w * 32768 + 1)
+  unmarked : MarksBelow (start w .args .s .now) (marks w) (start w .args .room .pairs) (steps w * 32768 + 2)
   unmarked =
       choice-marks (start w .args .s .now) text names j (figures (start w .args .room)) limit atlas slots g others (start w .args .t)
       (goal w) (query w) (place w) (values w) (marks w) (steps w) r more front (fetched w)
 
-  stamps : steps w * 32768 + 1 + 32768 < 18446744073709551616
+  stamps : (1 < steps w * 32768 + 2) × (steps w * 32768 + 2 + 32768 < 18446744073709551616)
   stamps =
       choice-stamps (start w .args .s .now) text names j (figures (start w .args .room)) limit atlas slots g others (start w .args .t)
       (goal w) (query w) (place w) (values w) (marks w) (steps w) r more front (fetched w)
@@ -87,14 +87,14 @@ module _ (w : tie.After-word) (text : Bytes) (names : List Bytes) (j : Job) (lim
 -- What the choice has told.
 module _ (c : tie.After-choice) (text : Bytes) (names : List Bytes) (j : Job) (limit : ℕ) (atlas : Atlas) (slots : List Slot) (g : Goal) (others : List Goal)
     (r : Running (start (c .before) .args .s .now) text names j (figures (start (c .before) .args .room)) limit atlas slots (start (c .before) .args .t)
-    (start (c .before) .args .t .steps * 32768 + 1))
+    (start (c .before) .args .t .steps * 32768 + 2))
     (more : start (c .before) .args .t .steps < 1000000)
     (front : run j limit (figures (start (c .before) .args .room)) .state .goals .queue ≡ g ∷ others) where
   abbrev scratch : List ℕ
   scratch = c .choice .last .0
 
   told : ChoiceIs (start (c .before) .args .s .now) scratch names j limit (figures (start (c .before) .args .room)) (atlas (g .query)) g
-      (marks (c .before)) (steps (c .before) * 32768 + 1) (c .choice .result)
+      (marks (c .before)) (steps (c .before) * 32768 + 2) (c .choice .result)
   told =
       c .choice .ensures text names j limit (figures (start (c .before) .args .room)) (atlas (g .query)) g others
       (tries (c .before) text names j limit atlas slots g others r more front) (unmarked (c .before) text names j limit atlas slots g others r more front)

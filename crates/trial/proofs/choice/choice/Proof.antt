@@ -47,7 +47,7 @@ trial-requires c κs =
       clauses.walk-trying trying w,
       clauses.turn-candidate trying w left,
       w .marks-now,
-      omega (arith, clauses.turn-stamp trying w left),
+      (omega (arith, w .stamp-is, fit .0), omega (arith, clauses.turn-stamp trying w left, fit .1)),
     )
 
 enum-known-t : tie.Need-enum-known-t Inv-clauses μ-clauses
