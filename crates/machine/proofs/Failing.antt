@@ -156,7 +156,7 @@ module _ (s s₁ s′ : List ℕ) (text : Bytes) (names : List Bytes) (j : Job) 
         marks = marks-after s text names j figures limit atlas slots g others t k (g .query) s′ kept;
         ends = rw its-next
             (ends-failed s s′ names figures (j .queries) atlas state t (r .state) (r .held .few-queries)
-            (few-units s text names j figures limit atlas slots t (t .steps * 32768 + 32769) r) g others (k .front) kept (r .ends));
+            (few-units s text names j figures limit atlas slots t (t .steps * 32768 + 32770) r) g others (k .front) kept (r .ends));
         grounds = rw its-next
             (grounds-after s text names j figures limit atlas slots g others t k (g .query) s′ kept
             (unit-after joins-failed (unit-at (g .query) (state .units))) refl refl);

@@ -24,6 +24,7 @@ use Rattle.machine.proofs.Ends.{end-at-alike, find}
 use Rattle.machine.proofs.Failing.{front-query, query-below}
 use Rattle.machine.proofs.Frames.{units-same}
 use Rattle.machine.proofs.FrontGoal.{word-place}
+use Rattle.machine.proofs.GroundMarks.{grounds-alike}
 use Rattle.machine.proofs.FramesRunning.{StateKept, state-units-kept, unit-ends, running-kept, run-only-then, front-stands}
 
 module _ {s : List ℕ} {text : Bytes} {names : List Bytes} {j : Job} {figures : Room} {limit : ℕ} {atlas : Atlas} {slots : List Slot}
@@ -45,7 +46,7 @@ module _ {s : List ℕ} {text : Bytes} {names : List Bytes} {j : Job} {figures :
           chained = record {
             stands = h .units .unit (g .query) here;
             links-are = refl;
-            ends = unit-ends s text names j figures limit atlas slots t (t .steps * 32768 + 32769) (k .running) (g .query) here;
+            ends = unit-ends s text names j figures limit atlas slots t (t .steps * 32768 + 32770) (k .running) (g .query) here;
           };
           apart = λ n m a b e. h .lies .pair-apart (g .query) (g .query) n m here here a b e .1;
           before = λ n a. omega (arith, h .lies .compound-below (g .query) n here a, h .lies .compounds-fit);
@@ -111,8 +112,10 @@ module _ {s : List ℕ} {text : Bytes} {names : List Bytes} {j : Job} {figures :
 
     pub still-taken : Taken s′ text names j figures limit atlas slots g others t
     still-taken = record {
-      running = running-kept s text names j figures limit atlas slots t (t .steps * 32768 + 32769) (k .running) s′ (t .steps * 32768 + 32769)
-          state-stays job-stays (λ w a b. low w (omega arith)) (λ w a b. rw (low w (omega arith)) (k .running .marks w a b)) all-ends;
+      running = running-kept s text names j figures limit atlas slots t (t .steps * 32768 + 32770) (k .running) s′ (t .steps * 32768 + 32770)
+          state-stays job-stays (λ w a b. low w (omega arith)) (λ w a b. rw (low w (omega arith)) (k .running .marks w a b)) all-ends
+          (grounds-alike s s′ figures atlas (run j limit figures .state .units) (run j limit figures .state .units) (λ w a b. low w (omega arith))
+          (units-same (run j limit figures .state .units)) (k .running .grounds));
       front = k .front;
       more = k .more;
     }

@@ -181,7 +181,7 @@ module _ (s s₁ : List ℕ) (text : Bytes) (names : List Bytes) (j : Job) (figu
             marks = marks-after s text names j figures limit atlas slots g others t k (g .query) s′ kept;
             ends = rw its-next
                 (ends-waiting s s′ names figures (j .queries) atlas state t (r .state) (r .held .few-queries)
-                (few-units s text names j figures limit atlas slots t (t .steps * 32768 + 32769) r) g others (k .front) kept readers (r .ends));
+                (few-units s text names j figures limit atlas slots t (t .steps * 32768 + 32770) r) g others (k .front) kept readers (r .ends));
             grounds = rw its-next
                 (grounds-after s text names j figures limit atlas slots g others t k (g .query) s′ kept
                 (unit-after (joins-waiting readers) (unit-at (g .query) (state .units))) refl refl);
