@@ -20,7 +20,8 @@ use Rattle.term.proofs.Jobs.{each-map}
 use Rattle.machine.specs.Extended.{replaced-at}
 use Rattle.reduction.specs.Reducing.{GoalsWithin}
 use Rattle.machine.proofs.Enlarging.{replaced-there, replaced-elsewhere}
-use Rattle.machine.proofs.Frames.{unit-term-kept, unit-stands-kept}
+use Rattle.term.proofs.Units.{unit-term-alike}
+use Rattle.machine.proofs.Frames.{unit-stands-kept}
 use Rattle.queues.proofs.Log.{by-place}
 use Rattle.machine.proofs.Starting.{units-number, unit-older, unit-newest}
 
@@ -247,7 +248,7 @@ module _ (s s′ : List ℕ) (names : List Bytes) (figures : Room) (atlas : Atla
       record {
         query = omega (arith, units-number done x);
         term = rw (setting-older (g .query) i)
-            (unit-term-kept s s′ (setting-at figures atlas units (g .query)) (omega (arith, r .size)) (older-words (g .query) i)
+            (unit-term-alike s s′ (setting-at figures atlas units (g .query)) (omega (arith, r .size)) (older-words (g .query) i)
             (as-term (g .goal)) (h .term));
       }
 

@@ -38,7 +38,7 @@ use Rattle.machine.proofs.Adjoining.{
   words-newer,
 }
 use Rattle.machine.proofs.BodyGoals.{goals-within, goals-ranged}
-use Rattle.machine.proofs.Frames.{within-every}
+use Rattle.term.proofs.Units.{within-every}
 use Rattle.machine.proofs.OwnPairs.{no-query}
 use Rattle.queues.proofs.Ring.{ring-kept}
 use Rattle.machine.proofs.Starting.{pairs-more, compounds-more, goals-one-more, goals-at-number, Fits, fits-so-far}

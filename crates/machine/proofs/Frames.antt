@@ -8,42 +8,22 @@ use native.Mathlib.Omega.{arith}
 use lib.ListN.{length, getD, set, length-set}
 use lib.Seq.{getD-set-same, getD-set-other}
 use Rattle.meaning.specs.Bytes.{Bytes}
-use Rattle.meaning.specs.Terms.{Term, Terms, end, more, Query, as-term}
+use Rattle.meaning.specs.Terms.{Term, Query, as-term}
 use Rattle.meaning.specs.State.{Room, QueryUnit, Goal, Waiting, value, no-unit, unit-at}
-use Rattle.term.specs.Every.{Every, EveryOf}
 use Rattle.term.specs.Jobs.{query-record, EachFrom}
 use Rattle.term.specs.Layout.{values-region, queue-region, waiting-region, failed-region}
-use Rattle.term.specs.Setting.{Within, AllWithin, Setting, OfUnit, UnitTerm, UnitStands}
+use Rattle.term.specs.Setting.{Setting, OfUnit, UnitStands}
 use Rattle.term.specs.States.{Atlas, setting-at, Lies, UnitsStand, FirstPair, GoalStands, AllStand, logged, QueueStands, FailedStand, WaitingStand}
-use Rattle.term.proofs.Holds.{EveryValue, holds-alike, holds-value-alike}
+use Rattle.term.proofs.Holds.{EveryValue, holds-value-alike}
+use Rattle.term.proofs.Units.{within-every, unit-term-alike}
 use Rattle.term.proofs.Jobs.{each-map}
 use Rattle.queues.proofs.Listed.{listed-kept}
 use Rattle.queues.proofs.Log.{by-place}
 use Rattle.queues.proofs.Ring.{ring-kept}
 
--- The compounds of a term of a unit are the unit's.
-mutual
-  unfolding Within AllWithin Every EveryOf
-
-  pub within-every : (p c : ℕ) (t : Term) → Within p c t → Every (λ n. n < c) t
-  within-every p c (Term.variable h n) w = tt
-  within-every p c (Term.constant k) w = tt
-  within-every p c (Term.compound n f ts) w = (w .0, within-every-of p c ts (w .1))
-
-  within-every-of : (p c : ℕ) (ts : Terms) → AllWithin p c ts → EveryOf (λ n. n < c) ts
-  within-every-of p c end w = tt
-  within-every-of p c (more t ts) w = (within-every p c t (w .0), within-every-of p c ts (w .1))
-
 -- One unit: the words of its compounds, and of its pairs, stay.
 module _ (s s′ : List ℕ) (x : Setting) (size : length s ≤ length s′)
     (cells : (n : ℕ) → n < x .compounds → (k : ℕ) → 8 * x .places .compound n ≤ k → k < 8 * x .places .compound n + 8 → getD s′ k 0 ≡ getD s k 0) where
-  pub unit-term-kept : (t : Term) → UnitTerm s x t → UnitTerm s′ x t
-  unit-term-kept t h = record {
-    held = holds-alike s s′ (x .places) (λ n. n < x .compounds) size cells t
-        (within-every (length (x .values)) (x .compounds) t (h .of .within)) (h .held);
-    of = h .of;
-  }
-
   every-value : (v : Option Term) → ((t : Term) → v ≡ some t → OfUnit x t) → EveryValue (λ n. n < x .compounds) v
   unfolding EveryValue
   every-value none of = tt
@@ -117,7 +97,7 @@ module _ (s s′ : List ℕ) (names : List Bytes) (figures : Room) (atlas : Atla
   goal-kept g h = record {
     query = omega (arith, h .query, alike .number);
     term = rw (same-setting (g .query))
-        (unit-term-kept s s′ (setting-at figures atlas units (g .query)) (omega (arith, kept .size)) (cells-at (g .query) (h .query))
+        (unit-term-alike s s′ (setting-at figures atlas units (g .query)) (omega (arith, kept .size)) (cells-at (g .query) (h .query))
         (as-term (g .goal)) (h .term));
   }
 

@@ -9,23 +9,10 @@ use Rattle.meaning.specs.Bytes.{Bytes}
 use Rattle.meaning.specs.Terms.{Half, writer, reader, Constant, Functor, cell, named, Term, Terms, variable, constant, compound, end, more, count}
 use Rattle.meaning.specs.State.{Values, value}
 use Rattle.term.specs.Cells.{Places, term-word, functor-word, number-of, Known, AllKnown}
-use Rattle.term.specs.Every.{Every, EveryOf}
 use Rattle.term.specs.Holds.{Holds, HoldsFrom, HoldsValue, HoldsValues, value-word}
 use Rattle.term.specs.Setting.{Setting, Within, AllWithin, Ranged, OfUnit, UnitTerm, UnitStands}
 use Rattle.term.proofs.Holds.{holds-alike}
-
--- A term's compounds are below the bound on them.
-mutual
-  unfolding Within AllWithin Every EveryOf
-
-  pub within-every : (p c : ℕ) (t : Term) → Within p c t → Every (λ n. n < c) t
-  within-every p c (variable h n) w = tt
-  within-every p c (constant k) w = tt
-  within-every p c (compound n f ts) w = (w .0, all-within-every p c ts (w .1))
-
-  all-within-every : (p c : ℕ) (ts : Terms) → AllWithin p c ts → EveryOf (λ n. n < c) ts
-  all-within-every p c end w = tt
-  all-within-every p c (more t ts) w = (within-every p c t (w .0), all-within-every p c ts (w .1))
+use Rattle.term.proofs.Units.{within-every}
 
 -- Wider bounds.
 mutual

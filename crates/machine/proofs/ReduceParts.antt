@@ -43,7 +43,7 @@ use Rattle.machine.specs.Taking.{Taken, Reducing}
 use Rattle.machine.proofs.BodyGoals.{BodyFits, body-fits}
 use Rattle.machine.proofs.Enlarging.{extended-moved}
 use Rattle.machine.proofs.FramesRunning.{few-units, tries-below}
-use Rattle.machine.proofs.Growing.{within-every}
+use Rattle.term.proofs.Units.{within-every}
 use Rattle.queues.proofs.Listed.{listed-kept}
 use Rattle.machine.proofs.NextState.{Reduced, WokenAre}
 use Rattle.machine.proofs.NextUnit.{enlarged}
