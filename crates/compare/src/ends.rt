@@ -4,7 +4,7 @@ ghost use Prim.Native.Nat.{ℕ, _+_, _<_};
 ghost use lib.ListN.{length, set};
 ghost use Rattle.meaning.specs.Terms.{Half, Functor, Term, Terms, variable};
 ghost use Rattle.term.specs.Setting.{Setting};
-ghost use Rattle.compare.specs.Follow.{PairAt, Keepable, KeepsOf, Kept, Keeps};
+ghost use Rattle.compare.specs.Follow.{PairAt, KeepsOf, Keeps, Kept};
 use crate::compare::argument;
 use crate::compare::count;
 use crate::follow::follow;
