@@ -16,10 +16,10 @@ use Rattle.meaning.specs.Compare.{followed}
 use Rattle.term.specs.Cells.{AllKnown, Known}
 use Rattle.term.specs.Chains.{EndOf, end-place}
 use Rattle.term.specs.Holds.{Holds, HoldsFrom, value-word}
-use Rattle.term.specs.Setting.{Setting, Within, AllWithin, Ranged, AllRanged, UnitTerm, UnitTerms}
+use Rattle.term.specs.Setting.{Setting, Within, AllWithin, Ranged, AllRanged, UnitTerms}
 use Rattle.term.proofs.Chains.{value-leads}
 use Rattle.term.proofs.Units.{unit-terms-alike, unit-stands-alike, end-alike}
-use Rattle.compare.specs.Follow.{Reads, FollowedTo, PairAt, Keepable, KeepsOf, Keeps, Kept}
+use Rattle.compare.specs.Follow.{FollowedTo, PairAt, Keepable, KeepsOf, Keeps, Kept}
 use Rattle.compare.proofs.Following.{pair-inside}
 use Rattle.compare.proofs.Arguments.{first-count}
 

@@ -4,7 +4,7 @@ ghost use Prim.Native.Nat.{ℕ, _+_, _<_};
 ghost use lib.ListN.{length, set};
 ghost use Rattle.meaning.specs.Terms.{Half, Functor, Term, Terms, variable};
 ghost use Rattle.term.specs.Setting.{Setting};
-ghost use Rattle.compare.specs.Follow.{PairAt, Keepable, KeepsOf, Kept, Keeps};
+ghost use Rattle.compare.specs.Follow.{PairAt, KeepsOf, Keeps, Kept};
 use crate::compare::argument;
 use crate::compare::count;
 use crate::follow::follow;
@@ -12,6 +12,7 @@ use crate::follow::word_at;
 use term::word::View;
 use term::word::look;
 
+// A word at so many words from a place, set.
 fn set_at(s: &mut [u64], from: usize, i: usize, w: u64)
     requires { ⌜ from + i < length (now s) ⌝ }
     ensures { λ r. ⌜ now (s .exit) ≡ set (now (s .entry)) (from + i) w ⌝ }

@@ -8,6 +8,7 @@ ghost use Rattle.compare.specs.Follow.{Reads, FollowedTo, PairAt, Ahead}
 use term::word::View;
 use term::word::look;
 
+// A word at so many words from a place.
 pub fn word_at(s: &[u64], from: usize, i: usize) -> u64
     requires { ⌜ from + i < length (now s) ⌝ }
     ensures { λ r. ⌜ r ≡ getD (now (s .entry)) (from + i) 0 ⌝ }
@@ -15,7 +16,7 @@ pub fn word_at(s: &[u64], from: usize, i: usize) -> u64
     s[from + i]
 }
 
-// The pairs' values stand from a place on, and the ends that are kept behind four words a pair; there are as many pairs as links at most.
+// The values of the room's pairs stand from a place on, and behind four words a pair the ends that are kept. A chain has no more links than there are pairs.
 pub fn follow(s: &[u64], values: usize, links: usize, w: u64) -> u64
     requires { ⌜ ((x : Setting) × (t : Term) × Reads (now s) x values links t w) ⌝ }
     ensures { λ r. ⌜ ((x : Setting) (t : Term) → Reads (now (s .entry)) x values links t w → FollowedTo (now (s .entry)) x values links t r) ⌝ }

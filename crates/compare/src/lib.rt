@@ -1,5 +1,5 @@
 // A head compared with a goal: following a goal's term, and the table of document 01. What is given is recorded in the trial's region of the scratch.
-// Read specs/Follow, specs/Compare and specs/Gifts for what each promises.
+// The ends to which a goal's arguments lead are kept for the next time. Read specs/Follow, specs/Compare and specs/Gifts for what each promises.
 pub mod compare;
 pub mod ends;
 pub mod follow;

@@ -2,17 +2,17 @@
 use Prim.Native.Nat.{ℕ, _+_, _*_, _/_, _≤_, _<_}
 use mathlib.Core.Path.{_≡_, refl, ap, _∙_}
 use mathlib.Core.Logic.{_⊎_, inl, inr}
-use mathlib.Core.List.{List, _∷_}
+use mathlib.Core.List.{List}
 use native.Mathlib.Omega.{arith}
 use lib.ListN.{length, getD}
 use Rattle.meaning.specs.Bytes.{Bytes}
 use Rattle.meaning.specs.Terms.{Job, named, as-term}
-use Rattle.meaning.specs.State.{Room, QueryUnit, Goal, unit-at}
+use Rattle.meaning.specs.State.{Room, QueryUnit, Goal}
 use Rattle.meaning.specs.Run.{run}
 use Rattle.term.specs.Jobs.{query-record, JobKept}
-use Rattle.term.specs.Layout.{values-region, waiters-region, marks-region, ends-region, queue-region}
+use Rattle.term.specs.Layout.{values-region, ends-region, queue-region}
 use Rattle.term.specs.Setting.{Setting}
-use Rattle.term.specs.States.{Atlas, setting-at, goal-word}
+use Rattle.term.specs.States.{Atlas, setting-at}
 use Rattle.term.specs.declared.state.Standing.{Standing}
 use Rattle.compare.specs.Follow.{Keeps, Kept}
 use Rattle.queues.specs.Log.{Slot}

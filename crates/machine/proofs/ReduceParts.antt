@@ -24,7 +24,7 @@ use Rattle.term.specs.Cells.{Places, term-word}
 use Rattle.term.specs.Every.{Every, EveryOf}
 use Rattle.term.specs.Holds.{Holds}
 use Rattle.term.specs.Jobs.{clause-record, clause-base, query-record, places-from, HoldsGoals, HoldsClause, ClauseAt}
-use Rattle.term.specs.Layout.{values-region, waiters-region, sets-region, marks-region, ends-region, queue-region, waiting-region, failed-region, need-of, InRange}
+use Rattle.term.specs.Layout.{values-region, waiters-region, sets-region, marks-region, queue-region, waiting-region, failed-region, need-of, InRange}
 use Rattle.term.specs.Setting.{Setting, Within, AllWithin}
 use Rattle.term.specs.States.{Atlas, setting, goal-word, ring, listed, Lies, AllStand, HoldsState}
 use Rattle.term.specs.declared.state.Standing.{Standing}

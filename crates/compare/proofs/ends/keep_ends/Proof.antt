@@ -1,7 +1,6 @@
 -- `compare::ends::keep_ends` meets its contract. The invariant: only ends have changed, and what is left of the arguments.
 use Prim.Native.Nat.{ℕ, _+_, _-_}
 use native.Mathlib.Omega.{arith}
-use borrow.Author.Needs.{needs}
 use Rattle.meaning.specs.Terms.{Functor, Terms}
 use Rattle.term.specs.Setting.{Setting}
 use Rattle.compare.specs.Follow.{Keeps}
