@@ -1,7 +1,7 @@
 -- Marks of ground pairs between the steps: what they say of one query's unit, and why they stay true.
 use Prim.Native.Nat.{ℕ, _+_, _≤_, _<_}
 use mathlib.Core.Path.{_≡_, refl, sym, ap, subst, _∙_}
-use mathlib.Core.Logic.{inl, inr, ⊎-elim}
+use mathlib.Core.Logic.{⊎-elim}
 use mathlib.Core.List.{List}
 use mathlib.Core.Option.{some}
 use native.Mathlib.Omega.{arith}
@@ -11,7 +11,7 @@ use Rattle.meaning.specs.Terms.{Term}
 use Rattle.meaning.specs.State.{Room, QueryUnit, value, unit-at}
 use Rattle.term.specs.Layout.{marks-region}
 use Rattle.term.specs.States.{Atlas, Lies}
-use Rattle.circle.specs.Ground.{Ground, GroundAt, Grounds, NewGrounds}
+use Rattle.circle.specs.Ground.{Ground, Grounds, NewGrounds}
 use Rattle.circle.proofs.Grounds.{ground-stays}
 use Rattle.machine.specs.Running.{GroundMarks}
 use Rattle.machine.proofs.Frames.{UnitsAlike}
