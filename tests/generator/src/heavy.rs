@@ -22,6 +22,13 @@ pub struct Heavy {
     pub text: String,
 }
 
+impl Heavy {
+    /// Whether the job is one that is run for its stack.
+    pub fn for_stack(&self) -> bool {
+        self.kind == Kind::Deepest || self.kind == Kind::DeepestRun
+    }
+}
+
 /// The largest budget.
 const ALL: u64 = 1_000_000;
 

@@ -1,0 +1,7 @@
+//! The proved call and the reference in one process: `fuzz` compares them, `times` measures them.
+
+pub mod changes;
+pub mod clock;
+pub mod input;
+pub mod novelty;
+pub mod watched;
