@@ -59,14 +59,16 @@ fn lent_buffers_of_every_length() {
         for longer in [0, 1, 4_096] {
             let mut buffer = vec![b'.'; LONGEST_REPORT + longer];
             // SAFETY: this thread has the stack of the largest room.
-            let given = unsafe { troscunel::call(text.as_bytes(), 1_000_000, Room::LARGEST, &mut scratch, &mut buffer) };
+            let given =
+                unsafe { troscunel::call(text.as_bytes(), 1_000_000, Room::LARGEST, &mut scratch, &mut buffer) };
             assert_eq!((given.number, given.line, given.length), (0, 0, LONGEST_REPORT));
             assert!(buffer[..LONGEST_REPORT] == report && buffer[LONGEST_REPORT..].iter().all(|byte| *byte == b'.'));
         }
         for shorter in [1, LONGEST_REPORT] {
             let mut buffer = vec![b'.'; LONGEST_REPORT - shorter];
             // SAFETY: as above.
-            let given = unsafe { troscunel::call(text.as_bytes(), 1_000_000, Room::LARGEST, &mut scratch, &mut buffer) };
+            let given =
+                unsafe { troscunel::call(text.as_bytes(), 1_000_000, Room::LARGEST, &mut scratch, &mut buffer) };
             assert_eq!((given.number, given.line, given.length), (8, 0, LONGEST_REPORT));
             assert!(buffer.iter().all(|byte| *byte == b'.'));
         }

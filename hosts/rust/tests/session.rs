@@ -38,7 +38,9 @@ fn every_refusal_has_its_number_line_and_message() {
     let query = format!("{RULES}?- tag([3|A?],Z), end(A).\n");
     let job = Job::new(&query);
     let out_of_range = "the budget is over 1,000,000, or a room figure is not 1 to 65,535";
-    for room in [Room { pairs: 0, ..job.room }, Room { compounds: 65_536, ..job.room }, Room { goals: usize::MAX, ..job.room }] {
+    for room in
+        [Room { pairs: 0, ..job.room }, Room { compounds: 65_536, ..job.room }, Room { goals: usize::MAX, ..job.room }]
+    {
         assert_eq!(refusal(&job.room(room)), (1, 0, out_of_range.into()));
     }
     assert_eq!(refusal(&job.budget(1_000_001)), (1, 0, out_of_range.into()));
@@ -68,7 +70,11 @@ fn a_machine_keeps_nothing_of_a_job() {
         for place in 0..jobs.len() {
             let job = &jobs[if backwards { jobs.len() - 1 - place } else { place }];
             let figures = &job.figures;
-            let room = Room { pairs: figures.pairs as usize, compounds: figures.compounds as usize, goals: figures.goals as usize };
+            let room = Room {
+                pairs: figures.pairs as usize,
+                compounds: figures.compounds as usize,
+                goals: figures.goals as usize,
+            };
             let wanted = Job::new(&job.text).budget(figures.budget as usize).room(room);
             answers.push(machine.run(&wanted.longest_report(figures.buffer as usize)));
         }

@@ -138,7 +138,7 @@ fn spread_once(name: &str, called: &str) -> String {
 }
 
 /// The same three times over: 512 calls of `part`.
-fn spread() -> String {
+pub(crate) fn spread() -> String {
     spread_once("some", "part") + &spread_once("many", "some") + &spread_once("all", "many")
 }
 
@@ -182,7 +182,7 @@ fn short_chains() -> String {
     format!("i0(X,X?).\n{pass}go(X) :- i6(k,Y), use(Y?), go(X?).\nuse(k).\n?- go(a).\n")
 }
 
-fn nested(depth: usize, innermost: &str, wrap: impl Fn(String) -> String) -> String {
+pub(crate) fn nested(depth: usize, innermost: &str, wrap: impl Fn(String) -> String) -> String {
     (0..depth).fold(innermost.to_string(), |inner, _| wrap(inner))
 }
 

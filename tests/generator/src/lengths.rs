@@ -11,14 +11,7 @@ const LARGEST_POWER: usize = 20;
 /// The figures to run these texts with: the largest rooms, and no buffer.
 pub fn figures() -> Figures {
     let most = 65_535;
-    Figures {
-        budget: 1_000_000,
-        pairs: most,
-        compounds: most,
-        goals: most,
-        buffer: 0,
-        ..Figures::default()
-    }
+    Figures { budget: 1_000_000, pairs: most, compounds: most, goals: most, buffer: 0, ..Figures::default() }
 }
 
 /// A text whose report has this length, from 100 bytes up to the ceiling.

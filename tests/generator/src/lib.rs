@@ -20,6 +20,8 @@ pub mod random;
 mod streams;
 pub mod table;
 pub mod term;
+pub mod texts;
+pub mod worst;
 
 pub use reference::{call, Answer, Figures};
 

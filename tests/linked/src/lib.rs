@@ -3,5 +3,6 @@
 pub mod changes;
 pub mod clock;
 pub mod input;
+pub mod measure;
 pub mod novelty;
 pub mod watched;

@@ -122,8 +122,7 @@ impl Watched {
 
     /// The first thing that is not as it has to be.
     fn differs(&self, input: &Input, given: Given, answer: &Answer, mark: u8, word: u64) -> Option<String> {
-        let wanted =
-            Given { number: answer.number.into(), line: answer.line as usize, length: answer.length as usize };
+        let wanted = Given { number: answer.number.into(), line: answer.line as usize, length: answer.length as usize };
         if given != wanted {
             return Some(format!("the call gave {given:?}, the reference {wanted:?}"));
         }
