@@ -5,7 +5,7 @@
 //! report is short. There is no arithmetic, so whatever has a size is spread: clauses call a procedure eight times, each
 //! call joined to the next by a pair. A run that does not end by itself ends by the room or by the budget.
 
-/// What a job's time is divided by.
+/// What a job is measured for: its steps, its report, its stack.
 #[derive(Clone, Copy, PartialEq, Eq)]
 pub enum Kind {
     Run,

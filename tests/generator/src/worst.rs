@@ -56,6 +56,7 @@ pub fn jobs() -> Vec<Worst> {
             ALL,
             "mk(f(C,C?)).\np(f(R?,S)) :- mk(R), p(S?).\n?- mk(A), p(A?).\n".to_string(),
         ),
+        job("doubling: 2,097,152 leaves behind a chain", "bytes written", 30_000, leaves()),
         job("127 heads of 15 levels that all but match", "steps × clauses", ALL, heads(127, 15, 1)),
         job("60 heads of 80 places that all but match", "steps × places", ALL, heads(60, 13, 6)),
         job("60,000 goals that fail on 120 clauses", "steps × clauses", ALL, failing()),
@@ -80,6 +81,12 @@ fn largest_text() -> String {
     let mut text = clause.repeat(127);
     text += &" ".repeat(LONGEST - text.len() - 7);
     text + "?- p(a)"
+}
+
+/// A value that doubles twenty times, whose every leaf is the end of one chain of readers.
+fn leaves() -> String {
+    let rules = "mk(f(C,C?)).\nlink(X?) :- link(X).\np([1|Xs],f(R?,S)) :- mk(R), p(Xs?,S?).\np([],f(R?,S)) :- link(R), no(S?).\n";
+    format!("{rules}?- mk(A), p([{}],A?).\n", vec!["1"; 20].join(","))
 }
 
 /// Heads that differ from the goal in their last place alone, and one that takes it and calls again.

@@ -4,7 +4,7 @@
 //! The proved library has one call only, so its parts are differences of calls, and the reference's are made the same way:
 //! clearing is a call with an empty text; reading is a call with the text less its last full stop, which is refused at its end, less clearing (both
 //! in the smallest room); running, with the report counted, is the call without a buffer less clearing and reading; writing is the whole call less that.
-//! Each answer is held to the reference's first; a difference ends the program with status 2.
+//! M a second are steps run, bytes of a report written or bytes of a text read. Each answer is held to the reference's first; a difference ends the program with status 2.
 
 use std::process::ExitCode;
 
@@ -38,18 +38,26 @@ fn main() -> ExitCode {
 
 fn parts(only: &str) -> Result<(), String> {
     let mut lent = Lent::default();
-    println!("| job | steps | bytes | reading | running | writing | whole call | M steps a second |");
+    println!("| job | steps | bytes | reading | running | writing | whole call | M a second |");
     println!("|---|---|---|---|---|---|---|---|");
     for job in heavy::jobs().iter().filter(|job| !job.for_stack() && job.label.contains(only)) {
-        row(&mut lent, job.label, &job.text, job.budget, Room::LARGEST)?;
+        let counts = if job.kind == heavy::Kind::Report { Counts::Written } else { Counts::Steps };
+        row(&mut lent, job.label, &job.text, job.budget, Room::LARGEST, counts)?;
     }
     for (label, text) in texts::texts().iter().filter(|(label, _)| label.contains(only)) {
-        row(&mut lent, &format!("text: {label}"), text, 0, Room::default())?;
+        row(&mut lent, &format!("text: {label}"), text, 0, Room::default(), Counts::Read)?;
     }
     Ok(())
 }
 
-fn row(lent: &mut Lent, label: &str, text: &str, budget: u64, room: Room) -> Result<(), String> {
+/// What is counted a second: steps run, bytes of a report written, or bytes of a text read.
+enum Counts {
+    Steps,
+    Written,
+    Read,
+}
+
+fn row(lent: &mut Lent, label: &str, text: &str, budget: u64, room: Room, counts: Counts) -> Result<(), String> {
     let whole = Call { text: text.as_bytes(), budget, room, buffer: true };
     let (steps, bytes) = agreed(lent, label, &whole)?;
     let without = Call { buffer: false, ..whole };
@@ -60,18 +68,22 @@ fn row(lent: &mut Lent, label: &str, text: &str, budget: u64, room: Room) -> Res
         least(lent, [whole, without, read, empty, Call { room: SMALLEST, ..empty }], ROUNDS);
     let reading = read - least_empty;
     let running = without - empty - reading;
-    let run = part(running, whole);
-    let rate = match (steps, run.as_str()) {
-        (0, _) | (_, "") => "".to_string(),
-        _ => format!("{:.1} : {:.1}", steps as f64 / running.own * 1e3, steps as f64 / running.reference * 1e3),
+    let writing = whole - without;
+    let (count, during) = match counts {
+        Counts::Steps => (steps as f64, running),
+        Counts::Written => (bytes as f64, writing),
+        Counts::Read => (cut.len() as f64, reading),
     };
     println!(
-        "| {label} | {} | {} | {} | {run} | {} | {} | {rate} |",
+        "| {label} | {} | {} | {} | {} | {} | {} | {:.1} : {:.1} |",
         grouped(steps),
         grouped(bytes as u64),
         cell(reading),
-        part(whole - without, whole),
-        cell(whole)
+        part(running, whole),
+        part(writing, whole),
+        cell(whole),
+        count / during.own * 1e3,
+        count / during.reference * 1e3
     );
     Ok(())
 }
