@@ -18,8 +18,9 @@ use linked::input::Input;
 use linked::novelty::Novelty;
 use linked::watched::{on_large_stack, Falsified, Watched, FALSIFIED};
 
-/// How many generated jobs it begins with, and how many inputs it keeps.
+/// How many generated jobs it begins with; few where something falsified is to be found; and how many inputs it keeps.
 const GENERATED: usize = 4_000;
+const FEW: usize = 300;
 const KEPT: usize = 60_000;
 
 #[derive(Clone, Debug)]
@@ -96,7 +97,8 @@ fn fuzz(options: &Options) -> Result<(), String> {
         executions: 0,
         numbers: [0; 9],
     };
-    for input in beginning(options.seed) {
+    let count = if options.falsified.is_some() { FEW } else { GENERATED };
+    for input in beginning(options.seed, count) {
         fuzz.execute(input)?;
     }
     while begin.elapsed() < options.time && fuzz.executions < options.executions {
@@ -115,8 +117,8 @@ fn fuzz(options: &Options) -> Result<(), String> {
 }
 
 /// Generated jobs, and the heavy ones with a small budget and room.
-fn beginning(seed: u64) -> impl Iterator<Item = Input> {
-    let generated = generator::jobs(seed, GENERATED).into_iter().map(|job| Input::of(&job));
+fn beginning(seed: u64, count: usize) -> impl Iterator<Item = Input> {
+    let generated = generator::jobs(seed, count).into_iter().map(|job| Input::of(&job));
     let heavy = heavy::jobs().into_iter().map(|job| Input {
         text: job.text.into_bytes(),
         budget: 300,
