@@ -38,8 +38,8 @@ pub struct Given {
 ///
 /// # Safety
 ///
-/// The thread has [`Room::stack`] bytes of stack left. Less is enough for most jobs, but a job text can be written to take nearly as much, and what a call without a
-/// guard below its stack then overwrites is not known.
+/// The thread has [`Room::stack`] bytes of stack left. Less is enough for most jobs, but texts can be written that take half of it, and a call that runs past its stack
+/// overwrites what stands there, unless the system stops it.
 pub unsafe fn call(text: &[u8], budget: usize, room: Room, scratch: &mut [u64], report: &mut [u8]) -> Given {
     let (mut line, mut length) = (0, 0);
     let Room { pairs, compounds, goals } = room;
@@ -64,6 +64,9 @@ pub unsafe fn call(text: &[u8], budget: usize, room: Room, scratch: &mut [u64], 
     Given { number, line, length }
 }
 
+/// What a thread takes of its stack before it is our turn, with much to spare.
+const STARTING: usize = 64 << 10;
+
 /// The call in a thread of its own, with the stack that the room may take.
 ///
 /// # Panics
@@ -71,8 +74,8 @@ pub unsafe fn call(text: &[u8], budget: usize, room: Room, scratch: &mut [u64], 
 /// If the system gives no thread.
 pub(crate) fn call_in_thread(text: &[u8], budget: usize, room: Room, scratch: &mut [u64], report: &mut [u8]) -> Given {
     std::thread::scope(|scope| {
-        let thread = std::thread::Builder::new().stack_size(room.stack());
-        // SAFETY: the thread has this much stack, and has used next to nothing of it.
+        let thread = std::thread::Builder::new().stack_size(room.stack() + STARTING);
+        // SAFETY: the thread has the room's stack and what it takes to start.
         let running = thread.spawn_scoped(scope, || unsafe { call(text, budget, room, scratch, report) });
         running.expect("the system gives a thread").join().expect("the call does not panic")
     })

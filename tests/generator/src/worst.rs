@@ -58,7 +58,7 @@ pub fn jobs() -> Vec<Worst> {
         ),
         job("doubling: 2,097,152 leaves behind a chain", "bytes written", 30_000, leaves()),
         job("127 heads of 15 levels that all but match", "steps × clauses", ALL, heads(127, 15, 1)),
-        job("60 heads of 80 places that all but match", "steps × places", ALL, heads(60, 13, 6)),
+        job("127 heads of 43 places that all but match", "steps × places", ALL, heads(127, 15, 3)),
         job("60,000 goals that fail on 120 clauses", "steps × clauses", ALL, failing()),
         job("a chain read at each second link", "steps × links", ALL, chain(1)),
         job("a chain read by 100 clauses", "steps × links × clauses", 1_000, chain(100)),

@@ -102,8 +102,16 @@ fn cell(times: Times) -> String {
     let ratio = own / reference;
     match (own < 1.0, reference < 1.0) {
         (true, true) => String::new(),
-        (false, false) => format!("{} : {} = {ratio:.2}", grouped(own as u64), grouped(reference as u64)),
-        _ => format!("{own:.1} : {reference:.1}"),
+        (false, false) => format!("{} : {} = {ratio:.2}", micro(own), micro(reference)),
+        _ => format!("{} : {}", micro(own), micro(reference)),
+    }
+}
+
+fn micro(time: f64) -> String {
+    if time < 10.0 {
+        format!("{time:.1}")
+    } else {
+        grouped(time.round() as u64)
     }
 }
 
