@@ -105,6 +105,9 @@ fn fuzz(options: &Options) -> Result<(), String> {
         let input = fuzz.next();
         fuzz.execute(input)?;
     }
+    if let Some(number) = fuzz.numbers.iter().position(|times| *times == 0) {
+        return Err(format!("no execution of seed {} is answered by {number}", options.seed));
+    }
     println!(
         "{} executions of seed {} in {} s, {} inputs kept, no difference; answers 0 to 8: {:?}",
         fuzz.executions,
