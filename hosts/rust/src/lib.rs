@@ -40,7 +40,7 @@
 //!
 //! All unsafe code stands in the module `call`.
 
-#![deny(unsafe_code)]
+#![deny(unsafe_code, unsafe_op_in_unsafe_fn)]
 #![warn(missing_docs)]
 
 mod answer;
