@@ -173,7 +173,8 @@ const CORNERS: &[&str] = &[
 ];
 
 const BYTES: &[u8] = b" \n\t\r%%()[],,||..??--::_aZ09XpA!\"'\\{}~\x00\x07\x7f\x80\xa0\xc3\xff";
-const TOKENS: &[&str] = &[
+/// Tokens that stand in many places, good and bad ones.
+pub const TOKENS: &[&str] = &[
     "(",
     ")",
     "[",
@@ -271,7 +272,8 @@ fn change_token(random: &mut Random, items: &mut [Vec<Token>]) {
     }
 }
 
-fn change_byte(random: &mut Random, text: &mut Vec<u8>) {
+/// A byte inserted, removed, replaced or swapped with the next.
+pub fn change_byte(random: &mut Random, text: &mut Vec<u8>) {
     let at = random.below(text.len().max(1)).min(text.len());
     match random.below(4) {
         0 => text.insert(at, random.pick(BYTES)),

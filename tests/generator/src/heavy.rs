@@ -5,7 +5,7 @@
 //! report is short. There is no arithmetic, so whatever has a size is spread: clauses call a procedure eight times, each
 //! call joined to the next by a pair. A run that does not end by itself ends by the room or by the budget.
 
-/// What a job's time is divided by.
+/// What a job is measured for: its steps, its report, its stack.
 #[derive(Clone, Copy, PartialEq, Eq)]
 pub enum Kind {
     Run,
@@ -20,6 +20,13 @@ pub struct Heavy {
     pub kind: Kind,
     pub budget: u64,
     pub text: String,
+}
+
+impl Heavy {
+    /// Whether the job is one that is run for its stack.
+    pub fn for_stack(&self) -> bool {
+        self.kind == Kind::Deepest || self.kind == Kind::DeepestRun
+    }
 }
 
 /// The largest budget.
@@ -133,7 +140,7 @@ fn spread_once(name: &str, called: &str) -> String {
 }
 
 /// The same three times over: 512 calls of `part`.
-fn spread() -> String {
+pub(crate) fn spread() -> String {
     spread_once("some", "part") + &spread_once("many", "some") + &spread_once("all", "many")
 }
 
@@ -177,7 +184,7 @@ fn short_chains() -> String {
     format!("i0(X,X?).\n{pass}go(X) :- i6(k,Y), use(Y?), go(X?).\nuse(k).\n?- go(a).\n")
 }
 
-fn nested(depth: usize, innermost: &str, wrap: impl Fn(String) -> String) -> String {
+pub(crate) fn nested(depth: usize, innermost: &str, wrap: impl Fn(String) -> String) -> String {
     (0..depth).fold(innermost.to_string(), |inner, _| wrap(inner))
 }
 

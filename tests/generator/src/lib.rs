@@ -7,18 +7,21 @@
 #![forbid(unsafe_code)]
 
 pub mod antt;
-mod corners;
+pub mod corners;
 mod edges;
 mod figures;
 pub mod frame;
 pub mod heavy;
 mod layout;
+pub mod lengths;
 pub mod options;
 mod programs;
-mod random;
+pub mod random;
 mod streams;
 pub mod table;
-mod term;
+pub mod term;
+pub mod texts;
+pub mod worst;
 
 pub use reference::{call, Answer, Figures};
 

@@ -1,7 +1,7 @@
 //! The generator's own promises: the same jobs for a seed, frames that can be read back, strings as antt writes them,
 //! and everything that document 01 can answer occurring among few jobs.
 
-use generator::{antt, call, frame, jobs, table::Table, Job};
+use generator::{antt, call, frame, jobs, lengths, table::Table, Job};
 
 fn frames(jobs: &[Job]) -> Vec<u8> {
     jobs.iter().flat_map(|job| frame::framed(&job.text, &job.figures)).collect()
@@ -92,4 +92,13 @@ fn jobs_are_small() {
     assert!(long_reports < 40, "{long_reports} of 4000 reports are long");
     assert!(lengths.iter().all(|length| *length <= 4_000), "a report is very long");
     assert!(jobs.iter().all(|job| job.figures.need == 4 && job.figures.buffer <= 2_000));
+}
+
+#[test]
+fn texts_of_a_reports_length() {
+    let lengths = [150, 777, 778, 4_096, 65_535, 65_536, 65_537, 1_000_000, 16_777_215, 16_777_216];
+    for length in lengths {
+        let text = lengths::of_length(length).expect("there is one");
+        assert_eq!(call(text.as_bytes(), &lengths::figures()).length, length);
+    }
 }

@@ -1,0 +1,130 @@
+//! Jobs, and the machine that keeps what their calls are lent.
+
+use crate::answer::{Answer, Refusal};
+use crate::call::call_in_thread;
+use crate::LONGEST_REPORT;
+
+/// How many variable pairs, compounds and goals a run may use, each 1 to 65,535. Other figures are answered by [`Refusal::OutOfRange`].
+#[derive(Clone, Copy, Debug, PartialEq, Eq, Hash)]
+pub struct Room {
+    /// The pairs that queries and reductions are charged.
+    pub pairs: usize,
+    /// The compounds that they are charged.
+    pub compounds: usize,
+    /// The goals at any one time, active, waiting and failed ones together.
+    pub goals: usize,
+}
+
+impl Room {
+    /// The largest room.
+    pub const LARGEST: Room = Room { pairs: 65_535, compounds: 65_535, goals: 65_535 };
+
+    fn in_range(&self) -> bool {
+        [self.pairs, self.compounds, self.goals].iter().all(|figure| (1..=65_535).contains(figure))
+    }
+
+    /// How many 64-bit words of scratch a call needs; `None` if a figure is out of range, where any scratch will do.
+    ///
+    /// ```
+    /// assert_eq!(troscunel::Room::LARGEST.need(), Some(1_285_869));
+    /// ```
+    pub fn need(&self) -> Option<usize> {
+        self.in_range().then(|| 40_704 + 5 * self.pairs + 8 * self.compounds + 6 * self.goals)
+    }
+
+    /// How many bytes of stack are enough for a call: 1 MiB, and 256 for each compound, since a value may be nested as deep as there are compounds.
+    /// The compiled call takes 128 a level on x86-64 (docs/LIMITS.md), so half of it is reserve. Of a thread's stack only what is touched takes memory.
+    pub fn stack(&self) -> usize {
+        (1 << 20) + 256 * self.compounds.min(65_535)
+    }
+}
+
+impl Default for Room {
+    /// The program's: 1,024 pairs, 1,024 compounds, 128 goals.
+    fn default() -> Self {
+        Room { pairs: 1_024, compounds: 1_024, goals: 128 }
+    }
+}
+
+/// A job text and its figures.
+#[derive(Clone, Copy, Debug)]
+pub struct Job<'t> {
+    /// Rules and queries. Bytes: a text need not be UTF-8.
+    pub text: &'t [u8],
+    /// The most steps, 0 to 1,000,000.
+    pub budget: usize,
+    /// What the run may use.
+    pub room: Room,
+    /// The longest report that is wanted, in bytes. A longer one is refused by [`Refusal::ReportLong`] with its length.
+    pub longest_report: usize,
+}
+
+impl<'t> Job<'t> {
+    /// A text with the program's figures: a budget of 10,000, room for 1,024 pairs, 1,024 compounds and 128 goals, reports up to 65,536 bytes.
+    pub fn new<T: AsRef<[u8]> + ?Sized>(text: &'t T) -> Self {
+        Job { text: text.as_ref(), budget: 10_000, room: Room::default(), longest_report: 65_536 }
+    }
+
+    /// The same job with another budget.
+    ///
+    /// ```
+    /// use troscunel::{Job, Machine};
+    ///
+    /// let job = Job::new("go(X) :- go(X?).\n?- go(a).\n").budget(3);
+    /// let report = Machine::new().run(&job).into_result().unwrap();
+    /// assert!(report.starts_with(b"run budget steps 3\n"));
+    /// ```
+    pub fn budget(self, budget: usize) -> Self {
+        Job { budget, ..self }
+    }
+
+    /// The same job with another room.
+    pub fn room(self, room: Room) -> Self {
+        Job { room, ..self }
+    }
+
+    /// The same job with another longest report.
+    pub fn longest_report(self, longest_report: usize) -> Self {
+        Job { longest_report, ..self }
+    }
+}
+
+/// Runs jobs one after the other. It keeps scratch and report buffer between them, as large as the largest job has needed.
+///
+/// An answer hangs on its job alone: nothing of a job is left for the next one.
+#[derive(Default)]
+pub struct Machine {
+    scratch: Vec<u64>,
+    buffer: Vec<u8>,
+}
+
+impl Machine {
+    /// A machine that holds no memory yet.
+    pub fn new() -> Self {
+        Machine::default()
+    }
+
+    /// Runs a job, in a thread of its own that has [`Room::stack`] bytes of stack. Starting it takes some microseconds.
+    ///
+    /// # Panics
+    ///
+    /// If the system gives no memory or no thread.
+    pub fn run(&mut self, job: &Job<'_>) -> Answer {
+        let words = job.room.need().unwrap_or(0);
+        let bytes = job.longest_report.min(LONGEST_REPORT);
+        let (scratch, buffer) = (at_least(&mut self.scratch, words), at_least(&mut self.buffer, bytes));
+        let given = call_in_thread(job.text, job.budget, job.room, scratch, buffer);
+        match Refusal::of(given) {
+            Some(refusal) => Answer::Refused(refusal),
+            None => Answer::Ran(buffer[..given.length].to_vec()),
+        }
+    }
+}
+
+/// The first so many items, added where there are fewer.
+fn at_least<T: Default + Clone>(kept: &mut Vec<T>, length: usize) -> &mut [T] {
+    if kept.len() < length {
+        kept.resize(length, T::default());
+    }
+    &mut kept[..length]
+}

@@ -1,0 +1,125 @@
+//! Jobs made to hurt: the largest texts and rooms, the deepest values, the longest chains, the most waits, values that double, and clauses that all but match.
+//!
+//! Each reduction charges a compound at least, and a goal that waits is woken by a pair that is assigned, so no run takes 1,000,000 steps: what costs is
+//! what one step can cost, times the steps that the room allows. The products are cut to some budget here, and named.
+
+use crate::heavy::{self, nested};
+use crate::lengths;
+use crate::texts::{texts, LONGEST};
+
+pub struct Worst {
+    pub label: String,
+    /// What grows with what.
+    pub product: &'static str,
+    pub budget: u64,
+    pub text: String,
+}
+
+/// The largest budget.
+const ALL: u64 = 1_000_000;
+
+pub fn jobs() -> Vec<Worst> {
+    let job = |label: &str, product, budget, text| Worst { label: label.to_string(), product, budget, text };
+    let mut jobs = vec![
+        job("the largest rooms, no step", "clearing", 0, "?- p(a).\n".to_string()),
+        job("the largest text, refused at its end", "bytes", 0, largest_text()),
+    ];
+    jobs.extend(
+        texts()
+            .into_iter()
+            .filter(|(_, text)| text.len() > LONGEST / 2)
+            .map(|(label, text)| job(&format!("text: {label}"), "bytes", 0, text)),
+    );
+    jobs.extend(
+        heavy::jobs()
+            .into_iter()
+            .filter(heavy::Heavy::for_stack)
+            .map(|heavy| job(&format!("deepest: {}", heavy.label), "levels", ALL, heavy.text)),
+    );
+    jobs.extend([
+        job("waits: goals that wait and are woken one by one", "steps", ALL, waits()),
+        job(
+            "waits: one goal, woken at each step",
+            "steps",
+            ALL,
+            "c([X?|Xs?]) :- c(Xs), d(X).\nd(a).\nw([a|Xs]) :- w(Xs?).\n?- c(Z), w(Z?).\n".to_string(),
+        ),
+        job(
+            "doubling: the longest report",
+            "bytes written",
+            ALL,
+            lengths::of_length(16_777_216).expect("there is one"),
+        ),
+        job(
+            "doubling: past the longest",
+            "bytes counted",
+            ALL,
+            "mk(f(C,C?)).\np(f(R?,S)) :- mk(R), p(S?).\n?- mk(A), p(A?).\n".to_string(),
+        ),
+        job("doubling: 2,097,152 leaves behind a chain", "bytes written", 30_000, leaves()),
+        job("127 heads of 15 levels that all but match", "steps × clauses", ALL, heads(127, 15, 1)),
+        job("127 heads of 43 places that all but match", "steps × places", ALL, heads(127, 15, 3)),
+        job("60,000 goals that fail on 120 clauses", "steps × clauses", ALL, failing()),
+        job("a chain read at each second link", "steps × links", ALL, chain(1)),
+        job("a chain read by 100 clauses", "steps × links × clauses", 1_000, chain(100)),
+        job("a chain read by 100 clauses, twice as long", "steps × links × clauses", 2_000, chain(100)),
+        job(
+            "a term that grows, passed on",
+            "steps × levels",
+            ALL,
+            "count(N,R?) :- succ(N?,M), count(M?,R).\nsucc(N,s(N?)).\n?- count(0,A).\n".to_string(),
+        ),
+        job("circles of 28,000 levels by 100 clauses, 1 time", "steps × clauses × levels", ALL, circles(1)),
+        job("circles of 28,000 levels by 100 clauses, 8 times", "steps × clauses × levels", ALL, circles(8)),
+    ]);
+    jobs
+}
+
+/// 16,384 bytes of clauses, and a last one without its full stop.
+fn largest_text() -> String {
+    let clause = "p([a,b,c,d,e,f,g,h,i,j,k,l,m,n,o,p,q,r,s,t,u,v,w,x,y,z],12,345,-6789,f(g(h)),[1|[]]).\n";
+    let mut text = clause.repeat(127);
+    text += &" ".repeat(LONGEST - text.len() - 7);
+    text + "?- p(a)"
+}
+
+/// A value that doubles twenty times, whose every leaf is the end of one chain of readers.
+fn leaves() -> String {
+    let rules = "mk(f(C,C?)).\nlink(X?) :- link(X).\np([1|Xs],f(R?,S)) :- mk(R), p(Xs?,S?).\np([],f(R?,S)) :- link(R), no(S?).\n";
+    format!("{rules}?- mk(A), p([{}],A?).\n", vec!["1"; 20].join(","))
+}
+
+/// Heads that differ from the goal in their last place alone, and one that takes it and calls again.
+fn heads(clauses: usize, depth: usize, arguments: usize) -> String {
+    let before = "a,".repeat(arguments - 1);
+    let term = |last: &str| nested(depth - 1, last, |inner| format!("f({before}{inner})"));
+    let heads: String = (0..clauses).map(|k| format!("p({}).\n", term(&format!("k{k}")))).collect();
+    format!("{heads}p(X) :- p(X?).\n?- p({}).\n", term("last"))
+}
+
+/// Eight goals at a time, each with a constant that none of 120 clauses has.
+fn failing() -> String {
+    let facts: String = (0..120).map(|k| format!("p(k{k}).\n")).collect();
+    format!("{facts}go(a) :- {},go(a).\n?- go(a).\n", ["p(a)"; 7].join(","))
+}
+
+/// Goals that wait, each on a pair of its own, and are then woken one by one.
+fn waits() -> String {
+    "make([X|Xs?]) :- w(X?), make(Xs).\nw(a).\ngive([a|Xs]) :- give(Xs?).\nnet(a) :- make(S), late(S?).\nlate(S) :- give(S?).\n?- net(a).\n".to_string()
+}
+
+/// A chain of readers that grows, and a goal at its end that so many clauses follow whenever it is woken.
+fn chain(clauses: usize) -> String {
+    let facts: String = (0..clauses).map(|k| format!("w(k{k}).\n")).collect();
+    format!("c(X?) :- c(X).\n{facts}?- c(Z), w(Z?).\n")
+}
+
+/// A deep value with a pair innermost, which 100 clauses would assign the value itself; then it is passed on, so many times.
+fn circles(times: usize) -> String {
+    let part = format!("part({},X).\n", nested(14, "X?", |inner| format!("f({inner})")));
+    let later: String = (1..12).map(|k| format!("l{k}(X,Y?) :- l{}(X?,Y).\n", k - 1)).collect();
+    let begin = format!("l0(X,Y?) :- t(X?,Y,[{}]).\n", vec!["a"; times].join(","));
+    let tests = "t(X,X?,C) :- no(C?).\n".repeat(100);
+    let rules = format!("{part}{}{later}{begin}{tests}t(X,Y?,[a|C]) :- t(X?,Y,C?).\n", heavy::spread());
+    rules + "?- all(L,A?), all(M,L?), all(N,M?), all(O,N?), l11(O?,A).\n"
+}
