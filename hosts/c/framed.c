@@ -6,7 +6,7 @@
 #include <stdlib.h>
 #include <string.h>
 
-#include "../../include/troscunel.h"
+#include "need.h"
 
 enum { GUARD = 64, MARK = 0xa5, FULL_STOP = '.' };
 
@@ -30,14 +30,10 @@ static int guarded(const uint8_t *whole, size_t bytes) {
     return 1;
 }
 
+/* Whether all of these bytes have the value: the first has it, and each has its neighbour's. */
 static int all(const uint8_t *bytes, size_t from, size_t to, uint8_t value) {
-    for (size_t i = from; i < to; i++)
-        if (bytes[i] != value)
-            return 0;
-    return 1;
+    return to <= from || (bytes[from] == value && memcmp(bytes + from, bytes + from + 1, to - from - 1) == 0);
 }
-
-static int in_range(unsigned long long figure) { return 1 <= figure && figure <= 65535; }
 
 int main(void) {
     unsigned long long budget, pairs, compounds, goals, size, given, need, text_length;
@@ -48,7 +44,7 @@ int main(void) {
         uint8_t *text = malloc(text_length + 1);
         if (text == NULL || fread(text, 1, text_length + 1, stdin) != text_length + 1 || text[text_length] != '\n')
             return fail(2, "a frame that is cut off");
-        size_t own = in_range(pairs) && in_range(compounds) && in_range(goals) ? TROSCUNEL_NEED(pairs, compounds, goals) : 0;
+        size_t own = need_of(pairs, compounds, goals);
         size_t words = need <= given ? own + (given - need) : own < need - given ? 0 : own - (need - given);
         uint8_t *scratch = lent(8 * words), *buffer = lent(size);
         if (scratch == NULL || buffer == NULL)
@@ -61,7 +57,7 @@ int main(void) {
             return fail(1, "a guard byte has changed");
         if (!all(report, number == TROSCUNEL_RAN ? length : 0, size, FULL_STOP))
             return fail(1, "a byte of the buffer has changed that is no byte of a report");
-        size_t cleared = number == TROSCUNEL_RAN || TROSCUNEL_NO_ITEM <= number ? 8 * own : 0;
+        size_t cleared = number == TROSCUNEL_RAN || TROSCUNEL_NO_ITEMS <= number ? 8 * own : 0;
         if (!all(scratch + GUARD, 0, cleared, 0) || !all(scratch + GUARD, cleared, 8 * words, MARK))
             return fail(1, "the scratch is not as document 01 has it");
         printf("%u %zu %zu\n", (unsigned)number, line, length);

@@ -14,14 +14,14 @@ use Rattle.term.specs.Setting.{Setting, UnitTerm, UnitStands}
 use Rattle.term.specs.declared.state.Standing.{Standing}
 use Rattle.term.proofs.Holds.{holds-alike, holds-values-alike, EveryValue}
 use Rattle.term.proofs.Spellings.{holds-spellings-kept}
-use Rattle.report.specs.Facts.{fact-place, Led, EndAt, Readable, Changed}
-use Rattle.report.specs.Groups.{goal-in, own, own-from, active-group, waiting-group, failed-group}
-use Rattle.report.specs.declared.groups.Group.{Group}
-use Rattle.report.specs.Header.{tallies-of, header-of}
-use Rattle.report.specs.Sections.{Variables, GoalsHeld, Listed, SectionAt}
-use Rattle.report.specs.Whole.{section-bytes, lines-shown}
+use Rattle.facts.specs.Facts.{fact-place, Led, EndAt, Readable, Changed}
+use Rattle.sections.specs.Groups.{goal-in, own, own-from, active-group, waiting-group, failed-group}
+use Rattle.sections.specs.declared.groups.Group.{Group}
+use Rattle.sections.specs.Header.{tallies-of, header-of}
+use Rattle.sections.specs.Sections.{Variables, GoalsHeld, Listed, SectionAt}
+use Rattle.sections.specs.Whole.{section-bytes, lines-shown}
 use Rattle.report.specs.All.{Made, FactsOnly, bytes-of, sections-bytes}
-use Rattle.report.proofs.Keeping.{within-every}
+use Rattle.facts.proofs.Keeping.{within-every}
 
 pub facts-none : (figures : Room) (s : List ℕ) → FactsOnly figures s s
 facts-none figures s = record { size = refl; counter = λ k h. refl; before = λ k l h. refl; behind = λ k h. refl }

@@ -19,13 +19,13 @@ use Rattle.term.specs.Layout.{waiters-region, need-of}
 use Rattle.term.specs.States.{Finished}
 use Rattle.term.specs.declared.state.Standing.{Standing}
 use Rattle.term.specs.declared.state.Verdict.{Verdict as Told}
-use Rattle.report.specs.Laid.{capped, laid, Puts}
-use Rattle.report.specs.Facts.{Cleared}
-use Rattle.report.specs.Whole.{Uncounted, Numbers}
+use Rattle.facts.specs.Laid.{capped, laid, Puts}
+use Rattle.facts.specs.Facts.{Cleared}
+use Rattle.sections.specs.Whole.{Uncounted, Numbers}
 use Rattle.report.specs.All.{Made, Sections, AllCounted, report-bytes, order-of, made-of}
-use Rattle.report.specs.Header.{run-line-of}
+use Rattle.sections.specs.Header.{run-line-of}
 use Rattle.report.specs.Promise.{with-report, ReportIs}
-use Rattle.report.proofs.Laid.{laid-whole}
+use Rattle.facts.proofs.Laid.{laid-whole}
 use Rattle.report.proofs.Sectioning.{finished-sections}
 use Rattle.report.proofs.ReportIs.{report-is}
 

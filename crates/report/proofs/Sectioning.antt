@@ -30,13 +30,13 @@ use Rattle.term.specs.declared.state.Verdict.{Verdict as Told}
 use Rattle.term.proofs.Holds.{holds-alike, holds-values-alike, EveryValue}
 use Rattle.term.proofs.Jobs.{each-at}
 use Rattle.term.proofs.Spellings.{holds-spellings-kept}
-use Rattle.report.specs.Facts.{fact-place, EndAt, Readable, Cleared}
-use Rattle.report.specs.Groups.{goal-place, own, own-from, active-group, waiting-group, failed-group}
-use Rattle.report.specs.declared.groups.Group.{Group}
-use Rattle.report.specs.Sections.{Variables, GoalsHeld, Listed}
-use Rattle.report.specs.Whole.{Uncounted}
+use Rattle.facts.specs.Facts.{fact-place, EndAt, Readable, Cleared}
+use Rattle.sections.specs.Groups.{goal-place, own, own-from, active-group, waiting-group, failed-group}
+use Rattle.sections.specs.declared.groups.Group.{Group}
+use Rattle.sections.specs.Sections.{Variables, GoalsHeld, Listed}
+use Rattle.sections.specs.Whole.{Uncounted}
 use Rattle.report.specs.All.{Sections, Stands, no-query, made-of}
-use Rattle.report.proofs.Keeping.{within-every}
+use Rattle.facts.proofs.Keeping.{within-every}
 use Rattle.report.proofs.SoundRun.{sound-values, sound-queue, sound-waiting, sound-failed}
 use Rattle.report.proofs.StateLists.{listed-active, listed-waiting, listed-failed}
 

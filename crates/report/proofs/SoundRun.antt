@@ -58,7 +58,7 @@ use Rattle.meaning.proofs.Reading.Figures.{
   JobFits,
 }
 use Rattle.meaning.proofs.Reading.ItemByItem.{names-of}
-use Rattle.report.specs.Sound.{SoundConstant, SoundFunctor, Sound, AllSound, SoundValues}
+use Rattle.facts.specs.Sound.{SoundConstant, SoundFunctor, Sound, AllSound, SoundValues}
 
 -- A value, a goal, goals and values of a state.
 SoundValue : Option Term → Type 0

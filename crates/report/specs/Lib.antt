@@ -1,14 +1,2 @@
 pub mod All
-pub mod Counts
-pub mod Facts
-pub mod Groups
-pub mod Header
-pub mod Laid
-pub mod Pairs
 pub mod Promise
-pub mod Sections
-pub mod Sound
-pub mod Threaded
-pub mod Walk
-pub mod Whole
-pub mod Writes

@@ -1,11 +1,2 @@
-// The report of a finished run, counted and written.
-pub mod cells;
-pub mod counting;
-pub mod ends;
-pub mod groups;
-pub mod header;
-pub mod length;
-pub mod put;
+// The report of a finished run, counted and then written. Read specs/Promise.
 pub mod report;
-pub mod sections;
-pub mod terms;

@@ -1,10 +1,10 @@
 // The report: counted, then written if it fits.
-use crate::ends::forget;
-use crate::header::run_length;
-use crate::header::run_line;
-use crate::length::CEILING;
-use crate::sections::count_section;
-use crate::sections::write_section;
+use facts::ends::forget;
+use facts::length::CEILING;
+use sections::header::run_length;
+use sections::header::run_line;
+use sections::sections::count_section;
+use sections::sections::write_section;
 use term::layout;
 use term::layout::Room;
 use term::layout::TRIAL;
@@ -19,8 +19,8 @@ ghost use Rattle.meaning.specs.Terms.{Job};
 ghost use Rattle.term.specs.Layout.{figures};
 ghost use Rattle.term.specs.States.{Finished};
 ghost use Rattle.term.specs.Layout.{waiters-region};
-ghost use Rattle.report.specs.Laid.{Puts};
-ghost use Rattle.report.specs.Whole.{Uncounted, Numbers};
+ghost use Rattle.facts.specs.Laid.{Puts};
+ghost use Rattle.sections.specs.Whole.{Uncounted, Numbers};
 ghost use Rattle.report.specs.All.{Made, Sections, AllCounted, order-of, report-bytes};
 ghost use Rattle.report.specs.Promise.{ReportIs};
 

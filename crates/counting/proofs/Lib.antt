@@ -1,0 +1,5 @@
+pub mod CountingWalk
+pub mod KeptLengths
+pub mod LeafCounts
+pub mod Lengths
+pub mod Numbering

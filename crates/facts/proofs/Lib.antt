@@ -1,0 +1,15 @@
+pub mod Again
+pub mod Behinds
+pub mod Chains
+pub mod Decimals
+pub mod Forgetting
+pub mod Full
+pub mod Keeping
+pub mod Laid
+pub mod Leaves
+pub mod Nodes
+pub mod Once
+pub mod Settled
+pub mod Told
+pub mod Walking
+pub mod Wholes

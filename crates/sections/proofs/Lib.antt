@@ -1,0 +1,11 @@
+pub mod FirstLines
+pub mod GoalLines
+pub mod GoalPlaces
+pub mod Lines
+pub mod OwnGoals
+pub mod Restarting
+pub mod SectionCounts
+pub mod SectionWrites
+pub mod ValueLines
+pub mod WrittenGoals
+pub mod WrittenLines

@@ -1,0 +1,4 @@
+pub mod Groups
+pub mod Header
+pub mod Sections
+pub mod Whole
