@@ -1,3 +1,4 @@
 pub mod Arguments
 pub mod Arms
 pub mod Elements
+pub mod Reached

@@ -112,7 +112,7 @@ pub fn compound(
         variables: c.variables,
         compounds: n + 1,
     };
-    match arguments(text, rest, from, s, names, item, base, left, n, 0, d) {
+    match arguments(text, rest, from, s, names, item, base, left, n, d) {
         Read::Got(k, e) => {
             store_functor(s, base, n, functor(name, k));
             Read::Got(compound_word(base, n), e)
@@ -122,7 +122,7 @@ pub fn compound(
     }
 }
 
-// The arguments of the compound n from the i-th on, and how many it has with those before.
+// The arguments of the compound n, one after the other, and how many it has.
 fn arguments(
     text: &[u8],
     rest: &[u8],
@@ -133,50 +133,61 @@ fn arguments(
     base: usize,
     left: usize,
     n: usize,
-    i: usize,
     c: Cursor,
 ) -> Read
-    requires { ⌜ (left ≤ 15) × (8 * (base + 32) ≤ length (now s)) × (length (now s) < 1152921504606846976) × (n < c .compounds) × (i ≤ 6) ⌝ }
+    requires { ⌜ (left ≤ 15) × (8 * (base + 32) ≤ length (now s)) × (length (now s) < 1152921504606846976) × (n < c .compounds) ⌝ }
     requires { ⌜ ((known : List Place) × (vars : List Place) × Stands (now text) (now rest) from (now names) (now item) c known vars) ⌝ }
     ensures { λ r. ⌜ ((known : List Place) (vars : List Place) → Stands (now (text .entry)) (now (rest .entry)) from (now (names .entry)) (now (item .entry)) c known vars
-        → ArgumentsAre n i (arguments-reader (term-reader left) (6 - i)) (now (text .entry)) (now (rest .entry)) from base known vars c (now (s .entry)) (now (item .entry)) (now (s .exit)) (now (names .exit)) (now (item .exit)) r) ⌝ }
+        → ArgumentsAre n 0 (arguments-reader (term-reader left) 6) (now (text .entry)) (now (rest .entry)) from base known vars c (now (s .entry)) (now (item .entry)) (now (s .exit)) (now (names .exit)) (now (item .exit)) r) ⌝ }
 {
-    if 6 <= i {
-        let at = c.at;
-        return match starts(rest, at) {
-            Start::Can => Read::Passed,
-            Start::Cannot(a) => Read::Malformed(a),
-        };
-    }
-    match term(text, rest, from, s, names, item, base, left, c) {
-        Read::Got(w, e) => {
-            store_argument(s, base, n, i, w);
-            let at = e.at;
-            match next_of(rest, at, b',', b')', b')') {
-                Next::First(behind) => {
-                    let d = Cursor {
-                        at: behind,
-                        names: e.names,
-                        variables: e.variables,
-                        compounds: e.compounds,
-                    };
-                    arguments(text, rest, from, s, names, item, base, left, n, i + 1, d)
+    let mut d = c;
+    let mut i = 0;
+    while i < 6 {
+        match term(text, rest, from, s, names, item, base, left, d) {
+            Read::Got(w, e) => {
+                store_argument(s, base, n, i, w);
+                i += 1;
+                let at = e.at;
+                match next_of(rest, at, b',', b')', b')') {
+                    Next::First(behind) => {
+                        d = Cursor {
+                            at: behind,
+                            names: e.names,
+                            variables: e.variables,
+                            compounds: e.compounds,
+                        };
+                    }
+                    Next::Second(behind) => {
+                        return Read::Got(
+                            word(i),
+                            Cursor {
+                                at: behind,
+                                names: e.names,
+                                variables: e.variables,
+                                compounds: e.compounds,
+                            },
+                        );
+                    }
+                    Next::Third(a) => {
+                        return Read::Malformed(a);
+                    }
+                    Next::Other(a) => {
+                        return Read::Malformed(a);
+                    }
                 }
-                Next::Second(behind) => Read::Got(
-                    word(i + 1),
-                    Cursor {
-                        at: behind,
-                        names: e.names,
-                        variables: e.variables,
-                        compounds: e.compounds,
-                    },
-                ),
-                Next::Other(a) => Read::Malformed(a),
-                _ => Read::Passed,
+            }
+            Read::Malformed(a) => {
+                return Read::Malformed(a);
+            }
+            Read::Passed => {
+                return Read::Passed;
             }
         }
-        Read::Malformed(a) => Read::Malformed(a),
-        Read::Passed => Read::Passed,
+    }
+    let at = d.at;
+    match starts(rest, at) {
+        Start::Can => Read::Passed,
+        Start::Cannot(a) => Read::Malformed(a),
     }
 }
 

@@ -3,12 +3,12 @@
 use Prim.Native.Nat.{ℕ, _≤_, _<_}
 use Prim.Native.Char.{Char}
 use mathlib.Core.Path.{_≡_, refl}
-use mathlib.Core.Bool.{Bool, true, false, _&&_}
+use mathlib.Core.Bool.{Bool, true, false, _&&_, _||_}
 use native.Mathlib.Omega.{arith}
 use lib.Dec.{leb, eqb}
 use borrow.Author.Tests.{leb-true, lt-leb, eqb-true, ne-eqb}
 use Rattle.meaning.specs.Bytes.{byte}
-use Rattle.meaning.specs.Tokens.{tokens-words, between, lowercase, uppercase, digit, underscore, separates, single-sign}
+use Rattle.meaning.specs.Tokens.{tokens-words, between, lowercase, uppercase, digit, separates, single-sign}
 
 pub both : (a b : Bool) → (a && b) ≡ true → (a ≡ true) × (b ≡ true)
 both true b e = (refl, e)
@@ -49,13 +49,19 @@ pub not-remark : (c : ℕ) → 37 < c → eqb c (byte "%") ≡ false
 unfolding byte
 not-remark c h = ne-eqb c 37 (λ e. omega arith)
 
--- No sign of a single byte leads a run.
-underscore-no-sign : (c : ℕ) → single-sign c ≡ true → (b : Bool) → underscore c ≡ b → underscore c ≡ false
-unfolding tokens-words
-underscore-no-sign c s true e =
-    let no : false ≡ true = rw (eqb-true c 95 e) at s in
-    cc
-underscore-no-sign c s false e = e
+pub either : (a b : Bool) → (a || b) ≡ false → (a ≡ false) × (b ≡ false)
+either true b e = (cc, cc)
+either false b e = (refl, e)
 
-pub sign-no-underscore : (c : ℕ) → single-sign c ≡ true → underscore c ≡ false
-sign-no-underscore c s = underscore-no-sign c s (underscore c) refl
+-- What holds of a byte, and follows from the tests before, holds of what passes one of them or is that byte.
+one-more : (P : ℕ → Type 0) (c k : ℕ) (b : Bool) → (b ≡ true → P c) → P k → (b || eqb c k) ≡ true → P c
+one-more P c k true q p t = q refl
+one-more P c k false q p t = rw (eqb-true c k t) p
+
+-- What holds of each sign of a single byte.
+pub of-signs : (P : ℕ → Type 0) → P 40 → P 41 → P 91 → P 93 → P 44 → P 124 → P 46 → (c : ℕ) → single-sign c ≡ true → P c
+unfolding tokens-words
+of-signs P round close square shut comma bar stop c =
+    let two = one-more P c 41 (eqb c 40) (λ t. rw (eqb-true c 40 t) round) close in
+    let four = one-more P c 93 _ (one-more P c 91 _ two square) shut in
+    one-more P c 46 _ (one-more P c 124 _ (one-more P c 44 _ four comma) bar) stop

@@ -33,35 +33,12 @@ module _ (rest : Bytes) (at : ℕ) where
   pub sign-front : (x a : ℕ) → FrontIs rest at (Sign x a) → SignAt rest at x (behind x a)
   sign-front x a f = record { place = a; forward = omega (arith, behind-past x a, f .0); inside = f .1; follows = f .2 }
 
-  -- Nothing but a sign is one of the three.
+  -- Another sign is none of the three.
   module _ (x y z : ℕ) where
-    pub not-name : (a e : ℕ) → FrontIs rest at (Name a e) → (a ≤ length rest) × ((from : ℕ) → Stops (one-of x y z) (from + a) (tokens-in from rest at))
-    unfolding one-of
-    not-name a e f = (omega (arith, f .1, f .2), λ from. rw (f .4 from) (refl, refl))
-
-    pub not-writer : (a e : ℕ) → FrontIs rest at (Writer a e) → (a ≤ length rest) × ((from : ℕ) → Stops (one-of x y z) (from + a) (tokens-in from rest at))
-    unfolding one-of
-    not-writer a e f = (omega (arith, f .1, f .2), λ from. rw (f .4 from) (refl, refl))
-
-    pub not-reader : (a e : ℕ) → FrontIs rest at (Reader a e) → (a ≤ length rest) × ((from : ℕ) → Stops (one-of x y z) (from + a) (tokens-in from rest at))
-    unfolding one-of
-    not-reader a e f = (omega (arith, f .1, f .2), λ from. rw (f .4 from) (refl, refl))
-
-    pub not-integer : (w a e : ℕ) → FrontIs rest at (Integer w a e) → (a ≤ length rest) × ((from : ℕ) → Stops (one-of x y z) (from + a) (tokens-in from rest at))
-    unfolding one-of
-    not-integer w a e f = (omega (arith, f .1, f .2), λ from. rw (f .6 from) (refl, refl))
-
     pub not-sign : (b a : ℕ) → FrontIs rest at (Sign b a) → eqb b x ≡ false → eqb b y ≡ false → eqb b z ≡ false
         → (a ≤ length rest) × ((from : ℕ) → Stops (one-of x y z) (from + a) (tokens-in from rest at))
     unfolding one-of
     not-sign b a f p q r = (omega (arith, behind-past b a, f .1), λ from. rw (f .2 from) (refl, rw (p, q, r)))
-
-    pub not-bad : (a : ℕ) → FrontIs rest at (Bad a) → (a ≤ length rest) × ((from : ℕ) → Stops (one-of x y z) (from + a) (tokens-in from rest at))
-    unfolding one-of
-    not-bad a f = (omega (arith, f .1), λ from. rw (f .2 from .1) (refl, refl))
-
-    pub not-end : FrontIs rest at End → (length rest ≤ length rest) × ((from : ℕ) → Stops (one-of x y z) (from + length rest) (tokens-in from rest at))
-    not-end f = (omega arith, λ from. rw (f from))
 
   -- What can begin a term.
   pub name-starts : (a e : ℕ) → FrontIs rest at (Name a e) → (from : ℕ) → Goes begins-term (tokens-in from rest at)

@@ -6,6 +6,7 @@ pub mod Ends
 pub mod InFront
 pub mod Integers
 pub mod Leads
+pub mod NoSigns
 pub mod Parts
 pub mod Signs
 pub mod Spelled

@@ -1,7 +1,8 @@
 -- The tokens of a part of the text by offsets: what stands in front at an offset decides where they go on.
 -- `tokens-from` counts down the bytes of a token; here they are dropped at once.
 use Prim.Native.Nat.{ℕ, zero, suc, _+_, _≤_, _<_}
-use mathlib.Core.Path.{_≡_, ap, _∙_}
+use mathlib.Core.Path.{_≡_, refl, ap, _∙_}
+use mathlib.Core.Bool.{false}
 use mathlib.Core.List.{[], _∷_}
 use native.Mathlib.Nat.{add-zero}
 use native.Mathlib.Omega.{arith}
@@ -10,6 +11,7 @@ use lib.Seq.{drop-drop, drop-length}
 use Rattle.meaning.specs.Bytes.{Bytes}
 use Rattle.meaning.specs.Tokens.{Token, Tokens, ends, bad, Front, blank, front, placed, tokens-from}
 use Rattle.tokens.specs.Fronts.{tokens-in, FrontIs}
+use Rattle.tokens.specs.Nexts.{one-of, Stops}
 use Rattle.tokens.specs.declared.token.Token.{Token as Code}
 use Rattle.tokens.specs.declared.token.Token.the-variants.{End, Name, Writer, Reader, Integer as AnInteger, Sign, Bad}
 use Rattle.tokens.proofs.Parts.{drop-next}
@@ -54,6 +56,12 @@ module _ (rest : Bytes) (a : ℕ) (h : a < length rest) where
   unfolding placed
   bad-in-front n e =
       (omega arith, h, λ from. (tokens-from (from + a + 1) n (drop (a + 1) rest), tokens-front from ∙ rw e))
+
+  -- The tokens stop at a token that is none of three signs.
+  pub stops-in-front : (x y z n : ℕ) (t : Token) → front (getD rest a 0) (drop (a + 1) rest) ≡ Front.token n t → one-of x y z t ≡ false
+      → (from : ℕ) → Stops (one-of x y z) (from + a) (tokens-in from rest a)
+  unfolding placed
+  stops-in-front x y z n t e f from = rw (tokens-front from, e) (refl, f)
 
 -- What stands in front at a later offset, behind bytes between tokens, stands in front here.
 pub from-later : (rest : Bytes) (at a : ℕ) (r : Code) → at ≤ a → ((from : ℕ) → tokens-in from rest at ≡ tokens-in from rest a) → FrontIs rest a r → FrontIs rest at r

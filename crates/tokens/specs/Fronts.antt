@@ -1,13 +1,13 @@
 -- The token in front, as the code has it and as document 01 has it.
 use Prim.Native.Nat.{ℕ, _+_, _-_, _≤_, _<_}
 use mathlib.Core.Path.{_≡_}
-use mathlib.Core.Bool.{Bool, true, false, _||_}
+use mathlib.Core.Bool.{Bool, true, false, _&&_, _||_}
 use lib.Dec.{eqb}
 use lib.ListN.{length, drop}
 use lib.Seq.{slice}
 use Rattle.meaning.specs.Bytes.{Bytes, byte, if_then_else_}
 use Rattle.meaning.specs.Terms.{Half, writer, reader, Integer, plus, minus}
-use Rattle.meaning.specs.Tokens.{Tokens, ends, token, name, variable, integer, sign, bad, tokens-from}
+use Rattle.meaning.specs.Tokens.{Tokens, ends, token, name, variable, integer, sign, bad, single-sign, next-is, tokens-from}
 use Rattle.tokens.specs.declared.token.Token.{Token}
 use Rattle.tokens.specs.declared.token.Token.the-variants.{End, Name, Writer, Reader, Integer as AnInteger, Sign, Bad}
 
@@ -27,6 +27,10 @@ bits (minus n) = 4294967296 - n
 -- The first byte behind a sign: `:-` and `?-` have two bytes.
 unfoldable pub behind : ℕ → ℕ → ℕ
 behind c a = if eqb c (byte ":") || eqb c (byte "?") then a + 2 else a + 1
+
+-- A byte begins a sign: one of a single byte, or of two, whose second is the next byte.
+unfoldable pub begins-sign : ℕ → Bytes → Bool
+begins-sign c cs = single-sign c || (eqb c (byte ":") || eqb c (byte "?")) && next-is (λ d. eqb d (byte "-")) cs
 
 -- What the code's answer says of the tokens of the rest from a place on, wherever in the text the rest begins.
 abbrev pub FrontIs : Bytes → ℕ → Token → Type 0

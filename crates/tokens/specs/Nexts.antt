@@ -7,9 +7,12 @@ use lib.ListN.{length}
 use Rattle.meaning.specs.Bytes.{Bytes}
 use Rattle.meaning.specs.Tokens.{Token, Tokens, ends, token, name, variable, integer, sign, bad}
 use Rattle.meaning.specs.Items.{begins-term}
-use Rattle.tokens.specs.Fronts.{tokens-in}
+use Rattle.tokens.specs.Fronts.{tokens-in, FrontIs}
 use Rattle.tokens.specs.declared.next.Start.{Start}
 use Rattle.tokens.specs.declared.next.Start.the-variants.{Can, Cannot}
+use Rattle.tokens.specs.declared.token.Token.the-variants as tokens
+use Rattle.tokens.specs.declared.next.Mark.{Mark}
+use Rattle.tokens.specs.declared.next.Mark.the-variants.{Sign, NoSign}
 use Rattle.tokens.specs.declared.next.Next.{Next}
 use Rattle.tokens.specs.declared.next.Next.the-variants.{First, Second, Third, Other}
 
@@ -41,6 +44,10 @@ pub record SignAt (rest : Bytes) (at x behind : ℕ) : Type 0 where
 abbrev pub StartIs : Bytes → ℕ → Start → Type 0
 StartIs rest at Can = (from : ℕ) → Goes begins-term (tokens-in from rest at)
 StartIs rest at (Cannot a) = (a ≤ length rest) × ((from : ℕ) → Stops begins-term (from + a) (tokens-in from rest at))
+
+abbrev pub MarkIs : Bytes → ℕ → Mark → Type 0
+MarkIs rest at (Sign c a) = FrontIs rest at (tokens.Sign c a)
+MarkIs rest at (NoSign a) = (a ≤ length rest) × ((x y z from : ℕ) → Stops (one-of x y z) (from + a) (tokens-in from rest at))
 
 abbrev pub NextIs : Bytes → ℕ → ℕ → ℕ → ℕ → Next → Type 0
 NextIs rest at x y z (First behind) = SignAt rest at x behind

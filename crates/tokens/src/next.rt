@@ -1,10 +1,12 @@
 // What comes next, as the readers of terms and items ask for it: whether it can begin a term, and which of some signs it is.
 use crate::token::Token;
+use crate::token::begins_sign;
 use crate::token::behind_sign;
 use crate::token::front;
+use crate::token::skip;
 ghost use Prim.Native.Nat.{_≤_};
 ghost use lib.ListN.{length};
-ghost use Rattle.tokens.specs.Nexts.{StartIs, NextIs};
+ghost use Rattle.tokens.specs.Nexts.{StartIs, MarkIs, NextIs};
 
 // Whether the next token can begin a term, or where the one stands that cannot.
 pub enum Start {
@@ -33,6 +35,28 @@ pub fn starts(rest: &[u8], at: usize) -> Start
     }
 }
 
+// The sign that comes next, and where; or where the token stands that is none.
+pub enum Mark {
+    Sign(u8, usize),
+    NoSign(usize),
+}
+
+// No run is read through: its first byte tells that it is no sign.
+fn ahead(rest: &[u8], at: usize) -> Mark
+    requires { ⌜ at ≤ length (now rest) ⌝ }
+    ensures { λ r. ⌜ MarkIs (now (rest .entry)) at r ⌝ }
+{
+    let a = skip(rest, at);
+    if rest.len() <= a {
+        return Mark::NoSign(a);
+    }
+    let c = rest[a];
+    if begins_sign(rest, a, c) {
+        return Mark::Sign(c, a);
+    }
+    Mark::NoSign(a)
+}
+
 // Which of three signs comes next, with the first place behind it; or where the token stands that is none of them.
 pub enum Next {
     First(usize),
@@ -45,12 +69,8 @@ pub fn next_of(rest: &[u8], at: usize, first: u8, second: u8, third: u8) -> Next
     requires { ⌜ at ≤ length (now rest) ⌝ }
     ensures { λ r. ⌜ NextIs (now (rest .entry)) at first second third r ⌝ }
 {
-    match front(rest, at) {
-        Token::Name(a, _) => Next::Other(a),
-        Token::Writer(a, _) => Next::Other(a),
-        Token::Reader(a, _) => Next::Other(a),
-        Token::Integer(_, a, _) => Next::Other(a),
-        Token::Sign(c, a) => {
+    match ahead(rest, at) {
+        Mark::Sign(c, a) => {
             if c == first {
                 return Next::First(behind_sign(c, a));
             }
@@ -62,7 +82,6 @@ pub fn next_of(rest: &[u8], at: usize, first: u8, second: u8, third: u8) -> Next
             }
             Next::Other(a)
         }
-        Token::Bad(a) => Next::Other(a),
-        Token::End => Next::Other(rest.len()),
+        Mark::NoSign(a) => Next::Other(a),
     }
 }

@@ -4,13 +4,13 @@ ghost use mathlib.Core.Path.{_≡_};
 ghost use mathlib.Core.Bool.{true, _||_};
 ghost use Prim.Native.Nat.{_+_, _-_, _≤_, _<_};
 ghost use lib.Dec.{leb, eqb};
-ghost use lib.ListN.{length, getD};
+ghost use lib.ListN.{length, drop, getD};
 ghost use lib.Seq.{slice};
 ghost use Rattle.meaning.specs.Bytes.{byte, if_then_else_, all};
-ghost use Rattle.meaning.specs.Tokens.{value};
+ghost use Rattle.meaning.specs.Tokens.{value, next-is};
 ghost use Rattle.meaning.specs.Tokens as tokens;
 ghost use Rattle.tokens.specs.Ends.{Skipped, in-run, end-of-run, end-of-remark};
-ghost use Rattle.tokens.specs.Fronts.{FrontIs, behind};
+ghost use Rattle.tokens.specs.Fronts.{FrontIs, begins-sign, behind};
 
 // What stands in front, with where it begins and where it ends; of a reader the `?` is not counted in its end.
 pub enum Token {
@@ -61,11 +61,14 @@ fn separates(c: u8) -> bool
     }
 }
 
-// Letters, digits and `_`.
+// Letters, digits and `_`; most are lowercase letters, so these are asked for first.
 fn in_run(c: u8) -> bool
     ensures { λ r. ⌜ r ≡ in-run c ⌝ }
 {
-    lowercase(c) | uppercase(c) | digit(c) | (c == b'_')
+    if lowercase(c) {
+        return true;
+    }
+    uppercase(c) | digit(c) | (c == b'_')
 }
 
 // The signs of a single byte.
@@ -111,7 +114,7 @@ fn remark_end(rest: &[u8], at: usize) -> usize
 }
 
 // The first byte that is neither a separator nor in a remark, or the end of the text.
-fn skip(rest: &[u8], at: usize) -> usize
+pub fn skip(rest: &[u8], at: usize) -> usize
     requires { ⌜ at ≤ length (now rest) ⌝ }
     ensures { λ r. ⌜ Skipped (now (rest .entry)) at r ⌝ }
 {
@@ -232,18 +235,29 @@ fn variable(rest: &[u8], a: usize, e: usize) -> Token
     Token::Writer(a, e)
 }
 
-// A sign of two bytes, `:-` or `?-`.
-fn double_sign(rest: &[u8], a: usize, c: u8) -> Token
-    requires { ⌜ (a < length (now rest)) × (getD (now rest) a 0 ≡ c) × ((eqb c (byte ":") || eqb c (byte "?")) ≡ true) ⌝ }
-    ensures { λ r. ⌜ FrontIs (now (rest .entry)) a r ⌝ }
+// Whether a `-` stands right behind a byte.
+fn dashed(rest: &[u8], a: usize) -> bool
+    requires { ⌜ a < length (now rest) ⌝ }
+    ensures { λ r. ⌜ r ≡ next-is (λ d. eqb d (byte "-")) (drop (a + 1) (now (rest .entry))) ⌝ }
 {
     if rest.len() <= a + 1 {
-        return Token::Bad(a);
+        return false;
     }
-    if rest[a + 1] == b'-' {
-        return Token::Sign(c, a);
+    rest[a + 1] == b'-'
+}
+
+// Whether a byte begins a sign: one of a single byte, or `:-` or `?-`.
+pub fn begins_sign(rest: &[u8], a: usize, c: u8) -> bool
+    requires { ⌜ a < length (now rest) ⌝ }
+    ensures { λ r. ⌜ r ≡ begins-sign c (drop (a + 1) (now (rest .entry))) ⌝ }
+{
+    if single_sign(c) {
+        return true;
     }
-    Token::Bad(a)
+    if begins_double(c) {
+        return dashed(rest, a);
+    }
+    false
 }
 
 // A `-`: an integer's where a digit stands right behind it, or bad.
@@ -261,6 +275,23 @@ fn minus(rest: &[u8], a: usize) -> Token
     Token::Bad(a)
 }
 
+// A run, by its first byte: a name, a variable or an integer; one led by `_` is bad.
+fn led(rest: &[u8], a: usize, e: usize, c: u8) -> Token
+    requires { ⌜ (a < length (now rest)) × (e ≡ end-of-run (now rest) (a + 1)) × (getD (now rest) a 0 ≡ c) × (in-run c ≡ true) ⌝ }
+    ensures { λ r. ⌜ FrontIs (now (rest .entry)) a r ⌝ }
+{
+    if lowercase(c) {
+        return name(a, e);
+    }
+    if uppercase(c) {
+        return variable(rest, a, e);
+    }
+    if digit(c) {
+        return unsigned(rest, a, e);
+    }
+    Token::Bad(a)
+}
+
 // The first token at or behind an offset.
 pub fn front(rest: &[u8], at: usize) -> Token
     requires { ⌜ at ≤ length (now rest) ⌝ }
@@ -271,26 +302,15 @@ pub fn front(rest: &[u8], at: usize) -> Token
         return Token::End;
     }
     let c = rest[a];
-    if lowercase(c) {
-        let e = run_end(rest, a + 1);
-        return name(a, e);
+    if begins_sign(rest, a, c) {
+        return Token::Sign(c, a);
     }
-    if uppercase(c) {
+    if in_run(c) {
         let e = run_end(rest, a + 1);
-        return variable(rest, a, e);
-    }
-    if digit(c) {
-        let e = run_end(rest, a + 1);
-        return unsigned(rest, a, e);
+        return led(rest, a, e, c);
     }
     if c == b'-' {
         return minus(rest, a);
-    }
-    if begins_double(c) {
-        return double_sign(rest, a, c);
-    }
-    if single_sign(c) {
-        return Token::Sign(c, a);
     }
     Token::Bad(a)
 }

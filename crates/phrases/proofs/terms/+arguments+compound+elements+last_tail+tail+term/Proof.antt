@@ -23,7 +23,7 @@ use Rattle.phrases.proofs.terms.+arguments+compound+elements+last_tail+
 use Rattle.phrases.proofs.terms.+arguments+compound+elements+last_tail+tail+term.{statement}
 use Rattle.phrases.proofs.terms.+arguments+compound+elements+last_tail+tail+term.Tie.{close}
 use Rattle.phrases.proofs.terms.+arguments+compound+elements+last_tail+tail+term.Proof.Claims.{μ-arguments, arguments-at, arguments-calls, μ-compound, compound-at, compound-calls, μ-elements, elements-at, elements-calls, μ-last-tail, last-tail-at, last-tail-calls, μ-tail, tail-at, tail-calls, μ-term, term-at, term-calls}
-use Rattle.phrases.proofs.terms.+arguments+compound+elements+last_tail+tail+term.Proof.Arguments.{arguments-starts-requires, arguments-returns, arguments-returns-2, arguments-term-requires, arguments-store-argument-requires, arguments-next-of-requires, arguments-add-arguments, arguments-arguments-requires, arguments-add-word, arguments-same-length, arguments-returns-3, arguments-returns-4, arguments-returns-5, arguments-returns-6, arguments-returns-7, arguments-returns-8}
+use Rattle.phrases.proofs.terms.+arguments+compound+elements+last_tail+tail+term.Proof.Arguments.{arguments-Inv-loop, arguments-μ-loop, arguments-loop-holds, arguments-term-requires, arguments-store-argument-requires, arguments-add-i, arguments-next-of-requires, arguments-loop-less, arguments-loop-again, arguments-same-length, arguments-same-length-2, arguments-same-length-3, arguments-returns, arguments-same-length-4, arguments-same-length-5, arguments-same-length-6, arguments-returns-2, arguments-same-length-7, arguments-same-length-8, arguments-same-length-9, arguments-returns-3, arguments-same-length-10, arguments-same-length-11, arguments-same-length-12, arguments-returns-4, arguments-same-length-13, arguments-same-length-14, arguments-same-length-15, arguments-returns-5, arguments-starts-requires, arguments-same-length-16, arguments-same-length-17, arguments-same-length-18, arguments-returns-6, arguments-same-length-19, arguments-same-length-20, arguments-same-length-21, arguments-returns-7}
 use Rattle.phrases.proofs.terms.+arguments+compound+elements+last_tail+tail+term.Proof.Compound.{compound-returns, compound-add-t17, compound-arguments-requires, compound-functor-requires, compound-store-functor-requires, compound-compound-word-requires, compound-returns-2, compound-returns-3, compound-returns-4}
 use Rattle.phrases.proofs.terms.+arguments+compound+elements+last_tail+tail+term.Proof.Elements.{elements-starts-requires, elements-returns, elements-returns-2, elements-add-t23, elements-term-requires, elements-store-argument-requires, elements-tail-requires, elements-store-argument-requires-2, elements-store-functor-requires, elements-compound-word-requires, elements-same-length, elements-same-length-2, elements-same-length-3, elements-returns-3, elements-returns-4, elements-returns-5, elements-returns-6, elements-returns-7}
 use Rattle.phrases.proofs.terms.+arguments+compound+elements+last_tail+tail+term.Proof.Tails.{tail-next-of-requires, tail-elements-requires, tail-last-tail-requires, tail-returns, tail-returns-2, tail-returns-3, tail-returns-4, last-tail-term-requires, last-tail-next-of-requires, last-tail-returns, last-tail-returns-2, last-tail-returns-3, last-tail-returns-4, last-tail-returns-5}
@@ -32,8 +32,8 @@ use Rattle.phrases.proofs.terms.+arguments+compound+elements+last_tail+
 pub +arguments+compound+elements+last-tail+tail+term-spec : {M : Type 1} → statement M
 +arguments+compound+elements+last-tail+tail+term-spec =
     close μ-arguments μ-compound μ-elements μ-last-tail μ-tail μ-term
-    (λ t. arguments-lts.spec (arguments-calls t) (arguments-at t) arguments.Post
-    (arguments-starts-requires t) (λ c. search needs) (λ c. search needs) (arguments-returns t) (arguments-returns-2 t) (arguments-term-requires t) (λ c. search needs) (arguments-store-argument-requires t) (arguments-next-of-requires t) (λ c. search needs) (arguments-add-arguments t) (arguments-arguments-requires t) (λ c. search needs) (arguments-add-word t) (λ c κs. search needs) (λ c. search needs) (λ c. search needs) (λ c. search needs) (λ c. search needs) (arguments-same-length t) (λ c. search needs) (λ c. search needs) (arguments-returns-3 t) (λ c. search needs) (λ c. search needs) (λ c. search needs) (arguments-returns-4 t) (λ c. search needs) (λ c. search needs) (λ c. search needs) (arguments-returns-5 t) (λ c. search needs) (λ c. search needs) (λ c. search needs) (arguments-returns-6 t) (λ c. search needs) (λ c. search needs) (λ c. search needs) (arguments-returns-7 t) (λ c. search needs) (λ c. search needs) (λ c. search needs) (arguments-returns-8 t))
+    (λ t. arguments-lts.spec (arguments-calls t) (arguments-at t) arguments.Post arguments-Inv-loop arguments-μ-loop
+    (arguments-loop-holds t) (arguments-term-requires t) (λ c. search needs) (arguments-store-argument-requires t) (arguments-add-i t) (arguments-next-of-requires t) (λ c. search needs) (arguments-loop-less t) (arguments-loop-again t) (λ c. search needs) (λ c κs. search needs) (arguments-same-length t) (arguments-same-length-2 t) (arguments-same-length-3 t) (arguments-returns t) (λ c. search needs) (arguments-same-length-4 t) (arguments-same-length-5 t) (arguments-same-length-6 t) (arguments-returns-2 t) (λ c. search needs) (arguments-same-length-7 t) (arguments-same-length-8 t) (arguments-same-length-9 t) (arguments-returns-3 t) (λ c. search needs) (arguments-same-length-10 t) (arguments-same-length-11 t) (arguments-same-length-12 t) (arguments-returns-4 t) (λ c. search needs) (arguments-same-length-13 t) (arguments-same-length-14 t) (arguments-same-length-15 t) (arguments-returns-5 t) (arguments-starts-requires t) (λ c. search needs) (λ c. search needs) (arguments-same-length-16 t) (arguments-same-length-17 t) (arguments-same-length-18 t) (arguments-returns-6 t) (arguments-same-length-19 t) (arguments-same-length-20 t) (arguments-same-length-21 t) (arguments-returns-7 t))
     (λ t. compound-lts.spec (compound-calls t) (compound-at t) compound.Post
     (compound-returns t) (compound-add-t17 t) (compound-arguments-requires t) (λ c. search needs) (compound-functor-requires t) (compound-store-functor-requires t) (compound-compound-word-requires t) (λ c. search needs) (λ c. search needs) (λ c. search needs) (λ c. search needs) (λ c. search needs) (compound-returns-2 t) (λ c. search needs) (λ c. search needs) (λ c. search needs) (compound-returns-3 t) (λ c. search needs) (λ c. search needs) (λ c. search needs) (compound-returns-4 t))
     (λ t. elements-lts.spec (elements-calls t) (elements-at t) elements.Post

@@ -2,95 +2,55 @@
 use native.Mathlib.Omega.{arith}
 use borrow.Author.Tests.{ne-eqb}
 use Rattle.tokens.specs.Fronts.{FrontIs}
+use Rattle.tokens.specs.Nexts.{MarkIs}
 use Rattle.tokens.specs.declared.token.Token.the-variants.{Sign}
-use Rattle.tokens.proofs.InFront.{
-  behind-past,
-  next-sign,
-  differs,
-  not-name,
-  not-writer,
-  not-reader,
-  not-integer,
-  not-sign,
-  not-bad,
-  not-end,
-}
+use Rattle.tokens.specs.declared.next.Mark.the-variants.{NoSign}
+use Rattle.tokens.proofs.InFront.{behind-past, next-sign, differs, not-sign}
 use borrow.Author.Needs.{needs}
 use Rattle.tokens.proofs.next.next_of.Statement.{statement}
 use Rattle.tokens.proofs.next.next_of.Tie as tie
 
-front-requires : tie.Need-front-requires
-front-requires c κs = search needs
-
-enum-known-a : tie.Need-enum-known-a
-enum-known-a c = search needs
-
-enum-known-a-2 : tie.Need-enum-known-a-2
-enum-known-a-2 c = search needs
-
-enum-known-a-3 : tie.Need-enum-known-a-3
-enum-known-a-3 c = search needs
-
-enum-known-a-4 : tie.Need-enum-known-a-4
-enum-known-a-4 c = search needs
+ahead-requires : tie.Need-ahead-requires
+ahead-requires c κs = search needs
 
 enum-known-c : tie.Need-enum-known-c
 enum-known-c c = search needs
 
 behind-sign-requires : tie.Need-behind-sign-requires
-behind-sign-requires c κs = let g = c .before .before .c .given in let a = c .before .before .before .before .before .before .args in let f : FrontIs (a .rest .now) (a .at) (Sign (g .0 .0) (g .0 .1 .0)) = rw (g .1) at (c .before .before .before .before .front .ensures) in omega (arith, f .1, behind-past (g .0 .0) (g .0 .1 .0))
+behind-sign-requires c κs = let g = c .before .before .c .given in let a = c .before .before .before .before .before .before .args in let f : FrontIs (a .rest .now) (a .at) (Sign (g .0 .0) (g .0 .1 .0)) = rw (g .1) at (c .before .before .before .before .ahead .ensures) in omega (arith, f .1, behind-past (g .0 .0) (g .0 .1 .0))
 
 returns : tie.Need-returns
-returns c = let g = c .before .before .before .c .given in let a = c .before .before .before .before .before .before .before .args in next-sign (a .rest .now) (a .at) (g .0 .0) (g .0 .1 .0) (a .first) (c .behind-sign .result) (rw (g .1) at (c .before .before .before .before .before .front .ensures)) (c .before .if1 .taken) (c .behind-sign .ensures)
+returns c = let g = c .before .before .before .c .given in let a = c .before .before .before .before .before .before .before .args in next-sign (a .rest .now) (a .at) (g .0 .0) (g .0 .1 .0) (a .first) (c .behind-sign .result) (rw (g .1) at (c .before .before .before .before .before .ahead .ensures)) (c .before .if1 .taken) (c .behind-sign .ensures)
 
 behind-sign-requires-2 : tie.Need-behind-sign-requires-2
-behind-sign-requires-2 c κs = let g = c .before .before .before .c .given in let a = c .before .before .before .before .before .before .before .args in let f : FrontIs (a .rest .now) (a .at) (Sign (g .0 .0) (g .0 .1 .0)) = rw (g .1) at (c .before .before .before .before .before .front .ensures) in omega (arith, f .1, behind-past (g .0 .0) (g .0 .1 .0))
+behind-sign-requires-2 c κs = let g = c .before .before .before .c .given in let a = c .before .before .before .before .before .before .before .args in let f : FrontIs (a .rest .now) (a .at) (Sign (g .0 .0) (g .0 .1 .0)) = rw (g .1) at (c .before .before .before .before .before .ahead .ensures) in omega (arith, f .1, behind-past (g .0 .0) (g .0 .1 .0))
 
 returns-2 : tie.Need-returns-2
-returns-2 c = let g = c .before .before .before .before .c .given in let a = c .before .before .before .before .before .before .before .before .args in (differs (g .0 .0) (a .second) (a .first) (c .before .if2 .taken) (c .before .before .if1 .left), next-sign (a .rest .now) (a .at) (g .0 .0) (g .0 .1 .0) (a .second) (c .behind-sign2 .result) (rw (g .1) at (c .before .before .before .before .before .before .front .ensures)) (c .before .if2 .taken) (c .behind-sign2 .ensures))
+returns-2 c = let g = c .before .before .before .before .c .given in let a = c .before .before .before .before .before .before .before .before .args in (differs (g .0 .0) (a .second) (a .first) (c .before .if2 .taken) (c .before .before .if1 .left), next-sign (a .rest .now) (a .at) (g .0 .0) (g .0 .1 .0) (a .second) (c .behind-sign2 .result) (rw (g .1) at (c .before .before .before .before .before .before .ahead .ensures)) (c .before .if2 .taken) (c .behind-sign2 .ensures))
 
 behind-sign-requires-3 : tie.Need-behind-sign-requires-3
-behind-sign-requires-3 c κs = let g = c .before .before .before .before .c .given in let a = c .before .before .before .before .before .before .before .before .args in let f : FrontIs (a .rest .now) (a .at) (Sign (g .0 .0) (g .0 .1 .0)) = rw (g .1) at (c .before .before .before .before .before .before .front .ensures) in omega (arith, f .1, behind-past (g .0 .0) (g .0 .1 .0))
+behind-sign-requires-3 c κs = let g = c .before .before .before .before .c .given in let a = c .before .before .before .before .before .before .before .before .args in let f : FrontIs (a .rest .now) (a .at) (Sign (g .0 .0) (g .0 .1 .0)) = rw (g .1) at (c .before .before .before .before .before .before .ahead .ensures) in omega (arith, f .1, behind-past (g .0 .0) (g .0 .1 .0))
 
 returns-3 : tie.Need-returns-3
-returns-3 c = let g = c .before .before .before .before .before .c .given in let a = c .before .before .before .before .before .before .before .before .before .args in (differs (g .0 .0) (a .third) (a .first) (c .before .if3 .taken) (c .before .before .before .if1 .left), differs (g .0 .0) (a .third) (a .second) (c .before .if3 .taken) (c .before .before .if2 .left), next-sign (a .rest .now) (a .at) (g .0 .0) (g .0 .1 .0) (a .third) (c .behind-sign3 .result) (rw (g .1) at (c .before .before .before .before .before .before .before .front .ensures)) (c .before .if3 .taken) (c .behind-sign3 .ensures))
+returns-3 c = let g = c .before .before .before .before .before .c .given in let a = c .before .before .before .before .before .before .before .before .before .args in (differs (g .0 .0) (a .third) (a .first) (c .before .if3 .taken) (c .before .before .before .if1 .left), differs (g .0 .0) (a .third) (a .second) (c .before .if3 .taken) (c .before .before .if2 .left), next-sign (a .rest .now) (a .at) (g .0 .0) (g .0 .1 .0) (a .third) (c .behind-sign3 .result) (rw (g .1) at (c .before .before .before .before .before .before .before .ahead .ensures)) (c .before .if3 .taken) (c .behind-sign3 .ensures))
 
-enum-known-a-5 : tie.Need-enum-known-a-5
-enum-known-a-5 c = search needs
-
-enum-told : tie.Need-enum-told
-enum-told c = search needs
+enum-known-a : tie.Need-enum-known-a
+enum-known-a c = search needs
 
 returns-4 : tie.Need-returns-4
-returns-4 c = let a = c .before .before .before .before .before .args in not-name (a .rest .now) (a .at) (a .first) (a .second) (a .third) (c .before .a .given .0 .0) (c .before .a .given .0 .1 .0) (rw (c .before .a .given .1) at (c .before .before .before .front .ensures))
+returns-4 c = let g = c .before .before .before .before .c .given in let a = c .before .before .before .before .before .before .before .before .args in not-sign (a .rest .now) (a .at) (a .first) (a .second) (a .third) (g .0 .0) (g .0 .1 .0) (rw (g .1) at (c .before .before .before .before .before .before .ahead .ensures)) (ne-eqb (g .0 .0) (a .first) (c .before .before .if1 .left)) (ne-eqb (g .0 .0) (a .second) (c .before .if2 .left)) (ne-eqb (g .0 .0) (a .third) (c .if3 .left))
 
 returns-5 : tie.Need-returns-5
-returns-5 c = let a = c .before .before .before .before .before .args in not-writer (a .rest .now) (a .at) (a .first) (a .second) (a .third) (c .before .a2 .given .0 .0) (c .before .a2 .given .0 .1 .0) (rw (c .before .a2 .given .1) at (c .before .before .before .front .ensures))
-
-returns-6 : tie.Need-returns-6
-returns-6 c = let a = c .before .before .before .before .before .args in not-reader (a .rest .now) (a .at) (a .first) (a .second) (a .third) (c .before .a3 .given .0 .0) (c .before .a3 .given .0 .1 .0) (rw (c .before .a3 .given .1) at (c .before .before .before .front .ensures))
-
-returns-7 : tie.Need-returns-7
-returns-7 c = let a = c .before .before .before .before .before .args in not-integer (a .rest .now) (a .at) (a .first) (a .second) (a .third) (c .before .a4 .given .0 .0) (c .before .a4 .given .0 .1 .0) (c .before .a4 .given .0 .1 .1 .0) (rw (c .before .a4 .given .1) at (c .before .before .before .front .ensures))
-
-returns-8 : tie.Need-returns-8
-returns-8 c = let g = c .before .before .before .before .c .given in let a = c .before .before .before .before .before .before .before .before .args in not-sign (a .rest .now) (a .at) (a .first) (a .second) (a .third) (g .0 .0) (g .0 .1 .0) (rw (g .1) at (c .before .before .before .before .before .before .front .ensures)) (ne-eqb (g .0 .0) (a .first) (c .before .before .if1 .left)) (ne-eqb (g .0 .0) (a .second) (c .before .if2 .left)) (ne-eqb (g .0 .0) (a .third) (c .if3 .left))
-
-returns-9 : tie.Need-returns-9
-returns-9 c = let a = c .before .before .before .before .before .args in not-bad (a .rest .now) (a .at) (a .first) (a .second) (a .third) (c .before .a5 .given .0 .0) (rw (c .before .a5 .given .1) at (c .before .before .before .front .ensures))
-
-returns-10 : tie.Need-returns-10
-returns-10 c = let a = c .before .before .before .before .args in not-end (a .rest .now) (a .at) (a .first) (a .second) (a .third) (rw (c .enum-told .given .1) at (c .before .before .front .ensures))
+returns-5 c =
+    let a = c .before .before .before .before .before .args in
+    let none : MarkIs (a .rest .now) (a .at) (NoSign (c .before .a .given .0 .0)) = rw (c .before .a .given .1) at (c .before .before .before .ahead .ensures) in
+    (none .0, none .1 (a .first) (a .second) (a .third))
 
 pub next-of-spec : {M : Type 1} → statement M
 next-of-spec =
     tie.close
     (tie.spec
-    front-requires
-    enum-known-a
-    enum-known-a-2
-    enum-known-a-3
-    enum-known-a-4
+    ahead-requires
     enum-known-c
     behind-sign-requires
     returns
@@ -98,12 +58,6 @@ next-of-spec =
     returns-2
     behind-sign-requires-3
     returns-3
-    enum-known-a-5
-    enum-told
+    enum-known-a
     returns-4
-    returns-5
-    returns-6
-    returns-7
-    returns-8
-    returns-9
-    returns-10)
+    returns-5)

@@ -1,188 +1,333 @@
--- `arguments` in the cycle that reads a term: each arm is one lemma on an argument and those behind it.
-use Prim.Native.Nat.{_-_}
-use mathlib.Core.Path.{_∙_}
+-- `arguments` in the cycle that reads a term. Some arguments have been read, and whatever the others answer is the answer of all; each arm is one
+-- lemma on an argument, and what is left of the six falls.
+use Prim.Native.Nat.{ℕ, _-_, _≤_}
+use mathlib.Core.Path.{_≡_, refl, _∙_}
+use mathlib.Core.List.{List}
 use native.Mathlib.Omega.{arith}
-use Rattle.meaning.specs.Items.{term as term-reader}
-use Rattle.term.proofs.Cells.{numbered-order}
-use Rattle.tables.specs.Places.{names-over, variables-over}
-use Rattle.tokens.proofs.InFront.{eqb-same}
-use Rattle.openings.proofs.Moves.{stands-moved}
+use lib.ListN.{length}
+use Rattle.meaning.specs.Items.{term as term-reader, arguments as arguments-reader}
+use Rattle.tables.specs.Places.{Place}
+use Rattle.openings.specs.Reading.{Stands, ArgumentsAre}
+use Rattle.openings.specs.declared.cursor.Read.the-variants.{Got, Malformed, Passed}
+use Rattle.openings.proofs.Expected.{never}
 use Rattle.openings.proofs.Given.{gave-only}
-use Rattle.phrases.proofs.Arguments.{argument-malformed, argument-passed, argument-only, argument-stop, argument-last, argument-more, seventh-passed, seventh-malformed}
-use Prim.Native.Nat.{ℕ}
+use Rattle.openings.proofs.Moves.{moved-to}
+use Rattle.phrases.proofs.Arguments.{argument-malformed, argument-passed, argument-stop, argument-last, seventh-passed, seventh-malformed}
+use Rattle.phrases.proofs.Reached.{Reached, reached-none, reached-more}
 use borrow.Fn.PlainCycle.{is, and}
 use Rattle.phrases.proofs.terms.arguments.Reads as arguments
 use Rattle.phrases.proofs.terms.+arguments+compound+elements+last_tail+tail+term.Lts-arguments as arguments-lts
 use Rattle.phrases.proofs.terms.+arguments+compound+elements+last_tail+tail+term.Proof.Claims.{arguments-at, arguments-calls}
 
-pub arguments-starts-requires : (t : ℕ) → arguments-lts.Need-starts-requires (arguments-calls t) (arguments-at t) arguments.Post
-arguments-starts-requires t c κs =
-    let entry = c .before .before .before .before .before .before in
-    entry .pre .1 .1 .2 .inside
+abbrev pub arguments-Inv-loop : arguments-lts.InvT-loop
+arguments-Inv-loop text rest from s₀ names₀ item₀ base left n d₀ i₀ s names item d i =
+    ((known : List Place) (vars : List Place) → Stands text rest from names₀ item₀ d₀ known vars → Reached (term-reader left) n i text rest from base known vars d₀ s₀ item₀ d s names item)
+    × (i ≤ 6)
+    × (length s ≡ length s₀)
+    × (length names ≡ length names₀)
+    × (length item ≡ length item₀)
 
-pub arguments-returns : (t : ℕ) → arguments-lts.Need-returns (arguments-calls t) (arguments-at t) arguments.Post
-arguments-returns t c known vars stands =
-    let entry = c .before .before .before .before .before .before .before .before .before in
-    let test = c .before .before .before .if1 in
-    let told = c .enum-told in
-    let started = c .before .before .starts in
+abbrev pub arguments-μ-loop : arguments-lts.MeasureT-loop
+arguments-μ-loop text rest from s₀ names₀ item₀ base left n d₀ i₀ s names item d i = 6 - i
+
+pub arguments-loop-holds : (t₀ : ℕ) → arguments-lts.Need-loop-holds (arguments-calls t₀) (arguments-at t₀) arguments.Post arguments-Inv-loop arguments-μ-loop
+arguments-loop-holds t₀ c =
+    let entry = c .before .before .before .before .before in
     let a = entry .args in
-    seventh-passed (a .text .now) (a .rest .now) (a .from) (a .base) known vars (a .c) (a .s .now) (a .item .now) (a .names .now) (term-reader (a .left)) (a .n) (a .i) (test .taken) (rw (told .given .1) at (started .ensures))
+    (λ known vars stands. reached-none (term-reader (a .left)) (a .n) (a .text .now) (a .rest .now) (a .from) (a .base) known vars (a .c) (a .s .now) (a .names .now) (a .item .now) stands (entry .pre .1 .0 .3), omega arith, refl, refl, refl)
 
-pub arguments-returns-2 : (t : ℕ) → arguments-lts.Need-returns-2 (arguments-calls t) (arguments-at t) arguments.Post
-arguments-returns-2 t c known vars stands =
+pub arguments-term-requires : (t₀ : ℕ) → arguments-lts.Need-term-requires (arguments-calls t₀) (arguments-at t₀) arguments.Post arguments-Inv-loop arguments-μ-loop
+arguments-term-requires t₀ c κs =
     let entry = c .before .before .before .before .before .before .before .before .before .before in
-    let stop = c .before .a in
-    let started = c .before .before .before .starts in
-    let test = c .before .before .before .before .if1 in
     let a = entry .args in
-    let g = stop .given in
-    let b = rw (g .1) at (started .ensures) in
-    seventh-malformed (a .text .now) (a .rest .now) (a .from) (a .base) known vars (a .c) (a .s .now) (a .item .now) (a .names .now) (term-reader (a .left)) (a .n) (a .i) (test .taken) (g .0 .0) (b .0) (b .1)
-
-pub arguments-term-requires : (t : ℕ) → arguments-lts.Need-term-requires (arguments-calls t) (arguments-at t) arguments.Post
-arguments-term-requires t c κs =
-    let entry = c .before .before .before .before .before .before .before .before .before in
     let p = entry .pre .1 .1 in
     let r = entry .pre .1 .0 in
-    (omega (arith, entry .pre .0), ((r .0, r .1, r .2), p))
+    let l = c .before .before .before .before .loop in
+    let t = l .inv .0 (p .0) (p .1) (p .2) in
+    (omega (arith, entry .pre .0), ((r .0, omega (arith, l .inv .2, r .1), omega (arith, l .inv .2, r .2)), (t .known₁, t .vars₁, t .stands)))
 
-pub arguments-store-argument-requires : (t : ℕ) → arguments-lts.Need-store-argument-requires (arguments-calls t) (arguments-at t) arguments.Post
-arguments-store-argument-requires t c κs =
-    let entry = c .before .before .before .before .before .before .before .before .before .before .before .before .before .before .before .before .before .before .before .before in
-    let word-got = c .before .before .w in
+pub arguments-store-argument-requires : (t₀ : ℕ) → arguments-lts.Need-store-argument-requires (arguments-calls t₀) (arguments-at t₀) arguments.Post arguments-Inv-loop arguments-μ-loop
+arguments-store-argument-requires t₀ c κs =
+    let entry = c .before .before .before .before .before .before .before .before .before .before .before .before .before .before .before .before .before .before .before .before .before in
+    let a = entry .args in
+    let p = entry .pre .1 .1 in
+    let r = entry .pre .1 .0 in
+    let l = c .before .before .before .before .before .before .before .before .before .before .before .before .before .before .before .loop in
+    let test = c .before .before .before .before .before .before .before .before .before .before .before .before .before .before .loop-test in
     let one-term = c .before .before .before .before .before .before .before .before .before .before .term in
-    let test = c .before .before .before .before .before .before .before .before .before .before .before .before .before .before .if1 in
+    let g = c .before .before .w .given in
+    let t = l .inv .0 (p .0) (p .1) (p .2) in
+    let b = rw (g .1) at (one-term .ensures (t .known₁) (t .vars₁) (t .stands)) in
+    let only = gave-only (b .2) in
+    (omega (arith, only .size, l .inv .2, r .1, t .behind, t .stands .compounds-few, test .taken), omega (arith, only .size, l .inv .2, r .2))
+
+pub arguments-add-i : (t₀ : ℕ) → arguments-lts.Need-add-i (arguments-calls t₀) (arguments-at t₀) arguments.Post arguments-Inv-loop arguments-μ-loop
+arguments-add-i t₀ c =
+    let test = c .before .before .before .before .before .before .before .before .before .before .before .before .before .before .before .before .before .loop-test in
+    omega (arith, test .taken)
+
+pub arguments-next-of-requires : (t₀ : ℕ) → arguments-lts.Need-next-of-requires (arguments-calls t₀) (arguments-at t₀) arguments.Post arguments-Inv-loop arguments-μ-loop
+arguments-next-of-requires t₀ c κs =
+    let entry = c .before .before .before .before .before .before .before .before .before .before .before .before .before .before .before .before .before .before .before .before .before .before .before .before in
     let a = entry .args in
     let p = entry .pre .1 .1 in
     let r = entry .pre .1 .0 in
-    let g = word-got .given in
-    let b = rw (g .1) at (one-term .ensures (p .0) (p .1) (p .2)) in
-    let l = gave-only (b .2) in
-    (omega (arith, l .size, r .1, r .3, p .2 .compounds-few, test .left), omega (arith, l .size, r .2))
-
-pub arguments-next-of-requires : (t : ℕ) → arguments-lts.Need-next-of-requires (arguments-calls t) (arguments-at t) arguments.Post
-arguments-next-of-requires t c κs =
-    let entry = c .before .before .before .before .before .before .before .before .before .before .before .before .before .before .before .before .before .before .before .before .before .before .before in
-    let word-got = c .before .before .before .before .before .w in
+    let l = c .before .before .before .before .before .before .before .before .before .before .before .before .before .before .before .before .before .before .loop in
     let one-term = c .before .before .before .before .before .before .before .before .before .before .before .before .before .term in
-    let p = entry .pre .1 .1 in
-    let g = word-got .given in
-    let b = rw (g .1) at (one-term .ensures (p .0) (p .1) (p .2)) in
+    let g = c .before .before .before .before .before .w .given in
+    let t = l .inv .0 (p .0) (p .1) (p .2) in
+    let b = rw (g .1) at (one-term .ensures (t .known₁) (t .vars₁) (t .stands)) in
     b .2 .stands .inside
 
-pub arguments-add-arguments : (t : ℕ) → arguments-lts.Need-add-arguments (arguments-calls t) (arguments-at t) arguments.Post
-arguments-add-arguments t c =
-    let test = c .before .before .before .before .before .before .before .before .before .before .before .before .before .before .before .before .before .before .before .before .before .before .before .before .if1 in
-    omega (arith, test .left)
+pub arguments-loop-less : (t₀ : ℕ) → arguments-lts.Need-loop-less (arguments-calls t₀) (arguments-at t₀) arguments.Post arguments-Inv-loop arguments-μ-loop
+arguments-loop-less t₀ c =
+    let test = c .before .before .before .before .before .before .before .before .before .before .before .before .before .before .before .before .before .before .before .before .before .loop-test in
+    omega (arith, test .taken)
 
-pub arguments-arguments-requires : (t : ℕ) → arguments-lts.Need-arguments-requires (arguments-calls t) (arguments-at t) arguments.Post
-arguments-arguments-requires t c κs =
-    let entry = c .before .before .before .before .before .before .before .before .before .before .before .before .before .before .before .before .before .before .before .before .before .before .before .before .before .before .before .before .before .before in
-    let word-got = c .before .before .before .before .before .before .before .before .before .before .before .before .w in
-    let one-term = c .before .before .before .before .before .before .before .before .before .before .before .before .before .before .before .before .before .before .before .before .term in
-    let sign-end = c .before .before .before .before .behind in
-    let sign-next = c .before .before .before .before .before .before .next-of in
-    let test = c .before .before .before .before .before .before .before .before .before .before .before .before .before .before .before .before .before .before .before .before .before .before .before .before .if1 in
-    let first-stored = c .before .before .before .before .before .before .before .before .before .store-argument in
+pub arguments-loop-again : (t₀ : ℕ) → arguments-lts.Need-loop-again (arguments-calls t₀) (arguments-at t₀) arguments.Post arguments-Inv-loop arguments-μ-loop
+arguments-loop-again t₀ c =
+    let entry = c .before .before .before .before .before .before .before .before .before .before .before .before .before .before .before .before .before .before .before .before .before .before .before .before .before .before .before .before in
+    let a = entry .args in
+    let l = c .before .before .before .before .before .before .before .before .before .before .before .before .before .before .before .before .before .before .before .before .before .before .loop in
+    let test = c .before .before .before .before .before .before .before .before .before .before .before .before .before .before .before .before .before .before .before .before .before .loop-test in
+    let one-term = c .before .before .before .before .before .before .before .before .before .before .before .before .before .before .before .before .before .term in
+    let g = c .before .before .before .before .before .before .before .before .before .w .given in
+    let kept = c .before .before .before .before .before .before .store-argument in
+    let sign-next = c .before .before .before .next-of in
+    let h = c .before .behind .given in (
+      (λ known vars stands.
+          let t = l .inv .0 known vars stands in
+          let b = rw (g .1) at (one-term .ensures (t .known₁) (t .vars₁) (t .stands)) in
+          let o = rw (h .1) at (sign-next .ensures) in
+          reached-more (term-reader (a .left)) (a .n) (l .i) (a .text .now) (a .rest .now) (a .from) (a .base) known vars (a .c) (a .s .now) (a .item .now) (l .d) (l .s) (l .names) (l .item) t (test .taken) (one-term .last .1 .1 .1 .0) (one-term .last .1 .1 .1 .1 .0) (one-term .last .1 .1 .1 .1 .1 .0) (kept .last .0) (g .0 .0) (g .0 .1 .0) (b .0) (b .1) (b .2) (kept .ensures) (h .0 .0) o),
+      omega (arith, test .taken),
+      kept .kept .0 ∙ one-term .kept .1 .1 .1 .0 ∙ l .inv .2,
+      one-term .kept .1 .1 .1 .1 .0 ∙ l .inv .3,
+      one-term .kept .1 .1 .1 .1 .1 .0 ∙ l .inv .4,
+    )
+
+pub arguments-same-length : (t₀ : ℕ) → arguments-lts.Need-same-length (arguments-calls t₀) (arguments-at t₀) arguments.Post arguments-Inv-loop arguments-μ-loop
+arguments-same-length t₀ c =
+    let l = c .before .before .before .before .before .before .before .before .before .before .before .before .before .before .before .before .before .before .before .before .before .before .before .loop in
+    let one-term = c .before .before .before .before .before .before .before .before .before .before .before .before .before .before .before .before .before .before .term in
+    let kept = c .before .before .before .before .before .before .before .store-argument in
+    kept .kept .0 ∙ one-term .kept .1 .1 .1 .0 ∙ l .inv .2
+
+pub arguments-same-length-2 : (t₀ : ℕ) → arguments-lts.Need-same-length-2 (arguments-calls t₀) (arguments-at t₀) arguments.Post arguments-Inv-loop arguments-μ-loop
+arguments-same-length-2 t₀ c =
+    let l = c .before .before .before .before .before .before .before .before .before .before .before .before .before .before .before .before .before .before .before .before .before .before .before .loop in
+    let one-term = c .before .before .before .before .before .before .before .before .before .before .before .before .before .before .before .before .before .before .term in
+    one-term .kept .1 .1 .1 .1 .0 ∙ l .inv .3
+
+pub arguments-same-length-3 : (t₀ : ℕ) → arguments-lts.Need-same-length-3 (arguments-calls t₀) (arguments-at t₀) arguments.Post arguments-Inv-loop arguments-μ-loop
+arguments-same-length-3 t₀ c =
+    let l = c .before .before .before .before .before .before .before .before .before .before .before .before .before .before .before .before .before .before .before .before .before .before .before .loop in
+    let one-term = c .before .before .before .before .before .before .before .before .before .before .before .before .before .before .before .before .before .before .term in
+    one-term .kept .1 .1 .1 .1 .1 .0 ∙ l .inv .4
+
+pub arguments-returns : (t₀ : ℕ) → arguments-lts.Need-returns (arguments-calls t₀) (arguments-at t₀) arguments.Post arguments-Inv-loop arguments-μ-loop
+arguments-returns t₀ c known vars stands =
+    let entry = c .before .before .before .before .before .before .before .before .before .before .before .before .before .before .before .before .before .before .before .before .before .before .before .before .before .before .before .before .before in
+    let a = entry .args in
+    let l = c .before .before .before .before .before .before .before .before .before .before .before .before .before .before .before .before .before .before .before .before .before .before .before .loop in
+    let test = c .before .before .before .before .before .before .before .before .before .before .before .before .before .before .before .before .before .before .before .before .before .before .loop-test in
+    let one-term = c .before .before .before .before .before .before .before .before .before .before .before .before .before .before .before .before .before .before .term in
+    let g = c .before .before .before .before .before .before .before .before .before .before .w .given in
+    let kept = c .before .before .before .before .before .before .before .store-argument in
+    let sign-next = c .before .before .before .before .next-of in
+    let h = c .before .before .behind2 .given in
+    let number = c .word in
+    let t = l .inv .0 known vars stands in
+    let b = rw (g .1) at (one-term .ensures (t .known₁) (t .vars₁) (t .stands)) in
+    let o = rw (h .1) at (sign-next .ensures) in
+    let last : ArgumentsAre (a .n) (l .i) (arguments-reader (term-reader (a .left)) (6 - l .i)) (a .text .now) (a .rest .now) (a .from) (a .base) (t .known₁) (t .vars₁) (l .d) (l .s) (l .item) (kept .last .0) (one-term .last .1 .1 .1 .1 .0) (one-term .last .1 .1 .1 .1 .1 .0) (Got (number .result) (moved-to (g .0 .1 .0) (h .0 .0))) = rw (number .ensures) (argument-last (a .text .now) (a .rest .now) (a .from) (a .base) (t .known₁) (t .vars₁) (l .d) (l .s) (l .item) (term-reader (a .left)) (a .n) (l .i) (test .taken) (t .behind) (one-term .last .1 .1 .1 .0) (one-term .last .1 .1 .1 .1 .0) (one-term .last .1 .1 .1 .1 .1 .0) (kept .last .0) (g .0 .0) (g .0 .1 .0) (b .0) (b .1) (b .2) (kept .ensures) (h .0 .0) (o .1)) in
+    t .answers (kept .last .0) (one-term .last .1 .1 .1 .1 .0) (one-term .last .1 .1 .1 .1 .1 .0) (Got (number .result) (moved-to (g .0 .1 .0) (h .0 .0))) last
+
+pub arguments-same-length-4 : (t₀ : ℕ) → arguments-lts.Need-same-length-4 (arguments-calls t₀) (arguments-at t₀) arguments.Post arguments-Inv-loop arguments-μ-loop
+arguments-same-length-4 t₀ c =
+    let l = c .before .before .before .before .before .before .before .before .before .before .before .before .before .before .before .before .before .before .before .before .before .before .loop in
+    let one-term = c .before .before .before .before .before .before .before .before .before .before .before .before .before .before .before .before .before .term in
+    let kept = c .before .before .before .before .before .before .store-argument in
+    kept .kept .0 ∙ one-term .kept .1 .1 .1 .0 ∙ l .inv .2
+
+pub arguments-same-length-5 : (t₀ : ℕ) → arguments-lts.Need-same-length-5 (arguments-calls t₀) (arguments-at t₀) arguments.Post arguments-Inv-loop arguments-μ-loop
+arguments-same-length-5 t₀ c =
+    let l = c .before .before .before .before .before .before .before .before .before .before .before .before .before .before .before .before .before .before .before .before .before .before .loop in
+    let one-term = c .before .before .before .before .before .before .before .before .before .before .before .before .before .before .before .before .before .term in
+    one-term .kept .1 .1 .1 .1 .0 ∙ l .inv .3
+
+pub arguments-same-length-6 : (t₀ : ℕ) → arguments-lts.Need-same-length-6 (arguments-calls t₀) (arguments-at t₀) arguments.Post arguments-Inv-loop arguments-μ-loop
+arguments-same-length-6 t₀ c =
+    let l = c .before .before .before .before .before .before .before .before .before .before .before .before .before .before .before .before .before .before .before .before .before .before .loop in
+    let one-term = c .before .before .before .before .before .before .before .before .before .before .before .before .before .before .before .before .before .term in
+    one-term .kept .1 .1 .1 .1 .1 .0 ∙ l .inv .4
+
+pub arguments-returns-2 : (t₀ : ℕ) → arguments-lts.Need-returns-2 (arguments-calls t₀) (arguments-at t₀) arguments.Post arguments-Inv-loop arguments-μ-loop
+arguments-returns-2 t₀ c known vars stands =
+    let sign-next = c .before .before .before .next-of in
+    let h = c .before .a .given in
+    let o = rw (h .1) at (sign-next .ensures) in
+    never (o .1)
+
+pub arguments-same-length-7 : (t₀ : ℕ) → arguments-lts.Need-same-length-7 (arguments-calls t₀) (arguments-at t₀) arguments.Post arguments-Inv-loop arguments-μ-loop
+arguments-same-length-7 t₀ c =
+    let l = c .before .before .before .before .before .before .before .before .before .before .before .before .before .before .before .before .before .before .before .before .before .before .loop in
+    let one-term = c .before .before .before .before .before .before .before .before .before .before .before .before .before .before .before .before .before .term in
+    let kept = c .before .before .before .before .before .before .store-argument in
+    kept .kept .0 ∙ one-term .kept .1 .1 .1 .0 ∙ l .inv .2
+
+pub arguments-same-length-8 : (t₀ : ℕ) → arguments-lts.Need-same-length-8 (arguments-calls t₀) (arguments-at t₀) arguments.Post arguments-Inv-loop arguments-μ-loop
+arguments-same-length-8 t₀ c =
+    let l = c .before .before .before .before .before .before .before .before .before .before .before .before .before .before .before .before .before .before .before .before .before .before .loop in
+    let one-term = c .before .before .before .before .before .before .before .before .before .before .before .before .before .before .before .before .before .term in
+    one-term .kept .1 .1 .1 .1 .0 ∙ l .inv .3
+
+pub arguments-same-length-9 : (t₀ : ℕ) → arguments-lts.Need-same-length-9 (arguments-calls t₀) (arguments-at t₀) arguments.Post arguments-Inv-loop arguments-μ-loop
+arguments-same-length-9 t₀ c =
+    let l = c .before .before .before .before .before .before .before .before .before .before .before .before .before .before .before .before .before .before .before .before .before .before .loop in
+    let one-term = c .before .before .before .before .before .before .before .before .before .before .before .before .before .before .before .before .before .term in
+    one-term .kept .1 .1 .1 .1 .1 .0 ∙ l .inv .4
+
+pub arguments-returns-3 : (t₀ : ℕ) → arguments-lts.Need-returns-3 (arguments-calls t₀) (arguments-at t₀) arguments.Post arguments-Inv-loop arguments-μ-loop
+arguments-returns-3 t₀ c known vars stands =
+    let entry = c .before .before .before .before .before .before .before .before .before .before .before .before .before .before .before .before .before .before .before .before .before .before .before .before .before .before .before .before in
+    let a = entry .args in
+    let l = c .before .before .before .before .before .before .before .before .before .before .before .before .before .before .before .before .before .before .before .before .before .before .loop in
+    let test = c .before .before .before .before .before .before .before .before .before .before .before .before .before .before .before .before .before .before .before .before .before .loop-test in
+    let one-term = c .before .before .before .before .before .before .before .before .before .before .before .before .before .before .before .before .before .term in
+    let g = c .before .before .before .before .before .before .before .before .before .w .given in
+    let kept = c .before .before .before .before .before .before .store-argument in
+    let sign-next = c .before .before .before .next-of in
+    let h = c .before .a2 .given in
+    let t = l .inv .0 known vars stands in
+    let b = rw (g .1) at (one-term .ensures (t .known₁) (t .vars₁) (t .stands)) in
+    let o = rw (h .1) at (sign-next .ensures) in
+    t .answers (kept .last .0) (one-term .last .1 .1 .1 .1 .0) (one-term .last .1 .1 .1 .1 .1 .0) (Malformed (h .0 .0))
+    (argument-stop (a .text .now) (a .rest .now) (a .from) (a .base) (t .known₁) (t .vars₁) (l .d) (l .s) (l .item) (term-reader (a .left)) (a .n) (l .i) (test .taken) (t .behind) (one-term .last .1 .1 .1 .0) (one-term .last .1 .1 .1 .1 .0) (one-term .last .1 .1 .1 .1 .1 .0) (kept .last .0) (g .0 .0) (g .0 .1 .0) (b .0) (b .1) (b .2) (kept .ensures) (h .0 .0) (o .0) (o .1))
+
+pub arguments-same-length-10 : (t₀ : ℕ) → arguments-lts.Need-same-length-10 (arguments-calls t₀) (arguments-at t₀) arguments.Post arguments-Inv-loop arguments-μ-loop
+arguments-same-length-10 t₀ c =
+    let l = c .before .before .before .before .before .before .before .before .before .before .before .before .before .before .loop in
+    let one-term = c .before .before .before .before .before .before .before .before .before .term in
+    one-term .kept .1 .1 .1 .0 ∙ l .inv .2
+
+pub arguments-same-length-11 : (t₀ : ℕ) → arguments-lts.Need-same-length-11 (arguments-calls t₀) (arguments-at t₀) arguments.Post arguments-Inv-loop arguments-μ-loop
+arguments-same-length-11 t₀ c =
+    let l = c .before .before .before .before .before .before .before .before .before .before .before .before .before .before .loop in
+    let one-term = c .before .before .before .before .before .before .before .before .before .term in
+    one-term .kept .1 .1 .1 .1 .0 ∙ l .inv .3
+
+pub arguments-same-length-12 : (t₀ : ℕ) → arguments-lts.Need-same-length-12 (arguments-calls t₀) (arguments-at t₀) arguments.Post arguments-Inv-loop arguments-μ-loop
+arguments-same-length-12 t₀ c =
+    let l = c .before .before .before .before .before .before .before .before .before .before .before .before .before .before .loop in
+    let one-term = c .before .before .before .before .before .before .before .before .before .term in
+    one-term .kept .1 .1 .1 .1 .1 .0 ∙ l .inv .4
+
+pub arguments-returns-4 : (t₀ : ℕ) → arguments-lts.Need-returns-4 (arguments-calls t₀) (arguments-at t₀) arguments.Post arguments-Inv-loop arguments-μ-loop
+arguments-returns-4 t₀ c known vars stands =
+    let entry = c .before .before .before .before .before .before .before .before .before .before .before .before .before .before .before .before .before .before .before .before in
+    let a = entry .args in
+    let l = c .before .before .before .before .before .before .before .before .before .before .before .before .before .before .loop in
+    let test = c .before .before .before .before .before .before .before .before .before .before .before .before .before .loop-test in
+    let one-term = c .before .before .before .before .before .before .before .before .before .term in
+    let h = c .before .a3 .given in
+    let t = l .inv .0 known vars stands in
+    let b = rw (h .1) at (one-term .ensures (t .known₁) (t .vars₁) (t .stands)) in
+    t .answers (one-term .last .1 .1 .1 .0) (one-term .last .1 .1 .1 .1 .0) (one-term .last .1 .1 .1 .1 .1 .0) (Malformed (h .0 .0)) (argument-malformed (a .text .now) (a .rest .now) (a .from) (a .base) (t .known₁) (t .vars₁) (l .d) (l .s) (l .item) (term-reader (a .left)) (a .n) (l .i) (test .taken) (h .0 .0) (one-term .last .1 .1 .1 .0) (one-term .last .1 .1 .1 .1 .0) (one-term .last .1 .1 .1 .1 .1 .0) b)
+
+pub arguments-same-length-13 : (t₀ : ℕ) → arguments-lts.Need-same-length-13 (arguments-calls t₀) (arguments-at t₀) arguments.Post arguments-Inv-loop arguments-μ-loop
+arguments-same-length-13 t₀ c =
+    let l = c .before .before .before .before .before .before .before .before .before .before .before .before .before .loop in
+    let one-term = c .before .before .before .before .before .before .before .before .term in
+    one-term .kept .1 .1 .1 .0 ∙ l .inv .2
+
+pub arguments-same-length-14 : (t₀ : ℕ) → arguments-lts.Need-same-length-14 (arguments-calls t₀) (arguments-at t₀) arguments.Post arguments-Inv-loop arguments-μ-loop
+arguments-same-length-14 t₀ c =
+    let l = c .before .before .before .before .before .before .before .before .before .before .before .before .before .loop in
+    let one-term = c .before .before .before .before .before .before .before .before .term in
+    one-term .kept .1 .1 .1 .1 .0 ∙ l .inv .3
+
+pub arguments-same-length-15 : (t₀ : ℕ) → arguments-lts.Need-same-length-15 (arguments-calls t₀) (arguments-at t₀) arguments.Post arguments-Inv-loop arguments-μ-loop
+arguments-same-length-15 t₀ c =
+    let l = c .before .before .before .before .before .before .before .before .before .before .before .before .before .loop in
+    let one-term = c .before .before .before .before .before .before .before .before .term in
+    one-term .kept .1 .1 .1 .1 .1 .0 ∙ l .inv .4
+
+pub arguments-returns-5 : (t₀ : ℕ) → arguments-lts.Need-returns-5 (arguments-calls t₀) (arguments-at t₀) arguments.Post arguments-Inv-loop arguments-μ-loop
+arguments-returns-5 t₀ c known vars stands =
+    let entry = c .before .before .before .before .before .before .before .before .before .before .before .before .before .before .before .before .before .before .before in
+    let a = entry .args in
+    let l = c .before .before .before .before .before .before .before .before .before .before .before .before .before .loop in
+    let test = c .before .before .before .before .before .before .before .before .before .before .before .before .loop-test in
+    let one-term = c .before .before .before .before .before .before .before .before .term in
+    let h = c .enum-told .given in
+    let t = l .inv .0 known vars stands in
+    let b = rw (h .1) at (one-term .ensures (t .known₁) (t .vars₁) (t .stands)) in
+    t .answers (one-term .last .1 .1 .1 .0) (one-term .last .1 .1 .1 .1 .0) (one-term .last .1 .1 .1 .1 .1 .0) Passed (argument-passed (a .text .now) (a .rest .now) (a .from) (a .base) (t .known₁) (t .vars₁) (l .d) (l .s) (l .item) (term-reader (a .left)) (a .n) (l .i) (test .taken) (one-term .last .1 .1 .1 .0) (one-term .last .1 .1 .1 .1 .0) (one-term .last .1 .1 .1 .1 .1 .0) b)
+
+pub arguments-starts-requires : (t₀ : ℕ) → arguments-lts.Need-starts-requires (arguments-calls t₀) (arguments-at t₀) arguments.Post arguments-Inv-loop arguments-μ-loop
+arguments-starts-requires t₀ c κs =
+    let entry = c .before .before .before .before .before .before .before in
     let a = entry .args in
     let p = entry .pre .1 .1 in
     let r = entry .pre .1 .0 in
-    let g = word-got .given in
-    let b = rw (g .1) at (one-term .ensures (p .0) (p .1) (p .2)) in
-    let o = rw (sign-end .given .1) at (sign-next .ensures) in
-    let l = argument-only (a .text .now) (a .rest .now) (a .from) (a .base) (p .0) (p .1) (a .c) (a .s .now) (a .item .now) (term-reader (a .left)) (a .n) (a .i) (test .left) (r .3) (one-term .last .1 .1 .1 .0) (one-term .last .1 .1 .1 .1 .0) (one-term .last .1 .1 .1 .1 .1 .0) (first-stored .last .0) (g .0 .0) (g .0 .1 .0) (b .0) (b .1) (b .2) (first-stored .ensures) in
-    let e = g .0 .1 .0 in
-    let up = numbered-order (a .c .compounds) (e .compounds) (b .0) (b .2 .numbered) in
-    (omega (arith, entry .pre .0, test .left), ((r .0, omega (arith, l .size, r .1), omega (arith, l .size, r .2), omega (arith, up, r .3), omega (arith, test .left)), (names-over (b .1) (p .0), variables-over (a .from) (b .1) (p .1), stands-moved (sign-end .given .0 .0) (b .2 .stands) (o .inside))))
+    let l = c .before .loop in
+    let t = l .inv .0 (p .0) (p .1) (p .2) in
+    t .stands .inside
 
-pub arguments-add-word : (t : ℕ) → arguments-lts.Need-add-word (arguments-calls t) (arguments-at t) arguments.Post
-arguments-add-word t c =
-    let test = c .before .before .before .before .before .before .before .before .before .before .before .before .before .before .before .before .before .before .before .before .before .if1 in
-    omega (arith, test .left)
+pub arguments-same-length-16 : (t₀ : ℕ) → arguments-lts.Need-same-length-16 (arguments-calls t₀) (arguments-at t₀) arguments.Post arguments-Inv-loop arguments-μ-loop
+arguments-same-length-16 t₀ c =
+    let l = c .before .before .before .before .loop in
+    l .inv .2
 
-pub arguments-same-length : (t : ℕ) → arguments-lts.Need-same-length (arguments-calls t) (arguments-at t) arguments.Post
-arguments-same-length t c =
-    c .before .before .before .before .before .before .arguments .kept .1 .1 .1 .0 ∙ c .before .before .before .before .before .before .before .before .before .before .before .before .before .before .before .before .store-argument .kept .0 ∙ c .before .before .before .before .before .before .before .before .before .before .before .before .before .before .before .before .before .before .before .before .before .before .before .before .before .before .before .term .kept .1 .1 .1 .0
+pub arguments-same-length-17 : (t₀ : ℕ) → arguments-lts.Need-same-length-17 (arguments-calls t₀) (arguments-at t₀) arguments.Post arguments-Inv-loop arguments-μ-loop
+arguments-same-length-17 t₀ c =
+    let l = c .before .before .before .before .loop in
+    l .inv .3
 
-pub arguments-returns-3 : (t : ℕ) → arguments-lts.Need-returns-3 (arguments-calls t) (arguments-at t) arguments.Post
-arguments-returns-3 t c known vars stands =
-    let entry = c .before .before .before .before .before .before .before .before .before .before .before .before .before .before .before .before .before .before .before .before .before .before .before .before .before .before .before .before .before .before .before .before .before .before .before .before .before in
-    let word-got = c .before .before .before .before .before .before .before .before .before .before .before .before .before .before .before .before .before .before .before .w in
-    let one-term = c .before .before .before .before .before .before .before .before .before .before .before .before .before .before .before .before .before .before .before .before .before .before .before .before .before .before .before .term in
-    let sign-end = c .before .before .before .before .before .before .before .before .before .before .before .behind in
-    let sign-next = c .before .before .before .before .before .before .before .before .before .before .before .before .before .next-of in
-    let test = c .before .before .before .before .before .before .before .before .before .before .before .before .before .before .before .before .before .before .before .before .before .before .before .before .before .before .before .before .before .before .before .if1 in
-    let first-stored = c .before .before .before .before .before .before .before .before .before .before .before .before .before .before .before .before .store-argument in
-    let others = c .before .before .before .before .before .before .arguments in
+pub arguments-same-length-18 : (t₀ : ℕ) → arguments-lts.Need-same-length-18 (arguments-calls t₀) (arguments-at t₀) arguments.Post arguments-Inv-loop arguments-μ-loop
+arguments-same-length-18 t₀ c =
+    let l = c .before .before .before .before .loop in
+    l .inv .4
+
+pub arguments-returns-6 : (t₀ : ℕ) → arguments-lts.Need-returns-6 (arguments-calls t₀) (arguments-at t₀) arguments.Post arguments-Inv-loop arguments-μ-loop
+arguments-returns-6 t₀ c known vars stands =
+    let entry = c .before .before .before .before .before .before .before .before .before .before in
     let a = entry .args in
-    let r = entry .pre .1 .0 in
-    let g = word-got .given in
-    let b = rw (g .1) at (one-term .ensures known vars stands) in
-    let o = rw (sign-end .given .1) at (sign-next .ensures) in
-    let after = stands-moved (sign-end .given .0 .0) (b .2 .stands) (o .inside) in
-    argument-more (a .text .now) (a .rest .now) (a .from) (a .base) known vars (a .c) (a .s .now) (a .item .now) (term-reader (a .left)) (a .n) (a .i) (test .left) (r .3) (one-term .last .1 .1 .1 .0) (one-term .last .1 .1 .1 .1 .0) (one-term .last .1 .1 .1 .1 .1 .0) (first-stored .last .0) (g .0 .0) (g .0 .1 .0) (b .0) (b .1) (b .2) (first-stored .ensures)
-    (sign-end .given .0 .0) o (others .last .1 .1 .1 .0) (others .last .1 .1 .1 .1 .0) (others .last .1 .1 .1 .1 .1 .0) (others .result)
-    (others .ensures (names-over (b .1) known) (variables-over (a .from) (b .1) vars) after)
+    let l = c .before .before .before .before .loop in
+    let test = c .before .before .before .loop-test in
+    let started = c .before .before .starts in
+    let h = c .enum-told2 .given in
+    let t = l .inv .0 known vars stands in
+    let many : 6 ≤ l .i = omega (arith, test .left) in
+    t .answers (l .s) (l .names) (l .item) Passed
+    (seventh-passed (a .text .now) (a .rest .now) (a .from) (a .base) (t .known₁) (t .vars₁) (l .d) (l .s) (l .item) (l .names) (term-reader (a .left)) (a .n) (l .i) many (rw (h .1) at (started .ensures)))
 
-pub arguments-returns-4 : (t : ℕ) → arguments-lts.Need-returns-4 (arguments-calls t) (arguments-at t) arguments.Post
-arguments-returns-4 t c known vars stands =
-    let entry = c .before .before .before .before .before .before .before .before .before .before .before .before .before .before .before .before .before .before .before .before .before .before .before .before .before .before .before .before in
-    let word-got = c .before .before .before .before .before .before .before .before .before .before .w in
-    let one-term = c .before .before .before .before .before .before .before .before .before .before .before .before .before .before .before .before .before .before .term in
-    let sign-end = c .before .before .behind2 in
-    let sign-next = c .before .before .before .before .next-of in
-    let number = c .word in
-    let test = c .before .before .before .before .before .before .before .before .before .before .before .before .before .before .before .before .before .before .before .before .before .before .if1 in
-    let first-stored = c .before .before .before .before .before .before .before .store-argument in
+pub arguments-same-length-19 : (t₀ : ℕ) → arguments-lts.Need-same-length-19 (arguments-calls t₀) (arguments-at t₀) arguments.Post arguments-Inv-loop arguments-μ-loop
+arguments-same-length-19 t₀ c =
+    let l = c .before .before .before .before .before .loop in
+    l .inv .2
+
+pub arguments-same-length-20 : (t₀ : ℕ) → arguments-lts.Need-same-length-20 (arguments-calls t₀) (arguments-at t₀) arguments.Post arguments-Inv-loop arguments-μ-loop
+arguments-same-length-20 t₀ c =
+    let l = c .before .before .before .before .before .loop in
+    l .inv .3
+
+pub arguments-same-length-21 : (t₀ : ℕ) → arguments-lts.Need-same-length-21 (arguments-calls t₀) (arguments-at t₀) arguments.Post arguments-Inv-loop arguments-μ-loop
+arguments-same-length-21 t₀ c =
+    let l = c .before .before .before .before .before .loop in
+    l .inv .4
+
+pub arguments-returns-7 : (t₀ : ℕ) → arguments-lts.Need-returns-7 (arguments-calls t₀) (arguments-at t₀) arguments.Post arguments-Inv-loop arguments-μ-loop
+arguments-returns-7 t₀ c known vars stands =
+    let entry = c .before .before .before .before .before .before .before .before .before .before .before in
     let a = entry .args in
-    let r = entry .pre .1 .0 in
-    let g = word-got .given in
-    let b = rw (g .1) at (one-term .ensures known vars stands) in
-    let o = rw (sign-end .given .1) at (sign-next .ensures) in
-    rw (number .ensures) (argument-last (a .text .now) (a .rest .now) (a .from) (a .base) known vars (a .c) (a .s .now) (a .item .now) (term-reader (a .left)) (a .n) (a .i) (test .left) (r .3) (one-term .last .1 .1 .1 .0) (one-term .last .1 .1 .1 .1 .0) (one-term .last .1 .1 .1 .1 .1 .0) (first-stored .last .0) (g .0 .0) (g .0 .1 .0) (b .0) (b .1) (b .2) (first-stored .ensures) (sign-end .given .0 .0) (o .1))
-
-pub arguments-returns-5 : (t : ℕ) → arguments-lts.Need-returns-5 (arguments-calls t) (arguments-at t) arguments.Post
-arguments-returns-5 t c known vars stands =
-    let entry = c .before .before .before .before .before .before .before .before .before .before .before .before .before .before .before .before .before .before .before .before .before .before .before .before .before .before .before in
-    let word-got = c .before .before .before .before .before .before .before .before .before .w in
-    let one-term = c .before .before .before .before .before .before .before .before .before .before .before .before .before .before .before .before .before .term in
-    let stop = c .before .a2 in
-    let sign-next = c .before .before .before .next-of in
-    let test = c .before .before .before .before .before .before .before .before .before .before .before .before .before .before .before .before .before .before .before .before .before .if1 in
-    let first-stored = c .before .before .before .before .before .before .store-argument in
-    let a = entry .args in
-    let r = entry .pre .1 .0 in
-    let g = word-got .given in
-    let b = rw (g .1) at (one-term .ensures known vars stands) in
-    let o = rw (stop .given .1) at (sign-next .ensures) in
-    argument-stop (a .text .now) (a .rest .now) (a .from) (a .base) known vars (a .c) (a .s .now) (a .item .now) (term-reader (a .left)) (a .n) (a .i) (test .left) (r .3) (one-term .last .1 .1 .1 .0) (one-term .last .1 .1 .1 .1 .0) (one-term .last .1 .1 .1 .1 .1 .0) (first-stored .last .0) (g .0 .0) (g .0 .1 .0) (b .0) (b .1) (b .2) (first-stored .ensures) (stop .given .0 .0) (o .0) (o .1)
-
-pub arguments-returns-6 : (t : ℕ) → arguments-lts.Need-returns-6 (arguments-calls t) (arguments-at t) arguments.Post
-arguments-returns-6 t c =
-    let told = c .enum-told2 in
-    let sign-next = c .before .before .next-of in
-    let o = rw (told .given .1) at (sign-next .ensures) in
-    absurd (eqb-same 41 (o .1))
-
-pub arguments-returns-7 : (t : ℕ) → arguments-lts.Need-returns-7 (arguments-calls t) (arguments-at t) arguments.Post
-arguments-returns-7 t c known vars stands =
-    let entry = c .before .before .before .before .before .before .before .before .before .before .before .before .before .before .before .before .before .before .before in
-    let stop = c .before .a3 in
-    let one-term = c .before .before .before .before .before .before .before .before .before .term in
-    let test = c .before .before .before .before .before .before .before .before .before .before .before .before .before .if1 in
-    let a = entry .args in
-    let g = stop .given in
-    let b = rw (g .1) at (one-term .ensures known vars stands) in
-    argument-malformed (a .text .now) (a .rest .now) (a .from) (a .base) known vars (a .c) (a .s .now) (a .item .now) (term-reader (a .left)) (a .n) (a .i) (test .left) (g .0 .0) (one-term .last .1 .1 .1 .0) (one-term .last .1 .1 .1 .1 .0) (one-term .last .1 .1 .1 .1 .1 .0) b
-
-pub arguments-returns-8 : (t : ℕ) → arguments-lts.Need-returns-8 (arguments-calls t) (arguments-at t) arguments.Post
-arguments-returns-8 t c known vars stands =
-    let entry = c .before .before .before .before .before .before .before .before .before .before .before .before .before .before .before .before .before .before in
-    let told = c .enum-told3 in
-    let one-term = c .before .before .before .before .before .before .before .before .term in
-    let test = c .before .before .before .before .before .before .before .before .before .before .before .before .if1 in
-    let a = entry .args in
-    let g = told .given in
-    let b = rw (g .1) at (one-term .ensures known vars stands) in
-    argument-passed (a .text .now) (a .rest .now) (a .from) (a .base) known vars (a .c) (a .s .now) (a .item .now) (term-reader (a .left)) (a .n) (a .i) (test .left) (one-term .last .1 .1 .1 .0) (one-term .last .1 .1 .1 .1 .0) (one-term .last .1 .1 .1 .1 .1 .0) b
+    let l = c .before .before .before .before .before .loop in
+    let test = c .before .before .before .before .loop-test in
+    let started = c .before .before .before .starts in
+    let h = c .before .a4 .given in
+    let t = l .inv .0 known vars stands in
+    let many : 6 ≤ l .i = omega (arith, test .left) in
+    let o = rw (h .1) at (started .ensures) in
+    t .answers (l .s) (l .names) (l .item) (Malformed (h .0 .0))
+    (seventh-malformed (a .text .now) (a .rest .now) (a .from) (a .base) (t .known₁) (t .vars₁) (l .d) (l .s) (l .item) (l .names) (term-reader (a .left)) (a .n) (l .i) many (h .0 .0) (o .0) (o .1))

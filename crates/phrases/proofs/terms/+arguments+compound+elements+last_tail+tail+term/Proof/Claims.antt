@@ -1,4 +1,4 @@
--- The measures of the cycle of calls that reads a term: the brackets left fall, and within them the arguments or the compounds left; what each
+-- The measures of the cycle of calls that reads a term: the brackets left fall, and within them the compounds left; what each
 -- member may assume, and what it learns of those that it calls.
 use Prim.Native.Nat.{_+_, _*_, _-_}
 use Prim.Native.Nat.{ℕ, _<_}
@@ -32,7 +32,7 @@ use Rattle.phrases.proofs.terms.store_functor.Reads as store-functor-re
 use Rattle.phrases.proofs.terms.word.Reads as word-reads
 
 abbrev pub μ-arguments : Measures 5 arguments-kinds.ps ℕ
-μ-arguments κs a = 128 * a .1 .1 .1 .1 .1 .1 .1 .0 + 8 + (6 - a .1 .1 .1 .1 .1 .1 .1 .1 .1 .0)
+μ-arguments κs a = 128 * a .1 .1 .1 .1 .1 .1 .1 .0 + 8
 
 abbrev pub μ-compound : Measures 5 compound-kinds.ps ℕ
 μ-compound κs a = 128 * a .1 .1 .1 .1 .1 .1 .1 .0 + 20
@@ -90,7 +90,7 @@ abbrev pub term-below : ℕ → In 5 term-kinds.ps
 term-below t = and 5 term-kinds.ps (falls 5 term-kinds.ps _<_ μ-term t) term.Pre
 
 abbrev pub arguments-calls : ℕ → arguments-lts.Claims
-arguments-calls t = (starts-reads.Asked, starts-reads.Learnt, term-below t, term.Post, store-argument-reads.Asked, store-argument-reads.Learnt, next-of-reads.Asked, next-of-reads.Learnt, arguments-below t, arguments.Post, word-reads.Asked, word-reads.Learnt)
+arguments-calls t = (term-below t, term.Post, store-argument-reads.Asked, store-argument-reads.Learnt, next-of-reads.Asked, next-of-reads.Learnt, word-reads.Asked, word-reads.Learnt, starts-reads.Asked, starts-reads.Learnt)
 
 abbrev pub compound-calls : ℕ → compound-lts.Claims
 compound-calls t = (arguments-below t, arguments.Post, functor-reads.Asked, functor-reads.Learnt, store-functor-reads.Asked, store-functor-reads.Learnt, compound-word-reads.Asked, compound-word-reads.Learnt)

@@ -32,7 +32,7 @@ compound-arguments-requires t c κs =
     let test = c .before .before .before .if1 in
     let p = entry .pre .1 .1 in
     let r = entry .pre .1 .0 in
-    (omega (arith, entry .pre .0), ((r .0, r .1, r .2, omega arith, omega arith), (p .0, p .1, stands-counted (p .2) (test .left))))
+    (omega (arith, entry .pre .0), ((r .0, r .1, r .2, omega arith), (p .0, p .1, stands-counted (p .2) (test .left))))
 
 pub compound-functor-requires : (t : ℕ) → compound-lts.Need-functor-requires (compound-calls t) (compound-at t) compound.Post
 compound-functor-requires t c κs =
