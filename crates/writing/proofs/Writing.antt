@@ -34,6 +34,34 @@ use Rattle.facts.proofs.Leaves.{Unassigned, leaf-writer, leaf-reader, writer-by
 use Rattle.facts.proofs.Laid.{puts-none}
 use Rattle.writing.proofs.Putting.{puts-two, puts-is, puts-length}
 
+-- A compound of the unit: its opening, and what stands behind it.
+pub opened : (s : List ℕ) (x : Setting) (facts : ℕ) (order : List ℕ) (n : ℕ) (f : Functor) (ts : Terms) (p : ℕ)
+    → Numbered s x facts order (full (x .values) (Term.compound n f ts)) → StandsAt s x n f ts p
+    → (later : Bytes) × (opening-bytes f ++ later ≡ written order alone (full (x .values) (Term.compound n f ts))) × Before Nothing s x facts order p 1 later
+unfolding Stands
+opened s x facts order n f ts p N a = go (some-argument n f ts (a .sound))
+  where
+    go : (u : Term) × (us : Terms) × (ts ≡ more u us)
+        → (later : Bytes) × (opening-bytes f ++ later ≡ written order alone (full (x .values) (Term.compound n f ts))) × Before Nothing s x facts order p 1 later
+    go (u, us, e) = (
+      rest (x .values) order f 0 u us,
+      rw e (sym (whole-is x order n f u us)),
+      record {
+        f = f;
+        j = 0;
+        u = u;
+        us = us;
+        position = position-first s x n f u us p (rw e at a);
+        numbered = λ m k st. N m k (rw (e, full-compound (x .values) n f (more u us)) (stands-compound m n f (all-full (x .values) (more u us)) st));
+        outer = [];
+        outside = refl;
+        is = append-nil (rest (x .values) order f 0 u us);
+      },
+    )
+      where
+        stands-compound : (m n : ℕ) (f : Functor) (ts : Terms) → StandsIn m ts → Stands m (Term.compound n f ts)
+        stands-compound m n f ts k = k
+
 -- Leaves.
 module _ (s : List ℕ) (text : Bytes) (x : Setting) (facts : ℕ) (order : List ℕ) (t : Term) (at size w : ℕ)
     (W : Writes s text x facts order t at size) (l : Led s x t w) where
@@ -71,56 +99,48 @@ module _ (s : List ℕ) (text : Bytes) (x : Setting) (facts : ℕ) (order : List
       let d = decimal (getD s (facts + 4 * p + 2) 0) in
       omega (arith, W .fits, ap length (write-reader p e .1), length-append (95 ∷ d) (63 ∷ []), length-more 95 d)
 
-  -- A compound at the end of the chain.
-  pub record Deeper (q : ℕ) : Type 0 where
-    pub number : ℕ
+  -- A compound at the end of the chain: its opening, and what stands behind it.
+  pub record Within-it (q : ℕ) : Type 0 where
     pub functor : Functor
-    pub terms : Terms
-    pub writes : Writes s text x facts order (Term.compound number functor terms) at size
-    pub stands : StandsAt s x number functor terms q
-    pub same : full (x .values) (Term.compound number functor terms) ≡ full (x .values) t
+    pub later : Bytes
+    pub opens : (8 * q < length s) × Opens s text (getD s (8 * q) 0 / 8) functor
+    pub before : Before Nothing s x facts order q 1 later
+    pub is : opening-bytes functor ++ later ≡ written order alone (full (x .values) t)
 
-  pub deeper : (q : ℕ) → seen w ≡ Compound q → Deeper q
-  deeper q e = go (compound-told (x .places) (l .last) q (sym (seen-term (x .places) (l .last) w (l .word)) ∙ e))
-    where
-      go : (n : ℕ) × (f : Functor) × (ts : Terms) × (l .last ≡ Term.compound n f ts) × (q ≡ x .places .compound n) → Deeper q
-      go (n, f, ts, z, b) =
-          let same : full (x .values) t ≡ full (x .values) (Term.compound n f ts) = l .same ∙ ap (full (x .values)) z in record {
-            number = n;
-            functor = f;
-            terms = ts;
-            writes = record { readable = W .readable; numbered = rw same at (W .numbered); fits = rw same at (W .fits) };
-            stands = record { term = rw z at (l .term); sound = rw z at (l .sound); place = b };
-            same = sym same;
-          }
-
--- A compound of the unit: its opening, and what stands behind it.
-pub opened : (s : List ℕ) (x : Setting) (facts : ℕ) (order : List ℕ) (n : ℕ) (f : Functor) (ts : Terms) (p : ℕ)
-    → Numbered s x facts order (full (x .values) (Term.compound n f ts)) → StandsAt s x n f ts p
-    → (later : Bytes) × (opening-bytes f ++ later ≡ written order alone (full (x .values) (Term.compound n f ts))) × Before Nothing s x facts order p 1 later
-unfolding Stands
-opened s x facts order n f ts p N a = go (some-argument n f ts (a .sound))
-  where
-    go : (u : Term) × (us : Terms) × (ts ≡ more u us)
-        → (later : Bytes) × (opening-bytes f ++ later ≡ written order alone (full (x .values) (Term.compound n f ts))) × Before Nothing s x facts order p 1 later
-    go (u, us, e) = (
-      rest (x .values) order f 0 u us,
-      rw e (sym (whole-is x order n f u us)),
-      record {
-        f = f;
-        j = 0;
-        u = u;
-        us = us;
-        position = position-first s x n f u us p (rw e at a);
-        numbered = λ m k st. N m k (rw (e, full-compound (x .values) n f (more u us)) (stands-compound m n f (all-full (x .values) (more u us)) st));
-        outer = [];
-        outside = refl;
-        is = append-nil (rest (x .values) order f 0 u us);
-      },
-    )
+  module _ (q : ℕ) (z : seen w ≡ Compound q) where
+    pub within : Within-it q
+    within = go (compound-told (x .places) (l .last) q (sym (seen-term (x .places) (l .last) w (l .word)) ∙ z))
       where
-        stands-compound : (m n : ℕ) (f : Functor) (ts : Terms) → StandsIn m ts → Stands m (Term.compound n f ts)
-        stands-compound m n f ts k = k
+        go : (n : ℕ) × (f : Functor) × (ts : Terms) × (l .last ≡ Term.compound n f ts) × (q ≡ x .places .compound n) → Within-it q
+        go (n, f, ts, y, b) =
+            let same : full (x .values) t ≡ full (x .values) (Term.compound n f ts) = l .same ∙ ap (full (x .values)) y in
+            let stands : StandsAt s x n f ts q = record { term = rw y at (l .term); sound = rw y at (l .sound); place = b } in
+            let o = opened s x facts order n f ts q (rw same at (W .numbered)) stands in record {
+              functor = f;
+              later = o .0;
+              opens = stands-opens s text x facts (W .readable) n f ts q stands;
+              before = o .2;
+              is = o .1 ∙ ap (written order alone) (sym same);
+            }
+
+    pub into-here : opening-bytes (within .functor) ++ within .later ≡ written order alone (full (x .values) t)
+    into-here = within .is
+
+    into-sizes : length (opening-bytes (within .functor)) + length (within .later) ≡ length (written order alone (full (x .values) t))
+    into-sizes = sym (length-append (opening-bytes (within .functor)) (within .later)) ∙ ap length into-here
+
+    pub into-fits : at + length (opening-bytes (within .functor)) ≤ size
+    into-fits = omega (arith, into-sizes, W .fits)
+
+    module _ (b b₁ : List ℕ) (to : ℕ) (P : Puts b b₁ at to (opening-bytes (within .functor))) where
+      pub into-falls : at < to
+      into-falls = omega (arith, P .place, opening-length (within .functor))
+
+      pub into-room : length b ≡ size → to + length (within .later) ≤ length b₁
+      into-room e = omega (arith, into-sizes, W .fits, P .place, puts-length P)
+
+      pub into-whole : (b₂ : List ℕ) (to₂ : ℕ) → Puts b₁ b₂ to to₂ (within .later) → Puts b b₂ at to₂ (written order alone (full (x .values) t))
+      into-whole b₂ to₂ P₂ = puts-is into-here (puts-two P P₂)
 
 -- Where nothing stands outside, something does.
 pub before-within : (Outside : Bytes → Type 0) (s : List ℕ) (x : Setting) (facts : ℕ) (order : List ℕ) (p i : ℕ) (bs outer : Bytes)
@@ -278,54 +298,26 @@ module _ (frames s : List ℕ) (text : Bytes) (x : Setting) (facts : ℕ) (order
     }
 
   -- The argument is a compound, and its opening is written.
-  module _ (w q : ℕ) (l : Led s x (B .u) w) (z : seen w ≡ Compound q) where
-    abbrev pub D : Deeper s text x facts order (B .u) to (length b) w going-writes l q
-    D = deeper s text x facts order (B .u) to (length b) w going-writes l q z
-
-    into : (later : Bytes) × (opening-bytes (D .functor) ++ later ≡ written order alone (full (x .values) (Term.compound (D .number) (D .functor) (D .terms))))
-        × Before Nothing s x facts order q 1 later
-    into = opened s x facts order (D .number) (D .functor) (D .terms) q (D .writes .numbered) (D .stands)
-
-    into-here : opening-bytes (D .functor) ++ into .0 ≡ here
-    into-here = into .1 ∙ ap (written order alone) (D .same)
-
-    into-sizes : length (opening-bytes (D .functor)) + length (into .0) ≡ length here
-    into-sizes = sym (length-append (opening-bytes (D .functor)) (into .0)) ∙ ap length into-here
-
-    pub into-opens : (8 * q < length s) × Opens s text (getD s (8 * q) 0 / 8) (D .functor)
-    into-opens = stands-opens s text x facts r (D .number) (D .functor) (D .terms) q (D .stands)
-
-    pub into-fits : to + length (opening-bytes (D .functor)) ≤ length b
-    into-fits = omega (arith, into-sizes, going-writes .fits)
-
-    module _ (b₁ : List ℕ) (to₁ : ℕ) (P : Puts b b₁ to to₁ (opening-bytes (D .functor))) where
-      pub into-falls : to < to₁
-      into-falls = omega (arith, P .place, opening-length (D .functor))
-
-      pub into-arguments : (later : Bytes) × Before Nothing s x facts order q 1 later × (to₁ + length later ≤ length b₁)
-          × ((b₂ : List ℕ) (to₂ : ℕ) → Puts b₁ b₂ to₁ to₂ later → Puts b b₂ to to₂ here)
-      into-arguments = (
-        into .0,
-        into .2,
-        omega (arith, into-sizes, going-writes .fits, P .place, puts-length P),
-        λ b₂ to₂ P₂. puts-is into-here (puts-two P P₂),
-      )
-
-      pub into-going : d < 16 → Going (set frames d (8 * p + i)) s x facts order whole b₀ b₁ at q 1 (d + 1) to₁
-      into-going h =
-          let outside : Frames (set frames d (8 * p + i)) s x facts order (d + 1) later-bytes =
-          rw (add-one d) (frame-set frames s x facts order d p i later-bytes (omega (arith, G .size)) small going-behind) in record {
-            done = G .done ++ opening-bytes (D .functor);
-            left = into .0 ++ later-bytes;
-            puts = puts-two (G .puts) P;
-            is = append-assoc (G .done) (opening-bytes (D .functor)) (into .0 ++ later-bytes)
-                ∙ ap (λ (m : Bytes). G .done ++ m) (sym (append-assoc (opening-bytes (D .functor)) (into .0) later-bytes) ∙ ap (λ (m : Bytes). m ++ later-bytes) into-here)
-                ∙ sym (append-assoc (G .done) here later-bytes)
-                ∙ whole-here;
-            before = before-within (Frames (set frames d (8 * p + i)) s x facts order (d + 1)) s x facts order q 1 (into .0) later-bytes (into .2) outside;
-            few = omega arith;
-            size = length-set frames d (8 * p + i) ∙ G .size;
-          }
+  module _ (w q : ℕ) (l : Led s x (B .u) w) (z : seen w ≡ Compound q) (b₁ : List ℕ) (to₁ : ℕ)
+      (P : Puts b b₁ to to₁ (opening-bytes (within s text x facts order (B .u) to (length b) w going-writes l q z .functor))) where
+    pub going-into : d < 16 → Going (set frames d (8 * p + i)) s x facts order whole b₀ b₁ at q 1 (d + 1) to₁
+    going-into h =
+        let D = within s text x facts order (B .u) to (length b) w going-writes l q z in
+        let first = opening-bytes (D .functor) in
+        let is-here = into-here s text x facts order (B .u) to (length b) w going-writes l q z in
+        let outside : Frames (set frames d (8 * p + i)) s x facts order (d + 1) later-bytes =
+        rw (add-one d) (frame-set frames s x facts order d p i later-bytes (omega (arith, G .size)) small going-behind) in record {
+          done = G .done ++ first;
+          left = D .later ++ later-bytes;
+          puts = puts-two (G .puts) P;
+          is = append-assoc (G .done) first (D .later ++ later-bytes)
+              ∙ ap (λ (m : Bytes). G .done ++ m) (sym (append-assoc first (D .later) later-bytes) ∙ ap (λ (m : Bytes). m ++ later-bytes) is-here)
+              ∙ sym (append-assoc (G .done) here later-bytes)
+              ∙ whole-here;
+          before = before-within (Frames (set frames d (8 * p + i)) s x facts order (d + 1)) s x facts order q 1 (D .later) later-bytes (D .before) outside;
+          few = omega arith;
+          size = length-set frames d (8 * p + i) ∙ G .size;
+        }
 
 pub puts-moved : {xs : Bytes} {b c c′ : List ℕ} {at to to′ : ℕ} → c′ ≡ c → to′ ≡ to → Puts b c at to xs → Puts b c′ at to′ xs
 puts-moved e f p = rw (e, f) p

@@ -15,7 +15,6 @@ use Rattle.writing.specs.Frames.{Before, Nothing}
 use Rattle.writing.proofs.Putting.{puts-length}
 use Rattle.writing.proofs.Writing.{
   Going,
-  D,
   going-first,
   going-writes,
   going-inside,
@@ -27,11 +26,12 @@ use Rattle.writing.proofs.Writing.{
   going-fits,
   going-ends,
   going-on,
-  into-opens,
+  within,
   into-fits,
   into-falls,
-  into-arguments,
-  into-going,
+  into-room,
+  into-whole,
+  going-into,
   puts-moved,
 }
 use Prim.Native.Nat.{ℕ, _+_, _-_, _*_, _≤_, _<_}
@@ -223,7 +223,7 @@ write-arguments-opening-requires t c κs =
     let w = c .before .before .before .before .before .end .result in
     let q = c .before .before .q .given .0 .0 in
     let z : seen w ≡ Compound q = sym (c .before .before .before .before .look .ensures) ∙ c .before .before .q .given .1 in
-    (D (at .frames) (S .args .s .now) (S .args .text .now) (pre .0) (S .args .facts) (pre .1) (pre .2) (S .args .buffer .now) (at .buffer) (S .args .at) (at .p) (at .i) (at .depth) (at .to) r fit G w q l z .functor, into-opens (at .frames) (S .args .s .now) (S .args .text .now) (pre .0) (S .args .facts) (pre .1) (pre .2) (S .args .buffer .now) (at .buffer) (S .args .at) (at .p) (at .i) (at .depth) (at .to) r fit G w q l z .0, into-opens (at .frames) (S .args .s .now) (S .args .text .now) (pre .0) (S .args .facts) (pre .1) (pre .2) (S .args .buffer .now) (at .buffer) (S .args .at) (at .p) (at .i) (at .depth) (at .to) r fit G w q l z .1, into-fits (at .frames) (S .args .s .now) (S .args .text .now) (pre .0) (S .args .facts) (pre .1) (pre .2) (S .args .buffer .now) (at .buffer) (S .args .at) (at .p) (at .i) (at .depth) (at .to) r fit G w q l z)
+    (within (S .args .s .now) (S .args .text .now) (pre .0) (S .args .facts) (pre .1) (G .before .u) (at .to) (length (at .buffer)) w (going-writes (at .frames) (S .args .s .now) (S .args .text .now) (pre .0) (S .args .facts) (pre .1) (pre .2) (S .args .buffer .now) (at .buffer) (S .args .at) (at .p) (at .i) (at .depth) (at .to) r fit G) l q z .functor, within (S .args .s .now) (S .args .text .now) (pre .0) (S .args .facts) (pre .1) (G .before .u) (at .to) (length (at .buffer)) w (going-writes (at .frames) (S .args .s .now) (S .args .text .now) (pre .0) (S .args .facts) (pre .1) (pre .2) (S .args .buffer .now) (at .buffer) (S .args .at) (at .p) (at .i) (at .depth) (at .to) r fit G) l q z .opens .0, within (S .args .s .now) (S .args .text .now) (pre .0) (S .args .facts) (pre .1) (G .before .u) (at .to) (length (at .buffer)) w (going-writes (at .frames) (S .args .s .now) (S .args .text .now) (pre .0) (S .args .facts) (pre .1) (pre .2) (S .args .buffer .now) (at .buffer) (S .args .at) (at .p) (at .i) (at .depth) (at .to) r fit G) l q z .opens .1, into-fits (S .args .s .now) (S .args .text .now) (pre .0) (S .args .facts) (pre .1) (G .before .u) (at .to) (length (at .buffer)) w (going-writes (at .frames) (S .args .s .now) (S .args .text .now) (pre .0) (S .args .facts) (pre .1) (pre .2) (S .args .buffer .now) (at .buffer) (S .args .at) (at .p) (at .i) (at .depth) (at .to) r fit G) l q z)
 
 write-arguments-mul-frames : (t : ℕ) → write-arguments-lts.Need-mul-frames (
   word-at-reads.Asked,
@@ -354,8 +354,8 @@ write-arguments-loop-less t c =
     let q = c .before .before .before .before .before .before .q .given .0 .0 in
     let z : seen w ≡ Compound q = sym (c .before .before .before .before .before .before .before .before .look .ensures) ∙ c .before .before .before .before .before .before .q .given .1 in
     let o = c .before .before .before .opening in
-    let P = o .ensures (D (at .frames) (S .args .s .now) (S .args .text .now) (pre .0) (S .args .facts) (pre .1) (pre .2) (S .args .buffer .now) (at .buffer) (S .args .at) (at .p) (at .i) (at .depth) (at .to) r fit G w q l z .functor) (into-opens (at .frames) (S .args .s .now) (S .args .text .now) (pre .0) (S .args .facts) (pre .1) (pre .2) (S .args .buffer .now) (at .buffer) (S .args .at) (at .p) (at .i) (at .depth) (at .to) r fit G w q l z .1) in
-    omega (arith, into-falls (at .frames) (S .args .s .now) (S .args .text .now) (pre .0) (S .args .facts) (pre .1) (pre .2) (S .args .buffer .now) (at .buffer) (S .args .at) (at .p) (at .i) (at .depth) (at .to) r fit G w q l z _ _ P, going-falls (at .frames) (S .args .s .now) (S .args .text .now) (pre .0) (S .args .facts) (pre .1) (pre .2) (S .args .buffer .now) (at .buffer) (S .args .at) (at .p) (at .i) (at .depth) (at .to) r fit G .0)
+    let P = o .ensures (within (S .args .s .now) (S .args .text .now) (pre .0) (S .args .facts) (pre .1) (G .before .u) (at .to) (length (at .buffer)) w (going-writes (at .frames) (S .args .s .now) (S .args .text .now) (pre .0) (S .args .facts) (pre .1) (pre .2) (S .args .buffer .now) (at .buffer) (S .args .at) (at .p) (at .i) (at .depth) (at .to) r fit G) l q z .functor) (within (S .args .s .now) (S .args .text .now) (pre .0) (S .args .facts) (pre .1) (G .before .u) (at .to) (length (at .buffer)) w (going-writes (at .frames) (S .args .s .now) (S .args .text .now) (pre .0) (S .args .facts) (pre .1) (pre .2) (S .args .buffer .now) (at .buffer) (S .args .at) (at .p) (at .i) (at .depth) (at .to) r fit G) l q z .opens .1) in
+    omega (arith, into-falls (S .args .s .now) (S .args .text .now) (pre .0) (S .args .facts) (pre .1) (G .before .u) (at .to) (length (at .buffer)) w (going-writes (at .frames) (S .args .s .now) (S .args .text .now) (pre .0) (S .args .facts) (pre .1) (pre .2) (S .args .buffer .now) (at .buffer) (S .args .at) (at .p) (at .i) (at .depth) (at .to) r fit G) l q z (at .buffer) _ _ P, going-falls (at .frames) (S .args .s .now) (S .args .text .now) (pre .0) (S .args .facts) (pre .1) (pre .2) (S .args .buffer .now) (at .buffer) (S .args .at) (at .p) (at .i) (at .depth) (at .to) r fit G .0)
 
 write-arguments-loop-again : (t : ℕ) → write-arguments-lts.Need-loop-again (
   word-at-reads.Asked,
@@ -381,8 +381,8 @@ write-arguments-loop-again t c x order bs r B₀ fit =
     let q = c .before .before .before .before .before .before .q .given .0 .0 in
     let z : seen w ≡ Compound q = sym (c .before .before .before .before .before .before .before .before .look .ensures) ∙ c .before .before .before .before .before .before .q .given .1 in
     let o = c .before .before .before .opening in
-    let P = o .ensures (D (at .frames) (S .args .s .now) (S .args .text .now) x (S .args .facts) order bs (S .args .buffer .now) (at .buffer) (S .args .at) (at .p) (at .i) (at .depth) (at .to) r fit G w q l z .functor) (into-opens (at .frames) (S .args .s .now) (S .args .text .now) x (S .args .facts) order bs (S .args .buffer .now) (at .buffer) (S .args .at) (at .p) (at .i) (at .depth) (at .to) r fit G w q l z .1) in
-    into-going (at .frames) (S .args .s .now) (S .args .text .now) x (S .args .facts) order bs (S .args .buffer .now) (at .buffer) (S .args .at) (at .p) (at .i) (at .depth) (at .to) r fit G w q l z _ _ P (c .if1 .taken)
+    let P = o .ensures (within (S .args .s .now) (S .args .text .now) x (S .args .facts) order (G .before .u) (at .to) (length (at .buffer)) w (going-writes (at .frames) (S .args .s .now) (S .args .text .now) x (S .args .facts) order bs (S .args .buffer .now) (at .buffer) (S .args .at) (at .p) (at .i) (at .depth) (at .to) r fit G) l q z .functor) (within (S .args .s .now) (S .args .text .now) x (S .args .facts) order (G .before .u) (at .to) (length (at .buffer)) w (going-writes (at .frames) (S .args .s .now) (S .args .text .now) x (S .args .facts) order bs (S .args .buffer .now) (at .buffer) (S .args .at) (at .p) (at .i) (at .depth) (at .to) r fit G) l q z .opens .1) in
+    going-into (at .frames) (S .args .s .now) (S .args .text .now) x (S .args .facts) order bs (S .args .buffer .now) (at .buffer) (S .args .at) (at .p) (at .i) (at .depth) (at .to) r fit G w q l z _ _ P (c .if1 .taken)
 
 write-arguments-write-arguments-requires : (t : ℕ) → write-arguments-lts.Need-write-arguments-requires (
   word-at-reads.Asked,
@@ -408,11 +408,11 @@ write-arguments-write-arguments-requires t c κs =
     let q = c .before .before .before .before .before .before .before .q .given .0 .0 in
     let z : seen w ≡ Compound q = sym (c .before .before .before .before .before .before .before .before .before .look .ensures) ∙ c .before .before .before .before .before .before .before .q .given .1 in
     let o = c .before .before .before .before .opening in
-    let P = o .ensures (D (at .frames) (S .args .s .now) (S .args .text .now) (pre .0) (S .args .facts) (pre .1) (pre .2) (S .args .buffer .now) (at .buffer) (S .args .at) (at .p) (at .i) (at .depth) (at .to) r fit G w q l z .functor) (into-opens (at .frames) (S .args .s .now) (S .args .text .now) (pre .0) (S .args .facts) (pre .1) (pre .2) (S .args .buffer .now) (at .buffer) (S .args .at) (at .p) (at .i) (at .depth) (at .to) r fit G w q l z .1) in
-    let I = into-arguments (at .frames) (S .args .s .now) (S .args .text .now) (pre .0) (S .args .facts) (pre .1) (pre .2) (S .args .buffer .now) (at .buffer) (S .args .at) (at .p) (at .i) (at .depth) (at .to) r fit G w q l z _ _ P in (
+    let P = o .ensures (within (S .args .s .now) (S .args .text .now) (pre .0) (S .args .facts) (pre .1) (G .before .u) (at .to) (length (at .buffer)) w (going-writes (at .frames) (S .args .s .now) (S .args .text .now) (pre .0) (S .args .facts) (pre .1) (pre .2) (S .args .buffer .now) (at .buffer) (S .args .at) (at .p) (at .i) (at .depth) (at .to) r fit G) l q z .functor) (within (S .args .s .now) (S .args .text .now) (pre .0) (S .args .facts) (pre .1) (G .before .u) (at .to) (length (at .buffer)) w (going-writes (at .frames) (S .args .s .now) (S .args .text .now) (pre .0) (S .args .facts) (pre .1) (pre .2) (S .args .buffer .now) (at .buffer) (S .args .at) (at .p) (at .i) (at .depth) (at .to) r fit G) l q z .opens .1) in
+    let I = within (S .args .s .now) (S .args .text .now) (pre .0) (S .args .facts) (pre .1) (G .before .u) (at .to) (length (at .buffer)) w (going-writes (at .frames) (S .args .s .now) (S .args .text .now) (pre .0) (S .args .facts) (pre .1) (pre .2) (S .args .buffer .now) (at .buffer) (S .args .at) (at .p) (at .i) (at .depth) (at .to) r fit G) l q z in (
       fall (length (o .last .1 .1 .0) - o .result) (length (S .args .buffer .now) - S .args .at) t (S .pre .0)
-          (omega (arith, into-falls (at .frames) (S .args .s .now) (S .args .text .now) (pre .0) (S .args .facts) (pre .1) (pre .2) (S .args .buffer .now) (at .buffer) (S .args .at) (at .p) (at .i) (at .depth) (at .to) r fit G w q l z _ _ P, going-falls (at .frames) (S .args .s .now) (S .args .text .now) (pre .0) (S .args .facts) (pre .1) (pre .2) (S .args .buffer .now) (at .buffer) (S .args .at) (at .p) (at .i) (at .depth) (at .to) r fit G .0, going-falls (at .frames) (S .args .s .now) (S .args .text .now) (pre .0) (S .args .facts) (pre .1) (pre .2) (S .args .buffer .now) (at .buffer) (S .args .at) (at .p) (at .i) (at .depth) (at .to) r fit G .1, puts-length P, puts-length (G .puts), I .2)),
-      (pre .0, pre .1, I .0, r, I .1, I .2),
+          (omega (arith, into-falls (S .args .s .now) (S .args .text .now) (pre .0) (S .args .facts) (pre .1) (G .before .u) (at .to) (length (at .buffer)) w (going-writes (at .frames) (S .args .s .now) (S .args .text .now) (pre .0) (S .args .facts) (pre .1) (pre .2) (S .args .buffer .now) (at .buffer) (S .args .at) (at .p) (at .i) (at .depth) (at .to) r fit G) l q z (at .buffer) _ _ P, going-falls (at .frames) (S .args .s .now) (S .args .text .now) (pre .0) (S .args .facts) (pre .1) (pre .2) (S .args .buffer .now) (at .buffer) (S .args .at) (at .p) (at .i) (at .depth) (at .to) r fit G .0, going-falls (at .frames) (S .args .s .now) (S .args .text .now) (pre .0) (S .args .facts) (pre .1) (pre .2) (S .args .buffer .now) (at .buffer) (S .args .at) (at .p) (at .i) (at .depth) (at .to) r fit G .1, puts-length P, puts-length (G .puts), into-room (S .args .s .now) (S .args .text .now) (pre .0) (S .args .facts) (pre .1) (G .before .u) (at .to) (length (at .buffer)) w (going-writes (at .frames) (S .args .s .now) (S .args .text .now) (pre .0) (S .args .facts) (pre .1) (pre .2) (S .args .buffer .now) (at .buffer) (S .args .at) (at .p) (at .i) (at .depth) (at .to) r fit G) l q z (at .buffer) _ _ P refl)),
+      (pre .0, pre .1, I .later, r, I .before, into-room (S .args .s .now) (S .args .text .now) (pre .0) (S .args .facts) (pre .1) (G .before .u) (at .to) (length (at .buffer)) w (going-writes (at .frames) (S .args .s .now) (S .args .text .now) (pre .0) (S .args .facts) (pre .1) (pre .2) (S .args .buffer .now) (at .buffer) (S .args .at) (at .p) (at .i) (at .depth) (at .to) r fit G) l q z (at .buffer) _ _ P refl),
     )
 
 write-arguments-leaf-requires : (t : ℕ) → write-arguments-lts.Need-leaf-requires (
@@ -465,9 +465,9 @@ write-arguments-rise-requires t c κs =
     (λ v.
         let q = v .1 .given .0 .0 in
         let z : seen w ≡ Compound q = sym (c .before .before .before .look .ensures) ∙ v .1 .given .1 in
-        let O = v .4 .ensures (D (at .frames) (S .args .s .now) (S .args .text .now) (pre .0) (S .args .facts) (pre .1) (pre .2) (S .args .buffer .now) (at .buffer) (S .args .at) (at .p) (at .i) (at .depth) (at .to) r fit G w q l z .functor) (into-opens (at .frames) (S .args .s .now) (S .args .text .now) (pre .0) (S .args .facts) (pre .1) (pre .2) (S .args .buffer .now) (at .buffer) (S .args .at) (at .p) (at .i) (at .depth) (at .to) r fit G w q l z .1) in
-        let I = into-arguments (at .frames) (S .args .s .now) (S .args .text .now) (pre .0) (S .args .facts) (pre .1) (pre .2) (S .args .buffer .now) (at .buffer) (S .args .at) (at .p) (at .i) (at .depth) (at .to) r fit G w q l z _ _ O in
-        puts-moved (v .12) (v .13) (I .3 _ _ (v .9 .ensures (pre .0) (pre .1) (I .0) r (I .1) (I .2))))
+        let O = v .4 .ensures (within (S .args .s .now) (S .args .text .now) (pre .0) (S .args .facts) (pre .1) (G .before .u) (at .to) (length (at .buffer)) w (going-writes (at .frames) (S .args .s .now) (S .args .text .now) (pre .0) (S .args .facts) (pre .1) (pre .2) (S .args .buffer .now) (at .buffer) (S .args .at) (at .p) (at .i) (at .depth) (at .to) r fit G) l q z .functor) (within (S .args .s .now) (S .args .text .now) (pre .0) (S .args .facts) (pre .1) (G .before .u) (at .to) (length (at .buffer)) w (going-writes (at .frames) (S .args .s .now) (S .args .text .now) (pre .0) (S .args .facts) (pre .1) (pre .2) (S .args .buffer .now) (at .buffer) (S .args .at) (at .p) (at .i) (at .depth) (at .to) r fit G) l q z .opens .1) in
+        let I = within (S .args .s .now) (S .args .text .now) (pre .0) (S .args .facts) (pre .1) (G .before .u) (at .to) (length (at .buffer)) w (going-writes (at .frames) (S .args .s .now) (S .args .text .now) (pre .0) (S .args .facts) (pre .1) (pre .2) (S .args .buffer .now) (at .buffer) (S .args .at) (at .p) (at .i) (at .depth) (at .to) r fit G) l q z in
+        puts-moved (v .12) (v .13) (into-whole (S .args .s .now) (S .args .text .now) (pre .0) (S .args .facts) (pre .1) (G .before .u) (at .to) (length (at .buffer)) w (going-writes (at .frames) (S .args .s .now) (S .args .text .now) (pre .0) (S .args .facts) (pre .1) (pre .2) (S .args .buffer .now) (at .buffer) (S .args .at) (at .p) (at .i) (at .depth) (at .to) r fit G) l q z (at .buffer) _ _ O _ _ (v .9 .ensures (pre .0) (pre .1) (I .later) r (I .before) (into-room (S .args .s .now) (S .args .text .now) (pre .0) (S .args .facts) (pre .1) (G .before .u) (at .to) (length (at .buffer)) w (going-writes (at .frames) (S .args .s .now) (S .args .text .now) (pre .0) (S .args .facts) (pre .1) (pre .2) (S .args .buffer .now) (at .buffer) (S .args .at) (at .p) (at .i) (at .depth) (at .to) r fit G) l q z (at .buffer) _ _ O refl))))
     (λ v.
         puts-moved (v .5) (v .6)
         (v .2 .ensures (pre .0) (pre .1) (G .before .u) (going-writes (at .frames) (S .args .s .now) (S .args .text .now) (pre .0) (S .args .facts) (pre .1) (pre .2) (S .args .buffer .now) (at .buffer) (S .args .at) (at .p) (at .i) (at .depth) (at .to) r fit G) l
@@ -521,9 +521,9 @@ write-arguments-loop-less-2 t c =
     (λ v.
         let q = v .1 .given .0 .0 in
         let z : seen w ≡ Compound q = sym (c .before .before .before .before .before .before .before .before .before .look .ensures) ∙ v .1 .given .1 in
-        let O = v .4 .ensures (D (at .frames) (S .args .s .now) (S .args .text .now) (pre .0) (S .args .facts) (pre .1) (pre .2) (S .args .buffer .now) (at .buffer) (S .args .at) (at .p) (at .i) (at .depth) (at .to) r fit G w q l z .functor) (into-opens (at .frames) (S .args .s .now) (S .args .text .now) (pre .0) (S .args .facts) (pre .1) (pre .2) (S .args .buffer .now) (at .buffer) (S .args .at) (at .p) (at .i) (at .depth) (at .to) r fit G w q l z .1) in
-        let I = into-arguments (at .frames) (S .args .s .now) (S .args .text .now) (pre .0) (S .args .facts) (pre .1) (pre .2) (S .args .buffer .now) (at .buffer) (S .args .at) (at .p) (at .i) (at .depth) (at .to) r fit G w q l z _ _ O in
-        puts-moved (v .12) (v .13) (I .3 _ _ (v .9 .ensures (pre .0) (pre .1) (I .0) r (I .1) (I .2))))
+        let O = v .4 .ensures (within (S .args .s .now) (S .args .text .now) (pre .0) (S .args .facts) (pre .1) (G .before .u) (at .to) (length (at .buffer)) w (going-writes (at .frames) (S .args .s .now) (S .args .text .now) (pre .0) (S .args .facts) (pre .1) (pre .2) (S .args .buffer .now) (at .buffer) (S .args .at) (at .p) (at .i) (at .depth) (at .to) r fit G) l q z .functor) (within (S .args .s .now) (S .args .text .now) (pre .0) (S .args .facts) (pre .1) (G .before .u) (at .to) (length (at .buffer)) w (going-writes (at .frames) (S .args .s .now) (S .args .text .now) (pre .0) (S .args .facts) (pre .1) (pre .2) (S .args .buffer .now) (at .buffer) (S .args .at) (at .p) (at .i) (at .depth) (at .to) r fit G) l q z .opens .1) in
+        let I = within (S .args .s .now) (S .args .text .now) (pre .0) (S .args .facts) (pre .1) (G .before .u) (at .to) (length (at .buffer)) w (going-writes (at .frames) (S .args .s .now) (S .args .text .now) (pre .0) (S .args .facts) (pre .1) (pre .2) (S .args .buffer .now) (at .buffer) (S .args .at) (at .p) (at .i) (at .depth) (at .to) r fit G) l q z in
+        puts-moved (v .12) (v .13) (into-whole (S .args .s .now) (S .args .text .now) (pre .0) (S .args .facts) (pre .1) (G .before .u) (at .to) (length (at .buffer)) w (going-writes (at .frames) (S .args .s .now) (S .args .text .now) (pre .0) (S .args .facts) (pre .1) (pre .2) (S .args .buffer .now) (at .buffer) (S .args .at) (at .p) (at .i) (at .depth) (at .to) r fit G) l q z (at .buffer) _ _ O _ _ (v .9 .ensures (pre .0) (pre .1) (I .later) r (I .before) (into-room (S .args .s .now) (S .args .text .now) (pre .0) (S .args .facts) (pre .1) (G .before .u) (at .to) (length (at .buffer)) w (going-writes (at .frames) (S .args .s .now) (S .args .text .now) (pre .0) (S .args .facts) (pre .1) (pre .2) (S .args .buffer .now) (at .buffer) (S .args .at) (at .p) (at .i) (at .depth) (at .to) r fit G) l q z (at .buffer) _ _ O refl))))
     (λ v.
         puts-moved (v .5) (v .6)
         (v .2 .ensures (pre .0) (pre .1) (G .before .u) (going-writes (at .frames) (S .args .s .now) (S .args .text .now) (pre .0) (S .args .facts) (pre .1) (pre .2) (S .args .buffer .now) (at .buffer) (S .args .at) (at .p) (at .i) (at .depth) (at .to) r fit G) l
@@ -559,9 +559,9 @@ write-arguments-loop-again-2 t c x order bs r B₀ fit =
     (λ v.
         let q = v .1 .given .0 .0 in
         let z : seen w ≡ Compound q = sym (c .before .before .before .before .before .before .before .before .before .look .ensures) ∙ v .1 .given .1 in
-        let O = v .4 .ensures (D (at .frames) (S .args .s .now) (S .args .text .now) x (S .args .facts) order bs (S .args .buffer .now) (at .buffer) (S .args .at) (at .p) (at .i) (at .depth) (at .to) r fit G w q l z .functor) (into-opens (at .frames) (S .args .s .now) (S .args .text .now) x (S .args .facts) order bs (S .args .buffer .now) (at .buffer) (S .args .at) (at .p) (at .i) (at .depth) (at .to) r fit G w q l z .1) in
-        let I = into-arguments (at .frames) (S .args .s .now) (S .args .text .now) x (S .args .facts) order bs (S .args .buffer .now) (at .buffer) (S .args .at) (at .p) (at .i) (at .depth) (at .to) r fit G w q l z _ _ O in
-        puts-moved (v .12) (v .13) (I .3 _ _ (v .9 .ensures x order (I .0) r (I .1) (I .2))))
+        let O = v .4 .ensures (within (S .args .s .now) (S .args .text .now) x (S .args .facts) order (G .before .u) (at .to) (length (at .buffer)) w (going-writes (at .frames) (S .args .s .now) (S .args .text .now) x (S .args .facts) order bs (S .args .buffer .now) (at .buffer) (S .args .at) (at .p) (at .i) (at .depth) (at .to) r fit G) l q z .functor) (within (S .args .s .now) (S .args .text .now) x (S .args .facts) order (G .before .u) (at .to) (length (at .buffer)) w (going-writes (at .frames) (S .args .s .now) (S .args .text .now) x (S .args .facts) order bs (S .args .buffer .now) (at .buffer) (S .args .at) (at .p) (at .i) (at .depth) (at .to) r fit G) l q z .opens .1) in
+        let I = within (S .args .s .now) (S .args .text .now) x (S .args .facts) order (G .before .u) (at .to) (length (at .buffer)) w (going-writes (at .frames) (S .args .s .now) (S .args .text .now) x (S .args .facts) order bs (S .args .buffer .now) (at .buffer) (S .args .at) (at .p) (at .i) (at .depth) (at .to) r fit G) l q z in
+        puts-moved (v .12) (v .13) (into-whole (S .args .s .now) (S .args .text .now) x (S .args .facts) order (G .before .u) (at .to) (length (at .buffer)) w (going-writes (at .frames) (S .args .s .now) (S .args .text .now) x (S .args .facts) order bs (S .args .buffer .now) (at .buffer) (S .args .at) (at .p) (at .i) (at .depth) (at .to) r fit G) l q z (at .buffer) _ _ O _ _ (v .9 .ensures x order (I .later) r (I .before) (into-room (S .args .s .now) (S .args .text .now) x (S .args .facts) order (G .before .u) (at .to) (length (at .buffer)) w (going-writes (at .frames) (S .args .s .now) (S .args .text .now) x (S .args .facts) order bs (S .args .buffer .now) (at .buffer) (S .args .at) (at .p) (at .i) (at .depth) (at .to) r fit G) l q z (at .buffer) _ _ O refl))))
     (λ v.
         puts-moved (v .5) (v .6)
         (v .2 .ensures x order (G .before .u) (going-writes (at .frames) (S .args .s .now) (S .args .text .now) x (S .args .facts) order bs (S .args .buffer .now) (at .buffer) (S .args .at) (at .p) (at .i) (at .depth) (at .to) r fit G) l
@@ -616,9 +616,9 @@ write-arguments-same-length t c =
     (λ v.
         let q = v .1 .given .0 .0 in
         let z : seen w ≡ Compound q = sym (c .before .before .before .before .before .before .before .before .before .look .ensures) ∙ v .1 .given .1 in
-        let O = v .4 .ensures (D (at .frames) (S .args .s .now) (S .args .text .now) (pre .0) (S .args .facts) (pre .1) (pre .2) (S .args .buffer .now) (at .buffer) (S .args .at) (at .p) (at .i) (at .depth) (at .to) r fit G w q l z .functor) (into-opens (at .frames) (S .args .s .now) (S .args .text .now) (pre .0) (S .args .facts) (pre .1) (pre .2) (S .args .buffer .now) (at .buffer) (S .args .at) (at .p) (at .i) (at .depth) (at .to) r fit G w q l z .1) in
-        let I = into-arguments (at .frames) (S .args .s .now) (S .args .text .now) (pre .0) (S .args .facts) (pre .1) (pre .2) (S .args .buffer .now) (at .buffer) (S .args .at) (at .p) (at .i) (at .depth) (at .to) r fit G w q l z _ _ O in
-        puts-moved (v .12) (v .13) (I .3 _ _ (v .9 .ensures (pre .0) (pre .1) (I .0) r (I .1) (I .2))))
+        let O = v .4 .ensures (within (S .args .s .now) (S .args .text .now) (pre .0) (S .args .facts) (pre .1) (G .before .u) (at .to) (length (at .buffer)) w (going-writes (at .frames) (S .args .s .now) (S .args .text .now) (pre .0) (S .args .facts) (pre .1) (pre .2) (S .args .buffer .now) (at .buffer) (S .args .at) (at .p) (at .i) (at .depth) (at .to) r fit G) l q z .functor) (within (S .args .s .now) (S .args .text .now) (pre .0) (S .args .facts) (pre .1) (G .before .u) (at .to) (length (at .buffer)) w (going-writes (at .frames) (S .args .s .now) (S .args .text .now) (pre .0) (S .args .facts) (pre .1) (pre .2) (S .args .buffer .now) (at .buffer) (S .args .at) (at .p) (at .i) (at .depth) (at .to) r fit G) l q z .opens .1) in
+        let I = within (S .args .s .now) (S .args .text .now) (pre .0) (S .args .facts) (pre .1) (G .before .u) (at .to) (length (at .buffer)) w (going-writes (at .frames) (S .args .s .now) (S .args .text .now) (pre .0) (S .args .facts) (pre .1) (pre .2) (S .args .buffer .now) (at .buffer) (S .args .at) (at .p) (at .i) (at .depth) (at .to) r fit G) l q z in
+        puts-moved (v .12) (v .13) (into-whole (S .args .s .now) (S .args .text .now) (pre .0) (S .args .facts) (pre .1) (G .before .u) (at .to) (length (at .buffer)) w (going-writes (at .frames) (S .args .s .now) (S .args .text .now) (pre .0) (S .args .facts) (pre .1) (pre .2) (S .args .buffer .now) (at .buffer) (S .args .at) (at .p) (at .i) (at .depth) (at .to) r fit G) l q z (at .buffer) _ _ O _ _ (v .9 .ensures (pre .0) (pre .1) (I .later) r (I .before) (into-room (S .args .s .now) (S .args .text .now) (pre .0) (S .args .facts) (pre .1) (G .before .u) (at .to) (length (at .buffer)) w (going-writes (at .frames) (S .args .s .now) (S .args .text .now) (pre .0) (S .args .facts) (pre .1) (pre .2) (S .args .buffer .now) (at .buffer) (S .args .at) (at .p) (at .i) (at .depth) (at .to) r fit G) l q z (at .buffer) _ _ O refl))))
     (λ v.
         puts-moved (v .5) (v .6)
         (v .2 .ensures (pre .0) (pre .1) (G .before .u) (going-writes (at .frames) (S .args .s .now) (S .args .text .now) (pre .0) (S .args .facts) (pre .1) (pre .2) (S .args .buffer .now) (at .buffer) (S .args .at) (at .p) (at .i) (at .depth) (at .to) r fit G) l
@@ -654,9 +654,9 @@ write-arguments-returns t c x order bs r B₀ fit =
     (λ v.
         let q = v .1 .given .0 .0 in
         let z : seen w ≡ Compound q = sym (c .before .before .before .before .before .before .before .before .before .look .ensures) ∙ v .1 .given .1 in
-        let O = v .4 .ensures (D (at .frames) (S .args .s .now) (S .args .text .now) x (S .args .facts) order bs (S .args .buffer .now) (at .buffer) (S .args .at) (at .p) (at .i) (at .depth) (at .to) r fit G w q l z .functor) (into-opens (at .frames) (S .args .s .now) (S .args .text .now) x (S .args .facts) order bs (S .args .buffer .now) (at .buffer) (S .args .at) (at .p) (at .i) (at .depth) (at .to) r fit G w q l z .1) in
-        let I = into-arguments (at .frames) (S .args .s .now) (S .args .text .now) x (S .args .facts) order bs (S .args .buffer .now) (at .buffer) (S .args .at) (at .p) (at .i) (at .depth) (at .to) r fit G w q l z _ _ O in
-        puts-moved (v .12) (v .13) (I .3 _ _ (v .9 .ensures x order (I .0) r (I .1) (I .2))))
+        let O = v .4 .ensures (within (S .args .s .now) (S .args .text .now) x (S .args .facts) order (G .before .u) (at .to) (length (at .buffer)) w (going-writes (at .frames) (S .args .s .now) (S .args .text .now) x (S .args .facts) order bs (S .args .buffer .now) (at .buffer) (S .args .at) (at .p) (at .i) (at .depth) (at .to) r fit G) l q z .functor) (within (S .args .s .now) (S .args .text .now) x (S .args .facts) order (G .before .u) (at .to) (length (at .buffer)) w (going-writes (at .frames) (S .args .s .now) (S .args .text .now) x (S .args .facts) order bs (S .args .buffer .now) (at .buffer) (S .args .at) (at .p) (at .i) (at .depth) (at .to) r fit G) l q z .opens .1) in
+        let I = within (S .args .s .now) (S .args .text .now) x (S .args .facts) order (G .before .u) (at .to) (length (at .buffer)) w (going-writes (at .frames) (S .args .s .now) (S .args .text .now) x (S .args .facts) order bs (S .args .buffer .now) (at .buffer) (S .args .at) (at .p) (at .i) (at .depth) (at .to) r fit G) l q z in
+        puts-moved (v .12) (v .13) (into-whole (S .args .s .now) (S .args .text .now) x (S .args .facts) order (G .before .u) (at .to) (length (at .buffer)) w (going-writes (at .frames) (S .args .s .now) (S .args .text .now) x (S .args .facts) order bs (S .args .buffer .now) (at .buffer) (S .args .at) (at .p) (at .i) (at .depth) (at .to) r fit G) l q z (at .buffer) _ _ O _ _ (v .9 .ensures x order (I .later) r (I .before) (into-room (S .args .s .now) (S .args .text .now) x (S .args .facts) order (G .before .u) (at .to) (length (at .buffer)) w (going-writes (at .frames) (S .args .s .now) (S .args .text .now) x (S .args .facts) order bs (S .args .buffer .now) (at .buffer) (S .args .at) (at .p) (at .i) (at .depth) (at .to) r fit G) l q z (at .buffer) _ _ O refl))))
     (λ v.
         puts-moved (v .5) (v .6)
         (v .2 .ensures x order (G .before .u) (going-writes (at .frames) (S .args .s .now) (S .args .text .now) x (S .args .facts) order bs (S .args .buffer .now) (at .buffer) (S .args .at) (at .p) (at .i) (at .depth) (at .to) r fit G) l
