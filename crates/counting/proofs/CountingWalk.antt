@@ -1,5 +1,5 @@
 -- Counting a compound's arguments: the walk has counted some bytes, and what is left of them in the order of the whole brings it to the whole's length.
-use Prim.Native.Nat.{ℕ, _+_, _*_, _/_, _%_, _≤_, _<_}
+use Prim.Native.Nat.{ℕ, _+_, _*_, _≤_, _<_}
 use mathlib.Core.Path.{_≡_, refl, _∙_, sym, ap}
 use mathlib.Core.Logic.{_≢_}
 use mathlib.Core.List.{List, [], _∷_, _++_}
@@ -8,28 +8,28 @@ use native.Mathlib.Decide.{decLt}
 use native.Mathlib.Omega.{arith}
 use lib.ListN.{length, length-append, getD}
 use Rattle.meaning.specs.Bytes.{Bytes}
-use Rattle.meaning.specs.Terms.{Half, Functor, cell, named, Term, Terms, end, more, count}
+use Rattle.meaning.specs.Terms.{Half, Functor, Term, Terms, more}
 use Rattle.meaning.specs.State.{value}
-use Rattle.meaning.specs.Report.{alone, written, other-arguments}
+use Rattle.meaning.specs.Report.{alone, written}
 use Rattle.term.specs.Setting.{Setting}
 use Rattle.term.specs.declared.word.View.the-variants.{Compound}
 use Rattle.term.proofs.Holds.{holds-from-alike}
 use Rattle.facts.specs.Threaded.{full, all-full, seen-after, seen-after-all, shown}
 use Rattle.facts.specs.Laid.{capped}
 use Rattle.facts.specs.Facts.{Readable, Shows, Changed, Counting, Leads}
-use Rattle.counting.specs.Counts.{Counts, Counted, CountedTerm, LeafCounted, LengthKnown, Known-now, Inside}
-use Rattle.facts.specs.Walk.{opening-bytes, Opens, StandsAt, after, rest, Position, Found}
+use Rattle.counting.specs.Counts.{Counts, Counted, CountedTerm, LeafCounted, LengthKnown, Known-now}
+use Rattle.facts.specs.Walk.{opening-bytes, StandsAt, after, rest, Position, Found}
 use Rattle.facts.specs.declared.cells.Next.the-variants.{Goes, Ends}
 use Rattle.facts.proofs.Full.{full-compound, full-unassigned}
-use Rattle.facts.proofs.Once.{seen-after-compound, seen-after-end, seen-after-more, seen-after-all-keeps}
+use Rattle.facts.proofs.Once.{seen-after-compound, seen-after-more, seen-after-all-keeps}
 use Rattle.facts.proofs.Settled.{settled-in}
 use Rattle.facts.proofs.Again.{seen-again, shown-again}
 use Rattle.facts.proofs.Told.{seen as look, seen-term, compound-told}
 use Rattle.facts.proofs.Leaves.{opening-length, length-more}
 use Rattle.facts.proofs.Keeping.{changed-none, changed-then, front-kept, shows-kept}
 use Rattle.term.proofs.Units.{all-within-every}
-use Rattle.facts.proofs.Walking.{functor-inside, position-arity, position-first, position-functor}
-use Rattle.facts.proofs.Wholes.{some-argument, stands-opens, whole-is}
+use Rattle.facts.proofs.Walking.{position-first}
+use Rattle.facts.proofs.Wholes.{some-argument, whole-is}
 
 -- Where the walk stands it stands after what counting changes.
 pub position-kept : (s s′ : List ℕ) (text : Bytes) (x : Setting) (facts : ℕ) → Readable s text x facts → Changed s s′ x facts
@@ -59,8 +59,8 @@ position-kept s s′ text x facts r c p i j f u us a =
       sound = a .sound;
     }
 
--- The walk: so far it is counted up to a place, and so many parentheses are open; in the order of the whole what is left leads to the whole's end.
-pub record Walked (s₀ s : List ℕ) (text : Bytes) (x : Setting) (facts : ℕ) (order : List ℕ) (whole at p i to unclosed : ℕ) : Type 0 where
+-- The walk: so far it is counted up to a place; in the order of the whole what is left leads to the whole's end.
+pub record Walked (s₀ s : List ℕ) (text : Bytes) (x : Setting) (facts : ℕ) (order : List ℕ) (whole at p i to : ℕ) : Type 0 where
   pub g : Functor
   pub j : ℕ
   pub u : Term
@@ -70,8 +70,7 @@ pub record Walked (s₀ s : List ℕ) (text : Bytes) (x : Setting) (facts : ℕ)
   pub now : List ℕ
   pub counts : Counts s text x facts now to
   pub above : at < to
-  pub few-open : unclosed ≤ to
-  pub place : capped (to + length (rest (x .values) order g j u us) + unclosed) ≡ capped (at + whole)
+  pub place : capped (to + length (rest (x .values) order g j u us)) ≡ capped (at + whole)
   pub exact : to < 16777217 → seen-after-all now (all-full (x .values) (more u us)) ≡ order
 
 -- The order of a compound.
@@ -83,12 +82,12 @@ whole-of x seen t = length (shown seen alone (full (x .values) t))
 
 pub walk-first : (s : List ℕ) (text : Bytes) (x : Setting) (facts : ℕ) (seen : List ℕ) (n : ℕ) (f : Functor) (ts : Terms) (at p to : ℕ)
     → Counts s text x facts seen at → at < 16777217 → StandsAt s x n f ts p → to ≡ capped (at + length (opening-bytes f))
-    → Walked s s text x facts (order-of x seen (Term.compound n f ts)) (whole-of x seen (Term.compound n f ts)) at p 1 to 0
+    → Walked s s text x facts (order-of x seen (Term.compound n f ts)) (whole-of x seen (Term.compound n f ts)) at p 1 to
 unfolding shown
 walk-first s text x facts seen n f ts at p to C low a e = go (some-argument n f ts (a .sound))
   where
     go : (u : Term) × (us : Terms) × (ts ≡ more u us)
-        → Walked s s text x facts (order-of x seen (Term.compound n f ts)) (whole-of x seen (Term.compound n f ts)) at p 1 to 0
+        → Walked s s text x facts (order-of x seen (Term.compound n f ts)) (whole-of x seen (Term.compound n f ts)) at p 1 to
     go (u, us, z) =
         let order = order-of x seen (Term.compound n f ts) in
         let is : written order alone (full (x .values) (Term.compound n f ts)) ≡ opening-bytes f ++ rest (x .values) order f 0 u us =
@@ -104,7 +103,6 @@ walk-first s text x facts seen n f ts at p to C low a e = go (some-argument n f 
           now = seen;
           counts = record { readable = C .readable; counting = C .counting; low = omega arith; few = omega (arith, C .few, C .low) };
           above = omega (arith, opening-length f);
-          few-open = omega arith;
           place = omega (arith, sizes);
           exact = λ h. sym (ap (λ (l : Terms). order-of x seen (Term.compound n f l)) z ∙ ap (seen-after seen) (full-compound (x .values) n f (more u us))
               ∙ seen-after-compound seen n f (all-full (x .values) (more u us)));
@@ -123,8 +121,8 @@ argument-seen : (x : Setting) (now order : List ℕ) (u : Term) (us : Terms) →
 unfolding all-full
 argument-seen x now order u us e = sym (seen-after-more now (full (x .values) u) (all-full (x .values) us)) ∙ e
 
-module _ (s₀ s : List ℕ) (text : Bytes) (x : Setting) (facts : ℕ) (order : List ℕ) (whole at p i to unclosed : ℕ)
-    (W : Walked s₀ s text x facts order whole at p i to unclosed) (s′ : List ℕ) (r : ℕ)
+module _ (s₀ s : List ℕ) (text : Bytes) (x : Setting) (facts : ℕ) (order : List ℕ) (whole at p i to : ℕ)
+    (W : Walked s₀ s text x facts order whole at p i to) (s′ : List ℕ) (r : ℕ)
     (C : CountedTerm s s′ text x facts (W .now) (W .u) to r) where
   abbrev here : ℕ
   here = length (shown (W .now) alone (full (x .values) (W .u)))
@@ -132,7 +130,7 @@ module _ (s₀ s : List ℕ) (text : Bytes) (x : Setting) (facts : ℕ) (order :
   abbrev behind-size : ℕ
   behind-size = length (after (x .values) order (W .g) (W .j) (W .us))
 
-  walk-place : Dec (to < 16777217) → capped (r + behind-size + unclosed) ≡ capped (at + whole)
+  walk-place : Dec (to < 16777217) → capped (r + behind-size) ≡ capped (at + whole)
   walk-place (yes h) =
       let is = ap length (argument-is x (W .now) order (W .u) (W .us) (W .exact h)) in
       omega (
@@ -170,7 +168,7 @@ module _ (s₀ s : List ℕ) (text : Bytes) (x : Setting) (facts : ℕ) (order :
     exact = λ h. absurd (omega arith);
   }
 
-  pub walk-ends : (b r′ : ℕ) → Found s′ x (W .g) (W .j) (W .us) (Ends b) → r′ ≡ capped (r + (1 + unclosed)) → Counted s₀ s′ text x facts at whole order r′
+  pub walk-ends : (b r′ : ℕ) → Found s′ x (W .g) (W .j) (W .us) (Ends b) → r′ ≡ capped (r + 1) → Counted s₀ s′ text x facts at whole order r′
   walk-ends b r′ F e = record {
     changed = walk-changed;
     readable = C .readable;
@@ -185,7 +183,7 @@ module _ (s₀ s : List ℕ) (text : Bytes) (x : Setting) (facts : ℕ) (order :
   }
 
   pub walk-on : (b q k : ℕ) → Found s′ x (W .g) (W .j) (W .us) (Goes b q k) → r ≢ 16777217
-      → Walked s₀ s′ text x facts order whole at q k (r + 1) unclosed
+      → Walked s₀ s′ text x facts order whole at q k (r + 1)
   walk-on b q k (j′, g′, v, vs, position, bytes-are, seen-are, stands-are) d =
       let low : r < 16777217 = omega (arith, walk-low .0, d) in
       let size = ap length (bytes-are order) ∙ length-more b (rest (x .values) order g′ j′ v vs) in record {
@@ -198,74 +196,9 @@ module _ (s₀ s : List ℕ) (text : Bytes) (x : Setting) (facts : ℕ) (order :
         now = C .after;
         counts = record { readable = C .readable; counting = C .counting; low = omega arith; few = omega (arith, C .few) };
         above = omega (arith, W .above, walk-low .1);
-        few-open = omega (arith, W .few-open, walk-low .1);
         place = omega (arith, walk-place (decLt to 16777217), size);
         exact = λ h. sym (seen-are (C .after)) ∙ walk-seen low;
       }
-
--- A last argument in parentheses has nothing but the parenthesis behind it.
-last-is : (s : List ℕ) (x : Setting) (p i j : ℕ) (f : Functor) (u : Term) (us : Terms) → Position s x p i j f u us → getD s (8 * p) 0 / 8 ≢ 0
-    → i ≡ getD s (8 * p) 0 % 8 → ((order : List ℕ) → after (x .values) order f j us ≡ 41 ∷ []) × (us ≡ end)
-unfolding count other-arguments all-full
-last-is s x p i j cell u us a d e = absurd (d (position-functor s x p i j cell u us a))
-last-is s x p i j (named f) u end a d e = (λ order. refl, refl)
-last-is s x p i j (named f) u (more v vs) a d e = absurd (omega (arith, position-arity s x p i j (named f) u (more v vs) a, a .index))
-
-seen-inside : (x : Setting) (now : List ℕ) (u : Term) (us : Terms) (n : ℕ) (f : Functor) (ts : Terms) → us ≡ end
-    → full (x .values) u ≡ full (x .values) (Term.compound n f ts)
-    → seen-after-all now (all-full (x .values) (more u us)) ≡ seen-after-all now (all-full (x .values) ts)
-unfolding all-full
-seen-inside x now u us n f ts y k =
-    ap (λ (l : Terms). seen-after-all now (all-full (x .values) (more u l))) y
-    ∙ seen-after-more now (full (x .values) u) end
-    ∙ seen-after-end (seen-after now (full (x .values) u))
-    ∙ ap (seen-after now) (k ∙ full-compound (x .values) n f ts)
-    ∙ seen-after-compound now n f (all-full (x .values) ts)
-
--- The walk goes on with a last argument's own arguments.
-module _ (s₀ s : List ℕ) (text : Bytes) (x : Setting) (facts : ℕ) (order : List ℕ) (whole at p i to unclosed : ℕ)
-    (W : Walked s₀ s text x facts order whole at p i to unclosed) (s₁ : List ℕ) (w q : ℕ) (D : Inside s s₁ text x facts (W .now) (W .u) to w q) where
-  pub walk-inside : 8 * p < length s₁
-  walk-inside = omega (arith, functor-inside s x p i (W .j) (W .g) (W .u) (W .us) (W .position), D .changed .size)
-
-  pub walk-opens : (8 * q < length s₁) × Opens s₁ text (getD s₁ (8 * q) 0 / 8) (D .functor)
-  walk-opens = stands-opens s₁ text x facts (D .counts .readable) (D .number) (D .functor) (D .terms) q (D .stands)
-
-  pub walk-into : getD s₁ (8 * p) 0 / 8 ≢ 0 → i ≡ getD s₁ (8 * p) 0 % 8 → (to₁ : ℕ) → to₁ ≡ capped (to + length (opening-bytes (D .functor)))
-      → Walked s₀ s₁ text x facts order whole at q 1 to₁ (unclosed + 1)
-  walk-into d l to₁ e = go (some-argument (D .number) (D .functor) (D .terms) (D .stands .sound))
-    where
-      go : (v : Term) × (vs : Terms) × (D .terms ≡ more v vs) → Walked s₀ s₁ text x facts order whole at q 1 to₁ (unclosed + 1)
-      go (v, vs, z) =
-          let here = position-kept s s₁ text x facts (W .counts .readable) (D .changed) p i (W .j) (W .g) (W .u) (W .us) (W .position) in
-          let L = last-is s₁ x p i (W .j) (W .g) (W .u) (W .us) here d l in
-          let own = full (x .values) (Term.compound (D .number) (D .functor) (more v vs)) in
-          let same : full (x .values) (W .u) ≡ own = D .same ∙ ap (λ (ts : Terms). full (x .values) (Term.compound (D .number) (D .functor) ts)) z in
-          let is : written order alone (full (x .values) (W .u)) ≡ opening-bytes (D .functor) ++ rest (x .values) order (D .functor) 0 v vs =
-          ap (written order alone) same ∙ whole-is x order (D .number) (D .functor) v vs in
-          let sizes = ap length is ∙ length-append (opening-bytes (D .functor)) (rest (x .values) order (D .functor) 0 v vs) in
-          let one = ap length (L .0 order) ∙ length-more 41 [] in
-          let none : length {A = ℕ} [] ≡ 0 = refl in
-          let all = length-append (written order alone (full (x .values) (W .u))) (after (x .values) order (W .g) (W .j) (W .us)) in record {
-            g = D .functor;
-            j = 0;
-            u = v;
-            us = vs;
-            position = position-first s₁ x (D .number) (D .functor) v vs q (rw z at (D .stands));
-            changed = changed-then s₀ s s₁ x facts (W .changed) (D .changed);
-            now = W .now;
-            counts = record {
-              readable = D .counts .readable;
-              counting = D .counts .counting;
-              low = omega arith;
-              few = omega (arith, D .counts .few, D .below);
-            };
-            above = omega (arith, W .above, D .below, opening-length (D .functor));
-            few-open = omega (arith, W .few-open, D .below, opening-length (D .functor));
-            place = omega (arith, W .place, sizes, one, none, all);
-            exact = λ h.
-                sym (seen-inside x (W .now) (W .u) (W .us) (D .number) (D .functor) (more v vs) (L .1) same) ∙ W .exact (D .below);
-          }
 
 -- A term: at the ceiling; with its length known; by a compound's arguments; a leaf.
 pub count-ceiling : (s : List ℕ) (text : Bytes) (x : Setting) (facts : ℕ) (seen : List ℕ) (t : Term) (at : ℕ) → Counts s text x facts seen at
@@ -313,16 +246,18 @@ module _ (s s₁ : List ℕ) (text : Bytes) (x : Setting) (facts : ℕ) (seen : 
   }
 
   -- A compound at the end of the chain.
-  pub count-inside : (q : ℕ) → at < 16777217 → look e ≡ Compound q → Inside s s₁ text x facts seen t at w q
-  count-inside q low z = go (compound-told (x .places) (L .led .last) q (sym (seen-term (x .places) (L .led .last) e (L .led .word)) ∙ z))
+  pub record Within-it (q : ℕ) : Type 0 where
+    pub number : ℕ
+    pub functor : Functor
+    pub terms : Terms
+    pub stands : StandsAt s₁ x number functor terms q
+    pub same : full (x .values) t ≡ full (x .values) (Term.compound number functor terms)
+
+  pub within-it : (q : ℕ) → look e ≡ Compound q → Within-it q
+  within-it q z = go (compound-told (x .places) (L .led .last) q (sym (seen-term (x .places) (L .led .last) e (L .led .word)) ∙ z))
     where
-      go : (n : ℕ) × (f : Functor) × (ts : Terms) × (L .led .last ≡ Term.compound n f ts) × (q ≡ x .places .compound n)
-          → Inside s s₁ text x facts seen t at w q
+      go : (n : ℕ) × (f : Functor) × (ts : Terms) × (L .led .last ≡ Term.compound n f ts) × (q ≡ x .places .compound n) → Within-it q
       go (n, f, ts, y, b) = record {
-        below = low;
-        changed = L .changed;
-        counts = led-counts;
-        shows = led-shows;
         number = n;
         functor = f;
         terms = ts;
@@ -330,52 +265,46 @@ module _ (s s₁ : List ℕ) (text : Bytes) (x : Setting) (facts : ℕ) (seen : 
         same = L .led .same ∙ ap (full (x .values)) y;
       }
 
--- Its arguments counted.
-module _ (s s₁ : List ℕ) (text : Bytes) (x : Setting) (facts : ℕ) (seen : List ℕ) (t : Term) (at w q : ℕ) (D : Inside s s₁ text x facts seen t at w q)
-    (s₂ : List ℕ) (to : ℕ) (R : CountedTerm s₁ s₂ text x facts seen (Term.compound (D .number) (D .functor) (D .terms)) at to) where
-  told-place : to ≡ capped (at + length (shown seen alone (full (x .values) t)))
-  told-place = rw (D .same) (R .place)
+  module _ (q : ℕ) (D : Within-it q) (s₂ : List ℕ) (to : ℕ)
+      (R : CountedTerm s₁ s₂ text x facts seen (Term.compound (D .number) (D .functor) (D .terms)) at to) where
+    told-place : to ≡ capped (at + length (shown seen alone (full (x .values) t)))
+    told-place = rw (D .same) (R .place)
 
-  told-exact : to < 16777217 → R .after ≡ seen-after seen (full (x .values) t)
-  told-exact = rw (D .same) (R .exact)
+    told-exact : to < 16777217 → R .after ≡ seen-after seen (full (x .values) t)
+    told-exact = rw (D .same) (R .exact)
 
-  pub told-shows : Shows s₂ x t w
-  told-shows = shows-kept s₁ s₂ text x facts (D .counts .readable) (R .changed) t w (D .shows)
+    pub told-shows : Shows s₂ x t w
+    told-shows = shows-kept s₁ s₂ text x facts (L .readable) (R .changed) t w led-shows
 
-  pub told-low : at ≤ to
-  told-low = omega (arith, R .place, D .counts .low)
+    pub told-low : at ≤ to
+    told-low = omega (arith, R .place, C .low)
 
-  assigned : (h : Half) (n : ℕ) (v : Option Term) → t ≡ Term.variable h n → value (x .values) n ≡ v → (u : Term) × (value (x .values) n ≡ some u)
-  assigned h n none v z =
-      let y : Term.variable h n ≡ Term.compound (D .number) (D .functor) (all-full (x .values) (D .terms)) =
-      sym (full-unassigned (x .values) h n z) ∙ ap (full (x .values)) (sym v) ∙ D .same ∙ full-compound (x .values) (D .number) (D .functor) (D .terms) in
-      let o : _≡_ {A = ℕ} 0 1 = cc in absurd (omega arith)
-  assigned h n (some u) v z = (u, z)
+    assigned : (h : Half) (n : ℕ) (v : Option Term) → t ≡ Term.variable h n → value (x .values) n ≡ v → (u : Term) × (value (x .values) n ≡ some u)
+    assigned h n none v z =
+        let y : Term.variable h n ≡ Term.compound (D .number) (D .functor) (all-full (x .values) (D .terms)) =
+        sym (full-unassigned (x .values) h n z) ∙ ap (full (x .values)) (sym v) ∙ D .same ∙ full-compound (x .values) (D .number) (D .functor) (D .terms) in
+        let o : _≡_ {A = ℕ} 0 1 = cc in absurd (omega arith)
+    assigned h n (some u) v z = (u, z)
 
-  pub known-now : Known-now x facts (R .after) t at to
-  known-now = record {
-    assigned = λ h n v. assigned h n (value (x .values) n) v refl;
-    seen-all = λ d. let z = told-exact (omega (arith, R .place, d)) in rw z (seen-again seen (full (x .values) t));
-    size = λ d.
-        let z = told-exact (omega (arith, R .place, d)) in
-        let size : length (shown (seen-after seen (full (x .values) t)) alone (full (x .values) t)) ≡ length (shown seen alone (full (x .values) t)) =
-        ap length (shown-again seen alone (full (x .values) t)) in
-        rw z (omega (arith, told-place, size, d));
-  }
+    pub known-now : Known-now x facts (R .after) t at to
+    known-now = record {
+      assigned = λ h n v. assigned h n (value (x .values) n) v refl;
+      seen-all = λ d. let z = told-exact (omega (arith, R .place, d)) in rw z (seen-again seen (full (x .values) t));
+      size = λ d.
+          let z = told-exact (omega (arith, R .place, d)) in
+          let size : length (shown (seen-after seen (full (x .values) t)) alone (full (x .values) t)) ≡ length (shown seen alone (full (x .values) t)) =
+          ap length (shown-again seen alone (full (x .values) t)) in
+          rw z (omega (arith, told-place, size, d));
+    }
 
-  pub count-kept : (s₃ : List ℕ) → Changed s₂ s₃ x facts × Readable s₃ text x facts × Counting s₃ x facts (R .after)
-      → CountedTerm s s₃ text x facts seen t at to
-  count-kept s₃ (c, r, o) = record {
-    changed = changed-then s s₁ s₃ x facts (D .changed) (changed-then s₁ s₂ s₃ x facts (R .changed) c);
-    readable = r;
-    after = R .after;
-    counting = o;
-    few = R .few;
-    place = told-place;
-    exact = told-exact;
-  }
-
--- The same by other names for the scratch and the place.
-pub counted-moved : {s s₁ s₂ : List ℕ} {text : Bytes} {x : Setting} {facts at size : ℕ} {seen : List ℕ} {to₁ to₂ : ℕ} → s₂ ≡ s₁ → to₂ ≡ to₁
-    → Counted s s₁ text x facts at size seen to₁ → Counted s s₂ text x facts at size seen to₂
-counted-moved e f c = rw (e, f) c
+    pub count-kept : (s₃ : List ℕ) → Changed s₂ s₃ x facts × Readable s₃ text x facts × Counting s₃ x facts (R .after)
+        → CountedTerm s s₃ text x facts seen t at to
+    count-kept s₃ (c, r, o) = record {
+      changed = changed-then s s₁ s₃ x facts (L .changed) (changed-then s₁ s₂ s₃ x facts (R .changed) c);
+      readable = r;
+      after = R .after;
+      counting = o;
+      few = R .few;
+      place = told-place;
+      exact = told-exact;
+    }

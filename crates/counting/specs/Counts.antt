@@ -6,16 +6,13 @@ use mathlib.Core.List.{List}
 use lib.ListN.{length, getD}
 use Rattle.meaning.specs.Bytes.{Bytes}
 use mathlib.Core.Option.{some}
-use Rattle.meaning.specs.Terms.{Half, Functor, Term, Terms}
+use Rattle.meaning.specs.Terms.{Half, Term}
 use Rattle.meaning.specs.State.{value}
 use Rattle.meaning.specs.Report.{alone}
 use Rattle.term.specs.Setting.{Setting}
 use Rattle.facts.specs.Threaded.{full, seen-after, shown}
 use Rattle.facts.specs.Laid.{capped}
-use Rattle.facts.specs.Facts.{Readable, Shows, Counting, Changed}
-use Rattle.facts.specs.Walk.{StandsAt}
-use Rattle.counting.specs.declared.counting.Measured.{Measured}
-use Rattle.counting.specs.declared.counting.Measured.the-variants.{To, Within}
+use Rattle.facts.specs.Facts.{Readable, Counting, Changed}
 
 -- The scratch where a section is counted, so many bytes behind.
 pub record Counts (s : List ℕ) (text : Bytes) (x : Setting) (facts : ℕ) (seen : List ℕ) (at : ℕ) : Type 0 where
@@ -57,19 +54,3 @@ pub record Known-now (x : Setting) (facts : ℕ) (seen : List ℕ) (t : Term) (a
   pub assigned : (h : Half) (n : ℕ) → t ≡ Term.variable h n → (u : Term) × (value (x .values) n ≡ some u)
   pub seen-all : to ≢ 16777217 → seen-after seen (full (x .values) t) ≡ seen
   pub size : to ≢ 16777217 → to ≡ at + length (shown seen alone (full (x .values) t))
-
--- A term below the ceiling whose value is the compound at q.
-pub record Inside (s s′ : List ℕ) (text : Bytes) (x : Setting) (facts : ℕ) (seen : List ℕ) (t : Term) (at w q : ℕ) : Type 0 where
-  pub below : at < 16777217
-  pub changed : Changed s s′ x facts
-  pub counts : Counts s′ text x facts seen at
-  pub shows : Shows s′ x t w
-  pub number : ℕ
-  pub functor : Functor
-  pub terms : Terms
-  pub stands : StandsAt s′ x number functor terms q
-  pub same : full (x .values) t ≡ full (x .values) (Term.compound number functor terms)
-
-abbrev pub MeasuredTerm : List ℕ → List ℕ → Bytes → Setting → ℕ → List ℕ → Term → ℕ → ℕ → Measured → Type 0
-MeasuredTerm s s′ text x facts seen t at w (To r) = CountedTerm s s′ text x facts seen t at r
-MeasuredTerm s s′ text x facts seen t at w (Within q) = Inside s s′ text x facts seen t at w q

@@ -1,7 +1,6 @@
 // The length of a term written out with every assignment applied, and the numbers of its unassigned pairs: the pair's four words have the length of
 // its value where it was counted in the section, and its number. The section's numbers given so far stand in the trial's first word.
 use facts::cells::Next;
-use facts::cells::arity;
 use facts::cells::behind;
 use facts::cells::functor;
 use facts::cells::index;
@@ -17,8 +16,6 @@ use term::layout::TRIAL;
 use term::word::View;
 use term::word::look;
 ghost use mathlib.Core.Path.{_≡_};
-ghost use mathlib.Core.Bool.{true};
-ghost use mathlib.Core.Logic.{_≢_};
 ghost use mathlib.Core.List.{List, [], _∷_, _++_};
 ghost use Prim.Native.Nat.{ℕ, _+_, _*_, _≤_, _<_, _/_, _%_};
 ghost use lib.ListN.{length, getD};
@@ -32,7 +29,7 @@ ghost use Rattle.term.specs.Words.{view};
 ghost use Rattle.term.specs.Setting.{Setting, RangedInteger};
 ghost use Rattle.facts.specs.Threaded.{full, seen-after, shown};
 ghost use Rattle.facts.specs.Facts.{Readable, Shows, Led, Counting, Changed};
-ghost use Rattle.counting.specs.Counts.{Counts, CountedTerm, LeafCounted, LengthKnown, Known-now, MeasuredTerm};
+ghost use Rattle.counting.specs.Counts.{Counts, CountedTerm, LeafCounted, LengthKnown, Known-now};
 ghost use Rattle.facts.specs.Laid.{capped};
 ghost use Rattle.facts.specs.Walk.{opening-bytes, Opens, StandsAt};
 ghost use Rattle.facts.specs.Pairs.{NoCompound};
@@ -121,6 +118,30 @@ fn keep(s: &mut [u64], facts: usize, w: u64, at: usize, to: usize)
     }
 }
 
+// A term, standing alone.
+pub fn count_term(s: &mut [u64], facts: usize, at: usize, w: u64) -> usize
+    requires { ⌜ ((text : Bytes) × (x : Setting) × (seen : List ℕ) × (t : Term) × Counts (now s) text x facts seen at × Shows (now s) x t w) ⌝ }
+    ensures { λ r. ⌜ ((text : Bytes) (x : Setting) (seen : List ℕ) (t : Term) → Counts (now (s .entry)) text x facts seen at → Shows (now (s .entry)) x t w
+        → CountedTerm (now (s .entry)) (now (s .exit)) text x facts seen t at r) ⌝ }
+{
+    if at == CEILING {
+        return at;
+    }
+    let e = lead(s, facts, w);
+    match look(e) {
+        View::Compound(q) => {
+            let n = counted(s, facts, w);
+            if n != 0 {
+                return further(at, n);
+            }
+            let to = count_arguments(s, facts, at, q);
+            keep(s, facts, w, at, to);
+            to
+        }
+        _ => further(at, leaf(s, facts, e)),
+    }
+}
+
 // What stands before a compound's first argument.
 fn opening(s: &[u64], at: usize, p: usize) -> usize
     requires { ⌜ ((text : Bytes) × (f : Functor) × (at ≤ 16777217) × (8 * p < length (now s)) × Opens (now s) text (getD (now s) (8 * p) 0 / 8) f) ⌝ }
@@ -134,47 +155,8 @@ fn opening(s: &[u64], at: usize, p: usize) -> usize
     further(to, 1)
 }
 
-// Whether the i-th argument of the compound at a place is its last, in parentheses.
-fn last(s: &[u64], p: usize, i: usize) -> bool
-    requires { ⌜ 8 * p < length (now s) ⌝ }
-    ensures { λ r. ⌜ (r ≡ true → (getD (now (s .entry)) (8 * p) 0 / 8 ≢ 0) × (i ≡ getD (now (s .entry)) (8 * p) 0 % 8)) ⌝ }
-{
-    if functor(s, p) == 0 {
-        return false;
-    }
-    i == arity(s, p)
-}
-
-// A term is counted up to a place, or it is a compound whose length is not known.
-pub enum Measured {
-    To(usize),
-    Within(usize),
-}
-
-fn measure(s: &mut [u64], facts: usize, at: usize, w: u64) -> Measured
-    requires { ⌜ ((text : Bytes) × (x : Setting) × (seen : List ℕ) × (t : Term) × Counts (now s) text x facts seen at × Shows (now s) x t w) ⌝ }
-    ensures { λ r. ⌜ ((text : Bytes) (x : Setting) (seen : List ℕ) (t : Term) → Counts (now (s .entry)) text x facts seen at → Shows (now (s .entry)) x t w
-        → MeasuredTerm (now (s .entry)) (now (s .exit)) text x facts seen t at w r) ⌝ }
-{
-    if at == CEILING {
-        return Measured::To(at);
-    }
-    let e = lead(s, facts, w);
-    match look(e) {
-        View::Compound(q) => {
-            let n = counted(s, facts, w);
-            if n != 0 {
-                return Measured::To(further(at, n));
-            }
-            Measured::Within(q)
-        }
-        _ => Measured::To(further(at, leaf(s, facts, e))),
-    }
-}
-
-// A compound with its arguments; "lists as `[a,b]` or `[a|T]`": a list goes on with the cell that is its tail. A compound that is a last argument in
-// parentheses is counted on here, and its parenthesis stays open.
-fn count_arguments(s: &mut [u64], facts: usize, at: usize, first: usize) -> usize
+// A compound with its arguments; "lists as `[a,b]` or `[a|T]`": a list goes on with the cell that is its tail.
+pub fn count_arguments(s: &mut [u64], facts: usize, at: usize, first: usize) -> usize
     requires { ⌜ ((text : Bytes) × (x : Setting) × (seen : List ℕ) × (n : ℕ) × (f : Functor) × (ts : Terms)
         × Counts (now s) text x facts seen at × (at < 16777217) × StandsAt (now s) x n f ts first) ⌝ }
     ensures { λ r. ⌜ ((text : Bytes) (x : Setting) (seen : List ℕ) (n : ℕ) (f : Functor) (ts : Terms)
@@ -184,26 +166,9 @@ fn count_arguments(s: &mut [u64], facts: usize, at: usize, first: usize) -> usiz
     let mut to = opening(s, at, first);
     let mut p = first;
     let mut i = 1;
-    let mut unclosed = 0;
     loop {
         let a = word_at(s, 8 * p, i);
-        match measure(s, facts, to, a) {
-            Measured::To(n) => {
-                to = n;
-            }
-            Measured::Within(q) => {
-                if last(s, p, i) {
-                    to = opening(s, to, q);
-                    p = q;
-                    i = 1;
-                    unclosed += 1;
-                    continue;
-                }
-                let from = to;
-                to = count_arguments(s, facts, from, q);
-                keep(s, facts, a, from, to);
-            }
-        }
+        to = count_term(s, facts, to, a);
         match behind(s, facts, p, i) {
             Next::Goes(_, q, j) => {
                 if to == CEILING {
@@ -214,24 +179,8 @@ fn count_arguments(s: &mut [u64], facts: usize, at: usize, first: usize) -> usiz
                 i = j;
             }
             Next::Ends(_) => {
-                return further(to, 1 + unclosed);
+                return further(to, 1);
             }
-        }
-    }
-}
-
-// A term, standing alone.
-pub fn count_term(s: &mut [u64], facts: usize, at: usize, w: u64) -> usize
-    requires { ⌜ ((text : Bytes) × (x : Setting) × (seen : List ℕ) × (t : Term) × Counts (now s) text x facts seen at × Shows (now s) x t w) ⌝ }
-    ensures { λ r. ⌜ ((text : Bytes) (x : Setting) (seen : List ℕ) (t : Term) → Counts (now (s .entry)) text x facts seen at → Shows (now (s .entry)) x t w
-        → CountedTerm (now (s .entry)) (now (s .exit)) text x facts seen t at r) ⌝ }
-{
-    match measure(s, facts, at, w) {
-        Measured::To(n) => n,
-        Measured::Within(q) => {
-            let to = count_arguments(s, facts, at, q);
-            keep(s, facts, w, at, to);
-            to
         }
     }
 }

@@ -1,4 +1,3 @@
-// The bytes of a term, a name and a number put into the buffer. Read specs/Writes and specs/Frames.
+// The bytes of a term, a name and a number put into the buffer. Read specs/Writes.
 pub mod put;
-pub mod rising;
 pub mod terms;
