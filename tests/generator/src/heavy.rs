@@ -58,6 +58,7 @@ fn runs() -> Vec<Heavy> {
         ),
         run("a circle found deep", ALL, circle(15, |inner| format!("f({inner})"), 30)),
         run("found in first arguments", ALL, circle(15, |inner| format!("f({inner},a)"), 30)),
+        run("found beside pairs", ALL, circle_through(&paired(), 30)),
     ]
 }
 
@@ -89,7 +90,8 @@ fn deepest() -> Vec<Heavy> {
     let run = |label, text| Heavy { label, kind: Kind::DeepestRun, budget: ALL, text };
     let once = |wrap: fn(String) -> String| circle(15, wrap, 1);
     vec![
-        run("circle", once(|inner| format!("f({inner},a)"))),
+        run("circle", circle_through(&paired(), 1)),
+        run("circle, constants behind", once(|inner| format!("f({inner},a)"))),
         run("circle, lists", once(|inner| format!("[{inner}]"))),
         run("circle, pairs", pairs_circle()),
         deepest("report", deep(|inner| format!("f({inner},a)"))),
@@ -202,11 +204,22 @@ fn passed_on() -> String {
 
 /// A value of about 3,500 times so many compounds, one in the other, with a pair innermost that so many clauses would assign the value.
 fn circle(depth: usize, wrap: fn(String) -> String, clauses: usize) -> String {
-    let part = format!("part({},X).\n", nested(depth, "X?", wrap));
+    circle_through(&nested(depth, "X?", wrap), clauses)
+}
+
+/// The same with one part of the value given.
+fn circle_through(value: &str, clauses: usize) -> String {
+    let part = format!("part({value},X).\n");
     let later: String = (1..12).map(|k| format!("l{k}(X,Y?) :- l{}(X?,Y).\n", k - 1)).collect();
     let tests = "l0(X,X?).\n".repeat(clauses);
     let parts = "all(L,A?), all(M,L?), all(N,M?), all(O,N?), all(P,O?), all(Q,P?), all(R,Q?)";
     format!("{part}{}{later}{tests}?- {parts}, l11(R?,A).\n", spread())
+}
+
+/// Compounds one in the other's first argument, with one half of a pair behind each: the circle test goes on to the last argument that leads on,
+/// and has to descend into the first.
+fn paired() -> String {
+    (0..14).fold("X?".to_string(), |inner, k| format!("f({inner},V{}{})", k / 2, ["", "?"][k % 2]))
 }
 
 /// A circle through as many pairs as the room has, each leaning on two.
