@@ -1,12 +1,14 @@
-//! `fuzz [--seed S] [--seconds N] [--executions N] [--journal FILE] [--falsify WHAT]`: changed jobs through the proved call and
-//! the reference in one process, compared by answer, report, scratch and guards.
+//! `fuzz [--seed S] [--seconds N] [--executions N] [--journal FILE] [--falsify WHAT]`: changed jobs through the proved
+//! call and the reference in one process, compared by answer, report, scratch and guards.
 //!
-//! It begins with generated jobs of the seed, the jobs of `heavy` and the examples, changes them, and keeps what gives something new. The same
-//! seed gives the same executions in the same order; only how many there are hangs on the time. The first difference ends
-//! it with status 1, and its frame is written to FILE, for which `target/fuzz.job` stands otherwise. Where a call does not come
-//! back, `--journal` shows which: then the frame of every execution is written before it is made.
+//! It begins with generated jobs of the seed, the jobs of `heavy` and the examples, changes them, and keeps what gives
+//! something new. The same seed gives the same executions in the same order; only how many there are hangs on the time.
+//! The first difference ends it with status 1, and its frame is written to FILE, for which `target/fuzz.job` stands
+//! otherwise. Where a call does not come back, `--journal` shows which: then the frame of every execution is written
+//! before it is made.
 //!
-//! `--falsify` changes one byte of what the call gave, so that one sees that it is found; `--list` names what it can change.
+//! `--falsify` changes one byte of what the call gave, so that one sees that it is found; `--list` names what it can
+//! change.
 
 use std::process::ExitCode;
 use std::time::{Duration, Instant};
@@ -148,7 +150,8 @@ fn examples() -> std::io::Result<Vec<Vec<u8>>> {
 }
 
 impl Fuzz<'_> {
-    /// A changed input. Mostly of one that was read, and of the later ones more often: they are further from where it began.
+    /// A changed input. Mostly of one that was read, and of the later ones more often: they are further from where it
+    /// began.
     fn next(&mut self) -> Input {
         let one = match self.random.below(10) {
             0..=3 => self.read[self.random.below(self.read.len())],
