@@ -1,4 +1,5 @@
-//! The exported call over Rust's slices, and the thread that has the stack for it. All unsafe code of the crate stands here.
+//! The exported call over Rust's slices, and the thread that has the stack for it. All unsafe code of the crate stands
+//! here.
 #![allow(unsafe_code)]
 
 use crate::machine::Room;
@@ -34,17 +35,19 @@ pub struct Given {
 
 /// The call itself. Any text, figures and lengths get an answer.
 ///
-/// On 1 to 8 the report buffer is as it was. On 1, 2 and 3 the scratch is too; otherwise its first [`Room::need`] words are zero afterwards and the others as they were.
+/// On 1 to 8 the report buffer is as it was. On 1, 2 and 3 the scratch is too; otherwise its first [`Room::need`] words
+/// are zero afterwards and the others as they were.
 ///
 /// # Safety
 ///
-/// The thread has [`Room::stack`] bytes of stack left. Less is enough for most jobs, but texts can be written that take half of it, and a call that runs past its stack
-/// overwrites what stands there, unless the system stops it.
+/// The thread has [`Room::stack`] bytes of stack left. Less is enough for most jobs, but texts can be written that take
+/// half of it, and a call that runs past its stack overwrites what stands there, unless the system stops it.
 pub unsafe fn call(text: &[u8], budget: usize, room: Room, scratch: &mut [u64], report: &mut [u8]) -> Given {
     let (mut line, mut length) = (0, 0);
     let Room { pairs, compounds, goals } = room;
-    // SAFETY: each pointer is a reference's and goes with its own length; the slices that are written are borrowed for this call alone, so nothing overlaps them. By its
-    // contract, which is proved, the call writes within them, and leaves integers in them, for which every pattern of bits is good.
+    // SAFETY: each pointer is a reference's and goes with its own length; the slices that are written are borrowed for
+    // this call alone, so nothing overlaps them. By its contract, which is proved, the call writes within them, and
+    // leaves integers in them, for which every pattern of bits is good.
     let number = unsafe {
         troscunel_call(
             text.as_ptr(),

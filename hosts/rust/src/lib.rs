@@ -1,7 +1,8 @@
 //! Runs job texts of Grassroots Logic Programs by the proved call of Troscunel.
 //!
-//! A [`Job`] is a text with its figures: a budget of steps, a [`Room`] and the longest report that is wanted. A [`Machine`] keeps what a call is lent
-//! and runs jobs one after the other. Every job gets an [`Answer`]: a report, or a [`Refusal`] with a message for people. Nothing has to be tested first.
+//! A [`Job`] is a text with its figures: a budget of steps, a [`Room`] and the longest report that is wanted. A
+//! [`Machine`] keeps what a call is lent and runs jobs one after the other. Every job gets an [`Answer`]: a report, or
+//! a [`Refusal`] with a message for people. Nothing has to be tested first.
 //!
 //! ```
 //! use troscunel::{Answer, Job, Machine, Refusal};
@@ -30,13 +31,14 @@
 //!
 //! # Linking
 //!
-//! `rt staticlib troscunel` writes `target/staticlib/libtroscunel.a` for x86-64, and the build script links it. The environment variable
-//! `TROSCUNEL_LIBRARY` names another folder that holds a `libtroscunel.a`.
+//! `rt staticlib troscunel` writes `target/staticlib/libtroscunel.a` for x86-64, and the build script links it. The
+//! environment variable `TROSCUNEL_LIBRARY` names another folder that holds a `libtroscunel.a`.
 //!
 //! # The stack
 //!
-//! The call recurses as deep as values are nested: up to 8 MiB of stack at the largest rooms. [`Machine::run`] gives each call a thread whose stack is large
-//! enough for the room. Who knows how much stack is left uses [`call`] itself, over scratch and buffer of their own; it is unsafe for this reason alone.
+//! The call recurses as deep as values are nested: up to 8 MiB of stack at the largest rooms. [`Machine::run`] gives
+//! each call a thread whose stack is large enough for the room. Who knows how much stack is left uses [`call`] itself,
+//! over scratch and buffer of their own; it is unsafe for this reason alone.
 //!
 //! All unsafe code stands in the module `call`.
 

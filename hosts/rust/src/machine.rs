@@ -4,7 +4,8 @@ use crate::answer::{Answer, Refusal};
 use crate::call::call_in_thread;
 use crate::LONGEST_REPORT;
 
-/// How many variable pairs, compounds and goals a run may use, each 1 to 65,535. Other figures are answered by [`Refusal::OutOfRange`].
+/// How many variable pairs, compounds and goals a run may use, each 1 to 65,535. Other figures are answered by
+/// [`Refusal::OutOfRange`].
 #[derive(Clone, Copy, Debug, PartialEq, Eq, Hash)]
 pub struct Room {
     /// The pairs that queries and reductions are charged.
@@ -32,8 +33,9 @@ impl Room {
         self.in_range().then(|| 40_704 + 5 * self.pairs + 8 * self.compounds + 6 * self.goals)
     }
 
-    /// How many bytes of stack are enough for a call: 1 MiB, and 256 for each compound, since a value may be nested as deep as there are compounds.
-    /// The compiled call takes 128 a level on x86-64 (docs/LIMITS.md), so half of it is reserve. Of a thread's stack only what is touched takes memory.
+    /// How many bytes of stack are enough for a call: 1 MiB, and 256 for each compound, since a value may be nested as
+    /// deep as there are compounds. The compiled call takes 128 a level on x86-64 (docs/LIMITS.md), so half of it is
+    /// reserve. Of a thread's stack only what is touched takes memory.
     pub fn stack(&self) -> usize {
         (1 << 20) + 256 * self.compounds.min(65_535)
     }
@@ -60,7 +62,8 @@ pub struct Job<'t> {
 }
 
 impl<'t> Job<'t> {
-    /// A text with the program's figures: a budget of 10,000, room for 1,024 pairs, 1,024 compounds and 128 goals, reports up to 65,536 bytes.
+    /// A text with the program's figures: a budget of 10,000, room for 1,024 pairs, 1,024 compounds and 128 goals,
+    /// reports up to 65,536 bytes.
     pub fn new<T: AsRef<[u8]> + ?Sized>(text: &'t T) -> Self {
         Job { text: text.as_ref(), budget: 10_000, room: Room::default(), longest_report: 65_536 }
     }
@@ -89,7 +92,8 @@ impl<'t> Job<'t> {
     }
 }
 
-/// Runs jobs one after the other. It keeps scratch and report buffer between them, as large as the largest job has needed.
+/// Runs jobs one after the other. It keeps scratch and report buffer between them, as large as the largest job has
+/// needed.
 ///
 /// An answer hangs on its job alone: nothing of a job is left for the next one.
 #[derive(Default)]

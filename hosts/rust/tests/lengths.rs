@@ -1,5 +1,5 @@
-//! Reports of exactly the buffer's length and one byte more, up to the ceiling of 16,777,216 bytes and past it; and the deepest values,
-//! which take the most stack. The texts and the reference's answers come from the generator.
+//! Reports of exactly the buffer's length and one byte more, up to the ceiling of 16,777,216 bytes and past it; and the
+//! deepest values, which take the most stack. The texts and the reference's answers come from the generator.
 
 use generator::{heavy, lengths};
 use troscunel::{Answer, Job, Machine, Refusal, Room, LONGEST_REPORT};
@@ -49,7 +49,8 @@ fn past_the_ceiling() {
     assert_eq!(message, "the report is longer than 16,777,216 bytes");
 }
 
-/// Beyond the report a lent buffer keeps its bytes, also where it is longer than any report; of length 0 it is refused, with the length.
+/// Beyond the report a lent buffer keeps its bytes, also where it is longer than any report; of length 0 it is refused,
+/// with the length.
 #[test]
 fn lent_buffers_of_every_length() {
     let text = lengths::of_length(LONGEST_REPORT as u32).expect("there is a text");

@@ -1,7 +1,8 @@
 //! Texts whose report has a given length.
 //!
-//! A value that doubles is written with a power of 2 of leaves, all of one name. A byte more of that name is so many bytes more
-//! of the report, so the names' lengths are digits: every fourth power down from the largest, and one name that stands once.
+//! A value that doubles is written with a power of 2 of leaves, all of one name. A byte more of that name is so many
+//! bytes more of the report, so the names' lengths are digits: every fourth power down from the largest, and one name
+//! that stands once.
 
 use reference::{call, Figures};
 

@@ -1,4 +1,5 @@
-//! Texts close to the longest, for measuring how long reading takes: many names, long lists, many clauses, deep brackets, blanks; and a small job.
+//! Texts close to the longest, for measuring how long reading takes: many names, long lists, many clauses, deep
+//! brackets, blanks; and a small job.
 
 pub const LONGEST: usize = 16_384;
 

@@ -1,7 +1,9 @@
-//! Jobs made to hurt: the largest texts and rooms, the deepest values, the longest chains, the most waits, values that double, and clauses that all but match.
+//! Jobs made to hurt: the largest texts and rooms, the deepest values, the longest chains, the most waits, values that
+//! double, and clauses that all but match.
 //!
-//! Each reduction charges a compound at least, and a goal that waits is woken by a pair that is assigned, so no run takes 1,000,000 steps: what costs is
-//! what one step can cost, times the steps that the room allows. The products are cut to some budget here, and named.
+//! Each reduction charges a compound at least, and a goal that waits is woken by a pair that is assigned, so no run
+//! takes 1,000,000 steps: what costs is what one step can cost, times the steps that the room allows. The products are
+//! cut to some budget here, and named.
 
 use crate::heavy::{self, nested};
 use crate::lengths;
@@ -114,7 +116,8 @@ fn chain(clauses: usize) -> String {
     format!("c(X?) :- c(X).\n{facts}?- c(Z), w(Z?).\n")
 }
 
-/// A deep value with a pair innermost, which 100 clauses would assign the value itself; then it is passed on, so many times.
+/// A deep value with a pair innermost, which 100 clauses would assign the value itself; then it is passed on, so many
+/// times.
 fn circles(times: usize) -> String {
     let part = format!("part({},X).\n", nested(14, "X?", |inner| format!("f({inner})")));
     let later: String = (1..12).map(|k| format!("l{k}(X,Y?) :- l{}(X?,Y).\n", k - 1)).collect();

@@ -13,7 +13,8 @@ extern "C" {
 /// Linux's number of the clock of the calling thread's time on a processor.
 const THREAD_TIME: i32 = 3;
 
-/// Nanoseconds that this thread has had on a processor: what others do on the machine does not count, but for the caches.
+/// Nanoseconds that this thread has had on a processor: what others do on the machine does not count, but for the
+/// caches.
 pub fn thread_time() -> f64 {
     let mut time = Timespec { seconds: 0, nanoseconds: 0 };
     // SAFETY: `time` is a struct timespec of 64-bit Linux, and lives through the call.

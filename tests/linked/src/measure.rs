@@ -102,7 +102,8 @@ fn measured<T>(times: u32, mut work: impl FnMut() -> T) -> f64 {
     (thread_time() - begin) / f64::from(times)
 }
 
-/// KiB of stack that the proved call touches: the pages that a fresh thread's stack then has. Linux tells them; a stack of 64 MiB is not used again.
+/// KiB of stack that the proved call touches: the pages that a fresh thread's stack then has. Linux tells them; a stack
+/// of 64 MiB is not used again.
 pub fn stack(lent: &mut Lent, call: &Call) -> Option<u64> {
     std::thread::scope(|scope| {
         let thread = std::thread::Builder::new().stack_size(64 << 20).spawn_scoped(scope, || {

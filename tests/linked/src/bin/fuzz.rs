@@ -1,18 +1,20 @@
-//! `fuzz [--seed S] [--seconds N] [--executions N] [--journal FILE] [--falsify WHAT]`: changed jobs through the proved call and
-//! the reference in one process, compared by answer, report, scratch and guards.
+//! `fuzz [--seed S] [--seconds N] [--executions N] [--journal FILE] [--falsify WHAT]`: changed jobs through the proved
+//! call and the reference in one process, compared by answer, report, scratch and guards.
 //!
-//! It begins with generated jobs of the seed and the jobs of `heavy`, changes them, and keeps what gives something new. The same
-//! seed gives the same executions in the same order; only how many there are hangs on the time. The first difference ends
-//! it with status 1, and its frame is written to FILE, for which `target/fuzz.job` stands otherwise. Where a call does not come
-//! back, `--journal` shows which: then the frame of every execution is written before it is made.
+//! It begins with generated jobs of the seed, the jobs of `heavy` and the examples, changes them, and keeps what gives
+//! something new. The same seed gives the same executions in the same order; only how many there are hangs on the time.
+//! The first difference ends it with status 1, and its frame is written to FILE, for which `target/fuzz.job` stands
+//! otherwise. Where a call does not come back, `--journal` shows which: then the frame of every execution is written
+//! before it is made.
 //!
-//! `--falsify` changes one byte of what the call gave, so that one sees that it is found; `--list` names what it can change.
+//! `--falsify` changes one byte of what the call gave, so that one sees that it is found; `--list` names what it can
+//! change.
 
 use std::process::ExitCode;
 use std::time::{Duration, Instant};
 
-use generator::heavy;
 use generator::random::Random;
+use generator::{heavy, Figures, Job};
 use linked::changes::{around, change};
 use linked::input::Input;
 use linked::novelty::Novelty;
@@ -98,7 +100,7 @@ fn fuzz(options: &Options) -> Result<(), String> {
         numbers: [0; 9],
     };
     let count = if options.falsified.is_some() { FEW } else { GENERATED };
-    for input in beginning(options.seed, count) {
+    for input in beginning(options.seed, count)? {
         fuzz.execute(input)?;
     }
     while begin.elapsed() < options.time && fuzz.executions < options.executions {
@@ -119,10 +121,10 @@ fn fuzz(options: &Options) -> Result<(), String> {
     Ok(())
 }
 
-/// Generated jobs, and the heavy ones with a small budget and room.
-fn beginning(seed: u64, count: usize) -> impl Iterator<Item = Input> {
-    let generated = generator::jobs(seed, count).into_iter().map(|job| Input::of(&job));
-    let heavy = heavy::jobs().into_iter().map(|job| Input {
+/// Generated jobs, the heavy ones with a small budget and room, and the examples with the program's.
+fn beginning(seed: u64, count: usize) -> Result<Vec<Input>, String> {
+    let mut inputs: Vec<Input> = generator::jobs(seed, count).iter().map(Input::of).collect();
+    inputs.extend(heavy::jobs().into_iter().map(|job| Input {
         text: job.text.into_bytes(),
         budget: 300,
         pairs: 1_000,
@@ -130,12 +132,26 @@ fn beginning(seed: u64, count: usize) -> impl Iterator<Item = Input> {
         goals: 300,
         buffer: 20_000,
         beyond: 0,
-    });
-    generated.chain(heavy)
+    }));
+    for text in examples().map_err(|error| format!("examples: {error}"))? {
+        let figures = Figures::default();
+        inputs.push(Input::of(&Job { label: String::new(), text, figures }));
+    }
+    Ok(inputs)
+}
+
+/// The texts of `examples/*.glp` below this folder, in the order of their names.
+fn examples() -> std::io::Result<Vec<Vec<u8>>> {
+    let entries = std::fs::read_dir("examples")?.collect::<std::io::Result<Vec<_>>>()?;
+    let mut paths: Vec<_> = entries.iter().map(std::fs::DirEntry::path).collect();
+    paths.retain(|path| path.extension().map_or(false, |end| end == "glp"));
+    paths.sort();
+    paths.iter().map(std::fs::read).collect()
 }
 
 impl Fuzz<'_> {
-    /// A changed input. Mostly of one that was read, and of the later ones more often: they are further from where it began.
+    /// A changed input. Mostly of one that was read, and of the later ones more often: they are further from where it
+    /// began.
     fn next(&mut self) -> Input {
         let one = match self.random.below(10) {
             0..=3 => self.read[self.random.below(self.read.len())],

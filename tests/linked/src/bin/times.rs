@@ -1,10 +1,13 @@
-//! `times [WORDS]`: how long calls take, the proved one against the reference's, in one process; of those jobs alone whose label has the words.
-//! `times --worst [WORDS]`: the same for jobs made to hurt, whole calls alone, with the stack that the proved call touches.
+//! `times [WORDS]`: how long calls take, the proved one against the reference's, in one process; of those jobs alone
+//! whose label has the words. `times --worst [WORDS]`: the same for jobs made to hurt, whole calls alone, with the
+//! stack that the proved call touches.
 //!
-//! The proved library has one call only, so its parts are differences of calls, and the reference's are made the same way:
-//! clearing is a call with an empty text; reading is a call with the text less its last full stop, which is refused at its end, less clearing (both
-//! in the smallest room); running, with the report counted, is the call without a buffer less clearing and reading; writing is the whole call less that.
-//! M a second are steps run, bytes of a report written or bytes of a text read. Each answer is held to the reference's first; a difference ends the program with status 2.
+//! The proved library has one call only, so its parts are differences of calls, and the reference's are made the same
+//! way: clearing is a call with an empty text; reading is a call with the text less its last full stop, which is
+//! refused at its end, less clearing (both in the smallest room); running, with the report counted, is the call without
+//! a buffer less clearing and reading; writing is the whole call less that. M a second are steps run, bytes of a report
+//! written or bytes of a text read. Each answer is held to the reference's first; a difference ends the program with
+//! status 2.
 
 use std::process::ExitCode;
 
@@ -88,7 +91,8 @@ fn row(lent: &mut Lent, label: &str, text: &str, budget: u64, room: Room, counts
     Ok(())
 }
 
-/// A part, unless it is less than three of a hundred of both whole calls: the difference of two measures is then mostly their error.
+/// A part, unless it is less than three of a hundred of both whole calls: the difference of two measures is then mostly
+/// their error.
 fn part(part: Times, whole: Times) -> String {
     if part.own < 0.03 * whole.own && part.reference < 0.03 * whole.reference {
         return String::new();
