@@ -1,2 +1,3 @@
+pub mod Upward
 pub mod Putting
 pub mod Writing

@@ -1,10 +1,12 @@
 -- Writing a term: where the bytes of a variable come from, a compound's opening, and the walk over its arguments.
-use Prim.Native.Nat.{ℕ, zero, suc, _+_, _-_, _*_, _/_, _≤_, _<_}
+use Prim.Native.Nat.{ℕ, zero, suc, _+_, _-_, _*_, _/_, _%_, _≤_, _<_}
 use mathlib.Core.Path.{_≡_, refl, _∙_, sym, ap}
 use mathlib.Core.Logic.{_≢_, inl, inr}
-use mathlib.Core.List.{List, [], _∷_, _++_, append-assoc}
+use mathlib.Core.List.{List, [], _∷_, _++_, append-assoc, append-nil}
 use native.Mathlib.Omega.{arith}
-use lib.ListN.{length, length-append, getD}
+use native.Mathlib.Numerals.{add-one}
+use lib.ListN.{length, length-append, length-set, getD, set}
+use lib.Seq.{getD-set-same, getD-set-other}
 use Rattle.meaning.specs.Bytes.{Bytes, bytes, decimal}
 use Rattle.meaning.specs.Terms.{Half, writer, reader, Functor, cell, named, Term, Terms, end, more, count}
 use Rattle.meaning.specs.State.{Values}
@@ -19,17 +21,46 @@ use Rattle.facts.specs.Threaded.{full, all-full}
 use Rattle.facts.specs.Sound.{Sound, AllSound}
 use Rattle.facts.specs.Laid.{Puts}
 use Rattle.facts.specs.Facts.{fact-place, Readable, Shows, Led}
-use Rattle.facts.specs.Walk.{opening-bytes, Opens, StandsAt, after, rest, Position, Found}
+use Rattle.facts.specs.Walk.{opening-bytes, Opens, StandsAt, after, rest}
 use Rattle.writing.specs.Writes.{Numbered, Writes}
-use Rattle.facts.specs.declared.cells.Next.the-variants.{Goes, Ends}
+use Rattle.writing.specs.Frames.{Behind, Before, Nothing, Frames, Rose}
+use Rattle.writing.specs.declared.rising.Risen.the-variants.{Goes as Onward, Ends as Done}
 use Rattle.facts.proofs.Full.{full-compound}
 use Rattle.facts.proofs.Told.{seen, seen-term, compound-told}
 use Rattle.facts.proofs.Chains.{fact-inside}
-use Rattle.facts.proofs.Wholes.{whole-is, some-argument}
-use Rattle.facts.proofs.Walking.{functor-parts, position-first, position-shows}
-use Rattle.facts.proofs.Leaves.{Unassigned, leaf-writer, leaf-reader, writer-bytes, reader-bytes, length-more, name-spelled}
+use Rattle.facts.proofs.Wholes.{whole-is, some-argument, stands-opens}
+use Rattle.facts.proofs.Walking.{functor-parts, position-first, position-inside, position-shows}
+use Rattle.facts.proofs.Leaves.{Unassigned, leaf-writer, leaf-reader, writer-bytes, reader-bytes, length-more, name-spelled, opening-length}
 use Rattle.facts.proofs.Laid.{puts-none}
 use Rattle.writing.proofs.Putting.{puts-two, puts-is, puts-length}
+
+-- A compound of the unit: its opening, and what stands behind it.
+pub opened : (s : List ℕ) (x : Setting) (facts : ℕ) (order : List ℕ) (n : ℕ) (f : Functor) (ts : Terms) (p : ℕ)
+    → Numbered s x facts order (full (x .values) (Term.compound n f ts)) → StandsAt s x n f ts p
+    → (later : Bytes) × (opening-bytes f ++ later ≡ written order alone (full (x .values) (Term.compound n f ts))) × Before Nothing s x facts order p 1 later
+unfolding Stands
+opened s x facts order n f ts p N a = go (some-argument n f ts (a .sound))
+  where
+    go : (u : Term) × (us : Terms) × (ts ≡ more u us)
+        → (later : Bytes) × (opening-bytes f ++ later ≡ written order alone (full (x .values) (Term.compound n f ts))) × Before Nothing s x facts order p 1 later
+    go (u, us, e) = (
+      rest (x .values) order f 0 u us,
+      rw e (sym (whole-is x order n f u us)),
+      record {
+        f = f;
+        j = 0;
+        u = u;
+        us = us;
+        position = position-first s x n f u us p (rw e at a);
+        numbered = λ m k st. N m k (rw (e, full-compound (x .values) n f (more u us)) (stands-compound m n f (all-full (x .values) (more u us)) st));
+        outer = [];
+        outside = refl;
+        is = append-nil (rest (x .values) order f 0 u us);
+      },
+    )
+      where
+        stands-compound : (m n : ℕ) (f : Functor) (ts : Terms) → StandsIn m ts → Stands m (Term.compound n f ts)
+        stands-compound m n f ts k = k
 
 -- Leaves.
 module _ (s : List ℕ) (text : Bytes) (x : Setting) (facts : ℕ) (order : List ℕ) (t : Term) (at size w : ℕ)
@@ -68,144 +99,225 @@ module _ (s : List ℕ) (text : Bytes) (x : Setting) (facts : ℕ) (order : List
       let d = decimal (getD s (facts + 4 * p + 2) 0) in
       omega (arith, W .fits, ap length (write-reader p e .1), length-append (95 ∷ d) (63 ∷ []), length-more 95 d)
 
-  -- A compound at the end of the chain.
-  pub record Deeper (q : ℕ) : Type 0 where
-    pub number : ℕ
+  -- A compound at the end of the chain: its opening, and what stands behind it.
+  pub record Within-it (q : ℕ) : Type 0 where
     pub functor : Functor
-    pub terms : Terms
-    pub writes : Writes s text x facts order (Term.compound number functor terms) at size
-    pub stands : StandsAt s x number functor terms q
-    pub same : full (x .values) (Term.compound number functor terms) ≡ full (x .values) t
+    pub later : Bytes
+    pub opens : (8 * q < length s) × Opens s text (getD s (8 * q) 0 / 8) functor
+    pub before : Before Nothing s x facts order q 1 later
+    pub is : opening-bytes functor ++ later ≡ written order alone (full (x .values) t)
 
-  pub deeper : (q : ℕ) → seen w ≡ Compound q → Deeper q
-  deeper q e = go (compound-told (x .places) (l .last) q (sym (seen-term (x .places) (l .last) w (l .word)) ∙ e))
-    where
-      go : (n : ℕ) × (f : Functor) × (ts : Terms) × (l .last ≡ Term.compound n f ts) × (q ≡ x .places .compound n) → Deeper q
-      go (n, f, ts, z, b) =
-          let same : full (x .values) t ≡ full (x .values) (Term.compound n f ts) = l .same ∙ ap (full (x .values)) z in record {
-            number = n;
-            functor = f;
-            terms = ts;
-            writes = record { readable = W .readable; numbered = rw same at (W .numbered); fits = rw same at (W .fits) };
-            stands = record { term = rw z at (l .term); sound = rw z at (l .sound); place = b };
-            same = sym same;
-          }
-
-pub opening-fits : (s : List ℕ) (text : Bytes) (x : Setting) (facts : ℕ) (order : List ℕ) (n : ℕ) (f : Functor) (ts : Terms) (at size p : ℕ)
-    → Writes s text x facts order (Term.compound n f ts) at size → StandsAt s x n f ts p → at + length (opening-bytes f) ≤ size
-opening-fits s text x facts order n f ts at size p W a = go (some-argument n f ts (a .sound))
-  where
-    go : (u : Term) × (us : Terms) × (ts ≡ more u us) → at + length (opening-bytes f) ≤ size
-    go (u, us, e) =
-        let fits : at + length (written order alone (full (x .values) (Term.compound n f (more u us)))) ≤ size = rw e at (W .fits) in
-        omega (arith, fits, ap length (whole-is x order n f u us), length-append (opening-bytes f) (rest (x .values) order f 0 u us))
-
--- The walk: some bytes are put, and the rest is still to be written.
-pub record Going (s : List ℕ) (x : Setting) (facts : ℕ) (order : List ℕ) (whole : Bytes) (b₀ b : List ℕ) (at p i to : ℕ) : Type 0 where
-  pub g : Functor
-  pub j : ℕ
-  pub u : Term
-  pub us : Terms
-  pub position : Position s x p i j g u us
-  pub done : Bytes
-  pub puts : Puts b₀ b at to done
-  pub left : done ++ rest (x .values) order g j u us ≡ whole
-  pub numbered : (m : ℕ) → m < length (x .values) → StandsIn m (all-full (x .values) (more u us)) → getD s (fact-place x facts m + 2) 0 ≡ number-in m order
-
--- At its start: what is still to be written stands behind the opening.
-abbrev pub Started : List ℕ → Setting → ℕ → List ℕ → ℕ → Functor → Terms → List ℕ → List ℕ → ℕ → ℕ → ℕ → ℕ → Type 0
-Started s x facts order n f ts b₀ b to₀ p i to = (later : Bytes)
-    × (opening-bytes f ++ later ≡ written order alone (full (x .values) (Term.compound n f ts))) × Going s x facts order later b₀ b to₀ p i to
-
-pub going-first : (s : List ℕ) (x : Setting) (facts : ℕ) (order : List ℕ) (n : ℕ) (f : Functor) (ts : Terms) (b : List ℕ) (p to : ℕ)
-    → Numbered s x facts order (full (x .values) (Term.compound n f ts)) → StandsAt s x n f ts p → Started s x facts order n f ts b b to p 1 to
-unfolding Stands
-going-first s x facts order n f ts b p to N a = go (some-argument n f ts (a .sound))
-  where
-    go : (u : Term) × (us : Terms) × (ts ≡ more u us) → Started s x facts order n f ts b b to p 1 to
-    go (u, us, e) = (
-      rest (x .values) order f 0 u us,
-      rw e (sym (whole-is x order n f u us)),
-      record {
-        g = f;
-        j = 0;
-        u = u;
-        us = us;
-        position = position-first s x n f u us p (rw e at a);
-        done = [];
-        puts = puts-none b to;
-        left = refl;
-        numbered = λ m k st. N m k (rw (e, full-compound (x .values) n f (more u us)) (stands-compound m n f (all-full (x .values) (more u us)) st));
-      },
-    )
+  module _ (q : ℕ) (z : seen w ≡ Compound q) where
+    pub within : Within-it q
+    within = go (compound-told (x .places) (l .last) q (sym (seen-term (x .places) (l .last) w (l .word)) ∙ z))
       where
-        stands-compound : (m n : ℕ) (f : Functor) (ts : Terms) → StandsIn m ts → Stands m (Term.compound n f ts)
-        stands-compound m n f ts k = k
+        go : (n : ℕ) × (f : Functor) × (ts : Terms) × (l .last ≡ Term.compound n f ts) × (q ≡ x .places .compound n) → Within-it q
+        go (n, f, ts, y, b) =
+            let same : full (x .values) t ≡ full (x .values) (Term.compound n f ts) = l .same ∙ ap (full (x .values)) y in
+            let stands : StandsAt s x n f ts q = record { term = rw y at (l .term); sound = rw y at (l .sound); place = b } in
+            let o = opened s x facts order n f ts q (rw same at (W .numbered)) stands in record {
+              functor = f;
+              later = o .0;
+              opens = stands-opens s text x facts (W .readable) n f ts q stands;
+              before = o .2;
+              is = o .1 ∙ ap (written order alone) (sym same);
+            }
 
--- What is later fits behind the opening.
-pub later-fits : (x : Setting) (order : List ℕ) (n : ℕ) (f : Functor) (ts : Terms) (at to size : ℕ) (later : Bytes)
-    → opening-bytes f ++ later ≡ written order alone (full (x .values) (Term.compound n f ts))
-    → at + length (written order alone (full (x .values) (Term.compound n f ts))) ≤ size → to ≡ at + length (opening-bytes f) → to + length later ≤ size
-later-fits x order n f ts at to size later e fits q = omega (arith, fits, ap length e, length-append (opening-bytes f) later)
+    pub into-here : opening-bytes (within .functor) ++ within .later ≡ written order alone (full (x .values) t)
+    into-here = within .is
 
-pub writes-size : {s : List ℕ} {text : Bytes} {x : Setting} {facts : ℕ} {order : List ℕ} {t : Term} {at size size′ : ℕ}
-    → Writes s text x facts order t at size → size′ ≡ size → Writes s text x facts order t at size′
-writes-size W e = record { readable = W .readable; numbered = W .numbered; fits = omega (arith, W .fits) }
+    into-sizes : length (opening-bytes (within .functor)) + length (within .later) ≡ length (written order alone (full (x .values) t))
+    into-sizes = sym (length-append (opening-bytes (within .functor)) (within .later)) ∙ ap length into-here
 
-module _ (s : List ℕ) (text : Bytes) (x : Setting) (facts : ℕ) (order : List ℕ) (whole : Bytes) (b₀ b : List ℕ) (at p i to : ℕ)
-    (r : Readable s text x facts) (fit : at + length whole ≤ length b₀) (G : Going s x facts order whole b₀ b at p i to) where
+    pub into-fits : at + length (opening-bytes (within .functor)) ≤ size
+    into-fits = omega (arith, into-sizes, W .fits)
+
+    module _ (b b₁ : List ℕ) (to : ℕ) (P : Puts b b₁ at to (opening-bytes (within .functor))) where
+      pub into-falls : at < to
+      into-falls = omega (arith, P .place, opening-length (within .functor))
+
+      pub into-room : length b ≡ size → to + length (within .later) ≤ length b₁
+      into-room e = omega (arith, into-sizes, W .fits, P .place, puts-length P)
+
+      pub into-whole : (b₂ : List ℕ) (to₂ : ℕ) → Puts b₁ b₂ to to₂ (within .later) → Puts b b₂ at to₂ (written order alone (full (x .values) t))
+      into-whole b₂ to₂ P₂ = puts-is into-here (puts-two P P₂)
+
+-- Where nothing stands outside, something does.
+pub before-within : (Outside : Bytes → Type 0) (s : List ℕ) (x : Setting) (facts : ℕ) (order : List ℕ) (p i : ℕ) (bs outer : Bytes)
+    → Before Nothing s x facts order p i bs → Outside outer → Before Outside s x facts order p i (bs ++ outer)
+before-within Outside s x facts order p i bs outer B o =
+    let alone : Bytes = rest (x .values) order (B .f) (B .j) (B .u) (B .us) in record {
+      f = B .f;
+      j = B .j;
+      u = B .u;
+      us = B .us;
+      position = B .position;
+      numbered = B .numbered;
+      outer = outer;
+      outside = o;
+      is = ap (λ (l : Bytes). l ++ outer) (sym (append-nil alone) ∙ ap (λ (l : Bytes). alone ++ l) (sym (B .outside)) ∙ B .is);
+    }
+
+-- The frames below one that is set stay.
+frames-kept : (frames s : List ℕ) (x : Setting) (facts : ℕ) (order : List ℕ) (k w d : ℕ) (bs : Bytes) → d ≤ k
+    → Frames frames s x facts order d bs → Frames (set frames k w) s x facts order d bs
+unfolding Frames
+frames-kept frames s x facts order k w zero bs h F = F
+frames-kept frames s x facts order k w (suc d) bs h F =
+    let same : getD (set frames k w) d 0 ≡ getD frames d 0 = getD-set-other frames k d w 0 (omega arith) in
+    rw same (record {
+      f = F .f;
+      j = F .j;
+      u = F .u;
+      us = F .us;
+      position = F .position;
+      numbered = F .numbered;
+      outer = F .outer;
+      outside = frames-kept frames s x facts order k w d (F .outer) (omega arith) (F .outside);
+      is = F .is;
+    })
+
+frame-set : (frames s : List ℕ) (x : Setting) (facts : ℕ) (order : List ℕ) (d p i : ℕ) (bs : Bytes) → d < length frames → i < 8
+    → Behind (Frames frames s x facts order d) s x facts order p i bs → Frames (set frames d (8 * p + i)) s x facts order (suc d) bs
+unfolding Frames
+frame-set frames s x facts order d p i bs h l B =
+    let same : getD (set frames d (8 * p + i)) d 0 ≡ 8 * p + i = getD-set-same frames d (8 * p + i) 0 h in
+    let place : getD (set frames d (8 * p + i)) d 0 / 8 ≡ p = omega (arith, same) in
+    let number : getD (set frames d (8 * p + i)) d 0 % 8 ≡ i = omega (arith, same) in
+    rw (place, number) (record {
+      f = B .f;
+      j = B .j;
+      u = B .u;
+      us = B .us;
+      position = B .position;
+      numbered = B .numbered;
+      outer = B .outer;
+      outside = frames-kept frames s x facts order d (8 * p + i) d (B .outer) (omega arith) (B .outside);
+      is = B .is;
+    })
+
+-- The walk: some bytes are put, and the others are still to be written.
+pub record Going (frames s : List ℕ) (x : Setting) (facts : ℕ) (order : List ℕ) (whole : Bytes) (b₀ b : List ℕ) (at p i d to : ℕ) : Type 0 where
+  pub done : Bytes
+  pub left : Bytes
+  pub puts : Puts b₀ b at to done
+  pub is : done ++ left ≡ whole
+  pub before : Before (Frames frames s x facts order d) s x facts order p i left
+  pub few : d ≤ 16
+  pub size : length frames ≡ 16
+
+pub going-first : (frames s : List ℕ) (x : Setting) (facts : ℕ) (order : List ℕ) (whole : Bytes) (b : List ℕ) (at p : ℕ) → length frames ≡ 16
+    → Before Nothing s x facts order p 1 whole → Going frames s x facts order whole b b at p 1 0 at
+unfolding Frames
+going-first frames s x facts order whole b at p size B = record {
+  done = [];
+  left = whole;
+  puts = puts-none b at;
+  is = refl;
+  before = rw (append-nil whole) at (before-within (Frames frames s x facts order 0) s x facts order p 1 whole [] B refl);
+  few = omega arith;
+  size = size;
+}
+
+module _ (frames s : List ℕ) (text : Bytes) (x : Setting) (facts : ℕ) (order : List ℕ) (whole : Bytes) (b₀ b : List ℕ) (at p i d to : ℕ)
+    (r : Readable s text x facts) (fit : at + length whole ≤ length b₀) (G : Going frames s x facts order whole b₀ b at p i d to) where
+  abbrev B : Before (Frames frames s x facts order d) s x facts order p i (G .left)
+  B = G .before
+
   abbrev pub here : Bytes
-  here = written order alone (full (x .values) (G .u))
+  here = written order alone (full (x .values) (B .u))
 
-  abbrev pub behind-bytes : Bytes
-  behind-bytes = after (x .values) order (G .g) (G .j) (G .us)
+  abbrev pub later-bytes : Bytes
+  later-bytes = after (x .values) order (B .f) (B .j) (B .us) ++ B .outer
 
-  sizes : length (G .done) + (length here + length behind-bytes) ≡ length whole
+  whole-here : (G .done ++ here) ++ later-bytes ≡ whole
+  whole-here =
+      append-assoc (G .done) here later-bytes
+      ∙ ap (λ (l : Bytes). G .done ++ l) (sym (append-assoc here (after (x .values) order (B .f) (B .j) (B .us)) (B .outer)) ∙ B .is)
+      ∙ G .is
+
+  sizes : length (G .done) + length here + length later-bytes ≡ length whole
   sizes =
-      sym (length-append (G .done) (here ++ behind-bytes) ∙ ap (λ (n : ℕ). length (G .done) + n) (length-append here behind-bytes)) ∙ ap length (G .left)
+      sym (length-append (G .done ++ here) later-bytes ∙ ap (λ (n : ℕ). n + length later-bytes) (length-append (G .done) here)) ∙ ap length whole-here
 
-  pub going-writes : Writes s text x facts order (G .u) to (length b)
+  pub going-writes : Writes s text x facts order (B .u) to (length b)
   unfolding StandsIn all-full
   going-writes = record {
     readable = r;
-    numbered = λ m k st. G .numbered m k (inl st);
+    numbered = λ m k st. B .numbered m k (inl st);
     fits = omega (arith, sizes, fit, G .puts .place, puts-length (G .puts));
   }
 
-  pub going-shows : Shows s x (G .u) (getD s (8 * p + i) 0)
-  going-shows = position-shows s x p i (G .j) (G .g) (G .u) (G .us) (G .position)
+  pub going-inside : 8 * p + i < length s
+  going-inside = position-inside s x p i (B .j) (B .f) (B .u) (B .us) (B .position)
+
+  pub going-shows : Shows s x (B .u) (getD s (8 * p + i) 0)
+  going-shows = position-shows s x p i (B .j) (B .f) (B .u) (B .us) (B .position)
 
   pub going-falls : (to < length b₀ + 1) × (at ≤ to)
   going-falls = (omega (arith, sizes, fit, G .puts .place), omega (arith, G .puts .place))
 
-  module _ (b₁ : List ℕ) (to₁ : ℕ) (q : Puts b b₁ to to₁ here) where
-    pub going-more : (byte : ℕ) → behind-bytes ≡ byte ∷ [] → to₁ < length b₁
-    going-more byte e =
-        omega (arith, sizes, fit, G .puts .place, q .place, puts-length (G .puts), puts-length q, ap length e, length-more byte [])
+  small : i < 8
+  unfolding count
+  small =
+      let few : B .j + suc (count (B .us)) ≤ 6 = B .position .cell-at .few in
+      omega (arith, B .position .index)
 
-    pub goes-fits : (byte : ℕ) (further : Bytes) → behind-bytes ≡ byte ∷ further → to₁ < length b₁
-    goes-fits byte further e =
-        omega (arith, sizes, fit, G .puts .place, q .place, puts-length (G .puts), puts-length q, ap length e, length-more byte further)
+  pub going-behind : Behind (Frames frames s x facts order d) s x facts order p i later-bytes
+  unfolding StandsIn all-full
+  going-behind = record {
+    f = B .f;
+    j = B .j;
+    u = B .u;
+    us = B .us;
+    position = B .position;
+    numbered = λ m k st. B .numbered m k (inr st);
+    outer = B .outer;
+    outside = B .outside;
+    is = refl;
+  }
 
-    module _ (b₂ : List ℕ) (to₂ byte : ℕ) (k : Puts b₁ b₂ to₁ to₂ (byte ∷ [])) where
-      pub going-ends : behind-bytes ≡ byte ∷ [] → Puts b₀ b₂ at to₂ whole
-      going-ends e =
-          puts-is (append-assoc (G .done) here (byte ∷ []) ∙ ap (λ (l : Bytes). G .done ++ (here ++ l)) (sym e) ∙ G .left)
-          (puts-two (puts-two (G .puts) q) k)
+  -- The argument is written.
+  module _ (b₁ : List ℕ) (to₁ : ℕ) (P : Puts b b₁ to to₁ here) where
+    pub going-fits : to₁ + length later-bytes ≤ length b₁
+    going-fits = omega (arith, sizes, fit, G .puts .place, P .place, puts-length (G .puts), puts-length P)
 
-      pub going-on : (q i : ℕ) → Found s x (G .g) (G .j) (G .us) (Goes byte q i) → Going s x facts order whole b₀ b₂ at q i to₂
-      unfolding StandsIn all-full
-      going-on q′ i′ (j′, g′, v, vs, position, bytes-are, seen-are, stands-are) = record {
-        g = g′;
-        j = j′;
-        u = v;
-        us = vs;
-        position = position;
-        done = (G .done ++ here) ++ (byte ∷ []);
-        puts = puts-two (puts-two (G .puts) q) k;
-        left = append-assoc (G .done ++ here) (byte ∷ []) (rest (x .values) order g′ j′ v vs)
-            ∙ append-assoc (G .done) here (byte ∷ rest (x .values) order g′ j′ v vs)
-            ∙ ap (λ (l : Bytes). G .done ++ (here ++ l)) (sym (bytes-are order))
-            ∙ G .left;
-        numbered = λ m h st. G .numbered m h (inr (stands-are m st));
-      }
+    pub going-ends : (b₂ : List ℕ) (to₂ : ℕ) → Rose frames s x facts order b₁ b₂ to₁ d later-bytes (Done to₂) → Puts b₀ b₂ at to₂ whole
+    going-ends b₂ to₂ R = puts-is whole-here (puts-two (puts-two (G .puts) P) R)
+
+    pub going-on : (b₂ : List ℕ) (to₂ p₂ i₂ d₂ : ℕ) → Rose frames s x facts order b₁ b₂ to₁ d later-bytes (Onward to₂ p₂ i₂ d₂)
+        → Going frames s x facts order whole b₀ b₂ at p₂ i₂ d₂ to₂
+    going-on b₂ to₂ p₂ i₂ d₂ (done₂, left₂, P₂, is₂, before₂, rises, low) = record {
+      done = (G .done ++ here) ++ done₂;
+      left = left₂;
+      puts = puts-two (puts-two (G .puts) P) P₂;
+      is = append-assoc (G .done ++ here) done₂ left₂ ∙ ap (λ (l : Bytes). (G .done ++ here) ++ l) is₂ ∙ whole-here;
+      before = before₂;
+      few = omega (arith, low, G .few);
+      size = G .size;
+    }
+
+  -- The argument is a compound, and its opening is written.
+  module _ (w q : ℕ) (l : Led s x (B .u) w) (z : seen w ≡ Compound q) (b₁ : List ℕ) (to₁ : ℕ)
+      (P : Puts b b₁ to to₁ (opening-bytes (within s text x facts order (B .u) to (length b) w going-writes l q z .functor))) where
+    pub going-into : d < 16 → Going (set frames d (8 * p + i)) s x facts order whole b₀ b₁ at q 1 (d + 1) to₁
+    going-into h =
+        let D = within s text x facts order (B .u) to (length b) w going-writes l q z in
+        let first = opening-bytes (D .functor) in
+        let is-here = into-here s text x facts order (B .u) to (length b) w going-writes l q z in
+        let outside : Frames (set frames d (8 * p + i)) s x facts order (d + 1) later-bytes =
+        rw (add-one d) (frame-set frames s x facts order d p i later-bytes (omega (arith, G .size)) small going-behind) in record {
+          done = G .done ++ first;
+          left = D .later ++ later-bytes;
+          puts = puts-two (G .puts) P;
+          is = append-assoc (G .done) first (D .later ++ later-bytes)
+              ∙ ap (λ (m : Bytes). G .done ++ m) (sym (append-assoc first (D .later) later-bytes) ∙ ap (λ (m : Bytes). m ++ later-bytes) is-here)
+              ∙ sym (append-assoc (G .done) here later-bytes)
+              ∙ whole-here;
+          before = before-within (Frames (set frames d (8 * p + i)) s x facts order (d + 1)) s x facts order q 1 (D .later) later-bytes (D .before) outside;
+          few = omega arith;
+          size = length-set frames d (8 * p + i) ∙ G .size;
+        }
+
+pub puts-moved : {xs : Bytes} {b c c′ : List ℕ} {at to to′ : ℕ} → c′ ≡ c → to′ ≡ to → Puts b c at to xs → Puts b c′ at to′ xs
+puts-moved e f p = rw (e, f) p

@@ -4,8 +4,8 @@ use crate::put::decimal;
 use crate::put::put;
 use crate::put::spelling;
 use crate::put::words;
-use facts::cells::Next;
-use facts::cells::behind;
+use crate::rising::Risen;
+use crate::rising::rise;
 use facts::cells::functor;
 use facts::cells::index;
 use facts::cells::word_at;
@@ -18,7 +18,7 @@ ghost use mathlib.Core.List.{List, [], _∷_, _++_};
 ghost use Prim.Native.Nat.{ℕ, _+_, _*_, _≤_, _<_, _/_, _%_};
 ghost use lib.ListN.{length, getD};
 ghost use Rattle.meaning.specs.Bytes.{Bytes, decimal as in-decimal};
-ghost use Rattle.meaning.specs.Terms.{Integer, Functor, Term, Terms};
+ghost use Rattle.meaning.specs.Terms.{Integer, Functor, Term};
 ghost use Rattle.meaning.specs.Report.{alone, written, integer-bytes};
 ghost use Rattle.term.specs.Cells.{bits};
 ghost use Rattle.term.specs.Words.{view};
@@ -26,10 +26,11 @@ ghost use Rattle.term.specs.Setting.{Setting, RangedInteger};
 ghost use Rattle.term.specs.Spellings.{SpelledAt};
 ghost use Rattle.facts.specs.Threaded.{full};
 ghost use Rattle.facts.specs.Laid.{Puts};
-ghost use Rattle.facts.specs.Facts.{Shows, Led};
-ghost use Rattle.facts.specs.Walk.{opening-bytes, Opens, StandsAt};
+ghost use Rattle.facts.specs.Facts.{Readable, Shows, Led};
+ghost use Rattle.facts.specs.Walk.{opening-bytes, Opens};
 ghost use Rattle.facts.specs.Pairs.{NoCompound};
 ghost use Rattle.writing.specs.Writes.{Writes};
+ghost use Rattle.writing.specs.Frames.{Before, Nothing};
 
 // "An unassigned pair is `_1`, `_2`, .."
 fn variable(s: &[u64], facts: usize, buffer: &mut [u8], at: usize, p: usize) -> usize
@@ -84,26 +85,6 @@ fn leaf(text: &[u8], s: &[u64], facts: usize, buffer: &mut [u8], at: usize, w: u
     }
 }
 
-// A term, standing alone.
-pub fn write_term(
-    text: &[u8],
-    s: &[u64],
-    facts: usize,
-    buffer: &mut [u8],
-    at: usize,
-    w: u64,
-) -> usize
-    requires { ⌜ ((x : Setting) × (order : List ℕ) × (t : Term) × Writes (now s) (now text) x facts order t at (length (now buffer)) × Shows (now s) x t w) ⌝ }
-    ensures { λ r. ⌜ ((x : Setting) (order : List ℕ) (t : Term) → Writes (now (s .entry)) (now (text .entry)) x facts order t at (length (now (buffer .entry)))
-        → Shows (now (s .entry)) x t w → Puts (now (buffer .entry)) (now (buffer .exit)) at r (written order alone (full (x .values) t))) ⌝ }
-{
-    let e = end(s, facts, w);
-    match look(e) {
-        View::Compound(q) => write_arguments(text, s, facts, buffer, at, q),
-        _ => leaf(text, s, facts, buffer, at, e),
-    }
-}
-
 // What stands before a compound's first argument: its name and a parenthesis, or a bracket.
 fn opening(text: &[u8], s: &[u64], buffer: &mut [u8], at: usize, p: usize) -> usize
     requires { ⌜ ((f : Functor) × (8 * p < length (now s)) × Opens (now s) (now text) (getD (now s) (8 * p) 0 / 8) f
@@ -119,8 +100,10 @@ fn opening(text: &[u8], s: &[u64], buffer: &mut [u8], at: usize, p: usize) -> us
     put(buffer, to, b'(')
 }
 
-// A compound with its arguments; "lists as `[a,b]` or `[a|T]`": a list goes on with the cell that is its tail.
-pub fn write_arguments(
+// What stands behind a compound's opening; "lists as `[a,b]` or `[a|T]`": a list goes on with the cell that is its tail. A term and its argument list
+// alternate: `write_term` calls this function, and this function calls `write_term`, each time with fewer bytes of the buffer left. The places of up to 16
+// compounds, one in the other, are kept in the frames, so only a compound deeper in is such a call.
+fn write_arguments(
     text: &[u8],
     s: &[u64],
     facts: usize,
@@ -128,27 +111,69 @@ pub fn write_arguments(
     at: usize,
     first: usize,
 ) -> usize
-    requires { ⌜ ((x : Setting) × (order : List ℕ) × (n : ℕ) × (f : Functor) × (ts : Terms)
-        × Writes (now s) (now text) x facts order (Term.compound n f ts) at (length (now buffer)) × StandsAt (now s) x n f ts first) ⌝ }
-    ensures { λ r. ⌜ ((x : Setting) (order : List ℕ) (n : ℕ) (f : Functor) (ts : Terms)
-        → Writes (now (s .entry)) (now (text .entry)) x facts order (Term.compound n f ts) at (length (now (buffer .entry))) → StandsAt (now (s .entry)) x n f ts first
-        → Puts (now (buffer .entry)) (now (buffer .exit)) at r (written order alone (full (x .values) (Term.compound n f ts)))) ⌝ }
+    requires { ⌜ ((x : Setting) × (order : List ℕ) × (bs : Bytes) × Readable (now s) (now text) x facts
+        × Before Nothing (now s) x facts order first 1 bs × (at + length bs ≤ length (now buffer))) ⌝ }
+    ensures { λ r. ⌜ ((x : Setting) (order : List ℕ) (bs : Bytes) → Readable (now (s .entry)) (now (text .entry)) x facts
+        → Before Nothing (now (s .entry)) x facts order first 1 bs → at + length bs ≤ length (now (buffer .entry))
+        → Puts (now (buffer .entry)) (now (buffer .exit)) at r bs) ⌝ }
 {
-    let mut to = opening(text, s, buffer, at, first);
+    let mut frames = [0usize; 16];
+    let mut depth = 0;
+    let mut to = at;
     let mut p = first;
     let mut i = 1;
     loop {
         let a = word_at(s, 8 * p, i);
-        to = write_term(text, s, facts, buffer, to, a);
-        match behind(s, facts, p, i) {
-            Next::Goes(b, q, j) => {
-                to = put(buffer, to, b);
-                p = q;
-                i = j;
+        let e = end(s, facts, a);
+        match look(e) {
+            View::Compound(q) => {
+                if depth < 16 {
+                    to = opening(text, s, buffer, to, q);
+                    frames[depth] = 8 * p + i;
+                    depth += 1;
+                    p = q;
+                    i = 1;
+                    continue;
+                }
+                to = write_term(text, s, facts, buffer, to, a);
             }
-            Next::Ends(b) => {
-                return put(buffer, to, b);
+            _ => {
+                to = leaf(text, s, facts, buffer, to, e);
             }
         }
+        match rise(s, facts, buffer, &frames, to, p, i, depth) {
+            Risen::Goes(t, q, j, d) => {
+                to = t;
+                p = q;
+                i = j;
+                depth = d;
+            }
+            Risen::Ends(t) => {
+                return t;
+            }
+        }
+    }
+}
+
+// A term, standing alone.
+pub fn write_term(
+    text: &[u8],
+    s: &[u64],
+    facts: usize,
+    buffer: &mut [u8],
+    at: usize,
+    w: u64,
+) -> usize
+    requires { ⌜ ((x : Setting) × (order : List ℕ) × (t : Term) × Writes (now s) (now text) x facts order t at (length (now buffer)) × Shows (now s) x t w) ⌝ }
+    ensures { λ r. ⌜ ((x : Setting) (order : List ℕ) (t : Term) → Writes (now (s .entry)) (now (text .entry)) x facts order t at (length (now (buffer .entry)))
+        → Shows (now (s .entry)) x t w → Puts (now (buffer .entry)) (now (buffer .exit)) at r (written order alone (full (x .values) t))) ⌝ }
+{
+    let e = end(s, facts, w);
+    match look(e) {
+        View::Compound(q) => {
+            let to = opening(text, s, buffer, at, q);
+            write_arguments(text, s, facts, buffer, to, q)
+        }
+        _ => leaf(text, s, facts, buffer, at, e),
     }
 }
