@@ -1,6 +1,6 @@
 -- Ground pairs: they stay so, no unassigned pair is reached from one, and marks that tell them stay true.
 use Prim.Native.Nat.{ℕ, _+_, _<_}
-use mathlib.Core.Path.{_≡_, sym, ap, subst, _∙_}
+use mathlib.Core.Path.{_≡_, sym, subst, _∙_}
 use mathlib.Core.Logic.{_⊎_, inl, inr, ⊎-elim}
 use mathlib.Core.List.{List}
 use mathlib.Core.Option.{none, some}
@@ -8,7 +8,6 @@ use native.Mathlib.Omega.{arith}
 use lib.ListN.{length, getD}
 use Rattle.meaning.specs.Terms.{Term}
 use Rattle.meaning.specs.State.{Values, value}
-use Rattle.meaning.proofs.Terms.Standing.{Stands}
 use Rattle.meaning.proofs.Circle.Leaning.{Leans, Links, one, first}
 use Rattle.term.specs.Cells.{Places}
 use Rattle.circle.specs.Ground.{Ground, ground, GroundAt, Grounds, NewGrounds}

@@ -1,22 +1,22 @@
 -- Marks of visited pairs are turned into those of ground pairs: what a search has told stays true.
-use Prim.Native.Nat.{ℕ, _+_, _*_, _/_, _%_, _≤_, _<_}
+use Prim.Native.Nat.{ℕ, _+_, _*_, _/_, _%_, _<_}
 use mathlib.Core.Path.{_≡_, refl, sym, ap, _∙_}
 use mathlib.Core.Bool.{Bool, true, false, true≢false}
 use mathlib.Core.List.{List}
-use mathlib.Core.Logic.{inl, inr, ⊎-elim}
-use mathlib.Core.Option.{Option, none, some}
+use mathlib.Core.Logic.{⊎-elim}
+use mathlib.Core.Option.{Option, some}
 use native.Mathlib.Decide.{ℕ-discrete}
 use native.Mathlib.Omega.{arith}
 use lib.Dec.{eqb}
 use lib.ListN.{length, getD, set, length-set}
 use lib.Seq.{getD-set-same, getD-set-other}
-use borrow.Author.Tests.{eq-eqb, ne-eqb}
+use borrow.Author.Tests.{ne-eqb}
 use Rattle.meaning.specs.Terms.{writer, Term}
 use Rattle.meaning.specs.State.{value}
 use Rattle.meaning.proofs.Terms.Standing.{Stands}
 use Rattle.term.specs.Holds.{Holds}
 use Rattle.circle.specs.Ground.{Ground, ground, GroundAt}
-use Rattle.circle.specs.Search.{Scene, Told, StandsAt, LeadsIs, LastLeads, Searching, visited, Visited, Stamped, Searched, Settled}
+use Rattle.circle.specs.Search.{Scene, Told, StandsAt, LeadsIs, LastLeads, Searching, visited, Searched, Settled}
 use Rattle.circle.proofs.Grounds.{ground-value, ground-leans}
 use Rattle.circle.proofs.Measure.{term-weight, falls-to-pair, falls-to-value, falls-to-argument}
 use Rattle.circle.proofs.Stamps.{
@@ -30,7 +30,7 @@ use Rattle.circle.proofs.Stamps.{
   front-length,
   front-word,
 }
-use Rattle.circle.proofs.Visit.{Variable, variable-of, mark-inside, value-inside, told-tag, leans-of}
+use Rattle.circle.proofs.Visit.{Variable, variable-of, mark-inside, value-inside, leans-of}
 use Rattle.circle.proofs.Walk.{Argument, argument-of, enter}
 
 module _ (x : Scene) (marks stamp : ℕ) where

@@ -1,7 +1,5 @@
 -- `circle::circle::last` meets its contract: the arguments behind the one at hand do not lead on.
-use Prim.Native.Nat.{_*_, _%_, _<_}
 use native.Mathlib.Omega.{arith}
-use lib.ListN.{getD}
 use borrow.Author.Needs.{needs}
 use Rattle.circle.specs.Search.{LastLeads}
 use Rattle.circle.proofs.Lasts.{last-first, last-next, last-none}

@@ -1,6 +1,5 @@
 -- `circle::circle::leads` meets its contract.
 use mathlib.Core.Logic.{inl, inr}
-use native.Mathlib.Omega.{arith}
 use Rattle.circle.proofs.circle.leads.Statement.{statement}
 use Rattle.circle.proofs.circle.leads.Tie as tie
 

@@ -1,7 +1,7 @@
 -- `circle::circle::settle` meets its contract: the term at hand has ground pairs only, and the weight of what is left falls.
 use mathlib.Core.Path.{_≡_, refl, sym, _∙_}
 use native.Mathlib.Omega.{arith}
-use mathlib.Core.Bool.{true, false}
+use mathlib.Core.Bool.{false}
 use lib.ListN.{length}
 use borrow.Author.Needs.{needs}
 use Rattle.circle.proofs.Measure.{term-weight}
