@@ -11,7 +11,7 @@
 //         values      1 a pair: what it was assigned, or 0
 //         waiters     1 a pair: the place in the waiting log of the goal that waits on it, plus one
 //         sets        1 a pair: the next pair that the same goal waits on, plus one
-//         marks       1 a pair: for the circle test
+//         marks       1 a pair: 0; 1 if no unassigned pair is reached from it; or the stamp of the last search of the circle test that visited it
 //         ends        1 a pair: where its chain was seen to lead, or 0
 //         queue       1 a goal
 //         waiting     4 a goal: two places a goal, each with the goal and the first pair it waits on

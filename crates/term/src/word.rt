@@ -14,7 +14,7 @@ pub enum View {
     Compound(usize),
 }
 
-// The one place where a word is taken apart.
+// A word taken apart.
 pub fn look(w: u64) -> View
     ensures { λ r. ⌜ r ≡ view (w % 8) (w / 8) ⌝ }
 {
