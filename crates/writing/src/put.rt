@@ -1,4 +1,5 @@
 // Bytes put at a place of the buffer, and the place behind them.
+use facts::length::digits;
 ghost use mathlib.Core.Path.{_≡_};
 ghost use mathlib.Core.List.{[], _∷_};
 ghost use Prim.Native.Nat.{_+_, _≤_, _<_, _%_};
@@ -46,14 +47,19 @@ fn digit(n: u64) -> u8
     48 + (n % 10) as u8
 }
 
-// A number in decimal.
+// A number in decimal, from its last digit on.
 pub fn decimal(buffer: &mut [u8], at: usize, n: u64) -> usize
     requires { ⌜ at + length (in-decimal n) ≤ length (now buffer) ⌝ }
     ensures { λ r. ⌜ Puts (now (buffer .entry)) (now (buffer .exit)) at r (in-decimal n) ⌝ }
 {
-    if n < 10 {
-        return put(buffer, at, digit(n));
+    let end = at + digits(n);
+    let mut to = end;
+    let mut left = n;
+    while 10 <= left {
+        to -= 1;
+        buffer[to] = digit(left);
+        left = left / 10;
     }
-    let to = decimal(buffer, at, n / 10);
-    put(buffer, to, digit(n))
+    buffer[at] = digit(left);
+    end
 }

@@ -6,19 +6,19 @@ use Rattle.writing.proofs.put.put.Tie as tie
 use Rattle.writing.proofs.put.put.Reads as reads
 use Rattle.writing.proofs.put.put.Lts as lts
 
--- src/put.rt:15:5
+-- src/put.rt:16:5
 slice-write-buffer : tie.Need-slice-write-buffer
 slice-write-buffer c = search needs
 
--- src/put.rt:16:5
+-- src/put.rt:17:5
 add-result : tie.Need-add-result
 add-result c = search needs
 
--- src/put.rt:11:1
+-- src/put.rt:12:1
 same-length : tie.Need-same-length
 same-length c = search needs
 
--- src/put.rt:11:1
+-- src/put.rt:12:1
 returns : tie.Need-returns
 returns c = puts-one (c .args .buffer .now) (c .args .at) (c .args .b)
 

@@ -19,31 +19,31 @@ part f n l h =
     ap (λ (k : ℕ). take k (drop f l)) size
     ∙ sym (ap (drop f) (take-add f n l) ∙ drop-at (take f l) (take n (drop f l)) f (simp length-take (omega arith)))
 
--- src/put.rt:37:14
+-- src/put.rt:38:14
 add-to : tie.Need-add-to
 add-to c = search needs
 
--- src/put.rt:38:23
+-- src/put.rt:39:23
 sub-words : tie.Need-sub-words
 sub-words c = search needs
 
--- src/put.rt:38:23
+-- src/put.rt:39:23
 part-words-start : tie.Need-part-words-start
 part-words-start c = search needs
 
--- src/put.rt:38:23
+-- src/put.rt:39:23
 part-words-end : tie.Need-part-words-end
 part-words-end c = search needs
 
--- src/put.rt:38:5
+-- src/put.rt:39:5
 words-requires : tie.Need-words-requires
 words-requires c κs = search needs
 
--- src/put.rt:33:1
+-- src/put.rt:34:1
 same-length : tie.Need-same-length
 same-length c = search needs
 
--- src/put.rt:33:1
+-- src/put.rt:34:1
 returns : tie.Need-returns
 returns c =
     let S = c .before .before .before .before .before .before .before in

@@ -24,27 +24,27 @@ Inv-loop buffer₀ at bytes to₀ i₀ buffer to i =
 abbrev μ-loop : tie.MeasureT-loop
 μ-loop buffer₀ at bytes to₀ i₀ buffer to i = length bytes - i
 
--- src/put.rt:26:5
+-- src/put.rt:27:5
 loop-holds : tie.Need-loop-holds Inv-loop μ-loop
 loop-holds c = (omega arith, omega arith, refl, omega arith, puts-none (c .before .before .args .buffer .now) (c .before .before .args .at))
 
--- src/put.rt:27:30
+-- src/put.rt:28:30
 shared-slice-read-put : tie.Need-shared-slice-read-put Inv-loop μ-loop
 shared-slice-read-put c = omega arith
 
--- src/put.rt:27:9
+-- src/put.rt:28:9
 put-requires : tie.Need-put-requires Inv-loop μ-loop
 put-requires c κs = omega arith
 
--- src/put.rt:28:9
+-- src/put.rt:29:9
 add-i : tie.Need-add-i Inv-loop μ-loop
 add-i c = omega arith
 
--- src/put.rt:26:5
+-- src/put.rt:27:5
 loop-less : tie.Need-loop-less Inv-loop μ-loop
 loop-less c = omega arith
 
--- src/put.rt:26:5
+-- src/put.rt:27:5
 loop-again : tie.Need-loop-again Inv-loop μ-loop
 loop-again c =
     let l = c .before .before .before .before .before .before .loop in
@@ -58,11 +58,11 @@ loop-again c =
           (one-more (a .bytes .now) (l .i) (omega arith)) (puts-behind _ _ (a .buffer .now) (l .buffer) (put .last .0) (a .at) (l .to) (put .result) (l .inv .4) (put .ensures)),
     )
 
--- src/put.rt:20:1
+-- src/put.rt:21:1
 same-length : tie.Need-same-length Inv-loop μ-loop
 same-length c = c .before .loop .inv .2
 
--- src/put.rt:20:1
+-- src/put.rt:21:1
 returns : tie.Need-returns Inv-loop μ-loop
 returns c =
     let l = c .before .loop in
