@@ -1,6 +1,8 @@
 //! `run < JOB`: the report of a job on standard output, or on standard error why it was refused.
 //!
-//!     cargo run --example run < examples/first.glp
+//! From the repository's root:
+//!
+//!     TROSCUNEL_LIBRARY=$(hosts/library) cargo run --manifest-path hosts/rust/Cargo.toml --example run < examples/first.glp
 
 use std::io::{Read, Write};
 use std::process::ExitCode;

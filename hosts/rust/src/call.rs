@@ -14,9 +14,9 @@ extern "C" {
         compounds: usize,
         goals: usize,
         scratch: *mut u64,
-        scratch_words: usize,
-        report: *mut u8,
-        report_length: usize,
+        scratch_length: usize,
+        buffer: *mut u8,
+        buffer_length: usize,
         line: *mut usize,
         length: *mut usize,
     ) -> u32;

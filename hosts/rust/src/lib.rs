@@ -37,8 +37,8 @@
 //! # The stack
 //!
 //! The call recurses as deep as values are nested: up to 8 MiB of stack at the largest rooms. [`Machine::run`] gives
-//! each call a thread whose stack is large enough for the room. Who knows how much stack is left uses [`call`] itself,
-//! over scratch and buffer of their own; it is unsafe for this reason alone.
+//! each call a thread whose stack is large enough for the room. A caller that knows how much stack is left may use
+//! [`call`] itself, over scratch and buffer of its own; it is unsafe for this reason alone.
 //!
 //! All unsafe code stands in the module `call`.
 

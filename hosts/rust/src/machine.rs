@@ -95,7 +95,7 @@ impl<'t> Job<'t> {
 /// Runs jobs one after the other. It keeps scratch and report buffer between them, as large as the largest job has
 /// needed.
 ///
-/// An answer hangs on its job alone: nothing of a job is left for the next one.
+/// An answer depends on its job alone: nothing of a job is left for the next one.
 #[derive(Default)]
 pub struct Machine {
     scratch: Vec<u64>,

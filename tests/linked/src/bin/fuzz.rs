@@ -2,7 +2,7 @@
 //! call and the reference in one process, compared by answer, report, scratch and guards.
 //!
 //! It begins with generated jobs of the seed, the jobs of `heavy` and the examples, changes them, and keeps what gives
-//! something new. The same seed gives the same executions in the same order; only how many there are hangs on the time.
+//! something new. The same seed gives the same executions in the same order; only how many there are depends on the time.
 //! The first difference ends it with status 1, and its frame is written to FILE, for which `target/fuzz.job` stands
 //! otherwise. Where a call does not come back, `--journal` shows which: then the frame of every execution is written
 //! before it is made.
