@@ -1,2 +1,4 @@
-// The circle test of a trial that has agreed. Read specs/Circle for what it asks and tells.
+// The circle test of a trial that has agreed: whether a pair would lean on itself with what the trial gives.
+// It promises the definition's answer, and that only marks have changed afterwards (specs/Circle). Read specs/Search for the search, and specs/Ground
+// for the pairs that no search enters again.
 pub mod circle;

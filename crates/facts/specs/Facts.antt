@@ -1,5 +1,6 @@
 -- What the report keeps of each pair, four words a pair from a place on: the word of the end of its chain, or 0; the length of its value where it was
--- counted in the section, or 0; its number in the section, or 0. The trial's first word has how many numbers were given.
+-- counted in the section, or 0; its number in the section, or 0; the fourth word is not used. The trial's first word
+-- has how many numbers were given.
 use Prim.Native.Nat.{ℕ, _+_, _-_, _*_, _≤_, _<_}
 use mathlib.Core.Path.{_≡_}
 use mathlib.Core.Bool.{false}

@@ -1,5 +1,5 @@
 // What the report keeps of each pair of the run, in four words a pair behind the values: the end of the chain of values that begins with it, the
-// length of its value where it was counted in the section, its number in the section.
+// length of its value where it was counted in the section, its number in the section; the fourth word is not used.
 use term::layout::TRIAL;
 use term::word::View;
 use term::word::look;

@@ -1,4 +1,6 @@
-// A query's section: its header, its values and its active, waiting and failed goals; counted, and written. Read specs/Whole.
+// A query's section: its header, its values and its active, waiting and failed goals.
+// `count_section` promises its length up to the ceiling and the numbers of its unassigned pairs, `write_section` its bytes in a buffer that has the
+// room for them. Read specs/Groups for the three lists of goals, specs/Whole for what a section is.
 pub mod groups;
 pub mod header;
 pub mod sections;
