@@ -56,4 +56,4 @@ variables-over from (p ∷ ps) places = variables-over from ps (with-variable (p
 
 -- An item's own places: pairs by their numbers, compounds from the item's first place on.
 unfoldable pub item-places : List Place → ℕ → CellPlaces
-item-places names base = record { names = spellings names; pair = λ n. n; compound = λ n. base + n }
+item-places names base = record { names = spellings names; pair = λ n. n; compound = λ n. 8 * (base + n); width = λ n. 8 }

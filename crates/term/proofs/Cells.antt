@@ -34,7 +34,7 @@ mutual
       omega (arith, numbered-order lo (k .0) t (k .1), all-numbered-order (k .0) hi ts (k .2))
 
 -- The places of an item's compounds begin at a base.
-module _ (places : Places) (base : ℕ) (at : (n : ℕ) → places .compound n ≡ base + n) where
+module _ (places : Places) (base : ℕ) (at : (n : ℕ) → places .compound n ≡ 8 * (base + n)) where
   mutual
     unfolding Numbered AllNumbered stored arguments-stored count
 
@@ -45,9 +45,9 @@ module _ (places : Places) (base : ℕ) (at : (n : ℕ) → places .compound n �
         let l = 8 * (base + lo) in
         let h = 8 * (base + hi) in
         let s′ = arguments-stored places n 0 ts s in
-        only-then l h s s′ (set s′ (8 * places .compound n) (functor-word places f (count ts)))
+        only-then l h s s′ (set s′ (places .compound n) (functor-word places f (count ts)))
         (arguments-stored-only lo hi n 0 (lo + 1) ts s (k .0) (omega arith) (omega arith) (k .2))
-        (only-set l h s′ (8 * places .compound n) (functor-word places f (count ts))
+        (only-set l h s′ (places .compound n) (functor-word places f (count ts))
         (omega (arith, at n, k .0))
         (omega (arith, at n, k .0, all-numbered-order (lo + 1) hi ts (k .2))))
 
@@ -62,11 +62,11 @@ module _ (places : Places) (base : ℕ) (at : (n : ℕ) → places .compound n �
         let low : from ≤ mid = numbered-order from mid t (k .1) in
         let high : mid ≤ hi = all-numbered-order mid hi ts (k .2) in
         let s₁ = stored places t s in
-        let s₂ = set s₁ (8 * places .compound n + 1 + i) (term-word places t) in
+        let s₂ = set s₁ (places .compound n + 1 + i) (term-word places t) in
         only-then l h s s₁ (arguments-stored places n (i + 1) ts s₂)
         (only-wider (8 * (base + from)) (8 * (base + mid)) l h s s₁ (omega arith) (omega arith) (stored-only from mid t s (k .1)))
         (only-then l h s₁ s₂ (arguments-stored places n (i + 1) ts s₂)
-        (only-set l h s₁ (8 * places .compound n + 1 + i) (term-word places t) (omega (arith, at n)) (omega (arith, at n)))
+        (only-set l h s₁ (places .compound n + 1 + i) (term-word places t) (omega (arith, at n)) (omega (arith, at n)))
         (arguments-stored-only lo hi n (i + 1) mid ts s₂ e (omega arith) (omega arith) (k .2)))
 
   -- A word outside the places may be set before or after.
@@ -79,7 +79,7 @@ module _ (places : Places) (base : ℕ) (at : (n : ℕ) → places .compound n �
     stored-set lo hi (Term.constant c) s k v m outside = refl
     stored-set lo hi (Term.compound n f ts) s k v m outside =
         let order : lo + 1 ≤ hi = all-numbered-order (lo + 1) hi ts (m .2) in
-        let here = 8 * places .compound n in
+        let here = places .compound n in
         let own = functor-word places f (count ts) in
         ap (λ l. set l here own) (arguments-stored-set lo hi n 0 (lo + 1) ts s k v (m .0) (omega arith) (omega (arith, m .1)) (m .2) outside)
         ∙ set-comm (arguments-stored places n 0 ts s) k here v own (outside here (omega (arith, at n, m .0)) (omega (arith, at n, m .0)))
@@ -92,7 +92,7 @@ module _ (places : Places) (base : ℕ) (at : (n : ℕ) → places .compound n �
         let mid = m .0 in
         let low : from ≤ mid = numbered-order from mid t (m .1) in
         let high : mid ≤ hi = all-numbered-order mid hi ts (m .2) in
-        let place = 8 * places .compound n + 1 + i in
+        let place = places .compound n + 1 + i in
         let w = term-word places t in
         ap (λ l. arguments-stored places n (i + 1) ts (set l place w))
         (stored-set from mid t s k v (m .1) (λ j l h. outside j (omega arith) (omega arith)))

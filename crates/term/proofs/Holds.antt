@@ -51,7 +51,7 @@ mutual
 
 -- Where the words of every compound of the term stay as they were.
 module _ (s s′ : List ℕ) (places : Places) (P : ℕ → Type 0) (size : length s ≤ length s′)
-    (alike : (n : ℕ) → P n → (k : ℕ) → 8 * places .compound n ≤ k → k < 8 * places .compound n + 8 → getD s′ k 0 ≡ getD s k 0) where
+    (alike : (n : ℕ) → P n → (k : ℕ) → places .compound n ≤ k → k < places .compound n + places .width n → getD s′ k 0 ≡ getD s k 0) where
   mutual
     unfolding Holds HoldsFrom Every EveryOf count
 
@@ -59,22 +59,23 @@ module _ (s s′ : List ℕ) (places : Places) (P : ℕ → Type 0) (size : leng
     holds-alike (Term.variable h n) e k = tt
     holds-alike (Term.constant c) e k = tt
     holds-alike (Term.compound n f ts) e k =
-        let in-s : 8 * places .compound n + 8 ≤ length s = k .0 .inside in (
+        let in-s : places .compound n + 8 ≤ length s = k .0 .inside in (
           record {
             inside = omega arith;
             few = k .0 .few;
-            functor = alike n (e .0) (8 * places .compound n) (omega arith) (omega arith) ∙ k .0 .functor;
+            wide = k .0 .wide;
+            functor = alike n (e .0) (places .compound n) (omega arith) (omega (arith, k .0 .wide)) ∙ k .0 .functor;
           },
-          holds-from-alike n 0 ts (λ j l h. alike n (e .0) j (omega arith) h) (omega (arith, k .0 .few)) (e .1) (k .1),
+          holds-from-alike n 0 ts (λ j l h. alike n (e .0) j (omega arith) h) (omega (arith, k .0 .wide)) (e .1) (k .1),
         )
 
     -- The arguments of the compound n, of which the words behind its first stay.
     pub holds-from-alike : (n i : ℕ) (ts : Terms)
-        → ((k : ℕ) → 8 * places .compound n + 1 + i ≤ k → k < 8 * places .compound n + 8 → getD s′ k 0 ≡ getD s k 0)
-        → i + count ts ≤ 6 → EveryOf P ts → HoldsFrom s places n i ts → HoldsFrom s′ places n i ts
+        → ((k : ℕ) → places .compound n + 1 + i ≤ k → k < places .compound n + places .width n → getD s′ k 0 ≡ getD s k 0)
+        → i + count ts < places .width n → EveryOf P ts → HoldsFrom s places n i ts → HoldsFrom s′ places n i ts
     holds-from-alike n i end own few e k = tt
     holds-from-alike n i (more t ts) own few e k = (
-      own (8 * places .compound n + 1 + i) (omega arith) (omega arith) ∙ k .0,
+      own (places .compound n + 1 + i) (omega arith) (omega arith) ∙ k .0,
       holds-alike t (e .0) (k .1),
       holds-from-alike n (i + 1) ts (λ j l h. own j (omega arith) h) (omega arith) (e .1) (k .2),
     )
@@ -85,7 +86,7 @@ EveryValue P none = Unit {0}
 EveryValue P (some t) = Every P t
 
 module _ (s s′ : List ℕ) (places : Places) (P : ℕ → Type 0) (size : length s ≤ length s′)
-    (alike : (n : ℕ) → P n → (k : ℕ) → 8 * places .compound n ≤ k → k < 8 * places .compound n + 8 → getD s′ k 0 ≡ getD s k 0) where
+    (alike : (n : ℕ) → P n → (k : ℕ) → places .compound n ≤ k → k < places .compound n + places .width n → getD s′ k 0 ≡ getD s k 0) where
   pub holds-value-alike : (v : Option Term) → EveryValue P v → HoldsValue s places v → HoldsValue s′ places v
   unfolding EveryValue
   holds-value-alike none e k = tt
@@ -102,10 +103,10 @@ module _ (s s′ : List ℕ) (places : Places) (P : ℕ → Type 0) (size : leng
   }
 
 -- A term that is numbered from lo up to hi, its compounds' places beginning at a base: where only words outside of its own differ.
-module _ (places : Places) (base : ℕ) (at : (n : ℕ) → places .compound n ≡ base + n) (s s′ : List ℕ) (size : length s ≤ length s′) where
+module _ (places : Places) (base : ℕ) (at : (n : ℕ) → places .compound n ≡ 8 * (base + n)) (wide : (n : ℕ) → places .width n ≡ 8) (s s′ : List ℕ) (size : length s ≤ length s′) where
   own-words : (lo hi : ℕ) → ((k : ℕ) → 8 * (base + lo) ≤ k → k < 8 * (base + hi) → getD s′ k 0 ≡ getD s k 0)
-      → (n : ℕ) → (lo ≤ n) × (n < hi) → (k : ℕ) → 8 * places .compound n ≤ k → k < 8 * places .compound n + 8 → getD s′ k 0 ≡ getD s k 0
-  own-words lo hi own n p k l h = own k (omega (arith, at n)) (omega (arith, at n))
+      → (n : ℕ) → (lo ≤ n) × (n < hi) → (k : ℕ) → places .compound n ≤ k → k < places .compound n + places .width n → getD s′ k 0 ≡ getD s k 0
+  own-words lo hi own n p k l h = own k (omega (arith, at n)) (omega (arith, at n, wide n))
 
   pub holds-kept : (lo hi : ℕ) (t : Term) → ((k : ℕ) → 8 * (base + lo) ≤ k → k < 8 * (base + hi) → getD s′ k 0 ≡ getD s k 0)
       → Numbered lo hi t → Holds s places t → Holds s′ places t
@@ -114,28 +115,28 @@ module _ (places : Places) (base : ℕ) (at : (n : ℕ) → places .compound n �
       (numbered-every lo hi t (λ n. (lo ≤ n) × (n < hi)) (λ n l h. (l, h)) k)
 
   pub holds-from-kept : (n i lo hi : ℕ) (ts : Terms) → ((k : ℕ) → 8 * (base + lo) ≤ k → k < 8 * (base + hi) → getD s′ k 0 ≡ getD s k 0)
-      → ((k : ℕ) → 8 * places .compound n + 1 + i ≤ k → k < 8 * places .compound n + 8 → getD s′ k 0 ≡ getD s k 0)
-      → i + count ts ≤ 6 → AllNumbered lo hi ts → HoldsFrom s places n i ts → HoldsFrom s′ places n i ts
+      → ((k : ℕ) → places .compound n + 1 + i ≤ k → k < places .compound n + places .width n → getD s′ k 0 ≡ getD s k 0)
+      → i + count ts < places .width n → AllNumbered lo hi ts → HoldsFrom s places n i ts → HoldsFrom s′ places n i ts
   holds-from-kept n i lo hi ts own first few k =
       holds-from-alike s s′ places (λ n. (lo ≤ n) × (n < hi)) size (own-words lo hi own) n i ts first few
       (all-numbered-every lo hi ts (λ n. (lo ≤ n) × (n < hi)) (λ n l h. (l, h)) k)
 
 -- What storing leaves.
-module _ (places : Places) (base : ℕ) (at : (n : ℕ) → places .compound n ≡ base + n) where
+module _ (places : Places) (base : ℕ) (at : (n : ℕ) → places .compound n ≡ 8 * (base + n)) (wide : (n : ℕ) → places .width n ≡ 8) where
   -- The arguments from the i-th on, stored, change only their words in the place of their compound, and their own compounds.
   arguments-two : (n i lo hi : ℕ) (ts : Terms) (s : List ℕ) → n < lo → i + count ts ≤ 6 → AllNumbered lo hi ts
-      → OnlyTwo (8 * places .compound n + 1 + i) (8 * places .compound n + 8) (8 * (base + lo)) (8 * (base + hi)) s (arguments-stored places n i ts s)
+      → OnlyTwo (places .compound n + 1 + i) (places .compound n + 8) (8 * (base + lo)) (8 * (base + hi)) s (arguments-stored places n i ts s)
   unfolding AllNumbered arguments-stored count
   arguments-two n i lo hi end s b few k =
-      two-same (8 * places .compound n + 1 + i) (8 * places .compound n + 8) (8 * (base + lo)) (8 * (base + hi)) s
+      two-same (places .compound n + 1 + i) (places .compound n + 8) (8 * (base + lo)) (8 * (base + hi)) s
   arguments-two n i lo hi (more t ts) s b few k =
-      let p = 8 * places .compound n in
+      let p = places .compound n in
       let v = base + lo in
       let w = base + hi in
       let mid = k .0 in
       let low : lo ≤ mid = numbered-order lo mid t (k .1) in
       let high : mid ≤ hi = all-numbered-order mid hi ts (k .2) in
-      let place : places .compound n ≡ base + n = at n in
+      let place : places .compound n ≡ 8 * (base + n) = at n in
       let s₁ = stored places t s in
       let s₂ = set s₁ (p + 1 + i) (term-word places t) in
       let s₃ = arguments-stored places n (i + 1) ts s₂ in
@@ -156,20 +157,20 @@ module _ (places : Places) (base : ℕ) (at : (n : ℕ) → places .compound n �
     stored-holds lo hi (Term.variable h n) s k room = tt
     stored-holds lo hi (Term.constant c) s k room = tt
     stored-holds lo hi (Term.compound n f ts) s k room =
-        let p = 8 * places .compound n in
+        let p = places .compound n in
         let w = functor-word places f (count ts) in
-        let place : places .compound n ≡ base + n = at n in
+        let place : places .compound n ≡ 8 * (base + n) = at n in
         let first : n ≡ lo = k .0 in
         let order : lo + 1 ≤ hi = all-numbered-order (lo + 1) hi ts (k .2) in
         let few : 0 + count ts ≤ 6 = omega (arith, k .1) in
         let s′ = arguments-stored places n 0 ts s in
         let size : length s′ ≡ length s = arguments-two n 0 (lo + 1) hi ts s (omega arith) few (k .2) .size in
         let size′ : length (set s′ p w) ≡ length s′ = length-set s′ p w in (
-          record { inside = omega arith; few = k .1; functor = getD-set-same s′ p w 0 (omega arith) },
-          holds-from-kept places base at s′ (set s′ p w) (omega arith) n 0 (lo + 1) hi ts
+          record { inside = omega arith; few = k .1; wide = omega (arith, wide n, k .1); functor = getD-set-same s′ p w 0 (omega arith) },
+          holds-from-kept places base at wide s′ (set s′ p w) (omega arith) n 0 (lo + 1) hi ts
               (λ j l h. getD-set-other s′ p j w 0 (λ e. omega arith))
               (λ j l h. getD-set-other s′ p j w 0 (λ e. omega arith))
-              few (k .2)
+              (omega (arith, wide n)) (k .2)
               (arguments-hold n 0 (lo + 1) hi ts s (omega arith) few (k .2) room),
         )
 
@@ -177,12 +178,12 @@ module _ (places : Places) (base : ℕ) (at : (n : ℕ) → places .compound n �
         → HoldsFrom (arguments-stored places n i ts s) places n i ts
     arguments-hold n i lo hi end s b few k room = tt
     arguments-hold n i lo hi (more t ts) s b few k room =
-        let p = 8 * places .compound n in
+        let p = places .compound n in
         let v = term-word places t in
         let mid = k .0 in
         let low : lo ≤ mid = numbered-order lo mid t (k .1) in
         let high : mid ≤ hi = all-numbered-order mid hi ts (k .2) in
-        let place : places .compound n ≡ base + n = at n in
+        let place : places .compound n ≡ 8 * (base + n) = at n in
         let s₁ = stored places t s in
         let s₂ = set s₁ (p + 1 + i) v in
         let s₃ = arguments-stored places n (i + 1) ts s₂ in
@@ -191,7 +192,7 @@ module _ (places : Places) (base : ℕ) (at : (n : ℕ) → places .compound n �
         let rest : OnlyTwo (p + 1 + (i + 1)) (p + 8) (8 * (base + mid)) (8 * (base + hi)) s₂ s₃
         = arguments-two n (i + 1) mid hi ts s₂ (omega arith) (omega arith) (k .2) in (
           rest .below (p + 1 + i) (omega arith) ∙ getD-set-same s₁ (p + 1 + i) v 0 (omega arith),
-          holds-kept places base at s₁ s₃ (omega (arith, rest .size)) lo mid t
+          holds-kept places base at wide s₁ s₃ (omega (arith, rest .size)) lo mid t
               (λ j l h. rest .between j (omega arith) h ∙ getD-set-other s₁ (p + 1 + i) j v 0 (λ e. omega arith))
               (k .1) (stored-holds lo mid t s (k .1) (omega arith)),
           arguments-hold n (i + 1) mid hi ts s₂ (omega arith) (omega arith) (k .2) (omega arith),

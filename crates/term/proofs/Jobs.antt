@@ -68,7 +68,7 @@ goals-numbered-order lo hi (g ∷ gs) k =
     omega (arith, numbered-order lo (k .0) (as-term g) (k .1), goals-numbered-order (k .0) hi gs (k .2))
 
 -- Goals stay held where their words and the words of their compounds stay.
-module _ (places : Places) (base : ℕ) (at : (n : ℕ) → places .compound n ≡ base + n) (s s′ : List ℕ) (size : length s ≤ length s′) where
+module _ (places : Places) (base : ℕ) (at : (n : ℕ) → places .compound n ≡ 8 * (base + n)) (wide : (n : ℕ) → places .width n ≡ 8) (s s′ : List ℕ) (size : length s ≤ length s′) where
   pub holds-goals-kept : (place i lo hi : ℕ) (gs : List Named)
       → ((k : ℕ) → i ≤ k → k < i + length gs → getD s′ (place + k) 0 ≡ getD s (place + k) 0)
       → ((k : ℕ) → 8 * (base + lo) ≤ k → k < 8 * (base + hi) → getD s′ k 0 ≡ getD s k 0)
@@ -80,7 +80,7 @@ module _ (places : Places) (base : ℕ) (at : (n : ℕ) → places .compound n �
       let low : lo ≤ mid = numbered-order lo mid (as-term g) (k .1) in
       let high : mid ≤ hi = goals-numbered-order mid hi gs (k .2) in (
         own i (omega arith) (omega arith) ∙ h .0,
-        holds-kept places base at s s′ size lo mid (as-term g) (λ j l m. cells j l (omega arith)) (k .1) (h .1),
+        holds-kept places base at wide s s′ size lo mid (as-term g) (λ j l m. cells j l (omega arith)) (k .1) (h .1),
         holds-goals-kept place (i + 1) mid hi gs (λ j l m. own j (omega arith) (omega arith)) (λ j l m. cells j (omega arith) m) (k .2) (h .2),
       )
 
@@ -103,9 +103,9 @@ module _ (s s′ : List ℕ) (names : List Bytes) (k : ℕ) (size : length s ≤
         pairs = own 1 (omega arith) (omega arith) ∙ h .pairs;
         compounds = own 2 (omega arith) (omega arith) ∙ h .compounds;
         goals = own 3 (omega arith) (omega arith) ∙ h .goals;
-        head = holds-kept (places-from names (clause-base k)) (clause-base k) (λ n. refl) s s′ size 0 mid (as-term (c .head))
+        head = holds-kept (places-from names (clause-base k)) (clause-base k) (λ n. refl) (λ n. refl) s s′ size 0 mid (as-term (c .head))
             (λ j l m. cells j (omega arith) (omega arith)) (numbered .1) (h .head);
-        body = holds-goals-kept (places-from names (clause-base k)) (clause-base k) (λ n. refl) s s′ size (clause-record k + 4) 0 mid hi (c .body)
+        body = holds-goals-kept (places-from names (clause-base k)) (clause-base k) (λ n. refl) (λ n. refl) s s′ size (clause-record k + 4) 0 mid hi (c .body)
             (λ j l m. let e : clause-record k + 4 + j ≡ clause-record k + (4 + j) = omega arith in rw e (own (4 + j) (omega arith) (omega arith)))
             (λ j l m. cells j (omega arith) (omega arith)) (numbered .2) (h .body);
       }
@@ -125,7 +125,7 @@ module _ (s s′ : List ℕ) (names : List Bytes) (k : ℕ) (size : length s ≤
         goals = (rw first at (own 0 (omega arith) (omega arith) (omega arith))) ∙ h .goals;
         pairs = own 1 (omega arith) (omega arith) (omega arith) ∙ h .pairs;
         compounds = own 2 (omega arith) (omega arith) (omega arith) ∙ h .compounds;
-        words = holds-goals-kept (places-from names (query-base k)) (query-base k) (λ n. refl) s s′ size (query-record k + 8) 0 0 hi (q .goals)
+        words = holds-goals-kept (places-from names (query-base k)) (query-base k) (λ n. refl) (λ n. refl) s s′ size (query-record k + 8) 0 0 hi (q .goals)
             (λ j l m. let e : query-record k + 8 + j ≡ query-record k + (8 + j) = omega arith in
             rw e (own (8 + j) (omega arith) (omega arith) (omega arith)))
             (λ j l m. cells j (omega arith) (omega arith)) (h .laid .numbered) (h .words);

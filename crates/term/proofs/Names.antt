@@ -11,7 +11,7 @@ use Rattle.term.specs.Cells.{Places, number-of, term-word, functor-word,
 
 -- The same places with more names.
 abbrev pub with-more : Places → List Bytes → Places
-with-more places later = record { names = places .names ++ later; pair = places .pair; compound = places .compound }
+with-more places later = record { names = places .names ++ later; pair = places .pair; compound = places .compound; width = places .width }
 
 or-more : (a b c : Bool) → (b ≡ true → c ≡ true) → (a || b) ≡ true → (a || c) ≡ true
 or-more true b c h k = refl
@@ -87,4 +87,4 @@ module _ (places : Places) (later : List Bytes) where
     arguments-stored-more n i end s k = refl
     arguments-stored-more n i (more t ts) s k =
         rw (stored-more t s (k .0), term-word-more t (k .0))
-        (arguments-stored-more n (i + 1) ts (set (stored places t s) (8 * places .compound n + 1 + i) (term-word places t)) (k .1))
+        (arguments-stored-more n (i + 1) ts (set (stored places t s) (places .compound n + 1 + i) (term-word places t)) (k .1))

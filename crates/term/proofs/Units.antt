@@ -26,7 +26,7 @@ mutual
   all-within-every p c (more t ts) w = (within-every p c t (w .0), all-within-every p c ts (w .1))
 
 module _ (s s′ : List ℕ) (x : Setting) (size : length s ≤ length s′)
-    (alike : (n : ℕ) → n < x .compounds → (k : ℕ) → 8 * x .places .compound n ≤ k → k < 8 * x .places .compound n + 8 → getD s′ k 0 ≡ getD s k 0) where
+    (alike : (n : ℕ) → n < x .compounds → (k : ℕ) → x .places .compound n ≤ k → k < x .places .compound n + x .places .width n → getD s′ k 0 ≡ getD s k 0) where
   pub unit-term-alike : (t : Term) → UnitTerm s x t → UnitTerm s′ x t
   unit-term-alike t k = record {
     held = holds-alike s s′ (x .places) (λ n. n < x .compounds) size alike t
@@ -35,7 +35,7 @@ module _ (s s′ : List ℕ) (x : Setting) (size : length s ≤ length s′)
   }
 
   -- The arguments of its compound n from the i-th on.
-  pub unit-terms-alike : (n i : ℕ) (ts : Terms) → n < x .compounds → i + count ts ≤ 6 → UnitTerms s x n i ts → UnitTerms s′ x n i ts
+  pub unit-terms-alike : (n i : ℕ) (ts : Terms) → n < x .compounds → i + count ts < x .places .width n → UnitTerms s x n i ts → UnitTerms s′ x n i ts
   unit-terms-alike n i ts h few k = record {
     held = holds-from-alike s s′ (x .places) (λ n. n < x .compounds) size alike n i ts (λ m a b. alike n h m (omega arith) b) few
         (all-within-every (length (x .values)) (x .compounds) ts (k .within)) (k .held);

@@ -1,4 +1,4 @@
--- Terms in the scratch: the word of a term, and its compounds, each in the eight words of its place: its functor, then its arguments.
+-- Terms in the scratch: the word of a term, and its compounds, each from its place on: its functor, then its arguments.
 use Prim.Native.Nat.{ℕ, suc, _+_, _*_, _-_, _≤_}
 use mathlib.Core.Path.{_≡_}
 use mathlib.Core.Bool.{true}
@@ -21,11 +21,12 @@ use Rattle.meaning.specs.Terms.{
 }
 use Rattle.term.specs.Words.{Content, word}
 
--- Which number each name has, and at which place each pair and each compound lies.
+-- Which number each name has, at which place each pair lies and at which word each compound, and how many words are the compound's own.
 pub record Places : Type 0 where
   pub names : List Bytes
   pub pair : ℕ → ℕ
   pub compound : ℕ → ℕ
+  pub width : ℕ → ℕ
 
 -- An integer's 32 bits.
 abbrev pub bits : Integer → ℕ
@@ -65,12 +66,12 @@ unfoldable mutual
   stored places (Term.variable h n) s = s
   stored places (Term.constant k) s = s
   stored places (Term.compound n f ts) s =
-      set (arguments-stored places n 0 ts s) (8 * places .compound n) (functor-word places f (count ts))
+      set (arguments-stored places n 0 ts s) (places .compound n) (functor-word places f (count ts))
 
   pub arguments-stored : Places → ℕ → ℕ → Terms → List ℕ → List ℕ
   arguments-stored places n i end s = s
   arguments-stored places n i (more t ts) s =
-      arguments-stored places n (i + 1) ts (set (stored places t s) (8 * places .compound n + 1 + i) (term-word places t))
+      arguments-stored places n (i + 1) ts (set (stored places t s) (places .compound n + 1 + i) (term-word places t))
 
 -- The compounds of a term have numbers from lo up to hi, the arguments' from left to right behind its own, and at most 6 arguments each.
 unfoldable mutual

@@ -8,11 +8,12 @@ use Rattle.meaning.specs.Terms.{Functor, Term, Terms, end, more, count}
 use Rattle.meaning.specs.State.{Values, value}
 use Rattle.term.specs.Cells.{Places, term-word, functor-word}
 
--- The compound n of so many arguments stands at its place.
+-- The compound n of so many arguments stands at its place, in words of its own.
 pub record CellAt (s : List ℕ) (places : Places) (n : ℕ) (f : Functor) (k : ℕ) : Type 0 where
-  pub inside : 8 * places .compound n + 8 ≤ length s
+  pub inside : places .compound n + 8 ≤ length s
   pub few : k ≤ 6
-  pub functor : getD s (8 * places .compound n) 0 ≡ functor-word places f k
+  pub wide : k < places .width n
+  pub functor : getD s (places .compound n) 0 ≡ functor-word places f k
 
 unfoldable mutual
   pub Holds : List ℕ → Places → Term → Type 0
@@ -24,7 +25,7 @@ unfoldable mutual
   pub HoldsFrom : List ℕ → Places → ℕ → ℕ → Terms → Type 0
   HoldsFrom s places n i end = Unit {0}
   HoldsFrom s places n i (more t ts) =
-      (getD s (8 * places .compound n + 1 + i) 0 ≡ term-word places t) × Holds s places t × HoldsFrom s places n (i + 1) ts
+      (getD s (places .compound n + 1 + i) 0 ≡ term-word places t) × Holds s places t × HoldsFrom s places n (i + 1) ts
 
 -- A pair's word: 0, or the word of its value.
 abbrev pub value-word : Places → Option Term → ℕ

@@ -14,7 +14,7 @@ use Rattle.term.specs.Holds.{Holds}
 
 -- An item's own places: pairs by their numbers, compounds from the item's first place on.
 abbrev pub places-from : List Bytes → ℕ → Places
-places-from names base = record { names = names; pair = λ n. n; compound = λ n. base + n }
+places-from names base = record { names = names; pair = λ n. n; compound = λ n. 8 * (base + n); width = λ n. 8 }
 
 -- Where the clause k has its record and its first compound, and where the query k has them.
 abbrev pub clause-record : ℕ → ℕ

@@ -36,16 +36,18 @@ setting-at figures atlas units k = setting figures (atlas k) (unit-at k units)
 abbrev pub goal-word : Atlas → Goal → ℕ
 goal-word atlas g = g .query + 8 * atlas (g .query) .compound (g .goal .number)
 
--- Where everything lies: the units' pairs at places of their own below the pairs charged, their compounds below the compounds charged.
-pub record Lies (names : List Bytes) (figures : Room) (atlas : Atlas) (units : List QueryUnit) (pairs compounds : ℕ) : Type 0 where
+-- Where everything lies: the units' pairs at places of their own below the pairs charged, their compounds below the first free word, which is no
+-- further on than eight words for each compound charged.
+pub record Lies (names : List Bytes) (figures : Room) (atlas : Atlas) (units : List QueryUnit) (pairs compounds cells : ℕ) : Type 0 where
   pub names-are : (k : ℕ) → atlas k .names ≡ names
   pub pairs-fit : pairs ≤ figures .pairs
   pub compounds-fit : compounds ≤ figures .compounds
+  pub cells-fit : cells ≤ 40704 + 8 * compounds
   pub pair-below : (k n : ℕ) → k < length units → n < length (unit-at k units .values) → atlas k .pair n < pairs
   pub pair-apart : (k l n m : ℕ) → k < length units → l < length units → n < length (unit-at k units .values) → m < length (unit-at l units .values)
       → atlas k .pair n ≡ atlas l .pair m → (k ≡ l) × (n ≡ m)
-  pub compound-behind : (k n : ℕ) → k < length units → n < unit-at k units .compounds → 5088 ≤ atlas k .compound n
-  pub compound-below : (k n : ℕ) → k < length units → n < unit-at k units .compounds → atlas k .compound n < 5088 + compounds
+  pub compound-behind : (k n : ℕ) → k < length units → n < unit-at k units .compounds → 40704 ≤ atlas k .compound n
+  pub compound-below : (k n : ℕ) → k < length units → n < unit-at k units .compounds → atlas k .compound n + atlas k .width n ≤ cells
 
 -- Of each query: its unit, its number of tries, and where its own pairs begin.
 pub record UnitsStand (s : List ℕ) (figures : Room) (atlas : Atlas) (units : List QueryUnit) : Type 0 where
@@ -109,7 +111,7 @@ pub record HoldsState (s : List ℕ) (names : List Bytes) (figures : Room) (quer
   pub compounds : t .compounds ≡ state .compounds
   pub steps : t .steps ≡ state .steps
   pub fits : number-of (state .goals) ≤ figures .goals
-  pub lies : Lies names figures atlas (state .units) (state .pairs) (state .compounds)
+  pub lies : Lies names figures atlas (state .units) (state .pairs) (state .compounds) (t .cells)
   pub units : UnitsStand s figures atlas (state .units)
   pub first-pairs : EachFrom (FirstPair s atlas) 0 queries
   pub queue-held : AllStand s figures atlas (state .units) (state .goals .queue)

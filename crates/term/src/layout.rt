@@ -1,13 +1,13 @@
-// The regions of the scratch, in 64-bit words. A compound's place is the number of its first word divided by 8.
+// The regions of the scratch, in 64-bit words. A compound's place is the number of its first word: its functor's, behind which its arguments' stand.
 //
 //      0  names       2 a name, 256 names: where it first stands in the text, and its length
 //    512  procedures  at 8 * name + arguments: the first clause of that procedure, plus one
 //   2560  clauses     16 a clause, 128 clauses: the next clause of its procedure, plus one; pairs; compounds; body goals; their places at 4
 //   4608  queries     64 a query, 8 queries: goals; pairs; compounds; first pair and tries of the run; the goals' places at 8;
 //                     the variables' first bytes and lengths, 2 a variable, at 16
-//   5120  items       8 a compound, 32 compounds an item, 128 clauses and 8 queries: functor, arguments
+//   5120  items       8 a compound, 32 compounds an item, 128 clauses and 8 queries
 //  39936  trial       what a trial has given, its waiting readers and the goals that it wakes
-//  40704  compounds   8 a compound of the room
+//  40704  compounds   8 a compound of the room; one behind the other, each with as many words as it has arguments and one
 //         values      1 a pair: what it was assigned, or 0
 //         waiters     1 a pair: the place in the waiting log of the goal that waits on it, plus one
 //         sets        1 a pair: the next pair that the same goal waits on, plus one

@@ -1,10 +1,11 @@
 // What a run says of its state by value; the goals, values and compounds stand in the scratch.
 
-// Pairs and compounds charged, steps taken; where the queue begins and how many goals it has; how many places of the waiting log are used and how
-// many goals wait; how many goals failed.
+// Pairs and compounds charged, the first free word of the compounds, steps taken; where the queue begins and how many goals it has; how many places of the
+// waiting log are used and how many goals wait; how many goals failed.
 pub struct Standing {
     pub pairs: usize,
     pub compounds: usize,
+    pub cells: usize,
     pub front: usize,
     pub active: usize,
     pub log: usize,
