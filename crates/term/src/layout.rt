@@ -6,7 +6,7 @@
 //   4608  queries     64 a query, 8 queries: goals; pairs; compounds; first pair and tries of the run; the goals' places at 8;
 //                     the variables' first bytes and lengths, 2 a variable, at 16
 //   5120  items       8 a compound, 32 compounds an item, 128 clauses and 8 queries
-//  39936  trial       what a trial has given, its waiting readers and the goals that it wakes
+//  39936  trial       what a trial has given, its waiting readers, the goals that it wakes and the goal's arguments, followed
 //  40704  compounds   8 a compound of the room; one behind the other, each with as many words as it has arguments and one
 //         values      1 a pair: what it was assigned, or 0
 //         waiters     1 a pair: the place in the waiting log of the goal that waits on it, plus one
