@@ -35,10 +35,10 @@ fn functor(name: usize, count: u64) -> u64
 
 // The word of the compound n of the item.
 fn compound_word(base: usize, n: usize) -> u64
-    requires { ⌜ (base < 1152921504606846976) × (n ≤ 32) ⌝ }
-    ensures { λ r. ⌜ r ≡ 6 + 8 * (base + n) ⌝ }
+    requires { ⌜ (base < 144115188075855872) × (n ≤ 32) ⌝ }
+    ensures { λ r. ⌜ r ≡ 6 + 8 * (8 * (base + n)) ⌝ }
 {
-    word(6 + 8 * (base + n))
+    word(6 + 64 * (base + n))
 }
 
 // The words of the compound n of the item, whose compounds have places from base on: its own word, and one for each argument.
