@@ -41,7 +41,7 @@ fn compound_word(base: usize, n: usize) -> u64
     word(6 + 64 * (base + n))
 }
 
-// The words of the compound n of the item, whose compounds have places from base on: its own word, and one for each argument.
+// The words of the compound n of the item, whose compounds have places from 8 * base on: its own word, and one for each argument.
 fn store_functor(s: &mut [u64], base: usize, n: usize, w: u64)
     requires { ⌜ (8 * (base + n) < length (now s)) × (length (now s) < 1152921504606846976) ⌝ }
     ensures { λ r. ⌜ now (s .exit) ≡ set (now (s .entry)) (8 * (base + n)) w ⌝ }
