@@ -16,8 +16,8 @@ use Rattle.phrases.proofs.Arguments.{argument-malformed, argument-passe
 use Rattle.phrases.proofs.Reached.{Reached, reached-none, reached-more}
 use borrow.Fn.PlainCycle.{is, and}
 use Rattle.phrases.proofs.terms.arguments.Reads as arguments
-use Rattle.phrases.proofs.terms.+arguments+compound+elements+last_tail+tail+term.Lts-arguments as arguments-lts
-use Rattle.phrases.proofs.terms.+arguments+compound+elements+last_tail+tail+term.Proof.Claims.{arguments-at, arguments-calls}
+use Rattle.phrases.proofs.terms.+arguments+compound+elements+last_tail+term.Lts-arguments as arguments-lts
+use Rattle.phrases.proofs.terms.+arguments+compound+elements+last_tail+term.Proof.Claims.{arguments-at, arguments-calls}
 
 abbrev pub arguments-Inv-loop : arguments-lts.InvT-loop
 arguments-Inv-loop text rest from s₀ names₀ item₀ base left n d₀ i₀ s names item d i =
