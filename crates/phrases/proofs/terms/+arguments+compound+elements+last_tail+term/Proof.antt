@@ -4,6 +4,7 @@ mod Claims
 mod Arguments
 mod Compound
 mod Elements
+mod Answers
 mod LastTail
 mod Term
 use borrow.Author.Needs.{needs}
@@ -23,7 +24,8 @@ use Rattle.phrases.proofs.terms.+arguments+compound+elements+last_tail+
 use Rattle.phrases.proofs.terms.+arguments+compound+elements+last_tail+term.Proof.Claims.{μ-arguments, arguments-at, arguments-calls, μ-compound, compound-at, compound-calls, μ-elements, elements-at, elements-calls, μ-last-tail, last-tail-at, last-tail-calls, μ-term, term-at, term-calls}
 use Rattle.phrases.proofs.terms.+arguments+compound+elements+last_tail+term.Proof.Arguments.{arguments-Inv-loop, arguments-μ-loop, arguments-loop-holds, arguments-term-requires, arguments-store-argument-requires, arguments-add-i, arguments-next-of-requires, arguments-loop-less, arguments-loop-again, arguments-same-length, arguments-same-length-2, arguments-same-length-3, arguments-returns, arguments-same-length-4, arguments-same-length-5, arguments-same-length-6, arguments-returns-2, arguments-same-length-7, arguments-same-length-8, arguments-same-length-9, arguments-returns-3, arguments-same-length-10, arguments-same-length-11, arguments-same-length-12, arguments-returns-4, arguments-same-length-13, arguments-same-length-14, arguments-same-length-15, arguments-returns-5, arguments-starts-requires, arguments-same-length-16, arguments-same-length-17, arguments-same-length-18, arguments-returns-6, arguments-same-length-19, arguments-same-length-20, arguments-same-length-21, arguments-returns-7}
 use Rattle.phrases.proofs.terms.+arguments+compound+elements+last_tail+term.Proof.Compound.{compound-returns, compound-add-t17, compound-arguments-requires, compound-functor-requires, compound-store-functor-requires, compound-compound-word-requires, compound-returns-2, compound-returns-3, compound-returns-4}
-use Rattle.phrases.proofs.terms.+arguments+compound+elements+last_tail+term.Proof.Elements.{elements-Inv-loop, elements-μ-loop, elements-loop-holds, elements-add-t29, elements-term-requires, elements-next-of-requires, elements-compound-word-requires, elements-store-cell-requires, elements-loop-less, elements-loop-again, elements-last-tail-requires, elements-store-cell-requires-2, elements-compound-word-requires-2, elements-same-length, elements-same-length-2, elements-same-length-3, elements-returns, elements-same-length-4, elements-same-length-5, elements-same-length-6, elements-returns-2, elements-same-length-7, elements-same-length-8, elements-same-length-9, elements-returns-3, elements-store-cell-requires-3, elements-compound-word-requires-3, elements-same-length-10, elements-same-length-11, elements-same-length-12, elements-returns-4, elements-same-length-13, elements-same-length-14, elements-same-length-15, elements-returns-5, elements-same-length-16, elements-same-length-17, elements-same-length-18, elements-returns-6, elements-same-length-19, elements-same-length-20, elements-same-length-21, elements-returns-7, elements-starts-requires, elements-same-length-22, elements-same-length-23, elements-same-length-24, elements-returns-8, elements-same-length-25, elements-same-length-26, elements-same-length-27, elements-returns-9}
+use Rattle.phrases.proofs.terms.+arguments+compound+elements+last_tail+term.Proof.Elements.{elements-Inv-loop, elements-μ-loop, elements-loop-holds, elements-add-t29, elements-term-requires, elements-next-of-requires, elements-compound-word-requires, elements-store-cell-requires, elements-loop-less, elements-loop-again, elements-last-tail-requires, elements-store-cell-requires-2, elements-compound-word-requires-2, elements-store-cell-requires-3, elements-compound-word-requires-3, elements-starts-requires}
+use Rattle.phrases.proofs.terms.+arguments+compound+elements+last_tail+term.Proof.Answers.{elements-same-length, elements-same-length-2, elements-same-length-3, elements-returns, elements-same-length-4, elements-same-length-5, elements-same-length-6, elements-returns-2, elements-same-length-7, elements-same-length-8, elements-same-length-9, elements-returns-3, elements-same-length-10, elements-same-length-11, elements-same-length-12, elements-returns-4, elements-same-length-13, elements-same-length-14, elements-same-length-15, elements-returns-5, elements-same-length-16, elements-same-length-17, elements-same-length-18, elements-returns-6, elements-same-length-19, elements-same-length-20, elements-same-length-21, elements-returns-7, elements-same-length-22, elements-same-length-23, elements-same-length-24, elements-returns-8, elements-same-length-25, elements-same-length-26, elements-same-length-27, elements-returns-9}
 use Rattle.phrases.proofs.terms.+arguments+compound+elements+last_tail+term.Proof.LastTail.{last-tail-term-requires, last-tail-next-of-requires, last-tail-returns, last-tail-returns-2, last-tail-returns-3, last-tail-returns-4, last-tail-returns-5}
 use Rattle.phrases.proofs.terms.+arguments+compound+elements+last_tail+term.Proof.Term.{term-begin-requires, term-sub-compound, term-compound-requires, term-sub-elements, term-elements-requires, term-returns, term-returns-2, term-returns-3, term-returns-4, term-returns-5}
 

@@ -1,11 +1,7 @@
 -- `store_cell` meets its contract: its three stores, one after the other.
-use mathlib.Core.Path.{ap, _∙_}
 use borrow.Author.Needs.{needs}
-use lib.ListN.{set}
 use Rattle.phrases.proofs.terms.store_cell.Statement.{statement}
 use Rattle.phrases.proofs.terms.store_cell.Tie as tie
-use Rattle.phrases.proofs.terms.store_cell.Reads as reads
-use Rattle.phrases.proofs.terms.store_cell.Lts as lts
 
 store-argument-requires : tie.Need-store-argument-requires
 store-argument-requires c κs = search needs
