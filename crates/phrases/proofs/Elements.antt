@@ -1,6 +1,6 @@
 -- The elements of a list: an element and its tail make a list cell; the tail behind a sign; the last tail with its closing bracket.
 use Prim.Native.Nat.{ℕ, zero, suc, _+_, _*_, _-_, _≤_, _<_, min}
-use mathlib.Core.Path.{_≡_, refl, ap, _∙_}
+use mathlib.Core.Path.{_≡_, refl, ap, sym, _∙_}
 use mathlib.Core.List.{List, [], _∷_, _++_}
 use native.Mathlib.Omega.{arith}
 use lib.ListN.{length, getD, set}
@@ -11,7 +11,7 @@ use Rattle.meaning.specs.Items.{Counted, Reader, read, read-on, give, begins-te
 use Rattle.term.specs.Cells.{term-word, stored, arguments-stored, Numbered, AllNumbered, Known, AllKnown}
 use Rattle.term.specs.Frames.{Only}
 use Rattle.term.proofs.Frames.{only-same, only-set, only-then}
-use Rattle.term.proofs.Cells.{numbered-order}
+use Rattle.term.proofs.Cells.{numbered-order, stored-set}
 use Rattle.tokens.specs.Fronts.{tokens-in}
 use Rattle.tables.specs.Places.{Place, Placed, names-over, variables-over, item-places}
 use Rattle.tokens.specs.Nexts.{SignAt, Stops, Goes, one-of}
@@ -23,6 +23,34 @@ use Rattle.openings.proofs.Readers.{tail-stops}
 use Rattle.phrases.proofs.Arms.{elements-cannot, elements-many, elements-term, elements-none, elements-none-cannot, tail-empty, closed-malformed, closed-passed, closed-read, closed-stop}
 use Rattle.openings.proofs.Moves.{moves-then, moves-sign, sign-placed, piece-sign, moved-to, counted-one, stands-moved, word-later, stored-later, known-later, once, twice, half-small}
 use Rattle.openings.proofs.Given.{gave-by, gave-moves, gave-only}
+
+-- The words of the list cell n: its element's, its tail's and its functor.
+abbrev pub cell-stored : (base n w v : ℕ) → List ℕ → List ℕ
+cell-stored base n w v s = set (set (set s (8 * (base + n) + 1 + 0) w) (8 * (base + n) + 1 + 1) v) (8 * (base + n)) 2
+
+pub cell-only : (base n w v : ℕ) (s : List ℕ) → n < 32 → Only (8 * base) (8 * (base + 32)) s (cell-stored base n w v s)
+cell-only base n w v s few =
+    let lo = 8 * base in
+    let hi = 8 * (base + 32) in
+    let here = 8 * (base + n) in
+    let s₁ = set s (here + 1 + 0) w in
+    let s₂ = set s₁ (here + 1 + 1) v in
+    only-then lo hi s s₁ (set s₂ here 2) (only-set lo hi s (here + 1 + 0) w (omega arith) (omega arith))
+    (only-then lo hi s₁ s₂ (set s₂ here 2) (only-set lo hi s₁ (here + 1 + 1) v (omega arith) (omega arith))
+    (only-set lo hi s₂ here 2 (omega arith) (omega arith)))
+
+-- A cell before the compounds of a term may be stored before or behind them.
+cell-then-stored : (known : List Place) (base n w v lo hi : ℕ) (t : Term) (s : List ℕ) → Numbered lo hi t → n + 1 ≤ lo
+    → stored (item-places known base) t (cell-stored base n w v s) ≡ cell-stored base n w v (stored (item-places known base) t s)
+unfolding item-places
+cell-then-stored known base n w v lo hi t s m below =
+    let here = 8 * (base + n) in
+    let s₁ = set s (here + 1 + 0) w in
+    let s₂ = set s₁ (here + 1 + 1) v in
+    let past = stored-set (item-places known base) base (λ k. refl) lo hi t in
+    past s₂ here 2 m (λ j low high same. omega arith)
+    ∙ ap (λ l. set l here 2) (past s₁ (here + 1 + 1) v m (λ j low high same. omega arith))
+    ∙ ap (λ l. set (set l (here + 1 + 1) v) here 2) (past s (here + 1 + 0) w m (λ j low high same. omega arith))
 
 module _ (text rest : Bytes) (from base : ℕ) (known vars : List Place) (c : Cursor) (s item : List ℕ) (element : Reader Term) where
   -- The first token cannot begin a term.
@@ -82,10 +110,9 @@ module _ (text rest : Bytes) (from base : ℕ) (known vars : List Place) (c : Cu
     unfolding read-on
     element-passed s₁ names₁ item₁ g = (over ∙ rw (g .0), g .1)
 
-    -- The element was read, and its word stored; then its tail.
-    module _ (s₁ names₁ item₁ s₂ : List ℕ) (w : ℕ) (e : Cursor) (t : Term) (p : List Placed)
-        (g : Gave (λ (t : Term). t) element text rest from base known vars (counted-one c) s item s₁ names₁ item₁ w e t p)
-        (kept : s₂ ≡ set s₁ (8 * (base + c .compounds) + 1 + 0) w) (s₃ names₃ item₃ : List ℕ) where
+    -- The element was read; then its tail.
+    module _ (s₁ names₁ item₁ : List ℕ) (w : ℕ) (e : Cursor) (t : Term) (p : List Placed)
+        (g : Gave (λ (t : Term). t) element text rest from base known vars (counted-one c) s item s₁ names₁ item₁ w e t p) where
       abbrev known₁ : List Place
       known₁ = names-over p known
 
@@ -95,61 +122,83 @@ module _ (text rest : Bytes) (from base : ℕ) (known vars : List Place) (c : Cu
       abbrev rest-of-list : Reader Term
       rest-of-list = next (tail-of element (elements element left))
 
-      element-only : Only (8 * base) (8 * (base + 32)) s s₂
-      element-only =
-          let high : e .compounds ≤ 32 = g .stands .compounds-few in
-          let order : c .compounds + 1 ≤ e .compounds = numbered-order (c .compounds + 1) (e .compounds) t (g .numbered) in
-          rw kept
-          (only-then (8 * base) (8 * (base + 32)) s s₁ (set s₁ (8 * (base + c .compounds) + 1 + 0) w) (gave-only g)
-          (only-set (8 * base) (8 * (base + 32)) s₁ (8 * (base + c .compounds) + 1 + 0) w (omega arith) (omega arith)))
-
-      pub tail-malformed : (place : ℕ)
+      pub tail-malformed : (s₂ s₃ names₃ item₃ : List ℕ) (place : ℕ) → Only (8 * base) (8 * (base + 32)) s₁ s₂
           → ReadIs (λ (t : Term). t) rest-of-list text rest from base known₁ vars₁ e s₂ item₁ s₃ names₃ item₃ (Malformed place)
           → ReadIs (λ (t : Term). t) (elements element (suc left)) text rest from base known vars c s item s₃ names₃ item₃ (Malformed place)
       unfolding read-on
-      tail-malformed place a =
-          (over ∙ rw (g .reads, a .0), a .1, only-then (8 * base) (8 * (base + 32)) s s₂ s₃ element-only (a .2))
+      tail-malformed s₂ s₃ names₃ item₃ place only a = (
+        over ∙ rw (g .reads, a .0),
+        a .1,
+        only-then (8 * base) (8 * (base + 32)) s s₁ s₃ (gave-only g) (only-then (8 * base) (8 * (base + 32)) s₁ s₂ s₃ only (a .2)),
+      )
 
-      pub tail-passed : ReadIs (λ (t : Term). t) rest-of-list text rest from base known₁ vars₁ e s₂ item₁ s₃ names₃ item₃ Passed
+      pub tail-passed : (s₂ s₃ names₃ item₃ : List ℕ) → Only (8 * base) (8 * (base + 32)) s₁ s₂
+          → ReadIs (λ (t : Term). t) rest-of-list text rest from base known₁ vars₁ e s₂ item₁ s₃ names₃ item₃ Passed
           → ReadIs (λ (t : Term). t) (elements element (suc left)) text rest from base known vars c s item s₃ names₃ item₃ Passed
       unfolding read-on
-      tail-passed a = (over ∙ rw (g .reads, a .0), only-then (8 * base) (8 * (base + 32)) s s₂ s₃ element-only (a .1))
+      tail-passed s₂ s₃ names₃ item₃ only a = (
+        over ∙ rw (g .reads, a .0),
+        only-then (8 * base) (8 * (base + 32)) s s₁ s₃ (gave-only g) (only-then (8 * base) (8 * (base + 32)) s₁ s₂ s₃ only (a .1)),
+      )
 
-      pub tail-got : (s₄ s₅ : List ℕ) (v cell-word : ℕ) (d : Cursor)
-          → ReadIs (λ (t : Term). t) rest-of-list text rest from base known₁ vars₁ e s₂ item₁ s₃ names₃ item₃ (Got v d)
-          → s₄ ≡ set s₃ (8 * (base + c .compounds) + 1 + 1) v
-          → s₅ ≡ set s₄ (8 * (base + c .compounds)) 2
+      -- Both are read, and the cell's words are stored over those of its element and its tail.
+      tail-got : (s₂ s₃ names₃ item₃ s₄ : List ℕ) (v cell-word : ℕ) (d : Cursor) (tail : Term) (q : List Placed)
+          → Gave (λ (t : Term). t) rest-of-list text rest from base known₁ vars₁ e s₂ item₁ s₃ names₃ item₃ v d tail q
+          → s₄ ≡ cell-stored base (c .compounds) w v (stored (item-places (names-over q known₁) base) tail s₁)
           → cell-word ≡ 6 + 8 * (8 * (base + c .compounds))
-          → ReadIs (λ (t : Term). t) (elements element (suc left)) text rest from base known vars c s item s₅ names₃ item₃ (Got cell-word d)
+          → ReadIs (λ (t : Term). t) (elements element (suc left)) text rest from base known vars c s item s₄ names₃ item₃ (Got cell-word d)
       unfolding read-on give item-places stored arguments-stored Numbered AllNumbered Known AllKnown occurrences all-occurrences count
-      tail-got s₄ s₅ v cell-word d a kept₄ kept₅ word =
-          let tail = a .0 in
-          let q = a .1 in
-          let h = a .2 in
+      tail-got s₂ s₃ names₃ item₃ s₄ v cell-word d tail q h kept word =
           let here = 8 * (base + c .compounds) in
           let places = item-places (names-over q known₁) base in
           let m = moves-then from rest (c .at) (e .at) (d .at) known vars known₁ vars₁ (names-over q known₁) (variables-over from q vars₁) p q
           (gave-moves g) (gave-moves h) in
-          let first : s₂ ≡ set (stored places t s) (here + 1 + 0) (term-word places t) =
+          let above : c .compounds + 1 ≤ e .compounds = numbered-order (c .compounds + 1) (e .compounds) t (g .numbered) in
+          let first : set s₁ (here + 1 + 0) w ≡ set (stored places t s) (here + 1 + 0) (term-word places t) =
           rw (stored-later known₁ q base t s (g .known-names), word-later known₁ q base t (g .known-names))
-          (kept ∙ ap (λ l. set l (here + 1 + 0) w) (g .stored-is)
+          (ap (λ l. set l (here + 1 + 0) w) (g .stored-is)
           ∙ ap (λ x. set (stored (item-places known₁ base) t s) (here + 1 + 0) x) (g .word-is)) in
-          let second : s₄ ≡ set (stored places tail (set (stored places t s) (here + 1 + 0) (term-word places t))) (here + 1 + 1) (term-word places tail) =
-          kept₄ ∙ ap (λ l. set l (here + 1 + 1) v) (h .stored-is ∙ ap (stored places tail) first)
-          ∙ ap (λ x. set (stored places tail (set (stored places t s) (here + 1 + 0) (term-word places t))) (here + 1 + 1) x) (h .word-is) in (
+          let before-tail : set (stored places tail s₁) (here + 1 + 0) w ≡ stored places tail (set (stored places t s) (here + 1 + 0) (term-word places t)) =
+          sym (stored-set places base (λ n. refl) (e .compounds) (d .compounds) tail s₁ (here + 1 + 0) w (h .numbered) (λ j low high same. omega arith))
+          ∙ ap (stored places tail) first in (
             compound (c .compounds) cell (more t (more tail end)),
             p ++ q,
             gave-by (names-over q known₁) (variables-over from q vars₁) m
                 (over ∙ rw (g .reads, h .reads))
                 (h .stands)
                 word
-                (kept₅ ∙ ap (λ l. set l here 2) second)
+                (kept ∙ ap (λ l. set (set l (here + 1 + 1) v) here 2) before-tail
+                ∙ ap (λ x. set (set (stored places tail (set (stored places t s) (here + 1 + 0) (term-word places t))) (here + 1 + 1) x) here 2) (h .word-is))
                 (refl, omega arith, (e .compounds, g .numbered, (d .compounds, h .numbered, omega arith)))
                 (tt, (known-later known₁ q base t (g .known-names), (h .known-names, tt)))
                 (λ k n b. h .halves k n b ∙ ap (λ z. min 2 (z + occurrences k n tail)) (g .halves k n b)
                 ∙ twice (getD item (half-place k n) 0) (occurrences k n t) (occurrences k n tail)
                 ∙ ap (λ z. min 2 (getD item (half-place k n) 0 + z)) (omega arith)),
           )
+
+      -- The cell's words are stored behind its tail's.
+      pub cell-behind : (s₂ names₂ item₂ s₃ : List ℕ) (v cell-word : ℕ) (d : Cursor)
+          → ReadIs (λ (t : Term). t) rest-of-list text rest from base known₁ vars₁ e s₁ item₁ s₂ names₂ item₂ (Got v d)
+          → s₃ ≡ cell-stored base (c .compounds) w v s₂
+          → cell-word ≡ 6 + 8 * (8 * (base + c .compounds))
+          → ReadIs (λ (t : Term). t) (elements element (suc left)) text rest from base known vars c s item s₃ names₂ item₂ (Got cell-word d)
+      cell-behind s₂ names₂ item₂ s₃ v cell-word d a kept word =
+          tail-got s₁ s₂ names₂ item₂ s₃ v cell-word d (a .0) (a .1) (a .2)
+          (kept ∙ ap (cell-stored base (c .compounds) w v) (a .2 .stored-is)) word
+
+      -- The cell's words are stored first, its tail's known beforehand.
+      pub cell-first : (s₂ s₃ names₃ item₃ : List ℕ) (v cell-word : ℕ) (d : Cursor)
+          → s₂ ≡ cell-stored base (c .compounds) w v s₁
+          → ReadIs (λ (t : Term). t) rest-of-list text rest from base known₁ vars₁ e s₂ item₁ s₃ names₃ item₃ (Got v d)
+          → cell-word ≡ 6 + 8 * (8 * (base + c .compounds))
+          → ReadIs (λ (t : Term). t) (elements element (suc left)) text rest from base known vars c s item s₃ names₃ item₃ (Got cell-word d)
+      cell-first s₂ s₃ names₃ item₃ v cell-word d kept a word =
+          let places = item-places (names-over (a .1) known₁) base in
+          tail-got s₂ s₃ names₃ item₃ s₃ v cell-word d (a .0) (a .1) (a .2)
+          (a .2 .stored-is ∙ ap (stored places (a .0)) kept
+          ∙ cell-then-stored (names-over (a .1) known₁) base (c .compounds) w v (e .compounds) (d .compounds) (a .0) s₁ (a .2 .numbered)
+          (numbered-order (c .compounds + 1) (e .compounds) t (g .numbered)))
+          word
 
 -- The tail behind an element: `[]`, or none of its three signs.
 module _ (text rest : Bytes) (from base : ℕ) (known vars : List Place) (c : Cursor) (s names item : List ℕ) (element others : Reader Term) where

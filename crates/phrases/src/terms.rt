@@ -14,7 +14,7 @@ ghost use Prim.Native.Nat.{ℕ, _+_, _*_, _-_, _≤_, _<_};
 ghost use lib.ListN.{length, set};
 ghost use Rattle.meaning.specs.Bytes.{Bytes};
 ghost use Rattle.meaning.specs.Terms.{Term, as-term};
-ghost use Rattle.meaning.specs.Items.{place-of, compound-of, next, tail-of};
+ghost use Rattle.meaning.specs.Items.{place-of, compound-of};
 ghost use Rattle.meaning.specs.Items.{term as term-reader, arguments as arguments-reader, elements as elements-reader};
 ghost use Rattle.tables.specs.Places.{Place, spellings};
 ghost use Rattle.openings.specs.Reading.{Stands, ReadIs, ArgumentsAre, closed};
@@ -56,6 +56,16 @@ fn store_argument(s: &mut [u64], base: usize, n: usize, i: usize, w: u64)
 {
     let here = 8 * (base + n) + 1 + i;
     s[here] = w;
+}
+
+// The words of the list cell n: its element, its tail and its functor.
+fn store_cell(s: &mut [u64], base: usize, n: usize, element: u64, tail: u64)
+    requires { ⌜ (8 * (base + n) + 2 < length (now s)) × (length (now s) < 1152921504606846976) ⌝ }
+    ensures { λ r. ⌜ now (s .exit) ≡ set (set (set (now (s .entry)) (8 * (base + n) + 1 + 0) element) (8 * (base + n) + 1 + 1) tail) (8 * (base + n)) 2 ⌝ }
+{
+    store_argument(s, base, n, 0, element);
+    store_argument(s, base, n, 1, tail);
+    store_functor(s, base, n, 2);
 }
 
 // A term inside which so many brackets more may open.
@@ -191,7 +201,8 @@ fn arguments(
     }
 }
 
-// "A list `[T,..]` or `[T,..|T]`", behind its bracket: each element makes one list cell, counted at its first token.
+// "A list `[T,..]` or `[T,..|T]`", behind its bracket: each element makes one list cell, counted at its first token,
+// whose tail is the next compound, the term behind the `|`, or `[]`.
 fn elements(
     text: &[u8],
     rest: &[u8],
@@ -208,85 +219,78 @@ fn elements(
     ensures { λ r. ⌜ ((known : List Place) (vars : List Place) → Stands (now (text .entry)) (now (rest .entry)) from (now (names .entry)) (now (item .entry)) c known vars
         → (left-over : ℕ) → 32 ≤ left-over + c .compounds → ReadIs (λ (t : Term). t) (elements-reader (term-reader left) left-over) (now (text .entry)) (now (rest .entry)) from base known vars c (now (s .entry)) (now (item .entry)) (now (s .exit)) (now (names .exit)) (now (item .exit)) r) ⌝ }
 {
-    let cell = c.compounds;
-    if 32 <= cell {
-        let at = c.at;
-        return match starts(rest, at) {
-            Start::Can => Read::Passed,
-            Start::Cannot(a) => Read::Malformed(a),
+    let first = c.compounds;
+    let mut d = c;
+    while d.compounds < 32 {
+        let cell = d.compounds;
+        let inside = Cursor {
+            at: d.at,
+            names: d.names,
+            variables: d.variables,
+            compounds: cell + 1,
         };
-    }
-    let d = Cursor {
-        at: c.at,
-        names: c.names,
-        variables: c.variables,
-        compounds: cell + 1,
-    };
-    match term(text, rest, from, s, names, item, base, left, d) {
-        Read::Got(w, e) => {
-            store_argument(s, base, cell, 0, w);
-            match tail(text, rest, from, s, names, item, base, left, e) {
-                Read::Got(v, f) => {
-                    store_argument(s, base, cell, 1, v);
-                    store_functor(s, base, cell, 2);
-                    Read::Got(compound_word(base, cell), f)
+        match term(text, rest, from, s, names, item, base, left, inside) {
+            Read::Got(w, e) => {
+                let at = e.at;
+                match next_of(rest, at, b',', b'|', b']') {
+                    Next::First(behind) => {
+                        store_cell(s, base, cell, w, compound_word(base, e.compounds));
+                        d = Cursor {
+                            at: behind,
+                            names: e.names,
+                            variables: e.variables,
+                            compounds: e.compounds,
+                        };
+                    }
+                    Next::Second(behind) => {
+                        let f = Cursor {
+                            at: behind,
+                            names: e.names,
+                            variables: e.variables,
+                            compounds: e.compounds,
+                        };
+                        match last_tail(text, rest, from, s, names, item, base, left, f) {
+                            Read::Got(v, g) => {
+                                store_cell(s, base, cell, w, v);
+                                return Read::Got(compound_word(base, first), g);
+                            }
+                            Read::Malformed(a) => {
+                                return Read::Malformed(a);
+                            }
+                            Read::Passed => {
+                                return Read::Passed;
+                            }
+                        }
+                    }
+                    Next::Third(behind) => {
+                        store_cell(s, base, cell, w, 5);
+                        return Read::Got(
+                            compound_word(base, first),
+                            Cursor {
+                                at: behind,
+                                names: e.names,
+                                variables: e.variables,
+                                compounds: e.compounds,
+                            },
+                        );
+                    }
+                    Next::Other(a) => {
+                        return Read::Malformed(a);
+                    }
                 }
-                Read::Malformed(a) => Read::Malformed(a),
-                Read::Passed => Read::Passed,
+            }
+            Read::Malformed(a) => {
+                return Read::Malformed(a);
+            }
+            Read::Passed => {
+                return Read::Passed;
             }
         }
-        Read::Malformed(a) => Read::Malformed(a),
-        Read::Passed => Read::Passed,
     }
-}
-
-// The tail behind an element: more elements, the term behind a `|`, or `[]`.
-fn tail(
-    text: &[u8],
-    rest: &[u8],
-    from: usize,
-    s: &mut [u64],
-    names: &mut [u64],
-    item: &mut [u64],
-    base: usize,
-    left: usize,
-    c: Cursor,
-) -> Read
-    requires { ⌜ (left ≤ 15) × (8 * (base + 32) ≤ length (now s)) × (length (now s) < 1152921504606846976) ⌝ }
-    requires { ⌜ ((known : List Place) × (vars : List Place) × Stands (now text) (now rest) from (now names) (now item) c known vars) ⌝ }
-    ensures { λ r. ⌜ ((known : List Place) (vars : List Place) → Stands (now (text .entry)) (now (rest .entry)) from (now (names .entry)) (now (item .entry)) c known vars
-        → (left-over : ℕ) → 32 ≤ left-over + c .compounds → ReadIs (λ (t : Term). t) (next (tail-of (term-reader left) (elements-reader (term-reader left) left-over))) (now (text .entry)) (now (rest .entry)) from base known vars c (now (s .entry)) (now (item .entry)) (now (s .exit)) (now (names .exit)) (now (item .exit)) r) ⌝ }
-{
-    let at = c.at;
-    match next_of(rest, at, b',', b'|', b']') {
-        Next::First(behind) => {
-            let d = Cursor {
-                at: behind,
-                names: c.names,
-                variables: c.variables,
-                compounds: c.compounds,
-            };
-            elements(text, rest, from, s, names, item, base, left, d)
-        }
-        Next::Second(behind) => {
-            let d = Cursor {
-                at: behind,
-                names: c.names,
-                variables: c.variables,
-                compounds: c.compounds,
-            };
-            last_tail(text, rest, from, s, names, item, base, left, d)
-        }
-        Next::Third(behind) => Read::Got(
-            5,
-            Cursor {
-                at: behind,
-                names: c.names,
-                variables: c.variables,
-                compounds: c.compounds,
-            },
-        ),
-        Next::Other(a) => Read::Malformed(a),
+    let at = d.at;
+    match starts(rest, at) {
+        Start::Can => Read::Passed,
+        Start::Cannot(a) => Read::Malformed(a),
     }
 }
 

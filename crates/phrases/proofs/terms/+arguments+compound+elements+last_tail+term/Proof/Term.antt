@@ -9,8 +9,8 @@ use Rattle.openings.proofs.Given.{round-read, opened-read}
 use Prim.Native.Nat.{ℕ}
 use borrow.Fn.PlainCycle.{is}
 use Rattle.phrases.proofs.terms.term.Reads as term
-use Rattle.phrases.proofs.terms.+arguments+compound+elements+last_tail+tail+term.Lts-term as term-lts
-use Rattle.phrases.proofs.terms.+arguments+compound+elements+last_tail+tail+term.Proof.Claims.{term-at, term-calls}
+use Rattle.phrases.proofs.terms.+arguments+compound+elements+last_tail+term.Lts-term as term-lts
+use Rattle.phrases.proofs.terms.+arguments+compound+elements+last_tail+term.Proof.Claims.{term-at, term-calls}
 
 pub term-begin-requires : (t : ℕ) → term-lts.Need-begin-requires (term-calls t) (term-at t) term.Post
 term-begin-requires t c κs =

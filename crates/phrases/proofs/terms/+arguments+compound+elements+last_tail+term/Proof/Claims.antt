@@ -1,53 +1,48 @@
--- The measures of the cycle of calls that reads a term: the brackets left fall, and within them the compounds left; what each
--- member may assume, and what it learns of those that it calls.
+-- The measures of the cycle of calls that reads a term: the brackets left fall, and nothing else is counted; what each member may
+-- assume, and what it learns of those that it calls.
 use Prim.Native.Nat.{_+_, _*_, _-_}
 use Prim.Native.Nat.{ℕ, _<_}
 use borrow.Fn.Kinds.{In}
 use borrow.Fn.PlainCycle.{Measures, is, falls, and}
 use Rattle.phrases.proofs.terms.arguments.Reads as arguments
 use Rattle.phrases.proofs.terms.arguments.Kinds as arguments-kinds
-use Rattle.phrases.proofs.terms.+arguments+compound+elements+last_tail+tail+term.Lts-arguments as arguments-lts
+use Rattle.phrases.proofs.terms.+arguments+compound+elements+last_tail+term.Lts-arguments as arguments-lts
 use Rattle.phrases.proofs.terms.compound.Reads as compound
 use Rattle.phrases.proofs.terms.compound.Kinds as compound-kinds
-use Rattle.phrases.proofs.terms.+arguments+compound+elements+last_tail+tail+term.Lts-compound as compound-lts
+use Rattle.phrases.proofs.terms.+arguments+compound+elements+last_tail+term.Lts-compound as compound-lts
 use Rattle.phrases.proofs.terms.elements.Reads as elements
 use Rattle.phrases.proofs.terms.elements.Kinds as elements-kinds
-use Rattle.phrases.proofs.terms.+arguments+compound+elements+last_tail+tail+term.Lts-elements as elements-lts
+use Rattle.phrases.proofs.terms.+arguments+compound+elements+last_tail+term.Lts-elements as elements-lts
 use Rattle.phrases.proofs.terms.last_tail.Reads as last-tail
 use Rattle.phrases.proofs.terms.last_tail.Kinds as last-tail-kinds
-use Rattle.phrases.proofs.terms.+arguments+compound+elements+last_tail+tail+term.Lts-last_tail as last-tail-lts
-use Rattle.phrases.proofs.terms.tail.Reads as tail
-use Rattle.phrases.proofs.terms.tail.Kinds as tail-kinds
-use Rattle.phrases.proofs.terms.+arguments+compound+elements+last_tail+tail+term.Lts-tail as tail-lts
+use Rattle.phrases.proofs.terms.+arguments+compound+elements+last_tail+term.Lts-last_tail as last-tail-lts
 use Rattle.phrases.proofs.terms.term.Reads as term
 use Rattle.phrases.proofs.terms.term.Kinds as term-kinds
-use Rattle.phrases.proofs.terms.+arguments+compound+elements+last_tail+tail+term.Lts-term as term-lts
+use Rattle.phrases.proofs.terms.+arguments+compound+elements+last_tail+term.Lts-term as term-lts
 use Rattle.openings.proofs.begin.begin.Reads as begin-reads
 use Rattle.phrases.proofs.terms.compound_word.Reads as compound-word-reads
 use Rattle.phrases.proofs.terms.functor.Reads as functor-reads
 use Rattle.tokens.proofs.next.next_of.Reads as next-of-reads
 use Rattle.tokens.proofs.next.starts.Reads as starts-reads
 use Rattle.phrases.proofs.terms.store_argument.Reads as store-argument-reads
+use Rattle.phrases.proofs.terms.store_cell.Reads as store-cell-reads
 use Rattle.phrases.proofs.terms.store_functor.Reads as store-functor-reads
 use Rattle.phrases.proofs.terms.word.Reads as word-reads
 
 abbrev pub μ-arguments : Measures 5 arguments-kinds.ps ℕ
-μ-arguments κs a = 128 * a .1 .1 .1 .1 .1 .1 .1 .0 + 8
+μ-arguments κs a = 4 * a .1 .1 .1 .1 .1 .1 .1 .0 + 1
 
 abbrev pub μ-compound : Measures 5 compound-kinds.ps ℕ
-μ-compound κs a = 128 * a .1 .1 .1 .1 .1 .1 .1 .0 + 20
+μ-compound κs a = 4 * a .1 .1 .1 .1 .1 .1 .1 .0 + 2
 
 abbrev pub μ-elements : Measures 5 elements-kinds.ps ℕ
-μ-elements κs a = 128 * a .1 .1 .1 .1 .1 .1 .1 .0 + 30 + 2 * (32 - a .1 .1 .1 .1 .1 .1 .1 .1 .0 .compounds)
+μ-elements κs a = 4 * a .1 .1 .1 .1 .1 .1 .1 .0 + 2
 
 abbrev pub μ-last-tail : Measures 5 last-tail-kinds.ps ℕ
-μ-last-tail κs a = 128 * a .1 .1 .1 .1 .1 .1 .1 .0 + 1
-
-abbrev pub μ-tail : Measures 5 tail-kinds.ps ℕ
-μ-tail κs a = 128 * a .1 .1 .1 .1 .1 .1 .1 .0 + 31 + 2 * (32 - a .1 .1 .1 .1 .1 .1 .1 .1 .0 .compounds)
+μ-last-tail κs a = 4 * a .1 .1 .1 .1 .1 .1 .1 .0 + 1
 
 abbrev pub μ-term : Measures 5 term-kinds.ps ℕ
-μ-term κs a = 128 * a .1 .1 .1 .1 .1 .1 .1 .0
+μ-term κs a = 4 * a .1 .1 .1 .1 .1 .1 .1 .0
 
 abbrev pub arguments-at : ℕ → In 5 arguments-kinds.ps
 arguments-at t = and 5 arguments-kinds.ps (is 5 arguments-kinds.ps μ-arguments t) arguments.Pre
@@ -77,12 +72,6 @@ abbrev pub last-tail-below : ℕ → In 5 last-tail-kinds.ps
 last-tail-below t =
     and 5 last-tail-kinds.ps (falls 5 last-tail-kinds.ps _<_ μ-last-tail t) last-tail.Pre
 
-abbrev pub tail-at : ℕ → In 5 tail-kinds.ps
-tail-at t = and 5 tail-kinds.ps (is 5 tail-kinds.ps μ-tail t) tail.Pre
-
-abbrev pub tail-below : ℕ → In 5 tail-kinds.ps
-tail-below t = and 5 tail-kinds.ps (falls 5 tail-kinds.ps _<_ μ-tail t) tail.Pre
-
 abbrev pub term-at : ℕ → In 5 term-kinds.ps
 term-at t = and 5 term-kinds.ps (is 5 term-kinds.ps μ-term t) term.Pre
 
@@ -96,13 +85,10 @@ abbrev pub compound-calls : ℕ → compound-lts.Claims
 compound-calls t = (arguments-below t, arguments.Post, functor-reads.Asked, functor-reads.Learnt, store-functor-reads.Asked, store-functor-reads.Learnt, compound-word-reads.Asked, compound-word-reads.Learnt)
 
 abbrev pub elements-calls : ℕ → elements-lts.Claims
-elements-calls t = (starts-reads.Asked, starts-reads.Learnt, term-below t, term.Post, store-argument-reads.Asked, store-argument-reads.Learnt, tail-below t, tail.Post, store-functor-reads.Asked, store-functor-reads.Learnt, compound-word-reads.Asked, compound-word-reads.Learnt)
+elements-calls t = (term-below t, term.Post, next-of-reads.Asked, next-of-reads.Learnt, compound-word-reads.Asked, compound-word-reads.Learnt, store-cell-reads.Asked, store-cell-reads.Learnt, last-tail-below t, last-tail.Post, starts-reads.Asked, starts-reads.Learnt)
 
 abbrev pub last-tail-calls : ℕ → last-tail-lts.Claims
 last-tail-calls t = (term-below t, term.Post, next-of-reads.Asked, next-of-reads.Learnt)
-
-abbrev pub tail-calls : ℕ → tail-lts.Claims
-tail-calls t = (next-of-reads.Asked, next-of-reads.Learnt, elements-below t, elements.Post, last-tail-below t, last-tail.Post)
 
 abbrev pub term-calls : ℕ → term-lts.Claims
 term-calls t = (begin-reads.Asked, begin-reads.Learnt, compound-below t, compound.Post, elements-below t, elements.Post)

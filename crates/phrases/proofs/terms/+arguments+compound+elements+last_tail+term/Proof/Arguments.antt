@@ -10,14 +10,13 @@ use Rattle.tables.specs.Places.{Place}
 use Rattle.openings.specs.Reading.{Stands, ArgumentsAre}
 use Rattle.openings.specs.declared.cursor.Read.the-variants.{Got, Malformed, Passed}
 use Rattle.openings.proofs.Expected.{never}
-use Rattle.openings.proofs.Given.{gave-only}
 use Rattle.openings.proofs.Moves.{moved-to}
 use Rattle.phrases.proofs.Arguments.{argument-malformed, argument-passed, argument-stop, argument-last, seventh-passed, seventh-malformed}
 use Rattle.phrases.proofs.Reached.{Reached, reached-none, reached-more}
 use borrow.Fn.PlainCycle.{is, and}
 use Rattle.phrases.proofs.terms.arguments.Reads as arguments
-use Rattle.phrases.proofs.terms.+arguments+compound+elements+last_tail+tail+term.Lts-arguments as arguments-lts
-use Rattle.phrases.proofs.terms.+arguments+compound+elements+last_tail+tail+term.Proof.Claims.{arguments-at, arguments-calls}
+use Rattle.phrases.proofs.terms.+arguments+compound+elements+last_tail+term.Lts-arguments as arguments-lts
+use Rattle.phrases.proofs.terms.+arguments+compound+elements+last_tail+term.Proof.Claims.{arguments-at, arguments-calls}
 
 abbrev pub arguments-Inv-loop : arguments-lts.InvT-loop
 arguments-Inv-loop text rest from s₀ names₀ item₀ base left n d₀ i₀ s names item d i =
@@ -55,11 +54,9 @@ arguments-store-argument-requires t₀ c κs =
     let l = c .before .before .before .before .before .before .before .before .before .before .before .before .before .before .before .loop in
     let test = c .before .before .before .before .before .before .before .before .before .before .before .before .before .before .loop-test in
     let one-term = c .before .before .before .before .before .before .before .before .before .before .term in
-    let g = c .before .before .w .given in
     let t = l .inv .0 (p .0) (p .1) (p .2) in
-    let b = rw (g .1) at (one-term .ensures (t .known₁) (t .vars₁) (t .stands)) in
-    let only = gave-only (b .2) in
-    (omega (arith, only .size, l .inv .2, r .1, t .behind, t .stands .compounds-few, test .taken), omega (arith, only .size, l .inv .2, r .2))
+    let one-size : length (one-term .last .1 .1 .1 .0) ≡ length (l .s) = one-term .kept .1 .1 .1 .0 in
+    (omega (arith, one-size, l .inv .2, r .1, t .behind, t .stands .compounds-few, test .taken), omega (arith, one-size, l .inv .2, r .2))
 
 pub arguments-add-i : (t₀ : ℕ) → arguments-lts.Need-add-i (arguments-calls t₀) (arguments-at t₀) arguments.Post arguments-Inv-loop arguments-μ-loop
 arguments-add-i t₀ c =

@@ -11,8 +11,8 @@ use Rattle.phrases.proofs.Arguments.{compound-none, compound-malformed,
 use Prim.Native.Nat.{ℕ}
 use borrow.Fn.PlainCycle.{is}
 use Rattle.phrases.proofs.terms.compound.Reads as compound
-use Rattle.phrases.proofs.terms.+arguments+compound+elements+last_tail+tail+term.Lts-compound as compound-lts
-use Rattle.phrases.proofs.terms.+arguments+compound+elements+last_tail+tail+term.Proof.Claims.{compound-at, compound-calls}
+use Rattle.phrases.proofs.terms.+arguments+compound+elements+last_tail+term.Lts-compound as compound-lts
+use Rattle.phrases.proofs.terms.+arguments+compound+elements+last_tail+term.Proof.Claims.{compound-at, compound-calls}
 
 pub compound-returns : (t : ℕ) → compound-lts.Need-returns (compound-calls t) (compound-at t) compound.Post
 compound-returns t c known vars stands f place =
