@@ -10,7 +10,7 @@ ghost use Rattle.reduction.specs.Build.{Item, Original, Aside, Laid, Cop
 // The word of one half of a pair, or of a compound, by its tag and place.
 fn placed(tag: u64, place: usize) -> u64
     requires { ⌜ (tag < 8) × (place ≤ 1152921504606846976) ⌝ }
-    ensures { λ r. ⌜ r ≡ tag + place ⌝ }
+    ensures { λ r. ⌜ r ≡ tag + 8 * place ⌝ }
 {
     tag + 8 * (place as u64)
 }
@@ -18,7 +18,7 @@ fn placed(tag: u64, place: usize) -> u64
 // The number of a compound's arguments.
 fn number(s: &[u64], p: usize) -> usize
     requires { ⌜ p < length (now s) ⌝ }
-    ensures { λ r. ⌜ r ≡ getD (now (s .entry)) (p) 0 % 8 ⌝ }
+    ensures { λ r. ⌜ r ≡ getD (now (s .entry)) p 0 % 8 ⌝ }
 {
     (s[p] % 8) as usize
 }
@@ -26,7 +26,7 @@ fn number(s: &[u64], p: usize) -> usize
 // The first word of the compound at a place, copied.
 fn copy_functor(s: &mut [u64], to: usize, p: usize)
     requires { ⌜ (p < length (now s)) × (to < length (now s)) ⌝ }
-    ensures { λ r. ⌜ now (s .exit) ≡ set (now (s .entry)) (to) (getD (now (s .entry)) (p) 0) ⌝ }
+    ensures { λ r. ⌜ now (s .exit) ≡ set (now (s .entry)) to (getD (now (s .entry)) p 0) ⌝ }
 {
     let f = s[p];
     s[to] = f;
