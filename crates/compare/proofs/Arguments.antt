@@ -17,7 +17,7 @@ use Rattle.compare.specs.Follow.{Reads}
 use Rattle.compare.specs.Gifts.{Gift, assignments, entries, recorded}
 use Rattle.compare.specs.Compare.{Template, item, HeadTerm, HeadTerms, TrialStands, Against, AllAgainst, AllGiven, Answers, place-outcome, places-outcome}
 use Rattle.compare.proofs.Kept.{only-back, trial-kept, unit-terms-kept, head-terms-kept, all-given-kept}
-use Rattle.compare.proofs.Gifts.{assignments-append, entries-append, recorded-append, given-append, with-none, with-both}
+use Rattle.compare.proofs.Gifts.{assignments-append, entries-append, recorded-append, given-wider, given-append, with-none, with-both}
 use Rattle.compare.proofs.Descent.{depth, argument-depth}
 use Rattle.compare.proofs.Seen.{seen}
 
@@ -31,7 +31,7 @@ pub record Facing (s : List ℕ) (x : Setting) (y : Template) (m l j lo hi : ℕ
   pub heads-are : heads ≡ more t us
   pub goals-are : goals ≡ more u ts
   pub head-word : getD s (8 * (640 + 32 * y .number + m) + 1 + j) 0 ≡ term-word (item x y) t
-  pub goal-word : getD s (8 * x .places .compound l + 1 + j) 0 ≡ term-word (x .places) u
+  pub goal-word : getD s (x .places .compound l + 1 + j) 0 ≡ term-word (x .places) u
   pub head : HeadTerm s x y lo mid t
   pub goal : UnitTerm s x u
   pub heads-left : HeadTerms s x y m (j + 1) mid hi us
@@ -96,7 +96,7 @@ pub record Partly (s₀ s : List ℕ) (x : Setting) (y : Template) (from links m
   pub only : Only 39936 40336 s₀ s
   pub scratch : s ≡ recorded (item x y) (x .places) n gifts s₀
   pub counted : given ≡ n + entries gifts
-  pub held : AllGiven s₀ x y gifts
+  pub held : AllGiven s₀ x y lo low gifts
   pub trial : TrialStands s x y from links
   pub head : HeadTerms s x y m j low hi heads
   pub goal : UnitTerms s x l j goals
@@ -112,13 +112,13 @@ first-count places (named f) k few = omega arith
 
 module _ (links : ℕ) {s₀ : List ℕ} {x : Setting} {y : Template} {from m : ℕ} {g : Functor} {us : Terms} {lo hi l : ℕ} {f : Functor} {ts : Terms} {p q n : ℕ}
     (a : AllAgainst s₀ x y from links m g us lo hi l f ts p q n) where
-  pub head-inside : 8 * p + 8 ≤ length s₀
+  pub head-inside : p + 8 ≤ length s₀
   head-inside = omega (arith, a .head-cell .inside, a .head-place)
 
-  pub goal-inside : 8 * q + 8 ≤ length s₀
+  pub goal-inside : q + 8 ≤ length s₀
   goal-inside = omega (arith, a .goal-cell .inside, a .goal-place)
 
-  pub first-partly : (k : ℕ) → k ≡ getD s₀ (8 * p) 0 % 8 → Partly s₀ s₀ x y from links m us lo hi l ts n k n 1
+  pub first-partly : (k : ℕ) → k ≡ getD s₀ p 0 % 8 → Partly s₀ s₀ x y from links m us lo hi l ts n k n 1
   unfolding assignments entries recorded AllGiven
   first-partly k e = record {
     whole = e ∙ rw (a .head-place, a .head-cell .functor) (first-count (item x y) g (count us) (a .head-cell .few));
@@ -131,7 +131,7 @@ module _ (links : ℕ) {s₀ : List ℕ} {x : Setting} {y : Template} {from m : 
     only = only-same 39936 40336 s₀;
     scratch = refl;
     counted = omega arith;
-    held = tt;
+    held = omega arith;
     trial = a .trial;
     head = a .head;
     goal = a .goal;
@@ -143,7 +143,7 @@ module _ (links : ℕ) {s₀ : List ℕ} {x : Setting} {y : Template} {from m : 
 
   module _ {s : List ℕ} {k given i : ℕ} (P : Partly s₀ s x y from links m us lo hi l ts n k given i) where
     -- Within the compounds' places, while an argument is left.
-    pub arguments-inside : i ≤ k → (8 * p + i < length s) × (8 * q + i < length s)
+    pub arguments-inside : i ≤ k → (p + i < length s) × (q + i < length s)
     arguments-inside h = (
       omega (arith, head-inside, P .only .size, P .whole, a .head-cell .few),
       omega (arith, goal-inside, P .only .size, P .whole, a .head-cell .few),
@@ -155,17 +155,17 @@ module _ (links : ℕ) {s₀ : List ℕ} {x : Setting} {y : Template} {from m : 
         (omega (arith, P .at, P .left, P .whole))
 
     module _ (F : Facing s x y m l (P .j) (P .low) hi (P .heads) (P .goals)) where
-      pub head-read : {h : ℕ} → h ≡ getD s (8 * p + i) 0 → h ≡ term-word (item x y) (F .t)
+      pub head-read : {h : ℕ} → h ≡ getD s (p + i) 0 → h ≡ term-word (item x y) (F .t)
       head-read e =
-          let same : 8 * p + i ≡ 8 * (640 + 32 * y .number + m) + 1 + P .j = omega (arith, a .head-place, P .at) in
+          let same : p + i ≡ 8 * (640 + 32 * y .number + m) + 1 + P .j = omega (arith, a .head-place, P .at) in
           e ∙ ap (λ c. getD s c 0) same ∙ F .head-word
 
-      pub goal-read : {w′ : ℕ} → w′ ≡ getD s (8 * q + i) 0 → Reads s x from links (F .u) w′
+      pub goal-read : {w′ : ℕ} → w′ ≡ getD s (q + i) 0 → Reads s x from links (F .u) w′
       goal-read e =
-          let same : 8 * q + i ≡ 8 * x .places .compound l + 1 + P .j = omega (arith, a .goal-place, P .at) in
+          let same : q + i ≡ x .places .compound l + 1 + P .j = omega (arith, a .goal-place, P .at) in
           record { chained = P .trial .unit; term = F .goal; word = e ∙ ap (λ c. getD s c 0) same ∙ F .goal-word }
 
-      pub next-against : {h w : ℕ} → h ≡ getD s (8 * p + i) 0 → Reads s x from links (followed links (x .values) (F .u)) w
+      pub next-against : {h w : ℕ} → h ≡ getD s (p + i) 0 → Reads s x from links (followed links (x .values) (F .u)) w
           → Against s x y from links (P .low) (F .mid) (F .t) (followed links (x .values) (F .u)) h w given
       unfolding count
       next-against e r = record {
@@ -188,7 +188,7 @@ module _ (links : ℕ) {s₀ : List ℕ} {x : Setting} {y : Template} {from m : 
           counted-left : 1 ≤ count (P .heads)
           counted-left = rw (F .heads-are) (omega arith)
 
-      pub next-depth : {h : ℕ} → h ≡ getD s (8 * p + i) 0 → depth (seen h) < 2 * (4992 - p)
+      pub next-depth : {h : ℕ} → h ≡ getD s (p + i) 0 → depth (seen h) < 2 * (39936 - p)
       next-depth {h} e =
           argument-depth x y m (P .low) (F .mid) h p (F .t) (P .head .rising) (omega (arith, F .head .high, a .trial .compounds))
           (a .trial .number) (F .head .numbered) (F .low) (head-read e) (a .head-place)
@@ -212,7 +212,7 @@ module _ (links : ℕ) {s₀ : List ℕ} {x : Setting} {y : Template} {from m : 
       counted-goals = rw (F .goals-are) (omega arith)
 
       -- One argument more agrees.
-      module _ {s′ : List ℕ} {m′ : ℕ} (r : Answers s s′ x y given (P .low) (given + 6 * F .mid + 1) one (Agrees m′)) where
+      module _ {s′ : List ℕ} {m′ : ℕ} (r : Answers s s′ x y given (P .low) (F .mid) 1 one (Agrees m′)) where
         pub one-more : Partly s₀ s′ x y from links m us lo hi l ts n k m′ (i + 1)
         unfolding and-then
         one-more = record {
@@ -227,8 +227,8 @@ module _ (links : ℕ) {s₀ : List ℕ} {x : Setting} {y : Template} {from m : 
           scratch = recorded-on;
           counted = omega (arith, P .counted, r .told .1 .counted, entries-append (P .gifts) more-gifts);
           held =
-              given-append s₀ x y (P .gifts) more-gifts (P .held)
-              (all-given-kept s s₀ (only-back 39936 40336 s₀ s (P .only)) x y from links (P .trial) more-gifts (r .told .1 .given));
+              given-append s₀ x y lo (P .low) (F .mid) (P .gifts) more-gifts (P .held)
+              (all-given-kept s s₀ (only-back 39936 40336 s₀ s (P .only)) x y from links (P .trial) (P .low) (F .mid) more-gifts (r .told .1 .given));
           trial = trial-kept s s′ (r .only) x y from links (P .trial);
           head =
               head-terms-kept s s′ (r .only) x y (a .trial .number) (a .trial .compounds) m (P .j + 1) (F .mid) hi (F .us)
@@ -237,7 +237,7 @@ module _ (links : ℕ) {s₀ : List ℕ} {x : Setting} {y : Template} {from m : 
               (F .heads-left);
           goal =
               unit-terms-kept s s′ (r .only) x (a .trial .outside) l (P .j + 1) (F .ts) (a .goal-number)
-              (omega (arith, P .left, a .head-cell .few, counted-heads, counted-goals, P .counts))
+              (omega (arith, P .left, a .goal-cell .wide, a .counts, counted-heads, counted-goals, P .counts))
               (F .goals-left);
           counts = omega (arith, counted-heads, counted-goals, P .counts);
           left = omega (arith, P .left, counted-heads);
@@ -271,8 +271,8 @@ module _ (links : ℕ) {s₀ : List ℕ} {x : Setting} {y : Template} {from m : 
                 ∙ ap (λ e. with-assignments e rest) (sym (assignments-append b c (P .gifts) more-gifts))
 
       -- It waits, or fails, at the first argument that does.
-      pub waits-here : {s′ : List ℕ} {z : ℕ} → Answers s s′ x y given (P .low) (given + 6 * F .mid + 1) one (Waits z)
-          → Answers s₀ s′ x y n lo (n + 6 * hi + count us) (places-outcome x links us ts) (Waits z)
+      pub waits-here : {s′ : List ℕ} {z : ℕ} → Answers s s′ x y given (P .low) (F .mid) 1 one (Waits z)
+          → Answers s₀ s′ x y n lo hi (count us) (places-outcome x links us ts) (Waits z)
       unfolding and-then with-assignments waits-on
       waits-here {s′} r = record {
         only = only-then 39936 40336 s₀ s s′ (P .only) (r .only);
@@ -284,8 +284,8 @@ module _ (links : ℕ) {s₀ : List ℕ} {x : Setting} {y : Template} {from m : 
         };
       }
 
-      pub fails-here : {s′ : List ℕ} → Answers s s′ x y given (P .low) (given + 6 * F .mid + 1) one Fails
-          → Answers s₀ s′ x y n lo (n + 6 * hi + count us) (places-outcome x links us ts) Fails
+      pub fails-here : {s′ : List ℕ} → Answers s s′ x y given (P .low) (F .mid) 1 one Fails
+          → Answers s₀ s′ x y n lo hi (count us) (places-outcome x links us ts) Fails
       unfolding and-then with-assignments
       fails-here {s′} r = record {
         only = only-then 39936 40336 s₀ s s′ (P .only) (r .only);
@@ -299,7 +299,7 @@ module _ (links : ℕ) {s₀ : List ℕ} {x : Setting} {y : Template} {from m : 
     none-left end (more u ts′) e z = absurd (omega arith)
     none-left (more t us′) goals e z = absurd (omega arith)
 
-    pub all-agree : k < i → Answers s₀ s x y n lo (n + 6 * hi + count us) (places-outcome x links us ts) (Agrees given)
+    pub all-agree : k < i → Answers s₀ s x y n lo hi (count us) (places-outcome x links us ts) (Agrees given)
     unfolding with-assignments
     all-agree h = record {
       only = P .only;
@@ -310,7 +310,7 @@ module _ (links : ℕ) {s₀ : List ℕ} {x : Setting} {y : Template} {from m : 
           outcome = outcome-end;
           scratch = P .scratch;
           counted = P .counted;
-          given = P .held;
+          given = given-wider s₀ x y lo (P .low) lo hi (P .gifts) (omega arith) (all-numbered-order (P .low) hi (P .heads) (P .head .numbered)) (P .held);
         },
       );
     }

@@ -22,6 +22,7 @@ use Rattle.compare.specs.declared.compare.Result.the-variants.{Agrees, W
 use Rattle.term.specs.Setting.{Setting, Within, Ranged}
 use Rattle.compare.specs.Compare.{Template, item, Against, AllAgainst, Answers, place-outcome, places-outcome}
 use Rattle.compare.proofs.Seen.{seen, seen-term}
+use Rattle.compare.proofs.Gifts.{given-wider}
 use Rattle.compare.proofs.Equal.{functors-equal}
 
 -- How deep a head's term can lead: the places of its compounds rise.
@@ -32,10 +33,10 @@ depth (Reader p) = 0
 depth (Integer n) = 0
 depth (Name n) = 0
 depth Empty = 0
-depth (Compound p) = 2 * (4992 - p) + 1
+depth (Compound p) = 2 * (39936 - p) + 1
 
 depth-below : (x : Setting) (y : Template) (m lo hi : ℕ) (t : Term) → m < lo → hi ≤ 32 → y .number < 128 → Numbered lo hi t
-    → depth (view-of (content (item x y) t)) < 2 * (4992 - (640 + 32 * y .number + m))
+    → depth (view-of (content (item x y) t)) < 2 * (39936 - 8 * (640 + 32 * y .number + m))
 unfolding depth Numbered
 depth-below x y m lo hi (Term.variable writer n) a b e k = omega arith
 depth-below x y m lo hi (Term.variable reader n) a b e k = omega arith
@@ -46,7 +47,7 @@ depth-below x y m lo hi (Term.compound n f ts) a b e k = omega (arith, k .0, all
 
 -- An argument of a compound leads less deep than the compound.
 pub argument-depth : (x : Setting) (y : Template) (m lo hi h p : ℕ) (t : Term) → m < lo → hi ≤ 32 → y .number < 128 → Numbered lo hi t
-    → lo ≤ hi → h ≡ term-word (item x y) t → p ≡ 640 + 32 * y .number + m → depth (seen h) < 2 * (4992 - p)
+    → lo ≤ hi → h ≡ term-word (item x y) t → p ≡ 8 * (640 + 32 * y .number + m) → depth (seen h) < 2 * (39936 - p)
 argument-depth x y m lo hi h p t a b e k order word at =
     rw (seen-term (item x y) t h word, at) (depth-below x y m lo hi t a b e k)
 
@@ -55,25 +56,40 @@ unfolding count all-renamed
 count-renamed p c end = refl
 count-renamed p c (more t ts) = ap suc (count-renamed p c ts)
 
--- The answer to an outcome is the answer to an equal one, where the bound on the entries allows it.
-pub answers-as : (s s′ : List ℕ) (x : Setting) (y : Template) (n lo top lo′ top′ : ℕ) (o o′ : Outcome) (r : Result)
-    → o′ ≡ o → ((m : ℕ) → m + 6 * lo ≤ top → m + 6 * lo′ ≤ top′)
-    → Answers s s′ x y n lo top o r → Answers s s′ x y n lo′ top′ o′ r
-answers-as s s′ x y n lo top lo′ top′ o o′ (Agrees m) e f a =
-    rw e (record { only = a .only; told = (f m (a .told .0), a .told .1) })
-answers-as s s′ x y n lo top lo′ top′ o o′ (Waits z) e f a = rw e (record { only = a .only; told = a .told })
-answers-as s s′ x y n lo top lo′ top′ o o′ Fails e f a = rw e (record { only = a .only; told = a .told })
+-- The answer to an outcome is the answer to an equal one from a lower number on, where the bound on the entries allows it.
+pub answers-as : (s s′ : List ℕ) (x : Setting) (y : Template) (n lo hi k lo′ k′ : ℕ) (o o′ : Outcome) (r : Result)
+    → o′ ≡ o → lo′ ≤ lo → k + 6 * lo′ ≤ k′ + 6 * lo
+    → Answers s s′ x y n lo hi k o r → Answers s s′ x y n lo′ hi k′ o′ r
+answers-as s s′ x y n lo hi k lo′ k′ o o′ (Agrees m) e low f a =
+    let told = a .told .1 in
+    rw e (
+    record {
+      only = a .only;
+      told = (
+        omega (arith, a .told .0),
+        record {
+          gifts = told .gifts;
+          outcome = told .outcome;
+          scratch = told .scratch;
+          counted = told .counted;
+          given = given-wider s x y lo hi lo′ hi (told .gifts) low (omega arith) (told .given);
+        },
+      );
+    }
+    )
+answers-as s s′ x y n lo hi k lo′ k′ o o′ (Waits z) e low f a = rw e (record { only = a .only; told = a .told })
+answers-as s s′ x y n lo hi k lo′ k′ o o′ Fails e low f a = rw e (record { only = a .only; told = a .told })
 
 module _ (s : List ℕ) (x : Setting) (y : Template) (from lo hi h w n links m : ℕ) (g : Functor) (us : Terms) (l : ℕ) (f : Functor) (ts : Terms)
     (k : Against s x y from links lo hi (Term.compound m g us) (Term.compound l f ts) h w n) where
   unfoldable test : Bool
   test = same-functor g f && eqb (count us) (count ts)
 
-  pub cells-inside : (8 * (640 + 32 * y .number + m) + 8 ≤ length s) × (8 * x .places .compound l + 8 ≤ length s)
+  pub cells-inside : (8 * (640 + 32 * y .number + m) + 8 ≤ length s) × (x .places .compound l + 8 ≤ length s)
   unfolding Holds
   cells-inside = (k .head .held .0 .inside, k .goal .held .0 .inside)
 
-  first-words : eqb (getD s (8 * (640 + 32 * y .number + m)) 0) (getD s (8 * x .places .compound l) 0) ≡ test
+  first-words : eqb (getD s (8 * (640 + 32 * y .number + m)) 0) (getD s (x .places .compound l) 0) ≡ test
   unfolding Holds Known test
   first-words =
       rw (k .head .held .0 .functor, k .goal .held .0 .functor)
@@ -84,7 +100,7 @@ module _ (s : List ℕ) (x : Setting) (y : Template) (from lo hi h w n links m :
   unfolding place renamed test
   tested = rw (count-renamed (length (x .values)) (x .compounds) us)
 
-  pub differing : (b : Bool) → b ≡ not (eqb (getD s (8 * (640 + 32 * y .number + m)) 0) (getD s (8 * x .places .compound l) 0)) → b ≡ true
+  pub differing : (b : Bool) → b ≡ not (eqb (getD s (8 * (640 + 32 * y .number + m)) 0) (getD s (x .places .compound l) 0)) → b ≡ true
       → place-outcome x links (Term.compound m g us) (Term.compound l f ts) ≡ fails
   unfolding if_then_else_
   differing b e c = go test refl
@@ -96,7 +112,7 @@ module _ (s : List ℕ) (x : Setting) (y : Template) (from lo hi h w n links m :
           absurd (omega arith)
       go false q = rw q at tested
 
-  agreeing : (b : Bool) → b ≡ not (eqb (getD s (8 * (640 + 32 * y .number + m)) 0) (getD s (8 * x .places .compound l) 0)) → b ≡ false
+  agreeing : (b : Bool) → b ≡ not (eqb (getD s (8 * (640 + 32 * y .number + m)) 0) (getD s (x .places .compound l) 0)) → b ≡ false
       → test ≡ true
   agreeing b e c = go test refl
     where
@@ -107,8 +123,8 @@ module _ (s : List ℕ) (x : Setting) (y : Template) (from lo hi h w n links m :
           let z : _≡_ {A = ℕ} 0 1 = cc in
           absurd (omega arith)
 
-  pub deeper : (b : Bool) → b ≡ not (eqb (getD s (8 * (640 + 32 * y .number + m)) 0) (getD s (8 * x .places .compound l) 0)) → b ≡ false
-      → AllAgainst s x y from links m g us (lo + 1) hi l f ts (640 + 32 * y .number + m) (x .places .compound l) n
+  pub deeper : (b : Bool) → b ≡ not (eqb (getD s (8 * (640 + 32 * y .number + m)) 0) (getD s (x .places .compound l) 0)) → b ≡ false
+      → AllAgainst s x y from links m g us (lo + 1) hi l f ts (8 * (640 + 32 * y .number + m)) (x .places .compound l) n
   unfolding Holds Within Known Ranged Numbered test
   deeper b e c = record {
     trial = k .trial;
@@ -136,14 +152,14 @@ module _ (s : List ℕ) (x : Setting) (y : Template) (from lo hi h w n links m :
     room = omega (arith, k .room, k .head .held .0 .few);
   }
 
-  pub deeper-answers : (b : Bool) → b ≡ not (eqb (getD s (8 * (640 + 32 * y .number + m)) 0) (getD s (8 * x .places .compound l) 0)) → b ≡ false
-      → (s′ : List ℕ) (r : Result) → Answers s s′ x y n (lo + 1) (n + 6 * hi + count us) (places-outcome x links us ts) r
-      → Answers s s′ x y n lo (n + 6 * hi + 1) (place-outcome x links (Term.compound m g us) (Term.compound l f ts)) r
+  pub deeper-answers : (b : Bool) → b ≡ not (eqb (getD s (8 * (640 + 32 * y .number + m)) 0) (getD s (x .places .compound l) 0)) → b ≡ false
+      → (s′ : List ℕ) (r : Result) → Answers s s′ x y n (lo + 1) hi (count us) (places-outcome x links us ts) r
+      → Answers s s′ x y n lo hi 1 (place-outcome x links (Term.compound m g us) (Term.compound l f ts)) r
   unfolding Holds if_then_else_
   deeper-answers b e c s′ r a =
-      answers-as s s′ x y n (lo + 1) (n + 6 * hi + count us) lo (n + 6 * hi + 1) (places-outcome x links us ts)
+      answers-as s s′ x y n (lo + 1) hi (count us) lo 1 (places-outcome x links us ts)
       (place-outcome x links (Term.compound m g us) (Term.compound l f ts)) r
-      (go (agreeing b e c)) (λ i q. omega (arith, k .head .held .0 .few)) a
+      (go (agreeing b e c)) (omega arith) (omega (arith, k .head .held .0 .few)) a
     where
       go : test ≡ true → place-outcome x links (Term.compound m g us) (Term.compound l f ts) ≡ places-outcome x links us ts
       go q = rw q at tested

@@ -1,5 +1,5 @@
 -- Gifts, one list behind the other: their assignments, their entries and what the region records compose.
-use Prim.Native.Nat.{ℕ, _+_}
+use Prim.Native.Nat.{ℕ, _+_, _≤_}
 use mathlib.Core.Path.{_≡_, refl, sym, ap}
 use mathlib.Core.List.{List, [], _∷_, _++_, append-assoc}
 use native.Mathlib.Omega.{arith}
@@ -31,10 +31,21 @@ recorded-append item unit n (to-goal z t ∷ a) b s =
     let same : n + (entries a + 1) ≡ n + 1 + entries a = omega arith in
     rw same (recorded-append item unit (n + 1) a b (goal-written n (unit .pair z) (term-word item t) s))
 
-pub given-append : (s : List ℕ) (x : Setting) (y : Template) (a b : List Gift) → AllGiven s x y a → AllGiven s x y b → AllGiven s x y (a ++ b)
+-- What is given from lo up to hi is given from lower up to higher.
+pub given-wider : (s : List ℕ) (x : Setting) (y : Template) (lo hi lo′ hi′ : ℕ) (a : List Gift) → lo′ ≤ lo → hi ≤ hi′
+    → AllGiven s x y lo hi a → AllGiven s x y lo′ hi′ a
 unfolding AllGiven
-given-append s x y [] b k l = l
-given-append s x y (g ∷ a) b k l = (k .0, given-append s x y a b (k .1) l)
+given-wider s x y lo hi lo′ hi′ [] low high k = omega (arith, k)
+given-wider s x y lo hi lo′ hi′ (to-head n u ∷ a) low high k = (k .0, given-wider s x y lo hi lo′ hi′ a low high (k .1))
+given-wider s x y lo hi lo′ hi′ (to-goal z t ∷ a) low high k =
+    (k .0, k .1, k .2, omega (arith, k .3), k .4, given-wider s x y (k .2) hi (k .2) hi′ a (omega arith) high (k .5))
+
+pub given-append : (s : List ℕ) (x : Setting) (y : Template) (lo mid hi : ℕ) (a b : List Gift) → AllGiven s x y lo mid a → AllGiven s x y mid hi b
+    → AllGiven s x y lo hi (a ++ b)
+unfolding AllGiven
+given-append s x y lo mid hi [] b k l = given-wider s x y mid hi lo hi b k (omega arith) l
+given-append s x y lo mid hi (to-head n u ∷ a) b k l = (k .0, given-append s x y lo mid hi a b (k .1) l)
+given-append s x y lo mid hi (to-goal z t ∷ a) b k l = (k .0, k .1, k .2, k .3, k .4, given-append s x y (k .2) mid hi a b (k .5) l)
 
 -- "The comparison stops at the first place that fails or waits."
 pub with-none : (o : Result) → with-assignments [] o ≡ o

@@ -31,40 +31,40 @@ entries-length (to-goal z t ∷ gs) = omega (arith, entries-length gs)
 
 module _ (item unit : Places) where
   -- Gifts to come leave the entries before them as they are, and head's words that they do not give.
-  recorded-below : (gs : List Gift) (s : List ℕ) (x : Setting) (y : Template) (n k : ℕ) (s₀ : List ℕ) → y .pairs ≤ 16 → AllGiven s₀ x y gs
+  recorded-below : (gs : List Gift) (s : List ℕ) (x : Setting) (y : Template) (lo hi : ℕ) (n k : ℕ) (s₀ : List ℕ) → y .pairs ≤ 16 → AllGiven s₀ x y lo hi gs
       → 39952 ≤ k → k < 39952 + 2 * n → getD (recorded item unit n gs s) k 0 ≡ getD s k 0
   unfolding recorded AllGiven
-  recorded-below [] s x y n k s₀ few g low h = refl
-  recorded-below (to-head a u ∷ gs) s x y n k s₀ few g low h =
-      recorded-below gs (head-written a (term-word unit u) s) x y n k s₀ few (g .1) low h
+  recorded-below [] s x y lo hi n k s₀ few g low h = refl
+  recorded-below (to-head a u ∷ gs) s x y lo hi n k s₀ few g low h =
+      recorded-below gs (head-written a (term-word unit u) s) x y lo hi n k s₀ few (g .1) low h
       ∙ getD-set-other s (39936 + a) k (term-word unit u) 0 (λ e. omega (arith, g .0 .0))
-  recorded-below (to-goal z t ∷ gs) s x y n k s₀ few g low h =
+  recorded-below (to-goal z t ∷ gs) s x y lo hi n k s₀ few g low h =
       let mid = set s (39952 + 2 * n) (unit .pair z) in
-      recorded-below gs (goal-written n (unit .pair z) (term-word item t) s) x y (n + 1) k s₀ few (g .1) low (omega arith)
+      recorded-below gs (goal-written n (unit .pair z) (term-word item t) s) x y (g .2) hi (n + 1) k s₀ few (g .5) low (omega arith)
       ∙ getD-set-other mid (39953 + 2 * n) k (term-word item t) 0 (λ e. omega arith)
       ∙ getD-set-other s (39952 + 2 * n) k (unit .pair z) 0 (λ e. omega arith)
 
   -- The entries stand in order.
-  pub entries-at : (gs : List Gift) (s : List ℕ) (x : Setting) (y : Template) (n : ℕ) (s₀ : List ℕ) → y .pairs ≤ 16 → AllGiven s₀ x y gs
+  pub entries-at : (gs : List Gift) (s : List ℕ) (x : Setting) (y : Template) (lo hi : ℕ) (n : ℕ) (s₀ : List ℕ) → y .pairs ≤ 16 → AllGiven s₀ x y lo hi gs
       → 40336 ≤ length s → n + entries gs ≤ 192 → EntriesAt (recorded item unit n gs s) item unit n (entries-of gs)
   unfolding recorded AllGiven entries entries-of EntriesAt
-  entries-at [] s x y n s₀ few g large room = tt
-  entries-at (to-head a u ∷ gs) s x y n s₀ few g large room =
-      entries-at gs (head-written a (term-word unit u) s) x y n s₀ few (g .1)
+  entries-at [] s x y lo hi n s₀ few g large room = tt
+  entries-at (to-head a u ∷ gs) s x y lo hi n s₀ few g large room =
+      entries-at gs (head-written a (term-word unit u) s) x y lo hi n s₀ few (g .1)
       (omega (arith, length-set s (39936 + a) (term-word unit u))) room
-  entries-at (to-goal z t ∷ gs) s x y n s₀ few g large room =
+  entries-at (to-goal z t ∷ gs) s x y lo hi n s₀ few g large room =
       let p = unit .pair z in
       let w = term-word item t in
       let mid = set s (39952 + 2 * n) p in
       let after = goal-written n p w s in
       let long : length mid ≡ length s = length-set s (39952 + 2 * n) p in
       let longer : length after ≡ length mid = length-set mid (39953 + 2 * n) w in (
-        recorded-below gs after x y (n + 1) (39952 + 2 * n) s₀ few (g .1) (omega arith) (omega arith)
+        recorded-below gs after x y (g .2) hi (n + 1) (39952 + 2 * n) s₀ few (g .5) (omega arith) (omega arith)
             ∙ getD-set-other mid (39953 + 2 * n) (39952 + 2 * n) w 0 (λ e. omega arith)
             ∙ getD-set-same s (39952 + 2 * n) p 0 (omega arith),
-        recorded-below gs after x y (n + 1) (39953 + 2 * n) s₀ few (g .1) (omega arith) (omega arith)
+        recorded-below gs after x y (g .2) hi (n + 1) (39953 + 2 * n) s₀ few (g .5) (omega arith) (omega arith)
             ∙ getD-set-same mid (39953 + 2 * n) w 0 (omega arith),
-        entries-at gs after x y (n + 1) s₀ few (g .1) (omega arith) (omega arith),
+        entries-at gs after x y (g .2) hi (n + 1) s₀ few (g .5) (omega arith) (omega arith),
       )
 
   one-head : (s : List ℕ) (a n : ℕ) (u : Term) (o : Option Term) → a < 16 → n < 16 → 40336 ≤ length s
@@ -81,20 +81,20 @@ module _ (item unit : Places) where
           getD-set-other s (39936 + n) (39936 + a) (term-word unit u) 0 (λ k. eqb-false a n q (omega arith)) ∙ e
 
   -- The word of a head's writer.
-  pub head-word-at : (gs : List Gift) (s : List ℕ) (x : Setting) (y : Template) (n a : ℕ) (o : Option Term) (s₀ : List ℕ) → y .pairs ≤ 16
-      → AllGiven s₀ x y gs → 40336 ≤ length s → a < 16 → getD s (39936 + a) 0 ≡ value-word unit o
+  pub head-word-at : (gs : List Gift) (s : List ℕ) (x : Setting) (y : Template) (lo hi : ℕ) (n a : ℕ) (o : Option Term) (s₀ : List ℕ) → y .pairs ≤ 16
+      → AllGiven s₀ x y lo hi gs → 40336 ≤ length s → a < 16 → getD s (39936 + a) 0 ≡ value-word unit o
       → getD (recorded item unit n gs s) (39936 + a) 0 ≡ value-word unit (head-gift gs a o)
   unfolding recorded AllGiven head-gift
-  head-word-at [] s x y n a o s₀ few g large small e = e
-  head-word-at (to-head b u ∷ gs) s x y n a o s₀ few g large small e =
-      head-word-at gs (head-written b (term-word unit u) s) x y n a (if eqb a b then some u else o) s₀ few (g .1)
+  head-word-at [] s x y lo hi n a o s₀ few g large small e = e
+  head-word-at (to-head b u ∷ gs) s x y lo hi n a o s₀ few g large small e =
+      head-word-at gs (head-written b (term-word unit u) s) x y lo hi n a (if eqb a b then some u else o) s₀ few (g .1)
       (omega (arith, length-set s (39936 + b) (term-word unit u))) small
       (one-head s a b u o small (omega (arith, g .0 .0)) large e)
-  head-word-at (to-goal z t ∷ gs) s x y n a o s₀ few g large small e =
+  head-word-at (to-goal z t ∷ gs) s x y lo hi n a o s₀ few g large small e =
       let p = unit .pair z in
       let w = term-word item t in
       let mid = set s (39952 + 2 * n) p in
-      head-word-at gs (goal-written n p w s) x y (n + 1) a o s₀ few (g .1)
+      head-word-at gs (goal-written n p w s) x y (g .2) hi (n + 1) a o s₀ few (g .5)
       (omega (arith, length-set mid (39953 + 2 * n) w, length-set s (39952 + 2 * n) p)) small
       (getD-set-other mid (39953 + 2 * n) (39936 + a) w 0 (λ k. omega arith)
       ∙ getD-set-other s (39952 + 2 * n) (39936 + a) p 0 (λ k. omega arith)
@@ -123,81 +123,87 @@ other-value vs i z t h = getD-set-other vs i z (some t) none h
 
 module _ (p c : ℕ) where
   -- The value of one of the clause's pairs.
-  pub head-value : (gs : List Gift) (vs : Values) (a : ℕ) (s₀ : List ℕ) (x : Setting) (y : Template) → AllGiven s₀ x y gs
+  pub head-value : (gs : List Gift) (vs : Values) (a : ℕ) (s₀ : List ℕ) (x : Setting) (y : Template) (lo hi : ℕ) → AllGiven s₀ x y lo hi gs
       → p ≡ length (x .values) → p + y .pairs ≤ length vs
       → value (assigned (assignments p c gs) vs) (p + a) ≡ head-gift gs a (value vs (p + a))
   unfolding assigned assignments head-gift AllGiven
-  head-value [] vs a s₀ x y g e long = refl
-  head-value (to-head n u ∷ gs) vs a s₀ x y g e long =
+  head-value [] vs a s₀ x y lo hi g e long = refl
+  head-value (to-head n u ∷ gs) vs a s₀ x y lo hi g e long =
       let next = set vs (p + n) (some u) in
-      head-value gs next a s₀ x y (g .1) e (omega (arith, length-set vs (p + n) (some u)))
+      head-value gs next a s₀ x y lo hi (g .1) e (omega (arith, length-set vs (p + n) (some u)))
       ∙ ap (head-gift gs a) (set-value vs (p + n) (p + a) u (omega (arith, g .0 .0)) ∙ ap (λ b. if b then some u else value vs (p + a)) (eqb-raised p a n))
-  head-value (to-goal z t ∷ gs) vs a s₀ x y g e long =
+  head-value (to-goal z t ∷ gs) vs a s₀ x y lo hi g e long =
       let next = set vs z (some (renamed p c t)) in
-      head-value gs next a s₀ x y (g .1) e (omega (arith, length-set vs z (some (renamed p c t))))
-      ∙ ap (head-gift gs a) (other-value vs z (p + a) (renamed p c t) (λ k. omega (arith, g .0 .0)))
+      head-value gs next a s₀ x y (g .2) hi (g .5) e (omega (arith, length-set vs z (some (renamed p c t))))
+      ∙ ap (head-gift gs a) (other-value vs z (p + a) (renamed p c t) (λ k. omega (arith, g .0)))
 
   -- The values of the unit's own pairs are those of the entries.
-  pub entry-values : (gs : List Gift) (vs ws : Values) (s₀ : List ℕ) (x : Setting) (y : Template) → AllGiven s₀ x y gs
+  pub entry-values : (gs : List Gift) (vs ws : Values) (s₀ : List ℕ) (x : Setting) (y : Template) (lo hi : ℕ) → AllGiven s₀ x y lo hi gs
       → p ≡ length (x .values) → p ≤ length vs → p ≤ length ws
       → ((z : ℕ) → z < p → value vs z ≡ value ws z)
       → (z : ℕ) → z < p
       → value (assigned (assignments p c gs) vs) z ≡ value (assigned (renamed-entries p c (entries-of gs)) ws) z
   unfolding assigned assignments entries-of renamed-entries AllGiven
-  entry-values [] vs ws s₀ x y g e long wide alike z h = alike z h
-  entry-values (to-head n u ∷ gs) vs ws s₀ x y g e long wide alike z h =
-      entry-values gs (set vs (p + n) (some u)) ws s₀ x y (g .1) e (omega (arith, length-set vs (p + n) (some u))) wide
+  entry-values [] vs ws s₀ x y lo hi g e long wide alike z h = alike z h
+  entry-values (to-head n u ∷ gs) vs ws s₀ x y lo hi g e long wide alike z h =
+      entry-values gs (set vs (p + n) (some u)) ws s₀ x y lo hi (g .1) e (omega (arith, length-set vs (p + n) (some u))) wide
       (λ i q. other-value vs (p + n) i u (λ k. omega arith) ∙ alike i q) z h
-  entry-values (to-goal j t ∷ gs) vs ws s₀ x y g e long wide alike z h =
+  entry-values (to-goal j t ∷ gs) vs ws s₀ x y lo hi g e long wide alike z h =
       let v = renamed p c t in
-      entry-values gs (set vs j (some v)) (set ws j (some v)) s₀ x y (g .1) e
+      entry-values gs (set vs j (some v)) (set ws j (some v)) s₀ x y (g .2) hi (g .5) e
       (omega (arith, length-set vs j (some v)))
       (omega (arith, length-set ws j (some v)))
       (λ i q.
-      set-value vs j i v (omega (arith, g .0 .0)) ∙ ap (λ o. if eqb i j then some v else o) (alike i q)
-      ∙ sym (set-value ws j i v (omega (arith, g .0 .0))))
+      set-value vs j i v (omega (arith, g .0)) ∙ ap (λ o. if eqb i j then some v else o) (alike i q)
+      ∙ sym (set-value ws j i v (omega (arith, g .0))))
       z h
 
 -- Of the unit's own pairs those of the entries and no other are assigned.
-entry-pairs : (p c : ℕ) (gs : List Gift) (s : List ℕ) (x : Setting) (y : Template) → AllGiven s x y gs → (z : ℕ) → z < p
+entry-pairs : (p c : ℕ) (gs : List Gift) (s : List ℕ) (x : Setting) (y : Template) (lo hi : ℕ) → AllGiven s x y lo hi gs → (z : ℕ) → z < p
     → any (λ a. eqb z (a .pair)) (assignments p c gs) ≡ any (λ e. eqb z (e .pair)) (entries-of gs)
 unfolding any assignments entries-of AllGiven
-entry-pairs p c [] s x y g z h = refl
-entry-pairs p c (to-head n u ∷ gs) s x y g z h =
+entry-pairs p c [] s x y lo hi g z h = refl
+entry-pairs p c (to-head n u ∷ gs) s x y lo hi g z h =
     let other : eqb z (p + n) ≡ false = not-eqb z (p + n) (λ e. omega arith) in
-    rw other (entry-pairs p c gs s x y (g .1) z h)
-entry-pairs p c (to-goal j t ∷ gs) s x y g z h = ap (λ b. eqb z j || b) (entry-pairs p c gs s x y (g .1) z h)
+    rw other (entry-pairs p c gs s x y lo hi (g .1) z h)
+entry-pairs p c (to-goal j t ∷ gs) s x y lo hi g z h = ap (λ b. eqb z j || b) (entry-pairs p c gs s x y (g .2) hi (g .5) z h)
 
-pub entries-held : (gs : List Gift) (s : List ℕ) (x : Setting) (y : Template) → AllGiven s x y gs → AllEntries s x y (entries-of gs)
+pub entries-held : (gs : List Gift) (s : List ℕ) (x : Setting) (y : Template) (lo hi : ℕ) → AllGiven s x y lo hi gs → AllEntries s x y lo hi (entries-of gs)
 unfolding AllGiven AllEntries entries-of
-entries-held [] s x y g = tt
-entries-held (to-head n u ∷ gs) s x y g = entries-held gs s x y (g .1)
-entries-held (to-goal z t ∷ gs) s x y g = (g .0, entries-held gs s x y (g .1))
+entries-held [] s x y lo hi g = g
+entries-held (to-head n u ∷ gs) s x y lo hi g = entries-held gs s x y lo hi (g .1)
+entries-held (to-goal z t ∷ gs) s x y lo hi g = (g .0, g .1, g .2, g .3, g .4, entries-held gs s x y (g .2) hi (g .5))
 
--- What a trial gave can be read from its region, where the clause's words were 0 before it.
-pub gave : (s s′ : List ℕ) (x : Setting) (y : Template) (given : List Assignment) (m : ℕ) → Agreed s s′ x y 0 (succeeds given) m
-    → 40336 ≤ length s → m ≤ 192 → y .pairs ≤ 16 → ((a : ℕ) → a < y .pairs → getD s (39936 + a) 0 ≡ 0) → Gave s s′ x y given m
+-- What a trial gave can be read from its region, where the clause's words were 0 before it. Its highest number is that of the head's terms compared.
+pub gave : (s s′ : List ℕ) (x : Setting) (y : Template) (lo hi : ℕ) (given : List Assignment) (m : ℕ) → Agreed s s′ x y 0 lo hi (succeeds given) m
+    → 40336 ≤ length s → m ≤ 192 → y .pairs ≤ 16 → ((a : ℕ) → a < y .pairs → getD s (39936 + a) 0 ≡ 0)
+    → (g : Gave s s′ x y given m) × (g .high ≡ hi)
 unfolding with-pairs value
-gave s s′ x y given m k large room few cleared = record {
-  gifts = k .gifts;
-  given-are = are;
-  gifts-held = k .given;
-  list = entries-of (k .gifts);
-  list-is = refl;
-  size = entries-length (k .gifts) ∙ omega (arith, k .counted);
-  stand =
-      rw (k .scratch)
-      (entries-at (item x y) (x .places) (k .gifts) s x y 0 s few (k .given) large (omega (arith, k .counted)));
-  held = entries-held (k .gifts) s x y (k .given);
-  unit-values = λ z h.
-      rw are (entry-values p (x .compounds) (k .gifts) base base s x y (k .given) refl (omega (arith, long)) (omega (arith, long)) (λ i q. refl) z h);
-  clause-values = λ a h.
-      rw (k .scratch, are)
-      (head-word-at (item x y) (x .places) (k .gifts) s x y 0 a none s few (k .given) large (omega arith) (cleared a h)
-      ∙ ap (λ o. value-word (x .places) (head-gift (k .gifts) a o)) (sym (free a h))
-      ∙ ap (value-word (x .places)) (sym (head-value p (x .compounds) (k .gifts) base a s x y (k .given) refl (omega (arith, long)))));
-  pairs-are = λ z h. rw are (entry-pairs p (x .compounds) (k .gifts) s x y (k .given) z h);
-}
+gave s s′ x y lo hi given m k large room few cleared = (
+  record {
+    gifts = k .gifts;
+    given-are = are;
+    low = lo;
+    high = hi;
+    gifts-held = k .given;
+    list = entries-of (k .gifts);
+    list-is = refl;
+    size = entries-length (k .gifts) ∙ omega (arith, k .counted);
+    stand =
+        rw (k .scratch)
+        (entries-at (item x y) (x .places) (k .gifts) s x y lo hi 0 s few (k .given) large (omega (arith, k .counted)));
+    held = entries-held (k .gifts) s x y lo hi (k .given);
+    unit-values = λ z h.
+        rw are (entry-values p (x .compounds) (k .gifts) base base s x y lo hi (k .given) refl (omega (arith, long)) (omega (arith, long)) (λ i q. refl) z h);
+    clause-values = λ a h.
+        rw (k .scratch, are)
+        (head-word-at (item x y) (x .places) (k .gifts) s x y lo hi 0 a none s few (k .given) large (omega arith) (cleared a h)
+        ∙ ap (λ o. value-word (x .places) (head-gift (k .gifts) a o)) (sym (free a h))
+        ∙ ap (value-word (x .places)) (sym (head-value p (x .compounds) (k .gifts) base a s x y lo hi (k .given) refl (omega (arith, long)))));
+    pairs-are = λ z h. rw are (entry-pairs p (x .compounds) (k .gifts) s x y lo hi (k .given) z h);
+  },
+  refl,
+)
   where
     p : ℕ
     p = length (x .values)
@@ -218,16 +224,14 @@ gave s s′ x y given m k large room few cleared = record {
 pub answers-gave : {s s′ : List ℕ} {x : Setting} {y : Template} {from links h : ℕ} {g : Functor} {us : Terms} {lo hi l : ℕ} {f : Functor} {ts : Terms} {p q m : ℕ}
     {o : Result}
     → AllAgainst s x y from links h g us lo hi l f ts p q 0
-    → Answers s s′ x y 0 lo (0 + 6 * hi + count us) o (Agrees m)
+    → Answers s s′ x y 0 lo hi (count us) o (Agrees m)
     → ((a : ℕ) → a < y .pairs → getD s (39936 + a) 0 ≡ 0)
-    → (given : List Assignment) × (o ≡ succeeds given) × Gave s s′ x y given m
-answers-gave {s} {s′} {x} {y} {m = m} {o = o} a k cleared =
+    → (given : List Assignment) × (o ≡ succeeds given) × (k : Gave s s′ x y given m) × (k .high ≡ hi)
+answers-gave {s} {s′} {x} {y} {lo = lo} {hi = hi} {m = m} {o = o} a k cleared =
     let given = assignments (length (x .values)) (x .compounds) (k .told .1 .gifts) in
-    let e : o ≡ succeeds given = k .told .1 .outcome in (
-      given,
-      e,
-      gave s s′ x y given m (rw e at (k .told .1)) (a .trial .large) (omega (arith, k .told .0, a .room)) (a .trial .pairs) cleared,
-    )
+    let e : o ≡ succeeds given = k .told .1 .outcome in
+    let it = gave s s′ x y lo hi given m (rw e at (k .told .1)) (a .trial .large) (omega (arith, k .told .0, a .room)) (a .trial .pairs) cleared in
+    (given, e, it .0, it .1)
 
 -- A trial's comparison is the table on the arguments of the head and the goal, over as many links as the unit has pairs.
 pub compared-outcome : (clause : Clause) (unit : QueryUnit) (goal : Named) (x : Setting) → x .values ≡ unit .values → x .compounds ≡ unit .compounds

@@ -54,7 +54,7 @@ module _ (x : Setting) (from links : ℕ) where
     size : length s ≤ length s′
     size = omega (arith, length-set s place e)
 
-    cells : (m : ℕ) → m < x .compounds → (i : ℕ) → 8 * x .places .compound m ≤ i → i < 8 * x .places .compound m + 8 → getD s′ i 0 ≡ getD s i 0
+    cells : (m : ℕ) → m < x .compounds → (i : ℕ) → x .places .compound m ≤ i → i < x .places .compound m + x .places .width m → getD s′ i 0 ≡ getD s i 0
     cells m l i b c = behind i (omega (arith, k .keepable .before m l))
 
     own : EndOf s x n e
@@ -126,9 +126,13 @@ pub record Upto (s₀ s : List ℕ) (x : Setting) (from links l : ℕ) (f : Func
   pub left : j + count rest ≡ count ts
 
 module _ {s₀ : List ℕ} {x : Setting} {from links l : ℕ} {f : Functor} {ts : Terms} {goal : ℕ} (a : Keeps s₀ x from links l f ts goal) where
-  pub goal-inside : 8 * goal + 8 ≤ length s₀
+  pub goal-inside : goal + 8 ≤ length s₀
   unfolding Holds
   goal-inside = omega (arith, a .term .held .0 .inside, a .place)
+
+  wide : count ts < x .places .width l
+  unfolding Holds
+  wide = a .term .held .0 .wide
 
   few : count ts ≤ 6
   unfolding Holds
@@ -138,7 +142,7 @@ module _ {s₀ : List ℕ} {x : Setting} {from links l : ℕ} {f : Functor} {ts 
   unfolding Within
   number = a .term .of .within .0
 
-  pub first-upto : (k : ℕ) → k ≡ getD s₀ (8 * goal) 0 % 8 → Upto s₀ s₀ x from links l f ts k 1
+  pub first-upto : (k : ℕ) → k ≡ getD s₀ goal 0 % 8 → Upto s₀ s₀ x from links l f ts k 1
   unfolding Holds Within Known Ranged
   first-upto k e = record {
     whole = e ∙ rw (a .place, a .term .held .0 .functor) (first-count (x .places) f (count ts) few);
@@ -156,7 +160,7 @@ module _ {s₀ : List ℕ} {x : Setting} {from links l : ℕ} {f : Functor} {ts 
   }
 
   module _ {s : List ℕ} {k i : ℕ} (P : Upto s₀ s x from links l f ts k i) where
-    pub argument-inside : i ≤ k → 8 * goal + i < length s
+    pub argument-inside : i ≤ k → goal + i < length s
     argument-inside h = omega (arith, goal-inside, P .kept .size, P .whole, few)
 
     pub count-small : k ≤ 6
@@ -170,11 +174,11 @@ module _ {s₀ : List ℕ} {x : Setting} {from links l : ℕ} {f : Functor} {ts 
       pub behind : UnitTerms s x l (P .j + 1) us
       pub fewer : P .j + 1 + count us ≡ count ts
 
-    pub now-at : {w : ℕ} → i ≤ k → w ≡ getD s (8 * goal + i) 0 → Now w
+    pub now-at : {w : ℕ} → i ≤ k → w ≡ getD s (goal + i) 0 → Now w
     unfolding HoldsFrom AllWithin AllKnown AllRanged count
     now-at {w} h e = go (P .rest) (P .terms) (P .left)
       where
-        same : 8 * goal + i ≡ 8 * x .places .compound l + 1 + P .j
+        same : goal + i ≡ x .places .compound l + 1 + P .j
         same = omega (arith, a .place, P .at)
 
         go : (us : Terms) → UnitTerms s x l (P .j) us → P .j + count us ≡ count ts → Now w
@@ -203,6 +207,6 @@ module _ {s₀ : List ℕ} {x : Setting} {from links l : ℕ} {f : Functor} {ts 
       rest = N .us;
       terms = unit-terms-alike s s′ x (omega (arith, q .size))
           (λ m b c lo hi. q .others c (λ n g z. omega (arith, q .keepable .before m b)))
-          l (P .j + 1) (N .us) number (omega (arith, N .fewer, few)) (N .behind);
+          l (P .j + 1) (N .us) number (omega (arith, N .fewer, wide)) (N .behind);
       left = N .fewer;
     }

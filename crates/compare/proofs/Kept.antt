@@ -14,23 +14,25 @@ use Rattle.term.specs.Setting.{Setting, Within, AllWithin, UnitTerm, UnitTerms}
 use Rattle.term.proofs.Units.{unit-term-alike, unit-terms-alike, unit-stands-alike, ends-stand-alike}
 use Rattle.compare.specs.Follow.{Chained}
 use Rattle.compare.specs.Gifts.{Gift, to-head, to-goal}
-use Rattle.compare.specs.Compare.{Template, item, HeadTerm, HeadTerms, Outside, TrialStands, Given, AllGiven}
+use Rattle.compare.specs.Compare.{Template, item, HeadTerm, HeadTerms, Outside, TrialStands, AllGiven}
 
 -- The other way round.
 pub only-back : (lo hi : ℕ) (s s′ : List ℕ) → Only lo hi s s′ → Only lo hi s′ s
 only-back lo hi s s′ o = record { size = sym (o .size); below = λ k h. sym (o .below k h); above = λ k h. sym (o .above k h) }
 
 module _ (s s′ : List ℕ) (o : Only 39936 40336 s s′) where
-  cell-kept : (place k : ℕ) → Outside place → 8 * place ≤ k → k < 8 * place + 8 → getD s′ k 0 ≡ getD s k 0
-  cell-kept place k (inl low) a b = o .below k (omega arith)
-  cell-kept place k (inr high) a b = o .above k (omega arith)
+  cell-kept : (places : Places) (n k : ℕ) → Outside places n → places .compound n ≤ k → k < places .compound n + places .width n
+      → getD s′ k 0 ≡ getD s k 0
+  cell-kept places n k (inl low) a b = o .below k (omega arith)
+  cell-kept places n k (inr high) a b = o .above k (omega arith)
 
-  module _ (places : Places) (p c : ℕ) (outside : (n : ℕ) → n < c → Outside (places .compound n)) where
+  module _ (places : Places) (p c : ℕ) (outside : (n : ℕ) → n < c → Outside places n) where
     pub cell-at-kept : (n : ℕ) (f : Functor) (k : ℕ) → n < c → CellAt s places n f k → CellAt s′ places n f k
     cell-at-kept n f k h a = record {
       inside = rw (o .size) (a .inside);
       few = a .few;
-      functor = cell-kept (places .compound n) (8 * places .compound n) (outside n h) (omega arith) (omega arith) ∙ a .functor;
+      wide = a .wide;
+      functor = cell-kept places n (places .compound n) (outside n h) (omega arith) (omega (arith, a .wide)) ∙ a .functor;
     }
 
     mutual
@@ -40,25 +42,25 @@ module _ (s s′ : List ℕ) (o : Only 39936 40336 s s′) where
       holds-kept (Term.variable h n) w k = tt
       holds-kept (Term.constant q) w k = tt
       holds-kept (Term.compound n f ts) w k =
-          (cell-at-kept n f (count ts) (w .0) (k .0), holds-from-kept n 0 ts (w .0) (omega (arith, k .0 .few)) (w .1) (k .1))
+          (cell-at-kept n f (count ts) (w .0) (k .0), holds-from-kept n 0 ts (w .0) (omega (arith, k .0 .wide)) (w .1) (k .1))
 
-      pub holds-from-kept : (n i : ℕ) (ts : Terms) → n < c → i + count ts ≤ 6 → AllWithin p c ts
+      pub holds-from-kept : (n i : ℕ) (ts : Terms) → n < c → i + count ts < places .width n → AllWithin p c ts
           → HoldsFrom s places n i ts → HoldsFrom s′ places n i ts
-      holds-from-kept n i end h few w k = tt
-      holds-from-kept n i (more t ts) h few w k = (
-        cell-kept (places .compound n) (8 * places .compound n + 1 + i) (outside n h) (omega arith) (omega arith) ∙ k .0,
+      holds-from-kept n i end h wide w k = tt
+      holds-from-kept n i (more t ts) h wide w k = (
+        cell-kept places n (places .compound n + 1 + i) (outside n h) (omega arith) (omega arith) ∙ k .0,
         holds-kept t (w .0) (k .1),
         holds-from-kept n (i + 1) ts h (omega arith) (w .1) (k .2),
       )
 
-  module _ (x : Setting) (outside : (n : ℕ) → n < x .compounds → Outside (x .places .compound n)) where
-    words-kept : (n : ℕ) → n < x .compounds → (k : ℕ) → 8 * x .places .compound n ≤ k → k < 8 * x .places .compound n + 8 → getD s′ k 0 ≡ getD s k 0
-    words-kept n h k = cell-kept (x .places .compound n) k (outside n h)
+  module _ (x : Setting) (outside : (n : ℕ) → n < x .compounds → Outside (x .places) n) where
+    words-kept : (n : ℕ) → n < x .compounds → (k : ℕ) → x .places .compound n ≤ k → k < x .places .compound n + x .places .width n → getD s′ k 0 ≡ getD s k 0
+    words-kept n h k = cell-kept (x .places) n k (outside n h)
 
     pub unit-term-kept : (t : Term) → UnitTerm s x t → UnitTerm s′ x t
     unit-term-kept = unit-term-alike s s′ x (omega (arith, o .size)) words-kept
 
-    pub unit-terms-kept : (n i : ℕ) (ts : Terms) → n < x .compounds → i + count ts ≤ 6 → UnitTerms s x n i ts → UnitTerms s′ x n i ts
+    pub unit-terms-kept : (n i : ℕ) (ts : Terms) → n < x .compounds → i + count ts < x .places .width n → UnitTerms s x n i ts → UnitTerms s′ x n i ts
     unit-terms-kept = unit-terms-alike s s′ x (omega (arith, o .size)) words-kept
 
     chained-kept : (from links : ℕ) → 40336 ≤ from → Chained s x from links → Chained s′ x from links
@@ -69,7 +71,7 @@ module _ (s s′ : List ℕ) (o : Only 39936 40336 s s′) where
     }
 
   module _ (x : Setting) (y : Template) (small : y .number < 128) (few : y .compounds ≤ 32) where
-    item-outside : (n : ℕ) → n < y .compounds → Outside (item x y .compound n)
+    item-outside : (n : ℕ) → n < y .compounds → Outside (item x y) n
     item-outside n h = inl (omega arith)
 
     pub head-cell-kept : (n : ℕ) (f : Functor) (k : ℕ) → n < y .compounds → CellAt s (item x y) n f k → CellAt s′ (item x y) n f k
@@ -88,7 +90,7 @@ module _ (s s′ : List ℕ) (o : Only 39936 40336 s s′) where
     pub head-terms-kept : (m i lo hi : ℕ) (ts : Terms) → m < y .compounds → i + count ts ≤ 6
         → HeadTerms s x y m i lo hi ts → HeadTerms s′ x y m i lo hi ts
     head-terms-kept m i lo hi ts h least k = record {
-      held = holds-from-kept (item x y) (y .pairs) (y .compounds) item-outside m i ts h least (k .within) (k .held);
+      held = holds-from-kept (item x y) (y .pairs) (y .compounds) item-outside m i ts h (omega arith) (k .within) (k .held);
       within = k .within;
       known = k .known;
       ranged = k .ranged;
@@ -109,11 +111,15 @@ module _ (s s′ : List ℕ) (o : Only 39936 40336 s s′) where
   }
 
   module _ (x : Setting) (y : Template) (from links : ℕ) (t : TrialStands s x y from links) where
-    given-kept : (g : Gift) → Given s x y g → Given s′ x y g
-    given-kept (to-head n u) k = (k .0, unit-term-kept x (t .outside) u (k .1))
-    given-kept (to-goal z h) k = (k .0, k .1, k .2, head-term-kept x y (t .number) (t .compounds) (k .1) (k .2) h (k .3))
-
-    pub all-given-kept : (gs : List Gift) → AllGiven s x y gs → AllGiven s′ x y gs
+    pub all-given-kept : (lo hi : ℕ) (gs : List Gift) → AllGiven s x y lo hi gs → AllGiven s′ x y lo hi gs
     unfolding AllGiven
-    all-given-kept [] k = tt
-    all-given-kept (g ∷ gs) k = (given-kept g (k .0), all-given-kept gs (k .1))
+    all-given-kept lo hi [] k = k
+    all-given-kept lo hi (to-head n u ∷ gs) k = ((k .0 .0, unit-term-kept x (t .outside) u (k .0 .1)), all-given-kept lo hi gs (k .1))
+    all-given-kept lo hi (to-goal z h ∷ gs) k = (
+      k .0,
+      k .1,
+      k .2,
+      k .3,
+      head-term-kept x y (t .number) (t .compounds) (k .1) (k .2) h (k .4),
+      all-given-kept (k .2) hi gs (k .5),
+    )

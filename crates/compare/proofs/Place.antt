@@ -29,8 +29,8 @@ pub record Deeper (s s′ : List ℕ) (x : Setting) (y : Template) (from links l
   pub f : Functor
   pub ts : Terms
   pub against : AllAgainst s′ x y from links m g us (lo + 1) hi l f ts p q n
-  pub back : (s₂ : List ℕ) (r : Result) → Answers s′ s₂ x y n (lo + 1) (n + 6 * hi + count us) (places-outcome x links us ts) r
-      → Answers s s₂ x y n lo (n + 6 * hi + 1) (place-outcome x links t u) r
+  pub back : (s₂ : List ℕ) (r : Result) → Answers s′ s₂ x y n (lo + 1) hi (count us) (places-outcome x links us ts) r
+      → Answers s s₂ x y n lo hi 1 (place-outcome x links t u) r
 
 -- The two compounds known.
 module _ (s s′ : List ℕ) (x : Setting) (y : Template) (from links lo hi n h w : ℕ) (t u : Term) (p q : ℕ)
@@ -38,18 +38,18 @@ module _ (s s′ : List ℕ) (x : Setting) (y : Template) (from links lo hi n h 
   terms : Against s x y from links lo hi (Term.compound (D .m) (D .g) (D .us)) (Term.compound (D .l) (D .f) (D .ts)) h w n
   terms = rw (D .head, D .goal) at k
 
-  two-cells : (8 * p < length s′) × (8 * q < length s′)
+  two-cells : (p < length s′) × (q < length s′)
   two-cells =
       let c = cells-inside s x y from lo hi h w n links (D .m) (D .g) (D .us) (D .l) (D .f) (D .ts) terms in
       (omega (arith, c .0, D .head-place, ap length same), omega (arith, c .1, D .goal-place, ap length same))
 
-  two-depth : 2 * (4992 - p) < depth (seen h)
+  two-depth : 2 * (39936 - p) < depth (seen h)
   unfolding depth
   two-depth =
       rw (seen-term (item x y) (Term.compound (D .m) (D .g) (D .us)) h (terms .head-word)) (omega (arith, D .head-place))
 
-  module _ (b : Bool) (c : b ≡ not (eqb (getD s′ (8 * p) 0) (getD s′ (8 * q) 0))) where
-    words : b ≡ not (eqb (getD s (8 * (640 + 32 * y .number + D .m)) 0) (getD s (8 * x .places .compound (D .l)) 0))
+  module _ (b : Bool) (c : b ≡ not (eqb (getD s′ p 0) (getD s′ q 0))) where
+    words : b ≡ not (eqb (getD s (8 * (640 + 32 * y .number + D .m)) 0) (getD s (x .places .compound (D .l)) 0))
     words = rw (same, D .head-place, D .goal-place) at c
 
     two-differ : b ≡ true → place-outcome x links t u ≡ fails
@@ -75,20 +75,20 @@ module _ (s s′ : List ℕ) (x : Setting) (y : Template) (from links lo hi n h 
 
 module _ (links : ℕ) {s s′ : List ℕ} {x : Setting} {y : Template} {from lo hi n h w : ℕ} {t u : Term} {a : Met}
     (k : Against s x y from links lo hi t u h w n) (d : Done s s′ n h w (row (eqb h w) (seen h) (seen w)) a) where
-  found : Found s s′ x y n (place-outcome x links t u) t u a
+  found : Found s s′ x y n lo hi (place-outcome x links t u) t u a
   found = table-found s s′ x y from links lo hi n h w (followed links (x .values)) a t u k d
 
-  pub place-agrees : {m : ℕ} → a ≡ met.Agrees m → Answers s s′ x y n lo (n + 6 * hi + 1) (place-outcome x links t u) (Agrees m)
+  pub place-agrees : {m : ℕ} → a ≡ met.Agrees m → Answers s s′ x y n lo hi 1 (place-outcome x links t u) (Agrees m)
   place-agrees {m} e =
       let it = rw e at found in
       record { only = it .0; told = (omega (arith, it .1 .0, numbered-order lo hi t (k .head .numbered)), it .1 .1) }
 
-  pub place-waits : {z : ℕ} → a ≡ met.Waits z → Answers s s′ x y n lo (n + 6 * hi + 1) (place-outcome x links t u) (Waits z)
+  pub place-waits : {z : ℕ} → a ≡ met.Waits z → Answers s s′ x y n lo hi 1 (place-outcome x links t u) (Waits z)
   place-waits e =
       let it = rw e at found in
       record { only = it .0; told = it .1 }
 
-  pub place-fails : a ≡ met.Fails → Answers s s′ x y n lo (n + 6 * hi + 1) (place-outcome x links t u) Fails
+  pub place-fails : a ≡ met.Fails → Answers s s′ x y n lo hi 1 (place-outcome x links t u) Fails
   place-fails e =
       let it = rw e at found in
       record { only = it .0; told = it .1 }
@@ -97,14 +97,14 @@ module _ (links : ℕ) {s s′ : List ℕ} {x : Setting} {y : Template} {from lo
     two : Descends x y t u p q × (s′ ≡ s)
     two = (rw e at found) .1
 
-    pub place-cells : (8 * p < length s′) × (8 * q < length s′)
+    pub place-cells : (p < length s′) × (q < length s′)
     place-cells = two-cells s s′ x y from links lo hi n h w t u p q k (two .0) (two .1)
 
-    pub place-depth : 2 * (4992 - p) < depth (seen h)
+    pub place-depth : 2 * (39936 - p) < depth (seen h)
     place-depth = two-depth s s′ x y from links lo hi n h w t u p q k (two .0) (two .1)
 
-    module _ (b : Bool) (c : b ≡ not (eqb (getD s′ (8 * p) 0) (getD s′ (8 * q) 0))) where
-      pub place-differs : b ≡ true → Answers s s′ x y n lo (n + 6 * hi + 1) (place-outcome x links t u) Fails
+    module _ (b : Bool) (c : b ≡ not (eqb (getD s′ p 0) (getD s′ q 0))) where
+      pub place-differs : b ≡ true → Answers s s′ x y n lo hi 1 (place-outcome x links t u) Fails
       place-differs v =
           record { only = found .0; told = two-differ s s′ x y from links lo hi n h w t u p q k (two .0) (two .1) b c v }
 

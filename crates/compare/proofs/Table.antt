@@ -52,14 +52,14 @@ pub record Descends (x : Setting) (y : Template) (t u : Term) (p q : ℕ) : Type
   pub ts : Terms
   pub head : t ≡ Term.compound m g us
   pub goal : u ≡ Term.compound l f ts
-  pub head-place : p ≡ 640 + 32 * y .number + m
+  pub head-place : p ≡ 8 * (640 + 32 * y .number + m)
   pub goal-place : q ≡ x .places .compound l
 
-abbrev pub Meets : List ℕ → List ℕ → Setting → Template → ℕ → Outcome → Term → Term → Met → Type 0
-Meets s s′ x y n o t u (Agrees m) = (m ≤ n + 1) × Agreed s s′ x y n o m
-Meets s s′ x y n o t u (Waits z) = Waited x o z
-Meets s s′ x y n o t u Fails = o ≡ fails
-Meets s s′ x y n o t u (Below p q) = Descends x y t u p q × (s′ ≡ s)
+abbrev pub Meets : List ℕ → List ℕ → Setting → Template → ℕ → ℕ → ℕ → Outcome → Term → Term → Met → Type 0
+Meets s s′ x y n lo hi o t u (Agrees m) = (m ≤ n + 1) × Agreed s s′ x y n lo hi o m
+Meets s s′ x y n lo hi o t u (Waits z) = Waited x o z
+Meets s s′ x y n lo hi o t u Fails = o ≡ fails
+Meets s s′ x y n lo hi o t u (Below p q) = Descends x y t u p q × (s′ ≡ s)
 
 -- A constant's word is seen as one that is no variable and no compound.
 row-constant : (places : Places) (k : Constant) (same : Bool) (v : View) → row same (view-of (constant-content places k)) v ≡ constant-row same v
@@ -95,6 +95,9 @@ compound-constant places Constant.empty p = refl
 against-room : {s : List ℕ} {x : Setting} {y : Template} {from links lo hi : ℕ} {t u : Term} {h w n : ℕ} → Against s x y from links lo hi t u h w n → n < 192
 against-room {lo = lo} {hi = hi} {t = t} k = omega (arith, k .room, numbered-order lo hi t (k .head .numbered))
 
+in-order : {s : List ℕ} {x : Setting} {y : Template} {from links lo hi : ℕ} {t u : Term} {h w n : ℕ} → Against s x y from links lo hi t u h w n → lo ≤ hi
+in-order {lo = lo} {hi = hi} {t = t} k = numbered-order lo hi t (k .head .numbered)
+
 -- Only the trial's region changes.
 only-head : (s : List ℕ) (x w : ℕ) → x < 16 → Only 39936 40336 s (head-written x w s)
 only-head s x w h = only-set 39936 40336 s (39936 + x) w (omega arith) (omega arith)
@@ -106,20 +109,20 @@ only-goal s n z h b =
     (only-set 39936 40336 s (39952 + 2 * n) z (omega arith) (omega arith))
     (only-set 39936 40336 mid (39953 + 2 * n) h (omega arith) (omega arith))
 
-abbrev pub Found : List ℕ → List ℕ → Setting → Template → ℕ → Outcome → Term → Term → Met → Type 0
-Found s s′ x y n o t u met = Only 39936 40336 s s′ × Meets s s′ x y n o t u met
+abbrev pub Found : List ℕ → List ℕ → Setting → Template → ℕ → ℕ → ℕ → Outcome → Term → Term → Met → Type 0
+Found s s′ x y n lo hi o t u met = Only 39936 40336 s s′ × Meets s s′ x y n lo hi o t u met
 
-module _ (s s′ : List ℕ) (x : Setting) (y : Template) (n h w : ℕ) (t u : Term) (met : Met) (o : Outcome) where
-  none-given : Done s s′ n h w agrees met → o ≡ succeeds [] → Found s s′ x y n o t u met
+module _ (s s′ : List ℕ) (x : Setting) (y : Template) (n lo hi : ℕ) (order : lo ≤ hi) (h w : ℕ) (t u : Term) (met : Met) (o : Outcome) where
+  none-given : Done s s′ n h w agrees met → o ≡ succeeds [] → Found s s′ x y n lo hi o t u met
   unfolding answer behind assignments entries recorded AllGiven
   none-given d e =
       rw (d .answers, d .scratch) (
         only-same 39936 40336 s,
-        (omega arith, record { gifts = []; outcome = e; scratch = refl; counted = omega arith; given = tt }),
+        (omega arith, record { gifts = []; outcome = e; scratch = refl; counted = omega arith; given = order }),
       )
 
   head-given : (a : ℕ) → Done s s′ n h w (gives-head a) met → a < y .pairs → y .pairs ≤ 16 → UnitTerm s x u → w ≡ term-word (x .places) u
-      → o ≡ gives (length (x .values) + a) u → Found s s′ x y n o t u met
+      → o ≡ gives (length (x .values) + a) u → Found s s′ x y n lo hi o t u met
   unfolding answer behind assignments entries recorded AllGiven gives
   head-given a d small few held word e =
       rw (d .answers, d .scratch) (
@@ -131,16 +134,16 @@ module _ (s s′ : List ℕ) (x : Setting) (y : Template) (n h w : ℕ) (t u : T
             outcome = e;
             scratch = ap (λ v. head-written a v s) word;
             counted = omega arith;
-            given = ((small, held), tt);
+            given = ((small, held), order);
           },
         ),
       )
 
-  goal-given : (z lo hi : ℕ) → Done s s′ n h w (gives-goal (x .places .pair z)) met → n < 192 → z < length (x .values)
+  goal-given : (z : ℕ) → Done s s′ n h w (gives-goal (x .places .pair z)) met → n < 192 → z < length (x .values)
       → HeadTerm s x y lo hi t → h ≡ term-word (item x y) t → o ≡ gives z (renamed (length (x .values)) (x .compounds) t)
-      → Found s s′ x y n o t u met
+      → Found s s′ x y n lo hi o t u met
   unfolding answer behind assignments entries recorded AllGiven gives
-  goal-given z lo hi d room inside held word e =
+  goal-given z d room inside held word e =
       rw (d .answers, d .scratch) (
         only-goal s n (x .places .pair z) h room,
         (
@@ -150,31 +153,31 @@ module _ (s s′ : List ℕ) (x : Setting) (y : Template) (n h w : ℕ) (t u : T
             outcome = e;
             scratch = ap (λ v. goal-written n (x .places .pair z) v s) word;
             counted = omega arith;
-            given = ((inside, lo, hi, held), tt);
+            given = (inside, lo, hi, omega arith, held, omega arith);
           },
         ),
       )
 
   waits-found : (z : ℕ) → Done s s′ n h w (waits (x .places .pair z)) met → z < length (x .values) → o ≡ waits-on z
-      → Found s s′ x y n o t u met
+      → Found s s′ x y n lo hi o t u met
   unfolding answer behind
   waits-found z d inside e =
       rw (d .answers, d .scratch) (only-same 39936 40336 s, record { pair = z; outcome = e; inside = inside; place = refl })
 
-  fails-found : Done s s′ n h w fails-row met → o ≡ fails → Found s s′ x y n o t u met
+  fails-found : Done s s′ n h w fails-row met → o ≡ fails → Found s s′ x y n lo hi o t u met
   unfolding answer behind
   fails-found d e = rw (d .answers, d .scratch) (only-same 39936 40336 s, e)
 
-  equal-found : (same : Bool) → Done s s′ n h w (equal-row same) met → o ≡ (if same then succeeds [] else fails) → Found s s′ x y n o t u met
+  equal-found : (same : Bool) → Done s s′ n h w (equal-row same) met → o ≡ (if same then succeeds [] else fails) → Found s s′ x y n lo hi o t u met
   unfolding equal-row if_then_else_
   equal-found true d e = none-given d e
   equal-found false d e = fails-found d e
 
-below-found : (s s′ : List ℕ) (x : Setting) (y : Template) (n h w : ℕ) (m : ℕ) (g : Functor) (us : Terms) (l : ℕ) (f : Functor) (ts : Terms) (met : Met) (o : Outcome)
-    → Done s s′ n h w (below (640 + 32 * y .number + m) (x .places .compound l)) met
-    → Found s s′ x y n o (Term.compound m g us) (Term.compound l f ts) met
+below-found : (s s′ : List ℕ) (x : Setting) (y : Template) (n lo hi h w : ℕ) (m : ℕ) (g : Functor) (us : Terms) (l : ℕ) (f : Functor) (ts : Terms) (met : Met) (o : Outcome)
+    → Done s s′ n h w (below (8 * (640 + 32 * y .number + m)) (x .places .compound l)) met
+    → Found s s′ x y n lo hi o (Term.compound m g us) (Term.compound l f ts) met
 unfolding answer behind
-below-found s s′ x y n h w m g us l f ts met o d =
+below-found s s′ x y n lo hi h w m g us l f ts met o d =
     rw (d .answers, d .scratch) (
       only-same 39936 40336 s,
       (
@@ -193,43 +196,43 @@ module _ (s s′ : List ℕ) (x : Setting) (y : Template) (from links lo hi n h 
   Outcome-of t u = place look (renamed (length (x .values)) (x .compounds) t) u
 
   by-terms : (t u : Term) → Against s x y from links lo hi t u h w n → Done s s′ n h w (RowOf x y t u) met
-      → Found s s′ x y n (Outcome-of t u) t u met
+      → Found s s′ x y n lo hi (Outcome-of t u) t u met
   unfolding place renamed row writer-row reader-row constant-row compound-row Within Known Ranged if_then_else_
-  by-terms (Term.variable writer a) (Term.variable writer z) k d = fails-found s s′ x y n h w _ _ met _ d refl
+  by-terms (Term.variable writer a) (Term.variable writer z) k d = fails-found s s′ x y n lo hi (in-order k) h w _ _ met _ d refl
   by-terms (Term.variable writer a) (Term.variable reader z) k d =
-      head-given s s′ x y n h w _ _ met _ a d (k .head .within) (k .trial .pairs) (k .goal) (k .goal-word) refl
+      head-given s s′ x y n lo hi (in-order k) h w _ _ met _ a d (k .head .within) (k .trial .pairs) (k .goal) (k .goal-word) refl
   by-terms (Term.variable writer a) (Term.constant c) k d =
-      head-given s s′ x y n h w _ _ met _ a (rw (writer-constant (x .places) c a) at d) (k .head .within) (k .trial .pairs) (k .goal) (k .goal-word) refl
+      head-given s s′ x y n lo hi (in-order k) h w _ _ met _ a (rw (writer-constant (x .places) c a) at d) (k .head .within) (k .trial .pairs) (k .goal) (k .goal-word) refl
   by-terms (Term.variable writer a) (Term.compound l f ts) k d =
-      head-given s s′ x y n h w _ _ met _ a d (k .head .within) (k .trial .pairs) (k .goal) (k .goal-word) refl
+      head-given s s′ x y n lo hi (in-order k) h w _ _ met _ a d (k .head .within) (k .trial .pairs) (k .goal) (k .goal-word) refl
   by-terms (Term.variable reader a) (Term.variable writer z) k d =
-      goal-given s s′ x y n h w _ _ met _ z lo hi d (against-room k) (k .goal .of .within) (k .head) (k .head-word) refl
-  by-terms (Term.variable reader a) (Term.variable reader z) k d = fails-found s s′ x y n h w _ _ met _ d refl
+      goal-given s s′ x y n lo hi (in-order k) h w _ _ met _ z d (against-room k) (k .goal .of .within) (k .head) (k .head-word) refl
+  by-terms (Term.variable reader a) (Term.variable reader z) k d = fails-found s s′ x y n lo hi (in-order k) h w _ _ met _ d refl
   by-terms (Term.variable reader a) (Term.constant c) k d =
-      fails-found s s′ x y n h w _ _ met _ (rw (reader-constant (x .places) c) at d) refl
-  by-terms (Term.variable reader a) (Term.compound l f ts) k d = fails-found s s′ x y n h w _ _ met _ d refl
+      fails-found s s′ x y n lo hi (in-order k) h w _ _ met _ (rw (reader-constant (x .places) c) at d) refl
+  by-terms (Term.variable reader a) (Term.compound l f ts) k d = fails-found s s′ x y n lo hi (in-order k) h w _ _ met _ d refl
   by-terms (Term.constant c) (Term.variable writer z) k d =
-      goal-given s s′ x y n h w _ _ met _ z lo hi (rw (row-constant (item x y) c) at d) (against-room k) (k .goal .of .within) (k .head) (k .head-word) refl
+      goal-given s s′ x y n lo hi (in-order k) h w _ _ met _ z (rw (row-constant (item x y) c) at d) (against-room k) (k .goal .of .within) (k .head) (k .head-word) refl
   by-terms (Term.constant c) (Term.variable reader z) k d =
-      waits-found s s′ x y n h w _ _ met _ z (rw (row-constant (item x y) c) at d) (k .goal .of .within) refl
+      waits-found s s′ x y n lo hi (in-order k) h w _ _ met _ z (rw (row-constant (item x y) c) at d) (k .goal .of .within) refl
   by-terms (Term.constant c) (Term.constant e) k d =
-      equal-found s s′ x y n h w _ _ met _ (same-constant c e)
+      equal-found s s′ x y n lo hi (in-order k) h w _ _ met _ (same-constant c e)
       (rw (row-constant (item x y) c, constant-constant (x .places) e, constants-equal (x .places) (item x y) refl c e (k .head .known) (k .goal .of .known) (k .head .ranged) (k .goal .of .ranged)) at d)
       refl
   by-terms (Term.constant c) (Term.compound l f ts) k d =
-      equal-found s s′ x y n h w _ _ met _ false
+      equal-found s s′ x y n lo hi (in-order k) h w _ _ met _ false
       (rw (row-constant (item x y) c, constant-no-compound (item x y) c (x .places .compound l)) at d) refl
   by-terms (Term.compound m g us) (Term.variable writer z) k d =
-      goal-given s s′ x y n h w _ _ met _ z lo hi d (against-room k) (k .goal .of .within) (k .head) (k .head-word) refl
-  by-terms (Term.compound m g us) (Term.variable reader z) k d = waits-found s s′ x y n h w _ _ met _ z d (k .goal .of .within) refl
+      goal-given s s′ x y n lo hi (in-order k) h w _ _ met _ z d (against-room k) (k .goal .of .within) (k .head) (k .head-word) refl
+  by-terms (Term.compound m g us) (Term.variable reader z) k d = waits-found s s′ x y n lo hi (in-order k) h w _ _ met _ z d (k .goal .of .within) refl
   by-terms (Term.compound m g us) (Term.constant c) k d =
-      fails-found s s′ x y n h w _ _ met _ (rw (compound-constant (x .places) c) at d) refl
-  by-terms (Term.compound m g us) (Term.compound l f ts) k d = below-found s s′ x y n h w m g us l f ts met _ d
+      fails-found s s′ x y n lo hi (in-order k) h w _ _ met _ (rw (compound-constant (x .places) c) at d) refl
+  by-terms (Term.compound m g us) (Term.compound l f ts) k d = below-found s s′ x y n lo hi h w m g us l f ts met _ d
 
 -- What the code's row has done is what the table says.
 pub table-found : (s s′ : List ℕ) (x : Setting) (y : Template) (from links lo hi n h w : ℕ) (look : Term → Term) (met : Met) (t u : Term)
     → Against s x y from links lo hi t u h w n → Done s s′ n h w (row (eqb h w) (seen h) (seen w)) met
-    → Found s s′ x y n (place look (renamed (length (x .values)) (x .compounds) t) u) t u met
+    → Found s s′ x y n lo hi (place look (renamed (length (x .values)) (x .compounds) t) u) t u met
 table-found s s′ x y from links lo hi n h w look met t u k d =
     let same : row (eqb h w) (seen h) (seen w) ≡ RowOf x y t u =
     rw (seen-term (item x y) t h (k .head-word), seen-term (x .places) u w (k .goal-word), k .head-word, k .goal-word)

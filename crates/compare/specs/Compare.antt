@@ -20,9 +20,9 @@ use Rattle.compare.specs.Gifts.{Gift, to-head, to-goal, assignments, ent
 use Rattle.term.specs.Setting.{Setting, Within, AllWithin, Ranged, AllRanged, UnitTerm, UnitTerms}
 use Rattle.compare.specs.Follow.{Chained}
 
--- Where the terms of clause k lie: pairs by their own numbers, compounds 32 a clause.
+-- Where the terms of clause k lie: pairs by their own numbers, compounds 32 a clause, each with eight words.
 abbrev pub item-places : List Bytes → ℕ → Places
-item-places names k = record { names = names; pair = λ n. n; compound = λ n. 640 + 32 * k + n }
+item-places names k = record { names = names; pair = λ n. n; compound = λ n. 8 * (640 + 32 * k + n); width = λ n. 8 }
 
 -- A clause: its number, and how many pairs and compounds it has.
 pub record Template : Type 0 where
@@ -51,16 +51,16 @@ pub record HeadTerms (s : List ℕ) (x : Setting) (y : Template) (m i lo hi : �
   pub high : hi ≤ y .compounds
   pub rising : m < lo
 
--- A compound's place is none of the trial's region.
-abbrev pub Outside : ℕ → Type 0
-Outside place = (place < 4992) ⊎ (5042 ≤ place)
+-- A compound's own words are none of the trial's region.
+abbrev pub Outside : Places → ℕ → Type 0
+Outside at n = (at .compound n + at .width n ≤ 39936) ⊎ (40336 ≤ at .compound n)
 
 -- The scratch of a trial: the unit's values and ends stand behind the trial's region, and its compounds outside it.
 pub record TrialStands (s : List ℕ) (x : Setting) (y : Template) (from links : ℕ) : Type 0 where
   pub large : 40336 ≤ length s
   pub unit : Chained s x from links
   pub behind : 40336 ≤ from
-  pub outside : (n : ℕ) → n < x .compounds → Outside (x .places .compound n)
+  pub outside : (n : ℕ) → n < x .compounds → Outside (x .places) n
   pub number : y .number < 128
   pub pairs : y .pairs ≤ 16
   pub compounds : y .compounds ≤ 32
@@ -85,26 +85,26 @@ pub record AllAgainst (s : List ℕ) (x : Setting) (y : Template) (from links m 
   pub goal : UnitTerms s x l 0 ts
   pub goal-number : l < x .compounds
   pub counts : count us ≡ count ts
-  pub head-place : p ≡ 640 + 32 * y .number + m
+  pub head-place : p ≡ 8 * (640 + 32 * y .number + m)
   pub goal-place : q ≡ x .places .compound l
   pub room : n + 6 * hi + count us ≤ 192 + 6 * lo
 
--- What is given is held: a goal's term, or a head's term.
-abbrev pub Given : List ℕ → Setting → Template → Gift → Type 0
-Given s x y (to-head n u) = (n < y .pairs) × UnitTerm s x u
-Given s x y (to-goal z t) = (z < length (x .values)) × (lo : ℕ) × (hi : ℕ) × HeadTerm s x y lo hi t
+-- What is given is held, in the order of the head: the head's terms that are given have compounds numbered from lo up to hi, each behind those
+-- before it.
+unfoldable pub AllGiven : List ℕ → Setting → Template → ℕ → ℕ → List Gift → Type 0
+AllGiven s x y lo hi [] = lo ≤ hi
+AllGiven s x y lo hi (to-head n u ∷ gs) = ((n < y .pairs) × UnitTerm s x u) × AllGiven s x y lo hi gs
+AllGiven s x y lo hi (to-goal z t ∷ gs) =
+    (z < length (x .values)) × (a : ℕ) × (b : ℕ) × (lo ≤ a) × HeadTerm s x y a b t × AllGiven s x y b hi gs
 
-unfoldable pub AllGiven : List ℕ → Setting → Template → List Gift → Type 0
-AllGiven s x y [] = Unit {0}
-AllGiven s x y (g ∷ gs) = Given s x y g × AllGiven s x y gs
-
--- It succeeds: the outcome's assignments are gifts that the scratch records from the n-th entry up to the m-th.
-pub record Agreed (s s′ : List ℕ) (x : Setting) (y : Template) (n : ℕ) (o : Outcome) (m : ℕ) : Type 0 where
+-- It succeeds: the outcome's assignments are gifts that the scratch records from the n-th entry up to the m-th; the head's compounds that were
+-- compared are numbered from lo up to hi.
+pub record Agreed (s s′ : List ℕ) (x : Setting) (y : Template) (n lo hi : ℕ) (o : Outcome) (m : ℕ) : Type 0 where
   pub gifts : List Gift
   pub outcome : o ≡ succeeds (assignments (length (x .values)) (x .compounds) gifts)
   pub scratch : s′ ≡ recorded (item x y) (x .places) n gifts s
   pub counted : m ≡ n + entries gifts
-  pub given : AllGiven s x y gifts
+  pub given : AllGiven s x y lo hi gifts
 
 -- It waits on the reader of a pair, whose place is z.
 pub record Waited (x : Setting) (o : Outcome) (z : ℕ) : Type 0 where
@@ -113,15 +113,15 @@ pub record Waited (x : Setting) (o : Outcome) (z : ℕ) : Type 0 where
   pub inside : pair < length (x .values)
   pub place : z ≡ x .places .pair pair
 
-abbrev pub Told : List ℕ → List ℕ → Setting → Template → ℕ → ℕ → ℕ → Outcome → Result → Type 0
-Told s s′ x y n lo top o (Agrees m) = (m + 6 * lo ≤ top) × Agreed s s′ x y n o m
-Told s s′ x y n lo top o (Waits z) = Waited x o z
-Told s s′ x y n lo top o Fails = o ≡ fails
+abbrev pub Told : List ℕ → List ℕ → Setting → Template → ℕ → ℕ → ℕ → ℕ → Outcome → Result → Type 0
+Told s s′ x y n lo hi k o (Agrees m) = (m + 6 * lo ≤ n + 6 * hi + k) × Agreed s s′ x y n lo hi o m
+Told s s′ x y n lo hi k o (Waits z) = Waited x o z
+Told s s′ x y n lo hi k o Fails = o ≡ fails
 
--- The answer r to the outcome o: only the trial's region has changed.
-pub record Answers (s s′ : List ℕ) (x : Setting) (y : Template) (n lo top : ℕ) (o : Outcome) (r : Result) : Type 0 where
+-- The answer r to the outcome o of k terms of the head, their compounds numbered from lo up to hi: only the trial's region has changed.
+pub record Answers (s s′ : List ℕ) (x : Setting) (y : Template) (n lo hi k : ℕ) (o : Outcome) (r : Result) : Type 0 where
   pub only : Only 39936 40336 s s′
-  pub told : Told s s′ x y n lo top o r
+  pub told : Told s s′ x y n lo hi k o r
 
 -- The outcome of the table on the clause renamed apart.
 abbrev pub place-outcome : Setting → ℕ → Term → Term → Outcome
@@ -130,24 +130,27 @@ place-outcome x links t u = place (followed links (x .values)) (renamed (length 
 abbrev pub places-outcome : Setting → ℕ → Terms → Terms → Outcome
 places-outcome x links us ts = places (followed links (x .values)) (all-renamed (length (x .values)) (x .compounds) us) ts
 
--- The entries' terms are held.
-unfoldable pub AllEntries : List ℕ → Setting → Template → List Entry → Type 0
-AllEntries s x y [] = Unit {0}
-AllEntries s x y (e ∷ es) =
-    ((e .pair < length (x .values)) × (lo : ℕ) × (hi : ℕ) × HeadTerm s x y lo hi (e .term)) × AllEntries s x y es
+-- The entries' terms are held, in the order of the head.
+unfoldable pub AllEntries : List ℕ → Setting → Template → ℕ → ℕ → List Entry → Type 0
+AllEntries s x y lo hi [] = lo ≤ hi
+AllEntries s x y lo hi (e ∷ es) =
+    (e .pair < length (x .values)) × (a : ℕ) × (b : ℕ) × (lo ≤ a) × HeadTerm s x y a b (e .term) × AllEntries s x y b hi es
 
--- What a trial gave, read from its region: m entries in order, and a word for each of the clause's pairs. The values after the trial are those of
+-- What a trial gave, read from its region: m entries in order, and a word for each of the clause's pairs. The head's terms that were given have
+-- compounds numbered from low up to high. The values after the trial are those of
 -- the entries assigned, in order, for the unit's own pairs, and those of the words for the clause's; of the unit's own pairs those of the
 -- entries and no other are assigned.
 pub record Gave (s s′ : List ℕ) (x : Setting) (y : Template) (given : List Assignment) (m : ℕ) : Type 0 where
   pub gifts : List Gift
   pub given-are : given ≡ assignments (length (x .values)) (x .compounds) gifts
-  pub gifts-held : AllGiven s x y gifts
+  pub low : ℕ
+  pub high : ℕ
+  pub gifts-held : AllGiven s x y low high gifts
   pub list : List Entry
   pub list-is : list ≡ entries-of gifts
   pub size : length list ≡ m
   pub stand : EntriesAt s′ (item x y) (x .places) 0 list
-  pub held : AllEntries s x y list
+  pub held : AllEntries s x y low high list
   pub unit-values : (z : ℕ) → z < length (x .values)
       → value (assigned given (with-pairs (y .pairs) (x .values))) z
       ≡ value (assigned (renamed-entries (length (x .values)) (x .compounds) list) (with-pairs (y .pairs) (x .values))) z

@@ -50,7 +50,7 @@ pub record PairAt (s : List ℕ) (x : Setting) (from links n p : ℕ) : Type 0 w
 pub record Keepable (s : List ℕ) (x : Setting) (from links : ℕ) : Type 0 where
   pub chained : Chained s x from links
   pub apart : (n m : ℕ) → n < length (x .values) → m < length (x .values) → x .places .pair n ≡ x .places .pair m → n ≡ m
-  pub before : (n : ℕ) → n < x .compounds → 8 * x .places .compound n + 8 ≤ from
+  pub before : (n : ℕ) → n < x .compounds → x .places .compound n + x .places .width n ≤ from
 
 -- Of a term with the word w.
 pub record KeepsOf (s : List ℕ) (x : Setting) (from links : ℕ) (t : Term) (w : ℕ) : Type 0 where

@@ -125,33 +125,33 @@ fn table(s: &mut [u64], h: u64, w: u64, n: usize) -> Met
 
 // Two compounds of different functors or numbers of arguments.
 fn differ(s: &[u64], p: usize, q: usize) -> bool
-    requires { ⌜ (8 * p < length (now s)) × (8 * q < length (now s)) ⌝ }
-    ensures { λ r. ⌜ r ≡ not (eqb (getD (now (s .entry)) (8 * p) 0) (getD (now (s .entry)) (8 * q) 0)) ⌝ }
+    requires { ⌜ (p < length (now s)) × (q < length (now s)) ⌝ }
+    ensures { λ r. ⌜ r ≡ not (eqb (getD (now (s .entry)) p 0) (getD (now (s .entry)) q 0)) ⌝ }
 {
-    s[8 * p] != s[8 * q]
+    s[p] != s[q]
 }
 
 // The number of a compound's arguments.
 pub fn count(s: &[u64], p: usize) -> usize
-    requires { ⌜ 8 * p < length (now s) ⌝ }
-    ensures { λ r. ⌜ r ≡ getD (now (s .entry)) (8 * p) 0 % 8 ⌝ }
+    requires { ⌜ p < length (now s) ⌝ }
+    ensures { λ r. ⌜ r ≡ getD (now (s .entry)) p 0 % 8 ⌝ }
 {
-    let w = s[8 * p];
+    let w = s[p];
     (w % 8) as usize
 }
 
 // A compound's i-th argument, from 1 on.
 pub fn argument(s: &[u64], p: usize, i: usize) -> u64
-    requires { ⌜ 8 * p + i < length (now s) ⌝ }
-    ensures { λ r. ⌜ r ≡ getD (now (s .entry)) (8 * p + i) 0 ⌝ }
+    requires { ⌜ p + i < length (now s) ⌝ }
+    ensures { λ r. ⌜ r ≡ getD (now (s .entry)) (p + i) 0 ⌝ }
 {
-    s[8 * p + i]
+    s[p + i]
 }
 
 pub fn place(s: &mut [u64], values: usize, links: usize, h: u64, w: u64, n: usize) -> Result
     requires { ⌜ ((x : Setting) × (y : Template) × (lo : ℕ) × (hi : ℕ) × (t : Term) × (u : Term) × Against (now s) x y values links lo hi t u h w n) ⌝ }
     ensures { λ r. ⌜ ((x : Setting) (y : Template) (lo hi : ℕ) (t u : Term) → Against (now (s .entry)) x y values links lo hi t u h w n
-        → Answers (now (s .entry)) (now (s .exit)) x y n lo (n + 6 * hi + 1) (place-outcome x links t u) r) ⌝ }
+        → Answers (now (s .entry)) (now (s .exit)) x y n lo hi 1 (place-outcome x links t u) r) ⌝ }
 {
     match table(s, h, w, n) {
         Met::Agrees(m) => Result::Agrees(m),
@@ -172,7 +172,7 @@ pub fn places(s: &mut [u64], values: usize, links: usize, p: usize, q: usize, n:
         × AllAgainst (now s) x y values links m g us lo hi l f ts p q n) ⌝ }
     ensures { λ r. ⌜ ((x : Setting) (y : Template) (m : ℕ) (g : Functor) (us : Terms) (lo hi l : ℕ) (f : Functor) (ts : Terms)
         → AllAgainst (now (s .entry)) x y values links m g us lo hi l f ts p q n
-        → Answers (now (s .entry)) (now (s .exit)) x y n lo (n + 6 * hi + size us) (places-outcome x links us ts) r) ⌝ }
+        → Answers (now (s .entry)) (now (s .exit)) x y n lo hi (size us) (places-outcome x links us ts) r) ⌝ }
 {
     let k = count(s, p);
     let mut given = n;

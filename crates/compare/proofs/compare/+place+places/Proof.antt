@@ -48,7 +48,7 @@ abbrev μ-place : Measures 1 place-kinds.ps ℕ
 μ-place κs a = depth (seen (a .1 .1 .1 .0))
 
 abbrev μ-places : Measures 1 places-kinds.ps ℕ
-μ-places κs a = 2 * (4992 - a .1 .1 .1 .0)
+μ-places κs a = 2 * (39936 - a .1 .1 .1 .0)
 
 abbrev place-at : ℕ → In 1 place-kinds.ps
 place-at t = and 1 place-kinds.ps (is 1 place-kinds.ps μ-place t) place.Pre
@@ -129,7 +129,7 @@ pub +place+places-spec : {M : Type 1} → statement M
     let differ-told = c .before .before .differ in
     let test = c .before .if1 in
     let D = place-deeper (a .links) (pre .6) (table-told .ensures) (below .given .1) (differ-told .result) (differ-told .ensures) (test .left) in (
-      fall (2 * (4992 - below .given .0 .0)) (depth (seen (a .h))) t (start .pre .0) (place-depth (a .links) (pre .6) (table-told .ensures) (below .given .1)),
+      fall (2 * (39936 - below .given .0 .0)) (depth (seen (a .h))) t (start .pre .0) (place-depth (a .links) (pre .6) (table-told .ensures) (below .given .1)),
       (pre .0, pre .1, D .m, D .g, D .us, pre .2 + 1, pre .3, D .l, D .f, D .ts, D .against),
     ))
     -- place-same-length-2
@@ -240,7 +240,7 @@ pub +place+places-spec : {M : Type 1} → statement M
     let P = at .inv (pre .0) (pre .1) (pre .2) (pre .3) (pre .4) (pre .5) (pre .6) (pre .7) (pre .8) (pre .9) (pre .10) in
     let F = next (a .links) (pre .10) P (c .before .before .before .before .before .before .before .loop-test .taken) in
     let r = follow-told .ensures (pre .0) (F .u) (goal-read (a .links) (pre .10) P F (goal-argument .ensures)) in (
-      fall (depth (seen (head-argument .result))) (2 * (4992 - a .p)) t (start .pre .0)
+      fall (depth (seen (head-argument .result))) (2 * (39936 - a .p)) t (start .pre .0)
           (next-depth (a .links) (pre .10) P F (head-argument .ensures)),
       (
         pre .0,
