@@ -35,7 +35,7 @@ use Rattle.circle.specs.Search.{
   Names,
   Settled,
 }
-use Rattle.circle.proofs.Stamps.{visited-stamp, visited-ground, not-visited, stamped-same, stamped-then, searching-on, front-length}
+use Rattle.circle.proofs.Stamps.{visited-stamp, visited-ground, not-visited, stamped-same, stamped-then, searching-on, whole-length}
 use Rattle.circle.proofs.Measure.{term-weight, falls-to-pair, falls-to-given, falls-to-value, falls-to-argument, fewer-unseen}
 use Rattle.circle.proofs.Settle.{settled-answer}
 use Rattle.circle.proofs.Visit.{
@@ -194,11 +194,11 @@ module _ (s₀ : List ℕ) (values marks place stamp : ℕ) (b : Bool) (w first 
   Walking s q k i state = (x : Scene) (z : ℕ) (v : Option Term) → Searching s₀ x values marks place stamp z → Told x b w v
       → Walked s₀ s x marks stamp z b q k i v first state
 
-  pub last-at : (q : ℕ) → q ≡ w / 8 → w % 8 ≡ 6 → TermAsks s₀ values marks place stamp b w → 8 * q + 7 < length s₀
+  pub last-at : (q : ℕ) → q ≡ w / 8 → w % 8 ≡ 6 → TermAsks s₀ values marks place stamp b w → q + 7 < length s₀
   last-at q at six (x, z, v, h, told) =
-      let all : LastLeads s₀ q (getD s₀ (8 * q) 0 % 8) = record { among = omega arith; idle = λ i l m. absurd (omega arith) } in
-      let c = enter x values marks place stamp z b s₀ w v h told six q (getD s₀ (8 * q) 0 % 8) at all 0 in
-      omega (arith, c .inside, front-length s₀ x values marks place stamp z h, h .room)
+      let all : LastLeads s₀ q (getD s₀ q 0 % 8) = record { among = omega arith; idle = λ i l m. absurd (omega arith) } in
+      let c = enter x values marks place stamp z b s₀ w v h told six q (getD s₀ q 0 % 8) at all 0 in
+      omega (arith, c .inside, whole-length s₀ x values marks place stamp z h)
 
   module _ (q k : ℕ) (at : q ≡ w / 8) (last : LastLeads s₀ q k) (six : w % 8 ≡ 6) where
     pub walking-first : Walking s₀ q k 1 first
@@ -217,16 +217,16 @@ module _ (s₀ : List ℕ) (values marks place stamp : ℕ) (b : Bool) (w first 
     pub few-of : TermAsks s₀ values marks place stamp b w → k ≤ 6
     few-of (x, z, v, h, told) = omega (arith, walking x z v h told .few, walking x z v h told .among)
 
-    pub argument-at : i ≤ k → TermAsks s₀ values marks place stamp b w → 8 * q + i < length s
+    pub argument-at : i ≤ k → TermAsks s₀ values marks place stamp b w → q + i < length s
     argument-at le (x, z, v, h, told) =
         let c = walking x z v h told in
-        omega (arith, c .inside, c .few, c .among, front-length s₀ x values marks place stamp z h, h .room, c .stamped .size)
+        omega (arith, c .inside, c .few, c .among, whole-length s₀ x values marks place stamp z h, c .stamped .size)
 
     turn-of : i ≤ k → (x : Scene) (z : ℕ) (v : Option Term) → Searching s₀ x values marks place stamp z → Told x b w v
         → Turn s₀ s x marks stamp z b q k i v first state
     turn-of le x z v h told = turn x values marks place stamp z b s₀ s q k i w v first state h told (walking x z v h told) le
 
-    module _ (a : ℕ) (reads : a ≡ getD s (8 * q + i) 0) (le : i ≤ k) where
+    module _ (a : ℕ) (reads : a ≡ getD s (q + i) 0) (le : i ≤ k) where
       pub argument-asks : TermAsks s₀ values marks place stamp b w → TermAsks s values marks place stamp b a
       argument-asks (x, z, v, h, told) =
           let u = turn-of le x z v h told in

@@ -36,7 +36,7 @@ highest of front at (suc k) = max (of (getD front at 0)) (highest of front (at +
 unfoldable pub height : ℕ → List ℕ → ℕ → ℕ
 height zero front w = 0
 height (suc f) front w =
-    if eqb (w % 8) 6 then suc (highest (height f front) front (8 * (w / 8) + 1) (getD front (8 * (w / 8)) 0 % 8)) else 0
+    if eqb (w % 8) 6 then suc (highest (height f front) front (w / 8 + 1) (getD front (w / 8) 0 % 8)) else 0
 
 highest-within : (of : ℕ → ℕ) (m : ℕ) → ((w : ℕ) → of w ≤ m) → (front : List ℕ) (at k : ℕ) → highest of front at k ≤ m
 unfolding highest
@@ -49,9 +49,9 @@ height-within zero front w = omega arith
 height-within (suc f) front w = go (eqb (w % 8) 6) (height-within f front)
   where
     go : (b : Bool) → ((u : ℕ) → height f front u ≤ f)
-        → (if b then suc (highest (height f front) front (8 * (w / 8) + 1) (getD front (8 * (w / 8)) 0 % 8)) else 0) ≤ suc f
+        → (if b then suc (highest (height f front) front (w / 8 + 1) (getD front (w / 8) 0 % 8)) else 0) ≤ suc f
     go true le =
-        omega (arith, highest-within (height f front) f le front (8 * (w / 8) + 1) (getD front (8 * (w / 8)) 0 % 8))
+        omega (arith, highest-within (height f front) f le front (w / 8 + 1) (getD front (w / 8) 0 % 8))
     go false le = omega arith
 
 pub flat : (f : ℕ) (front : List ℕ) (w : ℕ) → (w % 8 ≡ 6 → ⊥) → height f front w ≡ 0
@@ -60,7 +60,7 @@ flat zero front w d = refl
 flat (suc f) front w d = rw (ne-eqb (w % 8) 6 d) refl
 
 tall : (f : ℕ) (front : List ℕ) (w : ℕ) → w % 8 ≡ 6
-    → height (suc f) front w ≡ suc (highest (height f front) front (8 * (w / 8) + 1) (getD front (8 * (w / 8)) 0 % 8))
+    → height (suc f) front w ≡ suc (highest (height f front) front (w / 8 + 1) (getD front (w / 8) 0 % 8))
 unfolding height if_then_else_
 tall f front w e = rw (eq-eqb (w % 8) 6 e) refl
 
@@ -85,17 +85,17 @@ module _ (front : List ℕ) (places : Places) where
     height-is (suc f) (Term.compound n g ts) held le =
         let w = term-word places (Term.compound n g ts) in
         let at : w / 8 ≡ places .compound n = omega arith in
-        let k : getD front (8 * places .compound n) 0 % 8 ≡ count ts = omega (arith, held .0 .functor, held .0 .few) in
+        let k : getD front (places .compound n) 0 % 8 ≡ count ts = omega (arith, held .0 .functor, held .0 .few) in
         let all = heights-are f n 0 ts (held .1) (omega arith) in
-        let first : 8 * places .compound n + 1 ≡ 8 * places .compound n + 1 + 0 = omega arith in
+        let first : places .compound n + 1 ≡ places .compound n + 1 + 0 = omega arith in
         tall f front w (omega arith)
         ∙ rw (at, k, first) (ap suc all)
 
     pub heights-are : (f n i : ℕ) (ts : Terms) → HoldsFrom front places n i ts → depths ts ≤ f
-        → highest (height f front) front (8 * places .compound n + 1 + i) (count ts) ≡ depths ts
+        → highest (height f front) front (places .compound n + 1 + i) (count ts) ≡ depths ts
     heights-are f n i end held le = refl
     heights-are f n i (more t ts) held le =
-        let next : 8 * places .compound n + 1 + i + 1 ≡ 8 * places .compound n + 1 + (i + 1) = omega arith in
+        let next : places .compound n + 1 + i + 1 ≡ places .compound n + 1 + (i + 1) = omega arith in
         rw (held .0, height-is f t (held .1) (omega arith), next, heights-are f n (i + 1) ts (held .2) (omega arith)) refl
 
   same-depth : (t u : Term) → Holds front places t → Holds front places u → term-word places t ≡ term-word places u → depth t ≡ depth u

@@ -1,7 +1,7 @@
 -- What falls in the search: the words not yet marked; then, on the way from a term of the head to what its variables are given, the side;
 -- then the depth of the term at hand.
 use Prim.Native.Nat.{ℕ, _+_, _*_, _≤_, _<_}
-use mathlib.Core.Path.{_≡_, ap}
+use mathlib.Core.Path.{_≡_}
 use mathlib.Core.Bool.{Bool, true, false}
 use mathlib.Core.List.{List}
 use mathlib.Core.Option.{Option, none, some}
@@ -11,10 +11,10 @@ use native.Mathlib.Omega.{arith}
 use lib.ListN.{length, getD, set, take, length-set}
 use lib.Seq.{take-set-le}
 use Rattle.meaning.specs.Terms.{Term}
-use Rattle.circle.specs.Search.{Scene, side, Told, Searching, visited, Stamped}
+use Rattle.circle.specs.Search.{Scene, filled, whole, side, Told, Searching, visited, Stamped}
 use Rattle.circle.proofs.Depth.{height, height-within, height-is, shallow, flat}
 use Rattle.circle.proofs.Unseen.{unseen, unseen-set, unseen-less}
-use Rattle.circle.proofs.Stamps.{front-length, searching-on}
+use Rattle.circle.proofs.Stamps.{whole-length, searching-on}
 use Rattle.circle.proofs.Walk.{value-depth}
 
 abbrev lift : ℕ → Bool → ℕ
@@ -29,22 +29,15 @@ unfoldable pub pair-weight : List ℕ → (ℕ → Bool) → Bool → ℕ
 pair-weight s marked b = unseen marked s * (2 * length s + 5) + lift (length s) b
 
 unfoldable pub term-weight : List ℕ → ℕ → (ℕ → Bool) → Bool → ℕ → ℕ
-term-weight s marks marked b w = pair-weight s marked b + 1 + height (length (take marks s)) (take marks s) w
+term-weight s marks marked b w = pair-weight s marked b + 1 + height (length s) (filled (take marks s) (length s)) w
 
 pub falls-to-pair : (s : List ℕ) (marks : ℕ) (marked : ℕ → Bool) (b : Bool) (w : ℕ) → pair-weight s marked b < term-weight s marks marked b w
 unfolding term-weight
 falls-to-pair s marks marked b w = omega arith
 
 module _ (x : Scene) (values marks place stamp z : ℕ) (s : List ℕ) (h : Searching s x values marks place stamp z) where
-  height-short : (w : ℕ) → height (length (take marks s)) (take marks s) w ≤ length s
-  height-short w =
-      omega (
-        arith,
-        height-within (length (take marks s)) (take marks s) w,
-        ap length (h .front),
-        front-length s x values marks place stamp z h,
-        h .room,
-      )
+  height-short : (w : ℕ) → height (length s) (filled (take marks s) (length s)) w ≤ length s
+  height-short w = height-within (length s) (filled (take marks s) (length s)) w
 
   pub falls-to-given : (marked : ℕ → Bool) (w : ℕ) → term-weight s marks marked false w < pair-weight s marked true
   unfolding term-weight pair-weight
@@ -66,10 +59,12 @@ module _ (x : Scene) (values marks place stamp z : ℕ) (s : List ℕ) (h : Sear
       plus-one a n = rw (add-one a) (suc-mul a n)
 
   -- The depth that a word tells is that of its term.
-  told-height : (b : Bool) (w : ℕ) (v : Option Term) → Told x b w v → height (length (take marks s)) (take marks s) w ≡ value-depth v
-  told-height b w none told = flat (length (take marks s)) (take marks s) w (λ e. omega (arith, told .word))
+  told-height : (b : Bool) (w : ℕ) (v : Option Term) → Told x b w v → height (length s) (filled (take marks s) (length s)) w ≡ value-depth v
+  told-height b w none told = flat (length s) (filled (take marks s) (length s)) w (λ e. omega (arith, told .word))
   told-height b w (some t) told =
-      rw (h .front, told .word) (height-is (x .front) (side x b) (length (x .front)) t (told .held) (shallow (x .front) (side x b) t (told .held)))
+      rw (h .front, h .size, told .word)
+      (height-is (whole x) (side x b) (x .size) t (told .held)
+      (omega (arith, shallow (whole x) (side x b) t (told .held), whole-length s x values marks place stamp z h, h .size)))
 
 pub falls-to-argument : (x : Scene) (values marks place stamp z : ℕ) (s₀ s : List ℕ) → Searching s₀ x values marks place stamp z
     → Stamped x marks stamp s₀ s → (marked : ℕ → Bool) → unseen marked s ≤ unseen marked s₀

@@ -1,4 +1,4 @@
--- A term held by the scratch is held by a part of it that has its compounds, and so is a term of an item renamed apart, by the item's places raised.
+-- A term held by a scratch is held by another one that has its compounds, and so is a term of an item renamed apart, by the item's places raised.
 use Prim.Native.Nat.{ℕ, suc, _+_, _-_, _*_, _≤_, _<_}
 use mathlib.Core.Path.{_≡_, refl, sym, ap, _∙_}
 use mathlib.Core.Logic.{inl, inr}
@@ -15,7 +15,7 @@ use Rattle.term.specs.Setting.{Within, AllWithin}
 -- The places of terms renamed apart by p and c.
 abbrev pub raised : Places → ℕ → ℕ → Places
 raised places p c =
-    record { names = places .names; pair = λ n. places .pair (n - p); compound = λ n. places .compound (n - c) }
+    record { names = places .names; pair = λ n. places .pair (n - p); compound = λ n. places .compound (n - c); width = λ n. places .width (n - c) }
 
 -- The pairs of a term are in its range, before and after renaming.
 mutual
@@ -64,9 +64,9 @@ raised-word places p c (Term.constant (Constant.name f)) = refl
 raised-word places p c (Term.constant Constant.empty) = refl
 raised-word places p c (Term.compound n f ts) = ap (λ k. word (Content.compound (places .compound k))) (back c n)
 
--- The part reaches up to a limit, and the compounds lie before it.
-module _ (s front : List ℕ) (limit : ℕ) (long : limit ≤ length front) (same : (k : ℕ) → k < limit → getD front k 0 ≡ getD s k 0)
-    (places : Places) (pairs compounds : ℕ) (before : (m : ℕ) → m < compounds → 8 * places .compound m + 8 ≤ limit) where
+-- The other scratch is as long and has the same words up to a limit, and the compounds lie before it.
+module _ (s front : List ℕ) (limit : ℕ) (long : length s ≤ length front) (same : (k : ℕ) → k < limit → getD front k 0 ≡ getD s k 0)
+    (places : Places) (pairs compounds : ℕ) (before : (m : ℕ) → m < compounds → places .compound m + places .width m ≤ limit) where
   mutual
     unfolding Holds HoldsFrom Within AllWithin count
 
@@ -76,19 +76,20 @@ module _ (s front : List ℕ) (limit : ℕ) (long : limit ≤ length front) (sam
     holds-part (Term.compound n f ts) held w =
         let b = before n (w .0) in (
           record {
-            inside = omega arith;
+            inside = omega (arith, held .0 .inside);
             few = held .0 .few;
-            functor = same (8 * places .compound n) (omega arith) ∙ held .0 .functor;
+            wide = held .0 .wide;
+            functor = same (places .compound n) (omega (arith, held .0 .wide)) ∙ held .0 .functor;
           },
-          all-hold-part n 0 ts (w .0) (omega (arith, held .0 .few)) (held .1) (w .1),
+          all-hold-part n 0 ts (w .0) (omega (arith, held .0 .wide)) (held .1) (w .1),
         )
 
-    all-hold-part : (n i : ℕ) (ts : Terms) → n < compounds → i + count ts ≤ 6 → HoldsFrom s places n i ts → AllWithin pairs compounds ts
+    all-hold-part : (n i : ℕ) (ts : Terms) → n < compounds → i + count ts < places .width n → HoldsFrom s places n i ts → AllWithin pairs compounds ts
         → HoldsFrom front places n i ts
-    all-hold-part n i end l few held w = tt
-    all-hold-part n i (more t ts) l few held w =
+    all-hold-part n i end l wide held w = tt
+    all-hold-part n i (more t ts) l wide held w =
         let b = before n l in (
-          same (8 * places .compound n + 1 + i) (omega arith) ∙ held .0,
+          same (places .compound n + 1 + i) (omega arith) ∙ held .0,
           holds-part t (held .1) (w .0),
           all-hold-part n (i + 1) ts l (omega arith) (held .2) (w .1),
         )
@@ -104,22 +105,23 @@ module _ (s front : List ℕ) (limit : ℕ) (long : limit ≤ length front) (sam
           let b = before n (w .0) in
           let at : places .compound (c + n - c) ≡ places .compound n = ap (λ k. places .compound k) (back c n) in (
             record {
-              inside = omega arith;
+              inside = omega (arith, held .0 .inside);
               few = rw (count-renamed p c ts) (held .0 .few);
+              wide = omega (arith, held .0 .wide, count-renamed p c ts, ap (λ k. places .width k) (back c n));
               functor =
-                  ap (λ k. getD front (8 * k) 0) at ∙ same (8 * places .compound n) (omega arith) ∙ held .0 .functor
+                  ap (λ k. getD front k 0) at ∙ same (places .compound n) (omega (arith, held .0 .wide)) ∙ held .0 .functor
                   ∙ ap (functor-word places f) (sym (count-renamed p c ts)) ∙ sym (raised-functor places p c f (count (all-renamed p c ts)));
             },
-            all-hold-renamed n 0 ts (w .0) (omega (arith, held .0 .few)) (held .1) (w .1),
+            all-hold-renamed n 0 ts (w .0) (omega (arith, held .0 .wide)) (held .1) (w .1),
           )
 
-      all-hold-renamed : (n i : ℕ) (ts : Terms) → n < compounds → i + count ts ≤ 6 → HoldsFrom s places n i ts → AllWithin pairs compounds ts
+      all-hold-renamed : (n i : ℕ) (ts : Terms) → n < compounds → i + count ts < places .width n → HoldsFrom s places n i ts → AllWithin pairs compounds ts
           → HoldsFrom front (raised places p c) (c + n) i (all-renamed p c ts)
-      all-hold-renamed n i end l few held w = tt
-      all-hold-renamed n i (more t ts) l few held w =
+      all-hold-renamed n i end l wide held w = tt
+      all-hold-renamed n i (more t ts) l wide held w =
           let b = before n l in
           let at : places .compound (c + n - c) ≡ places .compound n = ap (λ k. places .compound k) (back c n) in (
-            ap (λ k. getD front (8 * k + 1 + i) 0) at ∙ same (8 * places .compound n + 1 + i) (omega arith) ∙ held .0
+            ap (λ k. getD front (k + 1 + i) 0) at ∙ same (places .compound n + 1 + i) (omega arith) ∙ held .0
                 ∙ sym (raised-word places p c t),
             holds-renamed t (held .1) (w .0),
             all-hold-renamed n (i + 1) ts l (omega arith) (held .2) (w .1),

@@ -7,7 +7,7 @@ use mathlib.Core.Bool.{true, false}
 use mathlib.Core.List.{List}
 use mathlib.Core.Option.{Option, none, some}
 use native.Mathlib.Omega.{arith}
-use lib.ListN.{length, getD, take}
+use lib.ListN.{length, getD, take, replicate, length-append, length-replicate, List·getD-append}
 use lib.Seq.{getD-take, length-take-le}
 use Rattle.meaning.specs.Terms.{Term}
 use Rattle.meaning.specs.State.{value}
@@ -15,14 +15,15 @@ use Rattle.meaning.proofs.Trial.Values.{assigned-below}
 use Rattle.term.specs.Holds.{HoldsValue, value-word}
 use Rattle.term.specs.Setting.{Within}
 use Rattle.circle.specs.Circle.{entry-pair, entry-term, Held, Trial, old, Tried}
-use Rattle.circle.specs.Search.{Scene, On, Told, Given, Shown}
+use Rattle.circle.specs.Search.{Scene, whole, On, Told, Given, Shown}
 use Rattle.circle.proofs.Parts.{raised, within-stands, renamed-stands, raised-word, holds-part, holds-renamed}
 use Rattle.circle.proofs.Through.{entry-or-not}
 
-abbrev pub scene : Trial → ℕ → List ℕ → Scene
-scene y values front =
+abbrev pub scene : Trial → ℕ → List ℕ → ℕ → Scene
+scene y values front size =
     record {
       front = front;
+      size = size;
       values = values;
       pairs = y .unit .pairs;
       before = y .unit .values;
@@ -34,7 +35,7 @@ scene y values front =
 
 module _ (s₀ s : List ℕ) (y : Trial) (values marks n stamp : ℕ) (tried : Tried s₀ y values marks n stamp) (held : Held s₀ s values n true) where
   abbrev x : Scene
-  x = scene y values (take marks s)
+  x = scene y values (take marks s) (length s)
 
   pub front-marks : length (take marks s) ≡ marks
   front-marks = length-take-le marks s (omega (arith, held .size, tried .room))
@@ -44,6 +45,19 @@ module _ (s₀ s : List ℕ) (y : Trial) (values marks n stamp : ℕ) (tried : T
   before-same k h =
       getD-take marks s k 0 (omega (arith, tried .marks-behind)) ∙ held .others k (λ i l e. omega arith)
 
+  whole-same : (k : ℕ) → k < values → getD (whole x) k 0 ≡ getD s₀ k 0
+  whole-same k h =
+      List·getD-append (take marks s) (replicate (length s - length (take marks s)) 7) 0 k (omega (arith, front-marks, tried .marks-behind)) ∙ before-same k h
+
+  whole-long : length s₀ ≤ length (whole x)
+  whole-long =
+      omega (
+        arith,
+        length-append (take marks s) (replicate (length s - length (take marks s)) 7),
+        length-replicate {A = ℕ} (length s - length (take marks s)) 7,
+        held .size,
+      )
+
   -- A value that is a term of the unit.
   unit-told : (w : ℕ) (v : Option Term) → w ≡ value-word (y .unit .places) v
       → HoldsValue s₀ (y .unit .places) v → ((t : Term) → v ≡ some t → Within (old y) (y .unit .compounds) t) → Told x false w v
@@ -51,7 +65,7 @@ module _ (s₀ s : List ℕ) (y : Trial) (values marks n stamp : ℕ) (tried : T
   unit-told w (some t) e h within = record {
     word = e;
     held =
-        holds-part s₀ (take marks s) values (omega (arith, front-marks, tried .marks-behind)) before-same (y .unit .places) (old y) (y .unit .compounds)
+        holds-part s₀ (whole x) values whole-long whole-same (y .unit .places) (old y) (y .unit .compounds)
         (tried .unit-before) t h (within t refl);
     pairs = within-stands (old y) (y .unit .compounds) t (within t refl);
   }
@@ -68,7 +82,7 @@ module _ (s₀ s : List ℕ) (y : Trial) (values marks n stamp : ℕ) (tried : T
       rw (e .given) (record {
         word = words ∙ e .word ∙ sym (raised-word (y .item) (old y) (y .unit .compounds) (e .term));
         held =
-            holds-renamed s₀ (take marks s) values (omega (arith, front-marks, tried .marks-behind)) before-same (y .item) (y .pairs) (y .compounds)
+            holds-renamed s₀ (whole x) values whole-long whole-same (y .item) (y .pairs) (y .compounds)
             (tried .item-before) (old y) (y .unit .compounds) (e .term) (e .held) (e .within);
         pairs = λ j r.
             let b = renamed-stands (old y) (y .unit .compounds) (y .pairs) (y .compounds) (e .term) (e .within) j r in
@@ -144,7 +158,7 @@ module _ (s₀ s : List ℕ) (y : Trial) (values marks n stamp : ℕ) (tried : T
       differ : none ≡ some t → ⊥
       differ f = let z : _≡_ {A = ℕ} 0 1 = cc in absurd (omega arith)
 
-  pub shown : Shown (scene y values (take marks s))
+  pub shown : Shown (scene y values (take marks s) (length s))
   shown = record {
     room = omega (arith, front-marks, tried .marks-behind);
     place = tried .unit .held .place;

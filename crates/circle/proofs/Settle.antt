@@ -27,8 +27,8 @@ use Rattle.circle.proofs.Stamps.{
   stamped-set,
   searching-on,
   seen-on,
-  front-length,
   front-word,
+  whole-length,
 }
 use Rattle.circle.proofs.Visit.{Variable, variable-of, mark-inside, value-inside, leans-of}
 use Rattle.circle.proofs.Walk.{Argument, argument-of, enter}
@@ -115,13 +115,13 @@ module _ (s₀ : List ℕ) (values marks stamp pair : ℕ) where
 
     -- At a compound: on to the last argument that leads on.
     module _ (six : t % 8 ≡ 6) (q : ℕ) (at : q ≡ t / 8) where
-      pub settle-count : SettleAsks → 8 * q + 7 < length s
+      pub settle-count : SettleAsks → q + 7 < length s
       settle-count (x, place, goal, h, g) =
           let c = enter x values marks place stamp goal false s t (settling x place goal h g .now) (here x place goal h g)
-          (settling x place goal h g .told) six q (getD s (8 * q) 0 % 8) at (record { among = omega arith; idle = λ i l m. absurd (omega arith) }) 0 in
-          omega (arith, c .inside, front-length s x values marks place stamp goal (here x place goal h g), here x place goal h g .room)
+          (settling x place goal h g .told) six q (getD s q 0 % 8) at (record { among = omega arith; idle = λ i l m. absurd (omega arith) }) 0 in
+          omega (arith, c .inside, whole-length s x values marks place stamp goal (here x place goal h g))
 
-      module _ (k : ℕ) (last : LastLeads s q k) (some-left : k ≡ 0 → ⊥) (a : ℕ) (reads : a ≡ getD s (8 * q + k) 0) where
+      module _ (k : ℕ) (last : LastLeads s q k) (some-left : k ≡ 0 → ⊥) (a : ℕ) (reads : a ≡ getD s (q + k) 0) where
         settle-argument : (x : Scene) (place goal : ℕ) (h : Searching s₀ x values marks place stamp goal) (g : GroundAt (x .unit) (x .before) pair)
             → Argument x false a (settling x place goal h g .now)
         settle-argument x place goal h g =

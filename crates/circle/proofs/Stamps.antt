@@ -1,19 +1,19 @@
 -- Marks only grow: what one part of a search visited and closed stays so in the next.
-use Prim.Native.Nat.{ℕ, _+_, _<_}
+use Prim.Native.Nat.{ℕ, _+_, _-_, _<_}
 use mathlib.Core.Path.{_≡_, refl, sym, ap, subst, _∙_}
 use mathlib.Core.Logic.{_⊎_, inl, inr}
 use mathlib.Core.Bool.{Bool, true, false, true≢false}
 use mathlib.Core.List.{List}
-use native.Mathlib.Decide.{ℕ-discrete}
+use native.Mathlib.Decide.{ℕ-discrete, decLt}
 use native.Mathlib.Omega.{arith}
 use lib.Dec.{eqb}
-use lib.ListN.{length, getD, set, take, length-set}
-use lib.Seq.{getD-set-same, getD-set-other, take-set-le, getD-take, length-take-le}
+use lib.ListN.{length, getD, set, take, replicate, length-set, length-append, length-replicate, getD-replicate, List·getD-append}
+use lib.Seq.{getD-set-same, getD-set-other, getD-append-add, take-set-le, getD-take, length-take-le}
 use borrow.Author.Tests.{eq-eqb, ne-eqb}
 use Rattle.meaning.specs.Bytes.{if_then_else_}
 use Rattle.meaning.proofs.Circle.Leaning.{Leans}
 use Rattle.circle.specs.Ground.{GroundAt}
-use Rattle.circle.specs.Search.{Scene, Searching, visited, Visited, Stamped, Marked, Seen, Closed}
+use Rattle.circle.specs.Search.{Scene, whole, Searching, visited, Visited, Stamped, Marked, Seen, Closed}
 use Rattle.circle.proofs.Grounds.{new-none, new-then, grounds-on}
 
 -- The marks of visited pairs.
@@ -100,6 +100,7 @@ module _ (x : Scene) (marks stamp z : ℕ) (s t : List ℕ) (a : Stamped x marks
   searching-on values place h = record {
     shown = h .shown;
     front = a .front ∙ h .front;
+    size = a .size ∙ h .size;
     values-at = h .values-at;
     room = omega (arith, a .size, h .room);
     unit-pair = h .unit-pair;
@@ -144,3 +145,35 @@ pub front-word : (s : List ℕ) (x : Scene) (values marks place stamp z : ℕ) �
 front-word s x values marks place stamp z h k l =
     let e : getD (take marks s) k 0 ≡ getD s k 0 = getD-take marks s k 0 (omega (arith, front-length s x values marks place stamp z h)) in
     sym e ∙ rw (h .front) refl
+
+-- The front, filled up, is as long as the scratch; a word in it that is not one of those that fill it up is the scratch's.
+pub whole-length : (s : List ℕ) (x : Scene) (values marks place stamp z : ℕ) → Searching s x values marks place stamp z
+    → length (whole x) ≡ length s
+whole-length s x values marks place stamp z h =
+    length-append (x .front) (replicate (x .size - length (x .front)) 7)
+    ∙ omega (
+      arith,
+      length-replicate {A = ℕ} (x .size - length (x .front)) 7,
+      front-length s x values marks place stamp z h,
+      h .size,
+      h .room,
+    )
+
+pub whole-word : (s : List ℕ) (x : Scene) (values marks place stamp z : ℕ) → Searching s x values marks place stamp z
+    → (k : ℕ) → k < length (whole x) → (getD (whole x) k 0 ≡ 7 → ⊥) → getD s k 0 ≡ getD (whole x) k 0
+whole-word s x values marks place stamp z h k l other = go (decLt k (length (x .front)))
+  where
+    rest : List ℕ
+    rest = replicate (x .size - length (x .front)) 7
+
+    go : Dec (k < length (x .front)) → getD s k 0 ≡ getD (whole x) k 0
+    go (yes b) = front-word s x values marks place stamp z h k b ∙ sym (List·getD-append (x .front) rest 0 k b)
+    go (no d) =
+        let far = k - length (x .front) in
+        let at : k ≡ length (x .front) + far = omega arith in
+        let seven : getD (whole x) k 0 ≡ 7 =
+        ap (λ i. getD (whole x) i 0) at ∙ getD-append-add (x .front) rest far 0
+        ∙ getD-replicate (x .size - length (x .front)) far 7 0
+        (omega (arith, h .size, whole-length s x values marks place stamp z h))
+        in
+        absurd (other seven)

@@ -34,7 +34,7 @@ pub record Passed (s₀ s₁ s : List ℕ) (y : Trial) (marks stamp i : ℕ) : T
 
 module _ (s₀ s₁ : List ℕ) (y : Trial) (values marks n stamp : ℕ) (tried : Tried s₀ y values marks n stamp) (held : Held s₀ s₁ values n true) where
   abbrev x : Scene
-  x = scene y values (take marks s₁)
+  x = scene y values (take marks s₁) (length s₁)
 
   pub passed-none : Passed s₀ s₁ s₁ y marks stamp 0
   passed-none = record {
@@ -100,6 +100,7 @@ module _ (s₀ s₁ : List ℕ) (y : Trial) (values marks n stamp : ℕ) (tried 
       searching = record {
         shown = shown s₀ s₁ y values marks n stamp tried held;
         front = passed .front;
+        size = passed .size;
         values-at = refl;
         room = omega (arith, tried .room, held .size, passed .size);
         unit-pair = tried .entry i h .of-unit;
@@ -194,7 +195,7 @@ module _ (s₁ : List ℕ) (values marks n stamp : ℕ) where
       entry-call (y, s₀, tried, held) =
           let p = passing y s₀ tried held in
           rw (at, number, word) (
-            scene y values (take marks s₁),
+            scene y values (take marks s₁) (length s₁),
             tried .entry i h .pair,
             value (y .after) (tried .entry i h .pair),
             searching s₀ s₁ y values marks n stamp tried held s i p h,
@@ -203,12 +204,12 @@ module _ (s₁ : List ℕ) (values marks n stamp : ℕ) where
 
       module _ (s′ : List ℕ) (r : ℕ) (tell : TermTells s values marks place (stamp + a) true w s′ r) where
         searched : (y : Trial) (s₀ : List ℕ) (tried : Tried s₀ y values marks n stamp) (held : Held s₀ s₁ values n true)
-            → Searched s s′ (scene y values (take marks s₁)) marks (stamp + i) (tried .entry i h .pair)
+            → Searched s s′ (scene y values (take marks s₁) (length s₁)) marks (stamp + i) (tried .entry i h .pair)
             (λ j. StandsAt j (value (y .after) (tried .entry i h .pair))) (eqb r 2)
         searched y s₀ tried held =
             let p = passing y s₀ tried held in
             let tell′ : TermTells s values marks (entry-pair s i) (stamp + i) true (entry-term s i) s′ r = rw (at, number, word) at tell in
-            tell′ (scene y values (take marks s₁)) (tried .entry i h .pair) (value (y .after) (tried .entry i h .pair))
+            tell′ (scene y values (take marks s₁) (length s₁)) (tried .entry i h .pair) (value (y .after) (tried .entry i h .pair))
             (searching s₀ s₁ y values marks n stamp tried held s i p h)
             (told s₀ s₁ y values marks n stamp tried held s i p h) .searched
 

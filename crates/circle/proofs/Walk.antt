@@ -17,6 +17,7 @@ use Rattle.term.specs.Holds.{Holds, HoldsFrom}
 use Rattle.circle.specs.Ground.{Ground}
 use Rattle.circle.specs.Search.{
   Scene,
+  whole,
   side,
   Told,
   StandsAt,
@@ -32,7 +33,7 @@ use Rattle.circle.specs.Search.{
   JoinedIs,
 }
 use Rattle.circle.proofs.Depth.{depth, depths}
-use Rattle.circle.proofs.Stamps.{stamped-same, stamped-then, searching-on, seen-on, closed-then, closed-same, front-word}
+use Rattle.circle.proofs.Stamps.{stamped-same, stamped-then, searching-on, seen-on, closed-then, closed-same, whole-word}
 
 abbrev pub value-depth : Option Term → ℕ
 value-depth none = 0
@@ -48,10 +49,10 @@ pub record Walked (s₀ s : List ℕ) (x : Scene) (marks stamp z : ℕ) (b : Boo
   pub left : i + count rest ≡ total + 1
   pub few : total ≤ 6
   pub among : k ≤ total
-  pub idle : (m : ℕ) → k < m → m ≤ total → LeadsIs (getD (x .front) (8 * q + m) 0) false
+  pub idle : (m : ℕ) → k < m → m ≤ total → LeadsIs (getD (whole x) (q + m) 0) false
   pub place : q ≡ side x b .compound number
-  pub inside : 8 * q + 8 ≤ length (x .front)
-  pub held : HoldsFrom (x .front) (side x b) number passed rest
+  pub inside : q + 8 ≤ length (whole x)
+  pub held : HoldsFrom (whole x) (side x b) number passed rest
   pub within : (j : ℕ) → StandsIn j rest → StandsAt j v
   pub lower : depths rest < value-depth v
   pub stamped : Stamped x marks stamp s₀ s
@@ -63,7 +64,7 @@ pub record Walked (s₀ s : List ℕ) (x : Scene) (marks stamp z : ℕ) (b : Boo
 -- One argument more: its term, and what its search gives.
 pub record Turn (s₀ s : List ℕ) (x : Scene) (marks stamp z : ℕ) (b : Bool) (q k i : ℕ) (v : Option Term) (first state : ℕ) : Type 0 where
   pub term : Term
-  pub told : Told x b (getD s (8 * q + i) 0) (some term)
+  pub told : Told x b (getD s (q + i) 0) (some term)
   pub lower : depth term < value-depth v
   pub found : (s′ : List ℕ) → Searched s s′ x marks stamp z (λ j. StandsAt j (some term)) true
       → Searched s₀ s′ x marks stamp z (λ j. StandsAt j v) true
@@ -81,15 +82,44 @@ none-stands places (Term.compound n f ts) w e (d, tag) j r = d (omega arith)
 
 -- Nor in arguments whose words do not.
 none-stand : (front : List ℕ) (places : Places) (n i : ℕ) (ts : Terms) → HoldsFrom front places n i ts
-    → ((m : ℕ) → i < m → m ≤ i + count ts → LeadsIs (getD front (8 * places .compound n + m) 0) false) → (j : ℕ) → StandsIn j ts → ⊥
+    → ((m : ℕ) → i < m → m ≤ i + count ts → LeadsIs (getD front (places .compound n + m) 0) false) → (j : ℕ) → StandsIn j ts → ⊥
 unfolding HoldsFrom StandsIn count
 none-stand front places n i end held idle j r = r
 none-stand front places n i (more t ts) held idle j (inl r) =
-    let at : 8 * places .compound n + 1 + i ≡ 8 * places .compound n + (i + 1) = omega arith in
-    let word : getD front (8 * places .compound n + (i + 1)) 0 ≡ term-word places t = rw at at (held .0) in
-    none-stands places t (getD front (8 * places .compound n + (i + 1)) 0) word (idle (i + 1) (omega arith) (omega arith)) j r
+    let at : places .compound n + 1 + i ≡ places .compound n + (i + 1) = omega arith in
+    let word : getD front (places .compound n + (i + 1)) 0 ≡ term-word places t = rw at at (held .0) in
+    none-stands places t (getD front (places .compound n + (i + 1)) 0) word (idle (i + 1) (omega arith) (omega arith)) j r
 none-stand front places n i (more t ts) held idle j (inr r) =
     none-stand front places n (i + 1) ts (held .2) (λ m l h. idle m (omega arith) (omega arith)) j r
+
+-- The k-th of some arguments, counted from 1 behind the i-th.
+nth : (front : List ℕ) (places : Places) (n i : ℕ) (ts : Terms) → HoldsFrom front places n i ts → (k : ℕ) → i < k → k ≤ i + count ts
+    → (t : Term) × (getD front (places .compound n + k) 0 ≡ term-word places t) × Holds front places t × (depth t ≤ depths ts)
+    × ((j : ℕ) → Stands j t → StandsIn j ts)
+unfolding HoldsFrom StandsIn count depths
+nth front places n i end held k l h = absurd (omega arith)
+nth front places n i (more t ts) held k l h = go (ℕ-discrete k (i + 1)) (nth front places n (i + 1) ts (held .2) k)
+  where
+    go : Dec (k ≡ i + 1)
+        → (i + 1 < k → k ≤ i + 1 + count ts → (u : Term) × (getD front (places .compound n + k) 0 ≡ term-word places u) × Holds front places u
+        × (depth u ≤ depths ts) × ((j : ℕ) → Stands j u → StandsIn j ts))
+        → (u : Term) × (getD front (places .compound n + k) 0 ≡ term-word places u) × Holds front places u
+        × (depth u ≤ depths (more t ts)) × ((j : ℕ) → Stands j u → StandsIn j (more t ts))
+    go (yes e) rest =
+        let at : places .compound n + 1 + i ≡ places .compound n + k = omega arith in
+        (t, rw at at (held .0), held .1, omega arith, λ j r. inl r)
+    go (no d) rest =
+        let (u, word, holds, low, stands) = rest (omega arith) (omega arith) in
+        (u, word, holds, omega arith, λ j r. inr (stands j r))
+
+-- A term's word is none of those that fill up a front.
+no-filling : (places : Places) (t : Term) → term-word places t ≡ 7 → ⊥
+no-filling places (Term.variable writer n) e = omega arith
+no-filling places (Term.variable reader n) e = omega arith
+no-filling places (Term.constant (Constant.integer i)) e = omega arith
+no-filling places (Term.constant (Constant.name f)) e = omega arith
+no-filling places (Term.constant Constant.empty) e = omega arith
+no-filling places (Term.compound n f ts) e = omega arith
 
 module _ (x : Scene) (values marks place stamp z : ℕ) (b : Bool) where
   -- The search enters a compound.
@@ -105,9 +135,9 @@ module _ (x : Scene) (values marks place stamp z : ℕ) (b : Bool) where
   enter s w (some (Term.compound n f ts)) h told e q k at last first =
       let here : q ≡ side x b .compound n = omega (arith, told .word) in
       let cell = told .held .0 in
-      let words : getD s (8 * q) 0 ≡ getD (x .front) (8 * q) 0 =
-      front-word s x values marks place stamp z h (8 * q) (omega (arith, cell .inside)) in
-      let functor : getD (x .front) (8 * q) 0 ≡ functor-word (side x b) f (count ts) = rw here (cell .functor) in
+      let functor : getD (whole x) q 0 ≡ functor-word (side x b) f (count ts) = rw here (cell .functor) in
+      let words : getD s q 0 ≡ getD (whole x) q 0 =
+      whole-word s x values marks place stamp z h q (omega (arith, cell .inside)) (λ e. omega (arith, functor, cell .few)) in
       record {
         number = n;
         passed = 0;
@@ -118,7 +148,9 @@ module _ (x : Scene) (values marks place stamp z : ℕ) (b : Bool) where
         few = omega (arith, cell .few);
         among = omega (arith, last .among, cell .few);
         idle = λ m l le.
-            rw (front-word s x values marks place stamp z h (8 * q + m) (omega (arith, cell .inside, cell .few))) at
+            let (t, word, holds, low, stands) = nth (whole x) (side x b) n 0 ts (told .held .1) m (omega arith) (omega arith) in
+            rw (whole-word s x values marks place stamp z h (q + m) (omega (arith, cell .inside, cell .few))
+            (λ e. no-filling (side x b) t (sym word ∙ ap (λ r. getD (whole x) (r + m) 0) (sym here) ∙ e))) at
             (last .idle m l (omega (arith, cell .few)));
         place = here;
         inside = omega (arith, cell .inside);
@@ -141,11 +173,12 @@ module _ (x : Scene) (values marks place stamp z : ℕ) (b : Bool) where
       go : (ts : Terms) → c .rest ≡ ts → Turn s₀ s x marks stamp z b q k i v first state
       go end e = absurd (omega (arith, c .left, c .among, ap count e))
       go (more t ts) e =
-          let held : HoldsFrom (x .front) (side x b) (c .number) (c .passed) (more t ts) = rw e at (c .held) in
-          let spot : 8 * q + i ≡ 8 * side x b .compound (c .number) + 1 + c .passed = omega (arith, c .index, c .place) in
+          let held : HoldsFrom (whole x) (side x b) (c .number) (c .passed) (more t ts) = rw e at (c .held) in
+          let spot : q + i ≡ side x b .compound (c .number) + 1 + c .passed = omega (arith, c .index, c .place) in
           let here = searching-on x marks stamp z s₀ s (c .stamped) values place h in
-          let words : getD s (8 * q + i) 0 ≡ getD (x .front) (8 * q + i) 0 =
-          front-word s x values marks place stamp z here (8 * q + i) (omega (arith, c .inside, c .few, c .among)) in
+          let words : getD s (q + i) 0 ≡ getD (whole x) (q + i) 0 =
+          whole-word s x values marks place stamp z here (q + i) (omega (arith, c .inside, c .few, c .among))
+          (λ f. no-filling (side x b) t (sym (held .0) ∙ rw spot at f)) in
           let within : (j : ℕ) → StandsIn j (more t ts) → StandsAt j v = rw e at (c .within) in
           let lower : depths (more t ts) < value-depth v = rw e at (c .lower) in
           let visited : (j : ℕ) → StandsAt j v → StandsIn j (more t ts) ⊎ Seen s x marks stamp z j = rw e at (c .visited) in
@@ -194,9 +227,9 @@ module _ (x : Scene) (values marks place stamp z : ℕ) (b : Bool) where
             )) firm-now;
           }
         where
-          behind : HoldsFrom (x .front) (side x b) (c .number) (c .passed) (more t ts) → k ≤ i → (j : ℕ) → StandsIn j ts → ⊥
+          behind : HoldsFrom (whole x) (side x b) (c .number) (c .passed) (more t ts) → k ≤ i → (j : ℕ) → StandsIn j ts → ⊥
           behind held l =
-              none-stand (x .front) (side x b) (c .number) (c .passed + 1) ts (held .2)
+              none-stand (whole x) (side x b) (c .number) (c .passed + 1) ts (held .2)
               (λ m n h. rw (c .place) at (c .idle m (omega (arith, c .index)) (omega (arith, c .index, c .left, ap count e))))
 
           firm-now : (state ≡ 1) ⊎ ((state ≡ first) × ((j : ℕ) → StandsAt j v → StandsIn j (more t ts) ⊎ Ground (x .before) j))
@@ -213,7 +246,7 @@ module _ (x : Scene) (values marks place stamp z : ℕ) (b : Bool) where
   idle-rest : (s₀ s : List ℕ) (q k i : ℕ) (v : Option Term) (first state : ℕ) (c : Walked s₀ s x marks stamp z b q k i v first state) → k < i
       → (j : ℕ) → StandsIn j (c .rest) → ⊥
   idle-rest s₀ s q k i v first state c l =
-      none-stand (x .front) (side x b) (c .number) (c .passed) (c .rest) (c .held)
+      none-stand (whole x) (side x b) (c .number) (c .passed) (c .rest) (c .held)
       (λ m n h. rw (c .place) at (c .idle m (omega (arith, c .index)) (omega (arith, c .index, c .left))))
 
   -- Behind the last argument that leads on all are visited.
@@ -250,26 +283,6 @@ module _ (x : Scene) (values marks place stamp z : ℕ) (b : Bool) where
   idle-firm w none told idle d = absurd (d (omega (arith, told .word)))
   idle-firm w (some t) told idle d = λ j r. absurd (none-stands (side x b) t w (told .word) idle j r)
 
--- The k-th of some arguments, counted from 1 behind the i-th.
-nth : (front : List ℕ) (places : Places) (n i : ℕ) (ts : Terms) → HoldsFrom front places n i ts → (k : ℕ) → i < k → k ≤ i + count ts
-    → (t : Term) × (getD front (8 * places .compound n + k) 0 ≡ term-word places t) × Holds front places t × (depth t ≤ depths ts)
-    × ((j : ℕ) → Stands j t → StandsIn j ts)
-unfolding HoldsFrom StandsIn count depths
-nth front places n i end held k l h = absurd (omega arith)
-nth front places n i (more t ts) held k l h = go (ℕ-discrete k (i + 1)) (nth front places n (i + 1) ts (held .2) k)
-  where
-    go : Dec (k ≡ i + 1)
-        → (i + 1 < k → k ≤ i + 1 + count ts → (u : Term) × (getD front (8 * places .compound n + k) 0 ≡ term-word places u) × Holds front places u
-        × (depth u ≤ depths ts) × ((j : ℕ) → Stands j u → StandsIn j ts))
-        → (u : Term) × (getD front (8 * places .compound n + k) 0 ≡ term-word places u) × Holds front places u
-        × (depth u ≤ depths (more t ts)) × ((j : ℕ) → Stands j u → StandsIn j (more t ts))
-    go (yes e) rest =
-        let at : 8 * places .compound n + 1 + i ≡ 8 * places .compound n + k = omega arith in
-        (t, rw at at (held .0), held .1, omega arith, λ j r. inl r)
-    go (no d) rest =
-        let (u, word, holds, low, stands) = rest (omega arith) (omega arith) in
-        (u, word, holds, omega arith, λ j r. inr (stands j r))
-
 -- An argument of a compound: a term, less deep.
 pub record Argument (x : Scene) (b : Bool) (a : ℕ) (v : Option Term) : Type 0 where
   pub term : Term
@@ -278,17 +291,17 @@ pub record Argument (x : Scene) (b : Bool) (a : ℕ) (v : Option Term) : Type 0 
   pub within : (j : ℕ) → Stands j term → StandsAt j v
 
 pub argument-of : (x : Scene) (values marks place stamp z : ℕ) (b : Bool) (s : List ℕ) (w : ℕ) (v : Option Term) → Searching s x values marks place stamp z
-    → Told x b w v → w % 8 ≡ 6 → (q k a : ℕ) → q ≡ w / 8 → LastLeads s q k → (k ≡ 0 → ⊥) → a ≡ getD s (8 * q + k) 0 → Argument x b a v
+    → Told x b w v → w % 8 ≡ 6 → (q k a : ℕ) → q ≡ w / 8 → LastLeads s q k → (k ≡ 0 → ⊥) → a ≡ getD s (q + k) 0 → Argument x b a v
 unfolding StandsIn
 argument-of x values marks place stamp z b s w v h told six q k a at last some-left reads =
     let c = enter x values marks place stamp z b s w v h told six q k at last 0 in
     let low : c .passed ≡ 0 = omega (arith, c .index) in
     let (t, word, holds, deep, stands) =
-    nth (x .front) (side x b) (c .number) (c .passed) (c .rest) (c .held) k (omega arith) (omega (arith, c .among, c .left)) in
-    let same : getD s (8 * q + k) 0 ≡ getD (x .front) (8 * q + k) 0 =
-    front-word s x values marks place stamp z h (8 * q + k) (omega (arith, c .inside, c .among, c .few)) in
-    let word′ : getD (x .front) (8 * q + k) 0 ≡ term-word (side x b) t =
-    ap (λ r. getD (x .front) (8 * r + k) 0) (c .place) ∙ word in
+    nth (whole x) (side x b) (c .number) (c .passed) (c .rest) (c .held) k (omega arith) (omega (arith, c .among, c .left)) in
+    let word′ : getD (whole x) (q + k) 0 ≡ term-word (side x b) t =
+    ap (λ r. getD (whole x) (r + k) 0) (c .place) ∙ word in
+    let same : getD s (q + k) 0 ≡ getD (whole x) (q + k) 0 =
+    whole-word s x values marks place stamp z h (q + k) (omega (arith, c .inside, c .among, c .few)) (λ e. no-filling (side x b) t (sym word′ ∙ e)) in
     record {
       term = t;
       told = record { word = reads ∙ same ∙ word′; held = holds; pairs = λ j r. told .pairs j (c .within j (stands j r)) };

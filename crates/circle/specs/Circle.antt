@@ -71,8 +71,8 @@ pub record GivenTo (s : List ℕ) (y : Trial) (m : ℕ) : Type 0 where
 pub record Tried (s : List ℕ) (y : Trial) (values marks n stamp : ℕ) : Type 0 where
   pub unit : UnitStands s (y .unit) values
   pub unit-apart : (i j : ℕ) → i < old y → j < old y → y .unit .places .pair i ≡ y .unit .places .pair j → i ≡ j
-  pub unit-before : (m : ℕ) → m < y .unit .compounds → 8 * y .unit .places .compound m + 8 ≤ values
-  pub item-before : (m : ℕ) → m < y .compounds → 8 * y .item .compound m + 8 ≤ values
+  pub unit-before : (m : ℕ) → m < y .unit .compounds → y .unit .places .compound m + y .unit .places .width m ≤ values
+  pub item-before : (m : ℕ) → m < y .compounds → y .item .compound m + y .item .width m ≤ values
   pub item-pair : (m : ℕ) → y .item .pair m ≡ m
   pub few : y .pairs ≤ 16
   pub entries-before : 39952 + 2 * n ≤ values

@@ -1,13 +1,13 @@
 -- The search of the circle test: the pairs after a trial as the scratch has them, and what a search from a term finds and leaves marked.
 -- Two sides: the unit's pairs, numbered below `old`, and the clause's, from there on; the false side and the true side.
-use Prim.Native.Nat.{ℕ, _+_, _*_, _/_, _%_, _≤_, _<_}
+use Prim.Native.Nat.{ℕ, _+_, _*_, _-_, _/_, _%_, _≤_, _<_}
 use mathlib.Core.Path.{_≡_}
 use mathlib.Core.Logic.{_⊎_}
 use mathlib.Core.Bool.{Bool, true, false}
-use mathlib.Core.List.{List}
+use mathlib.Core.List.{List, _++_}
 use mathlib.Core.Option.{Option, none, some}
 use lib.Dec.{eqb}
-use lib.ListN.{length, getD, take}
+use lib.ListN.{length, getD, take, replicate}
 use Rattle.meaning.specs.Bytes.{if_then_else_}
 use Rattle.meaning.specs.Terms.{Term}
 use Rattle.meaning.specs.State.{Values, value}
@@ -29,13 +29,14 @@ LeadsIs w false = (w % 8 ≡ 6 → ⊥) × ((w % 8 ≡ 0) ⊎ (2 < w % 8))
 
 -- The last argument of the compound at place q from which a pair may be reached is none behind the k-th.
 pub record LastLeads (s : List ℕ) (q k : ℕ) : Type 0 where
-  pub among : k ≤ getD s (8 * q) 0 % 8
-  pub idle : (i : ℕ) → k < i → i ≤ getD s (8 * q) 0 % 8 → LeadsIs (getD s (8 * q + i) 0) false
+  pub among : k ≤ getD s q 0 % 8
+  pub idle : (i : ℕ) → k < i → i ≤ getD s q 0 % 8 → LeadsIs (getD s (q + i) 0) false
 
 -- The values before and after a trial, how many pairs the unit had before, how many pairs the scratch has room for, and each side's places.
--- `front` is the part of the scratch before the marks, which a search leaves as it is.
+-- `front` is the part of the scratch before the marks, which a search leaves as it is; `size` is how many words the scratch has.
 pub record Scene : Type 0 where
   pub front : List ℕ
+  pub size : ℕ
   pub values : ℕ
   pub pairs : ℕ
   pub before : Values
@@ -43,6 +44,13 @@ pub record Scene : Type 0 where
   pub old : ℕ
   pub unit : Places
   pub clause : Places
+
+-- The front filled up to the size of the scratch, with words that no compound has: a compound that stands there stands in the front.
+abbrev pub filled : List ℕ → ℕ → List ℕ
+filled front size = front ++ replicate (size - length front) 7
+
+abbrev pub whole : Scene → List ℕ
+whole x = filled (x .front) (x .size)
 
 abbrev pub side : Scene → Bool → Places
 side x false = x .unit
@@ -55,7 +63,7 @@ On x true j = (x .old ≤ j) × (j < length (x .after))
 -- A value of one side: its word, its compounds, its pairs.
 pub record Told (x : Scene) (b : Bool) (w : ℕ) (v : Option Term) : Type 0 where
   pub word : w ≡ value-word (side x b) v
-  pub held : HoldsValue (x .front) (side x b) v
+  pub held : HoldsValue (whole x) (side x b) v
   pub pairs : (j : ℕ) → StandsAt j v → On x b j
 
 -- A pair of the goal that the trial gives a term of the head: its word has 7 and eight times its number in the trial.
@@ -82,6 +90,7 @@ pub record Shown (x : Scene) : Type 0 where
 pub record Searching (s : List ℕ) (x : Scene) (values marks place stamp z : ℕ) : Type 0 where
   pub shown : Shown x
   pub front : take marks s ≡ x .front
+  pub size : length s ≡ x .size
   pub values-at : values ≡ x .values
   pub room : marks + x .pairs ≤ length s
   pub unit-pair : z < x .old

@@ -43,17 +43,17 @@ const GROUND: u64 = 1;
 
 // The number of arguments of the compound at a place, and one of them.
 fn count(s: &[u64], q: usize) -> usize
-    requires { ⌜ 8 * q < length (now s) ⌝ }
-    ensures { λ r. ⌜ r ≡ getD (now (s .entry)) (8 * q) 0 % 8 ⌝ }
+    requires { ⌜ q < length (now s) ⌝ }
+    ensures { λ r. ⌜ r ≡ getD (now (s .entry)) q 0 % 8 ⌝ }
 {
-    index(s[8 * q] % 8)
+    index(s[q] % 8)
 }
 
 fn argument(s: &[u64], q: usize, i: usize) -> u64
-    requires { ⌜ 8 * q + i < length (now s) ⌝ }
-    ensures { λ r. ⌜ r ≡ getD (now (s .entry)) (8 * q + i) 0 ⌝ }
+    requires { ⌜ q + i < length (now s) ⌝ }
+    ensures { λ r. ⌜ r ≡ getD (now (s .entry)) (q + i) 0 ⌝ }
 {
-    s[8 * q + i]
+    s[q + i]
 }
 
 // The term of the head that the trial gives the i-th of its pairs.
@@ -83,7 +83,7 @@ fn leads(w: u64) -> bool
 
 // The last argument of the compound at a place from which a pair may be reached; 0 if there is none.
 fn last(s: &[u64], q: usize) -> usize
-    requires { ⌜ 8 * q + 7 < length (now s) ⌝ }
+    requires { ⌜ q + 7 < length (now s) ⌝ }
     ensures { λ r. ⌜ LastLeads (now (s .entry)) q r ⌝ }
 {
     let mut k = count(s, q);

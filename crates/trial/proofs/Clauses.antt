@@ -131,24 +131,24 @@ module _ {s : List ℕ} {text : Bytes} {names : List Bytes} {j : Job} {limit : �
   unfolding Holds as-term
   few-arguments = t .goal-held .held .0 .few
 
-  pub goal-inside : 8 * goal < length s
+  pub goal-inside : goal < length s
   unfolding Holds as-term
   goal-inside = omega (arith, t .goal-held .held .0 .inside, t .goal-place)
 
-  functor-is : 504 + getD s (8 * goal) 0 ≡ procedure-place names (g .goal)
+  functor-is : 504 + getD s goal 0 ≡ procedure-place names (g .goal)
   unfolding Holds as-term
   functor-is =
-      let is : getD s (8 * goal) 0 ≡ count (g .goal .arguments) + 8 * (number-of (g .goal .name) names + 1) =
-      ap (λ p. getD s (8 * p) 0) (t .goal-place) ∙ t .goal-held .held .0 .functor
+      let is : getD s goal 0 ≡ count (g .goal .arguments) + 8 * (number-of (g .goal .name) names + 1) =
+      ap (λ p. getD s p 0) (t .goal-place) ∙ t .goal-held .held .0 .functor
       ∙ ap (λ l. count (g .goal .arguments) + 8 * (number-of (g .goal .name) l + 1)) (t .names-are) in
       omega arith
 
-  pub procedure-inside : 504 + getD s (8 * goal) 0 < length s
+  pub procedure-inside : 504 + getD s goal 0 < length s
   procedure-inside =
       omega (arith, functor-is, few-arguments, number-below (g .goal .name) names known, t .held .few-names, t .held .inside)
 
   -- Before the first clause.
-  pub walk-first : (first next : ℕ) → MarksBelow s marks (figures .pairs) first → next ≡ getD s (504 + getD s (8 * goal) 0) 0
+  pub walk-first : (first next : ℕ) → MarksBelow s marks (figures .pairs) first → next ≡ getD s (504 + getD s goal 0) 0
       → Walk s s names j limit figures at g marks first 0 first next
   unfolding choice listed
   walk-first first next new e = record {

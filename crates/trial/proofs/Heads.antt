@@ -111,9 +111,14 @@ module _ {s : List â„•} {text : Bytes} {names : List Bytes} {j : Job} {limit : â
   unfolding GoalsNumbered
   head-end = m .at .held .laid .numbered .0
 
+  -- The body's are numbered behind them.
+  pub body-numbered : GoalsNumbered head-end (c .compounds) (c .body)
+  unfolding GoalsNumbered head-end
+  body-numbered = m .at .held .laid .numbered .2
+
   pub against : AllAgainst s (setting figures at (unit-of j limit figures g)) (template k c) values links
       (c .head .number) (named (c .head .name)) (c .head .arguments) 1 head-end
-      (g .goal .number) (named (g .goal .name)) (g .goal .arguments) (640 + 32 * k) goal 0
+      (g .goal .number) (named (g .goal .name)) (g .goal .arguments) (5120 + 256 * k) goal 0
   unfolding GoalsNumbered GoalsKnown Numbered Known Holds Within Ranged as-term head-end
   against =
       let laid = clause-held .held .laid in

@@ -17,6 +17,7 @@ use Rattle.meaning.proofs.Single.{AssignedOnce}
 use Rattle.meaning.proofs.Trial.Values.{value-assigned-other, value-set-same}
 use Rattle.term.specs.Cells.{Places, term-word}
 use Rattle.term.specs.Setting.{Setting, UnitTerm}
+use Rattle.term.proofs.Cells.{numbered-order}
 use Rattle.compare.specs.Gifts.{Gift, to-head, to-goal, assignments, Entry, entries-of, EntriesAt}
 use Rattle.compare.specs.Compare.{Template, HeadTerm, AllGiven, AllEntries}
 
@@ -97,12 +98,12 @@ module _ (p c : ℕ) where
   entries-differ (to-goal z t ∷ gs) (suc i) (suc j) apart h k e = ap suc (entries-differ gs i j (apart .1) (omega arith) (omega arith) e)
 
   -- What is given to the clause's pairs is a term of the unit.
-  pub to-clause : (s : List ℕ) (x : Setting) (y : Template) (gs : List Gift) → AllGiven s x y gs → p ≡ length (x .values)
+  pub to-clause : (s : List ℕ) (x : Setting) (y : Template) (lo hi : ℕ) (gs : List Gift) → AllGiven s x y lo hi gs → p ≡ length (x .values)
       → Each (λ a. p ≤ a .pair → UnitTerm s x (a .value)) (assignments p c gs)
   unfolding AllGiven assignments
-  to-clause s x y [] k e = tt
-  to-clause s x y (to-head n u ∷ gs) k e = (λ h. k .0 .1, to-clause s x y gs (k .1) e)
-  to-clause s x y (to-goal z t ∷ gs) k e = (λ h. absurd (omega (arith, k .0 .0)), to-clause s x y gs (k .1) e)
+  to-clause s x y lo hi [] k e = tt
+  to-clause s x y lo hi (to-head n u ∷ gs) k e = (λ h. k .0 .1, to-clause s x y lo hi gs (k .1) e)
+  to-clause s x y lo hi (to-goal z t ∷ gs) k e = (λ h. absurd (omega (arith, k .0)), to-clause s x y (k .2) hi gs (k .5) e)
 
   -- What is given to the unit's pairs is an entry.
   pub to-unit : (s : List ℕ) (item unit : Places) (gs : List Gift) (n : ℕ) (a : Assignment) → EntriesAt s item unit n (entries-of gs)
@@ -138,9 +139,17 @@ entry-words s item unit n (e ∷ es) (suc i) h k =
     let is : n + suc i ≡ (n + 1) + i = omega arith in
     rw is (entry-words s item unit (n + 1) es i (omega arith) (k .2))
 
-pub entry-held : (s : List ℕ) (x : Setting) (y : Template) (es : List Entry) (i : ℕ) → i < length es → AllEntries s x y es
-    → (getD es i no-entry .pair < length (x .values)) × (lo : ℕ) × (hi : ℕ) × HeadTerm s x y lo hi (getD es i no-entry .term)
+pub entries-order : (s : List ℕ) (x : Setting) (y : Template) (lo hi : ℕ) (es : List Entry) → AllEntries s x y lo hi es → lo ≤ hi
 unfolding AllEntries
-entry-held s x y [] i h k = absurd (omega arith)
-entry-held s x y (e ∷ es) zero h k = k .0
-entry-held s x y (e ∷ es) (suc i) h k = entry-held s x y es i (omega arith) (k .1)
+entries-order s x y lo hi [] k = k
+entries-order s x y lo hi (e ∷ es) k =
+    omega (arith, k .3, numbered-order (k .1) (k .2) (e .term) (k .4 .numbered), entries-order s x y (k .2) hi es (k .5))
+
+pub entry-held : (s : List ℕ) (x : Setting) (y : Template) (lo hi : ℕ) (es : List Entry) (i : ℕ) → i < length es → AllEntries s x y lo hi es
+    → (getD es i no-entry .pair < length (x .values)) × (a : ℕ) × (b : ℕ) × HeadTerm s x y a b (getD es i no-entry .term) × (lo ≤ a) × (b ≤ hi)
+unfolding AllEntries
+entry-held s x y lo hi [] i h k = absurd (omega arith)
+entry-held s x y lo hi (e ∷ es) zero h k = (k .0, k .1, k .2, k .4, k .3, entries-order s x y (k .2) hi es (k .5))
+entry-held s x y lo hi (e ∷ es) (suc i) h k =
+    let (pair, a, b, term, low, high) = entry-held s x y (k .2) hi es i (omega arith) (k .5) in
+    (pair, a, b, term, omega (arith, k .3, numbered-order (k .1) (k .2) (e .term) (k .4 .numbered)), high)

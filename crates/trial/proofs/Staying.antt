@@ -61,9 +61,9 @@ trial-only-set top marks pairs i v s l h = record { size = length-set s i v; sam
     go k (inl a) = getD-set-other s i k v 0 (λ e. omega arith)
     go k (inr a) = getD-set-other s i k v 0 (λ e. omega arith)
 
--- A compound's place is below the trial's region, or behind it and before the marks.
-abbrev pub Apart : ℕ → ℕ → Type 0
-Apart marks place = (place < 4992) ⊎ ((5088 ≤ place) × (8 * place + 8 ≤ marks))
+-- A compound's own words are below the trial's region, or behind it and before the marks.
+abbrev pub Apart : ℕ → Places → ℕ → Type 0
+Apart marks at n = (at .compound n + at .width n ≤ 39936) ⊎ ((40704 ≤ at .compound n) × (at .compound n + at .width n ≤ marks))
 
 module _ (marks pairs : ℕ) (s s′ : List ℕ) (o : TrialOnly 40704 marks pairs s s′) (behind : 40704 ≤ marks) where
   pub low-stays : (k : ℕ) → k < 39936 → getD s′ k 0 ≡ getD s k 0
@@ -72,25 +72,25 @@ module _ (marks pairs : ℕ) (s s′ : List ℕ) (o : TrialOnly 40704 marks pair
   pub high-stays : (k : ℕ) → 40704 ≤ k → k < marks → getD s′ k 0 ≡ getD s k 0
   high-stays k a b = o .same k (inr a) (inl b)
 
-  place-stays : (place k : ℕ) → Apart marks place → 8 * place ≤ k → k < 8 * place + 8 → getD s′ k 0 ≡ getD s k 0
-  place-stays place k (inl low) a b = low-stays k (omega arith)
-  place-stays place k (inr high) a b = high-stays k (omega (arith, high .0)) (omega (arith, high .1))
+  place-stays : (at : Places) (n k : ℕ) → Apart marks at n → at .compound n ≤ k → k < at .compound n + at .width n → getD s′ k 0 ≡ getD s k 0
+  place-stays at n k (inl low) a b = low-stays k (omega arith)
+  place-stays at n k (inr high) a b = high-stays k (omega (arith, high .0)) (omega (arith, high .1))
 
-  module _ (places : Places) (p c : ℕ) (apart : (n : ℕ) → n < c → Apart marks (places .compound n)) where
+  module _ (places : Places) (p c : ℕ) (apart : (n : ℕ) → n < c → Apart marks places n) where
     pub holds-stays : (t : Term) → Within p c t → Holds s places t → Holds s′ places t
     holds-stays t w h =
-        holds-alike s s′ places (λ n. n < c) (omega (arith, o .size)) (λ n l k. place-stays (places .compound n) k (apart n l)) t
+        holds-alike s s′ places (λ n. n < c) (omega (arith, o .size)) (λ n l k. place-stays places n k (apart n l)) t
         (within-every p c t w) h
 
-  module _ (x : Setting) (apart : (n : ℕ) → n < x .compounds → Apart marks (x .places .compound n)) where
+  module _ (x : Setting) (apart : (n : ℕ) → n < x .compounds → Apart marks (x .places) n) where
     pub unit-term-stays : (t : Term) → UnitTerm s x t → UnitTerm s′ x t
     unit-term-stays t k = record {
       held = holds-stays (x .places) (length (x .values)) (x .compounds) apart t (k .of .within) (k .held);
       of = k .of;
     }
 
-    words-stay : (n : ℕ) → n < x .compounds → (k : ℕ) → 8 * x .places .compound n ≤ k → k < 8 * x .places .compound n + 8 → getD s′ k 0 ≡ getD s k 0
-    words-stay n l k = place-stays (x .places .compound n) k (apart n l)
+    words-stay : (n : ℕ) → n < x .compounds → (k : ℕ) → x .places .compound n ≤ k → k < x .places .compound n + x .places .width n → getD s′ k 0 ≡ getD s k 0
+    words-stay n l k = place-stays (x .places) n k (apart n l)
 
     pub unit-stays : (from : ℕ) → 40704 ≤ from → from + x .pairs ≤ marks → UnitStands s x from → UnitStands s′ x from
     unit-stays from a b u =
@@ -102,7 +102,7 @@ module _ (marks pairs : ℕ) (s s′ : List ℕ) (o : TrialOnly 40704 marks pair
         (λ n h. o .same (end-place x from n) (inr (omega arith)) (inr (omega arith))) e
 
   module _ (x : Setting) (y : Template) (small : y .number < 128) (few : y .compounds ≤ 32) where
-    head-apart : (n : ℕ) → n < y .compounds → Apart marks (item x y .compound n)
+    head-apart : (n : ℕ) → n < y .compounds → Apart marks (item x y) n
     head-apart n h = inl (omega arith)
 
     pub head-term-stays : (lo hi : ℕ) (t : Term) → HeadTerm s x y lo hi t → HeadTerm s′ x y lo hi t
@@ -115,18 +115,19 @@ module _ (marks pairs : ℕ) (s s′ : List ℕ) (o : TrialOnly 40704 marks pair
       high = k .high;
     }
 
-    pub all-entries-stay : (es : List Entry) → AllEntries s x y es → AllEntries s′ x y es
+    pub all-entries-stay : (lo hi : ℕ) (es : List Entry) → AllEntries s x y lo hi es → AllEntries s′ x y lo hi es
     unfolding AllEntries
-    all-entries-stay [] k = tt
-    all-entries-stay (e ∷ es) k =
-        ((k .0 .0, k .0 .1, k .0 .2, head-term-stays (k .0 .1) (k .0 .2) (e .term) (k .0 .3)), all-entries-stay es (k .1))
+    all-entries-stay lo hi [] k = k
+    all-entries-stay lo hi (e ∷ es) k =
+        (k .0, k .1, k .2, k .3, head-term-stays (k .1) (k .2) (e .term) (k .4), all-entries-stay (k .2) hi es (k .5))
 
-    pub all-given-stay : ((n : ℕ) → n < x .compounds → Apart marks (x .places .compound n)) → (gs : List Gift) → AllGiven s x y gs → AllGiven s′ x y gs
+    pub all-given-stay : ((n : ℕ) → n < x .compounds → Apart marks (x .places) n) → (lo hi : ℕ) (gs : List Gift) → AllGiven s x y lo hi gs
+        → AllGiven s′ x y lo hi gs
     unfolding AllGiven
-    all-given-stay apart [] k = tt
-    all-given-stay apart (to-head n u ∷ gs) k = ((k .0 .0, unit-term-stays x apart u (k .0 .1)), all-given-stay apart gs (k .1))
-    all-given-stay apart (to-goal z t ∷ gs) k =
-        ((k .0 .0, k .0 .1, k .0 .2, head-term-stays (k .0 .1) (k .0 .2) t (k .0 .3)), all-given-stay apart gs (k .1))
+    all-given-stay apart lo hi [] k = k
+    all-given-stay apart lo hi (to-head n u ∷ gs) k = ((k .0 .0, unit-term-stays x apart u (k .0 .1)), all-given-stay apart lo hi gs (k .1))
+    all-given-stay apart lo hi (to-goal z t ∷ gs) k =
+        (k .0, k .1, k .2, k .3, head-term-stays (k .1) (k .2) t (k .4), all-given-stay apart (k .2) hi gs (k .5))
 
   -- The job, and a clause of it.
   pub job-stays : JobKept s s′
@@ -155,7 +156,7 @@ module _ (marks pairs : ℕ) (s s′ : List ℕ) (o : TrialOnly 40704 marks pair
 pub compounds-apart : {s : List ℕ} {text : Bytes} {names : List Bytes} {j : Job} {limit : ℕ} {figures : Room} {at : Places}
     {g : Goal} {others : List Goal} {values marks links goal : ℕ}
     → Trying s text names j limit figures at g others values marks links goal
-    → (n : ℕ) → n < unit-of j limit figures g .compounds → Apart marks (at .compound n)
+    → (n : ℕ) → n < unit-of j limit figures g .compounds → Apart marks at n
 compounds-apart t n h = inr (t .compound-behind n h, omega (arith, t .compound-before n h, t .marks-behind))
 
 -- All that a trial leans on.

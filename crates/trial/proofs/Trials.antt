@@ -27,6 +27,7 @@ use Rattle.meaning.proofs.Trial.Values.{
 }
 use Rattle.term.specs.Cells.{Places}
 use Rattle.term.specs.Frames.{Only}
+use Rattle.term.specs.Jobs.{GoalsNumbered}
 use Rattle.term.specs.Setting.{Setting, UnitTerm}
 use Rattle.term.specs.States.{setting}
 use Rattle.compare.specs.declared.compare.Result.{Result as Result′}
@@ -39,7 +40,7 @@ use Rattle.circle.proofs.Grounds.{new-then}
 use Rattle.compare.specs.Compare.{Template, item, AllAgainst, AllEntries, Agreed, Answers, Gave, places-outcome}
 use Rattle.trial.specs.Choosing.{unit-of, Trying, TrialOnly, MarksBelow, template, Candidate, TrialIs}
 use Rattle.compare.proofs.Given.{entries-length, entries-at, entries-held, gave}
-use Rattle.trial.proofs.Heads.{rules-kept, one-of-the-job, head-end, against, compared-is}
+use Rattle.trial.proofs.Heads.{rules-kept, one-of-the-job, head-end, body-numbered, against, compared-is}
 use Rattle.trial.proofs.Once.{once-apart, assigned-is, no-entry, entry-assigned, entries-differ, to-clause, to-unit, entry-words, entry-held}
 use Rattle.trial.proofs.Staying.{
   trial-only-then,
@@ -88,19 +89,19 @@ module _ {s s₁ : List ℕ} {text : Bytes} {names : List Bytes} {j : Job} {limi
 
   pub comparing : AllAgainst s₁ (setting figures at (unit-of j limit figures g)) (template k c) values links
       (c .head .number) (named (c .head .name)) (c .head .arguments) 1 to
-      (g .goal .number) (named (g .goal .name)) (g .goal .arguments) (640 + 32 * k) goal 0
+      (g .goal .number) (named (g .goal .name)) (g .goal .arguments) (5120 + 256 * k) goal 0
   comparing = against begun-trying begun-candidate
 
   -- What comparing tells.
   abbrev pub Comparison : List ℕ → Result′ → Type 0
   Comparison s₂ r =
-      Answers s₁ s₂ (setting figures at (unit-of j limit figures g)) (template k c) 0 1 (0 + 6 * to + count (c .head .arguments))
+      Answers s₁ s₂ (setting figures at (unit-of j limit figures g)) (template k c) 0 1 to (count (c .head .arguments))
       (places-outcome (setting figures at (unit-of j limit figures g)) links (c .head .arguments) (g .goal .arguments)) r
 
   pub comparison : (s₂ : List ℕ) (r r′ : Result′)
       → ((x : Setting) (y : Template) (h : ℕ) (f : Functor) (us : Terms) (lo hi l : ℕ) (e : Functor) (ts : Terms)
-      → AllAgainst s₁ x y values links h f us lo hi l e ts (640 + 32 * k) goal 0
-      → Answers s₁ s₂ x y 0 lo (0 + 6 * hi + count us) (places-outcome x links us ts) r)
+      → AllAgainst s₁ x y values links h f us lo hi l e ts (5120 + 256 * k) goal 0
+      → Answers s₁ s₂ x y 0 lo hi (count us) (places-outcome x links us ts) r)
       → r ≡ r′ → Comparison s₂ r′
   comparison s₂ r r′ tells e =
       subst (λ o. Comparison s₂ o) e
@@ -152,10 +153,10 @@ module _ {s s₁ : List ℕ} {text : Bytes} {names : List Bytes} {j : Job} {limi
     stand : EntriesAt s₂ (item x y) at 0 list
     stand =
         subst (λ u. EntriesAt u (item x y) at 0 list) (sym (told .told .1 .scratch))
-        (entries-at (item x y) at gifts s₁ x y 0 s₁ few (told .told .1 .given) large (omega (arith, few-entries, told .told .1 .counted)))
+        (entries-at (item x y) at gifts s₁ x y 1 to 0 s₁ few (told .told .1 .given) large (omega (arith, few-entries, told .told .1 .counted)))
 
-    held : AllEntries s₁ x y list
-    held = entries-held gifts s₁ x y (told .told .1 .given)
+    held : AllEntries s₁ x y 1 to list
+    held = entries-held gifts s₁ x y 1 to (told .told .1 .given)
 
     agreed-frame : TrialOnly 40704 marks (figures .pairs) s₁ s₂
     agreed-frame = trial-only-region 40704 marks (figures .pairs) (omega arith) (told .only)
@@ -166,10 +167,10 @@ module _ {s s₁ : List ℕ} {text : Bytes} {names : List Bytes} {j : Job} {limi
     agreed-trying : Trying s₂ text names j limit figures at g others values marks links goal
     agreed-trying = trying-stays agreed-frame agreed-grounds begun-trying
 
-    pub given-then : Gave s₁ s₂ x y given n
+    given-then : (all : Gave s₁ s₂ x y given n) × (all .high ≡ to)
     given-then =
-        gave s₁ s₂ x y given n
-        (subst (λ o. Agreed s₁ s₂ x y 0 o n) (told .told .1 .outcome) (told .told .1))
+        gave s₁ s₂ x y 1 to given n
+        (subst (λ o. Agreed s₁ s₂ x y 0 1 to o n) (told .told .1 .outcome) (told .told .1))
         large few-entries few cleared
 
     abbrev pub tried-as : Trial
@@ -189,7 +190,7 @@ module _ {s s₁ : List ℕ} {text : Bytes} {names : List Bytes} {j : Job} {limi
     entry i h =
         let e = getD list i no-entry in
         let inside : i < length list = omega (arith, counted) in
-        let own = entry-held s₁ x y list i inside held in
+        let own = entry-held s₁ x y 1 to list i inside held in
         let words = entry-words s₂ (item x y) at 0 list i inside stand in
         let is : 0 + i ≡ i = omega arith in
         let one = entry-assigned (length (x .values)) (x .compounds) gifts i inside in
@@ -219,7 +220,7 @@ module _ {s s₁ : List ℕ} {text : Bytes} {names : List Bytes} {j : Job} {limi
         let words′ = rw is′ at (entry-words s₂ (item x y) at 0 list l inside′ stand .0) in
         entries-differ (length (x .values)) (x .compounds) gifts i l (once-apart once) inside inside′
         (t .apart (getD list i no-entry .pair) (getD list l no-entry .pair)
-        (entry-held s₁ x y list i inside held .0) (entry-held s₁ x y list l inside′ held .0)
+        (entry-held s₁ x y 1 to list i inside held .0) (entry-held s₁ x y 1 to list l inside′ held .0)
         (sym words ∙ same ∙ words′))
 
     -- What the clause's pairs are given.
@@ -233,7 +234,7 @@ module _ {s s₁ : List ℕ} {text : Bytes} {names : List Bytes} {j : Job} {limi
             unit-term-stays marks (figures .pairs) s₁ s₂ agreed-frame (omega (arith, t .values-behind, t .marks-behind)) x (compounds-apart t) u
             (subst (λ v. UnitTerm s₁ x v) is
             (each-in (λ d. length (x .values) ≤ d .pair → UnitTerm s₁ x (d .value))
-            (to-clause (length (x .values)) (x .compounds) s₁ x y gifts (told .told .1 .given) refl) one (omega arith)))
+            (to-clause (length (x .values)) (x .compounds) s₁ x y 1 to gifts (told .told .1 .given) refl) one (omega arith)))
         go (inr q) = absurd (omega (arith, assigned-below (x .values) (length (x .values) + a) u q))
 
     pub tried : Tried s₂ tried-as values marks n stamp
@@ -251,7 +252,7 @@ module _ {s s₁ : List ℕ} {text : Bytes} {names : List Bytes} {j : Job} {limi
       entry = entry;
       entries-apart = apart-entries;
       given = λ a h. record {
-        word = given-then .clause-values a h;
+        word = given-then .0 .clause-values a h;
         held = λ u e. to-pair a u e .held;
         within = λ u e. to-pair a u e .of .within;
       };
@@ -304,34 +305,37 @@ module _ {s s₁ : List ℕ} {text : Bytes} {names : List Bytes} {j : Job} {limi
       pub no-circle-succeeds : found ≡ false → TrialIs s s₃ j limit figures at g marks stamp k c (Succeeds n)
       unfolding if_then_else_
       no-circle-succeeds e =
-          let all = given-then in
+          let all = given-then .0 in
           record {
             only = whole-frame;
             marks-now = marks-after;
             told = (
               given,
               rw e at tested-is,
-              (
-                few-entries,
-                record {
+              record {
+                few = few-entries;
+                gave = record {
                   list = all .list;
                   size = all .size;
                   stand = entries-stay s₂ s₃ (item x y) at 0 (all .list) (λ a l h. before-marks a (omega (arith, all .size, few-entries))) (all .stand);
                   held = all-entries-stay marks (figures .pairs) s₁ s₃
                       (trial-only-then agreed-frame (trial-only-wider 40704 (omega arith) tested-frame))
-                      (omega (arith, t .values-behind, t .marks-behind)) x y (m .at .number) (m .at .held .laid .few-compounds) (all .list) (all .held);
+                      (omega (arith, t .values-behind, t .marks-behind)) x y (m .at .number) (m .at .held .laid .few-compounds) (all .low) (all .high) (all .list) (all .held);
                   unit-values = all .unit-values;
                   clause-values = λ a h. before-marks (39936 + a) (omega (arith, few)) ∙ all .clause-values a h;
                   gifts = all .gifts;
                   given-are = all .given-are;
+                  low = all .low;
+                  high = all .high;
                   list-is = all .list-is;
                   gifts-held = all-given-stay marks (figures .pairs) s₁ s₃
                       (trial-only-then agreed-frame (trial-only-wider 40704 (omega arith) tested-frame))
                       (omega (arith, t .values-behind, t .marks-behind)) x y (m .at .number) (m .at .held .laid .few-compounds) (compounds-apart t)
-                      (all .gifts) (all .gifts-held);
+                      (all .low) (all .high) (all .gifts) (all .gifts-held);
                   pairs-are = all .pairs-are;
-                },
-              ),
+                };
+                body = subst (λ h. GoalsNumbered h (c .compounds) (c .body)) (sym (given-then .1)) (body-numbered begun-trying begun-candidate);
+              },
             );
             grounds = grounds-after;
           }

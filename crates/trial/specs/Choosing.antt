@@ -14,7 +14,7 @@ use Rattle.meaning.specs.Trial.{Choice, reduces, joins-waiting, joins-failed, p
 use Rattle.meaning.specs.Run.{run}
 use Rattle.term.specs.Cells.{Places}
 use Rattle.term.specs.Chains.{EndsStand}
-use Rattle.term.specs.Jobs.{HoldsJob, ClauseAt}
+use Rattle.term.specs.Jobs.{GoalsNumbered, HoldsJob, ClauseAt}
 use Rattle.term.specs.Setting.{Setting, UnitTerm, UnitStands}
 use Rattle.term.specs.States.{setting, listed}
 use Rattle.compare.specs.Compare.{Template, Gave}
@@ -40,8 +40,8 @@ pub record Trying (s : List ℕ) (text : Bytes) (names : List Bytes) (j : Job) (
   pub goal-place : goal ≡ places .compound (g .goal .number)
   pub apart : (n m : ℕ) → n < length (unit-of j limit figures g .values) → m < length (unit-of j limit figures g .values)
       → places .pair n ≡ places .pair m → n ≡ m
-  pub compound-behind : (n : ℕ) → n < unit-of j limit figures g .compounds → 5088 ≤ places .compound n
-  pub compound-before : (n : ℕ) → n < unit-of j limit figures g .compounds → 8 * places .compound n + 8 ≤ values
+  pub compound-behind : (n : ℕ) → n < unit-of j limit figures g .compounds → 40704 ≤ places .compound n
+  pub compound-before : (n : ℕ) → n < unit-of j limit figures g .compounds → places .compound n + places .width n ≤ values
   pub values-behind : 40704 ≤ values
   pub marks-behind : values + figures .pairs ≤ marks
   pub inside : marks + figures .pairs ≤ length s
@@ -71,9 +71,12 @@ pub record Candidate (s : List ℕ) (names : List Bytes) (j : Job) (g : Goal) (k
   pub after : List Clause
   pub in-procedure : procedure (j .clauses) (g .goal) ≡ before ++ c ∷ after
 
--- What a trial has given stands in the trial's region: the assignments of n of the goal's pairs, and of the head's writers.
-abbrev pub Succeeded : List ℕ → Setting → ℕ → Clause → List Assignment → ℕ → Type 0
-Succeeded s x k c given n = (n ≤ 192) × Gave s s x (template k c) given n
+-- What a trial has given stands in the trial's region: the assignments of n of the goal's pairs, and of the head's writers; the compounds of the
+-- body's goals are numbered behind those of what is given.
+pub record Succeeded (s : List ℕ) (x : Setting) (k : ℕ) (c : Clause) (given : List Assignment) (n : ℕ) : Type 0 where
+  pub few : n ≤ 192
+  pub gave : Gave s s x (template k c) given n
+  pub body : GoalsNumbered (gave .high) (c .compounds) (c .body)
 
 abbrev pub TrialTold : List ℕ → Setting → ℕ → Clause → Result → Outcome → Type 0
 TrialTold s x k c o (Succeeds n) = (given : List Assignment) × (o ≡ succeeds given) × Succeeded s x k c given n

@@ -96,7 +96,7 @@ pub fn trial(
 {
     let pairs = index(word_at(s, CLAUSES + 16 * k, 1));
     begin(s, pairs);
-    match places(s, values, links, 640 + 32 * k, goal, 0) {
+    match places(s, values, links, 5120 + 256 * k, goal, 0) {
         Result::Agrees(n) => {
             if circle(s, values, marks, n, stamp) {
                 return Outcome::Fails;
@@ -110,10 +110,10 @@ pub fn trial(
 
 // "Name and number of arguments together select the procedure": the number of its first clause plus one, or 0.
 fn first_clause(s: &[u64], goal: usize) -> usize
-    requires { ⌜ (8 * goal < length (now s)) × (504 + getD (now s) (8 * goal) 0 < length (now s)) ⌝ }
-    ensures { λ r. ⌜ r ≡ getD (now (s .entry)) (504 + getD (now (s .entry)) (8 * goal) 0) 0 ⌝ }
+    requires { ⌜ (goal < length (now s)) × (504 + getD (now s) goal 0 < length (now s)) ⌝ }
+    ensures { λ r. ⌜ r ≡ getD (now (s .entry)) (504 + getD (now (s .entry)) goal 0) 0 ⌝ }
 {
-    let functor = index(word_at(s, 8 * goal, 0));
+    let functor = index(word_at(s, goal, 0));
     index(word_at(s, PROCEDURES - 8, functor))
 }
 

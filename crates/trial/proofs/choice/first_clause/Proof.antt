@@ -1,13 +1,10 @@
 -- `trial::choice::first_clause` meets its contract: the goal's functor tells where the procedure has its word.
-use Prim.Native.Nat.{_+_, _*_}
+use Prim.Native.Nat.{_+_}
 use mathlib.Core.Path.{_≡_, refl, _∙_}
 use native.Mathlib.Omega.{arith}
 use borrow.Author.Needs.{needs}
 use Rattle.trial.proofs.choice.first_clause.Statement.{statement}
 use Rattle.trial.proofs.choice.first_clause.Tie as tie
-
-mul-word-at : tie.Need-mul-word-at
-mul-word-at c = search needs
 
 word-at-requires : tie.Need-word-at-requires
 word-at-requires c κs = search needs
@@ -21,7 +18,7 @@ sub-word-at c = search needs
 word-at-requires-2 : tie.Need-word-at-requires-2
 word-at-requires-2 c κs =
     let goal = c .before .before .before .args .goal in
-    let same : 8 * goal + 0 ≡ 8 * goal = omega arith in
+    let same : goal + 0 ≡ goal = omega arith in
     let is = rw same at (c .before .word-at .ensures) in
     omega (arith, is, c .index .ensures, c .before .before .before .pre .1)
 
@@ -33,7 +30,7 @@ returns c =
     let W = c .before in
     let I = W .before in
     let goal = I .before .before .before .args .goal in
-    let same : 8 * goal + 0 ≡ 8 * goal = omega arith in
+    let same : goal + 0 ≡ goal = omega arith in
     let is = rw same at (I .before .word-at .ensures) in
     c .index2 .ensures ∙ W .word-at2 .ensures ∙ rw (I .index .ensures, is) refl
 
@@ -41,7 +38,6 @@ pub first-clause-spec : {M : Type 1} → statement M
 first-clause-spec =
     tie.close
     (tie.spec
-    mul-word-at
     word-at-requires
     index-requires
     sub-word-at
