@@ -6,19 +6,24 @@ use native.Mathlib.Omega.{arith}
 use lib.ListN.{length, getD, set}
 use Rattle.meaning.specs.Terms.{Functor, Term, Terms, compound}
 use Rattle.term.specs.Words.{view}
+use Rattle.term.specs.declared.word.View.{View}
 use Rattle.term.specs.declared.word.View.the-variants.{Writer, Reader, Compound}
 use Rattle.circle.proofs.Depth.{height}
-use Rattle.reduction.specs.Build.{Item, Original, Copied}
+use Rattle.reduction.specs.Build.{Item, Original, Aside, Laid, Copied}
 use Rattle.reduction.proofs.Copying.{
+  Fixed,
   writer-few,
   reader-few,
+  writer-copied,
+  reader-copied,
+  constant-copied,
   compound-original,
   compound-copied,
   compound-height,
   Progress,
   there,
-  from-low,
-  here,
+  room,
+  number-is,
   begin,
   argument-falls,
   argument,
@@ -27,75 +32,91 @@ use Rattle.reduction.proofs.Copying.{
 }
 
 -- What is asked for a term and for a compound, and what is told.
-abbrev pub AsksTerm : List ℕ → ℕ → ℕ → ℕ → Type 0
-AsksTerm s pair shift h = (x : Item) × (low : ℕ) × (high : ℕ) × (t : Term) × Original s x pair shift low high h t
+abbrev pub AsksTerm : List ℕ → ℕ → ℕ → ℕ → ℕ → Type 0
+AsksTerm s pair at to h = (x : Item) × (t : Term) × Original s x pair to h t × Aside s at to t
 
-abbrev pub TellsTerm : List ℕ → ℕ → ℕ → ℕ → List ℕ → ℕ → Type 0
-TellsTerm s pair shift h s′ w = (x : Item) (low high : ℕ) (t : Term) → Original s x pair shift low high h t → Copied s s′ x pair shift low high t w
+abbrev pub TellsTerm : List ℕ → ℕ → ℕ → ℕ → ℕ → List ℕ → ℕ → Type 0
+TellsTerm s pair at to h s′ r = (x : Item) (t : Term) → Original s x pair to h t → Aside s at to t → Copied s s′ x pair at to t r
 
 abbrev pub AsksCompound : List ℕ → ℕ → ℕ → ℕ → Type 0
-AsksCompound s pair shift p =
-    (x : Item) × (low : ℕ) × (high : ℕ) × (n : ℕ) × (f : Functor) × (ts : Terms) × Original s x pair shift low high (6 + 8 * p) (compound n f ts)
+AsksCompound s pair to p = (x : Item) × (n : ℕ) × (f : Functor) × (ts : Terms) × Original s x pair to (6 + 8 * p) (compound n f ts)
 
 abbrev pub TellsCompound : List ℕ → ℕ → ℕ → ℕ → List ℕ → ℕ → Type 0
-TellsCompound s pair shift p s′ w =
-    (x : Item) (low high n : ℕ) (f : Functor) (ts : Terms) → Original s x pair shift low high (6 + 8 * p) (compound n f ts)
-    → Copied s s′ x pair shift low high (compound n f ts) w
+TellsCompound s pair to p s′ r =
+    (x : Item) (n : ℕ) (f : Functor) (ts : Terms) → Original s x pair to (6 + 8 * p) (compound n f ts) → Laid s s′ x pair to (compound n f ts) r
 
-module _ (s : List ℕ) (pair shift h : ℕ) where
+module _ (s : List ℕ) (pair at to h : ℕ) where
+  -- The copy's word and its compounds have places.
+  pub term-inside : AsksTerm s pair at to h → (at < length s) × (to + 8 ≤ length s)
+  term-inside (x, t, o, a) = (a .inside, omega (arith, o .room))
+
   -- A pair's copy is one of the pairs.
-  pub writer-fits : AsksTerm s pair shift h → (m : ℕ) → view (h % 8) (h / 8) ≡ Writer m → pair + m < 4294967296
-  writer-fits (x, low, high, t, o) m e = omega (arith, writer-few s x pair shift low high h t o m e, o .goes .pairs-fit)
+  pub writer-fits : AsksTerm s pair at to h → (m : ℕ) → view (h % 8) (h / 8) ≡ Writer m → pair + m < 4294967296
+  writer-fits (x, t, o, a) m e = omega (arith, writer-few s x pair to h t o m e, o .goes .pairs-fit)
 
-  pub reader-fits : AsksTerm s pair shift h → (m : ℕ) → view (h % 8) (h / 8) ≡ Reader m → pair + m < 4294967296
-  reader-fits (x, low, high, t, o) m e = omega (arith, reader-few s x pair shift low high h t o m e, o .goes .pairs-fit)
+  pub reader-fits : AsksTerm s pair at to h → (m : ℕ) → view (h % 8) (h / 8) ≡ Reader m → pair + m < 4294967296
+  reader-fits (x, t, o, a) m e = omega (arith, reader-few s x pair to h t o m e, o .goes .pairs-fit)
+
+  pub writer-tells : (m : ℕ) → view (h % 8) (h / 8) ≡ Writer m → (w : ℕ) → w ≡ 1 + 8 * (pair + m) → TellsTerm s pair at to h (set s at w) to
+  writer-tells m e w is x t o a = rw is (writer-copied s x pair to h at t o a m e)
+
+  pub reader-tells : (m : ℕ) → view (h % 8) (h / 8) ≡ Reader m → (w : ℕ) → w ≡ 2 + 8 * (pair + m) → TellsTerm s pair at to h (set s at w) to
+  reader-tells m e w is x t o a = rw is (reader-copied s x pair to h at t o a m e)
+
+  pub constant-tells : (v : View) → view (h % 8) (h / 8) ≡ v → Fixed v → TellsTerm s pair at to h (set s at h) to
+  constant-tells v e f x t o a = constant-copied s x pair to h at t o a v e f
 
   -- From a term to its compound.
-  pub compound-asks : AsksTerm s pair shift h → (p : ℕ) → view (h % 8) (h / 8) ≡ Compound p → (most : ℕ) → 2 * height (length s) s h + 1 ≡ most
-      → (2 * height (length s) s (6 + 8 * p) < most) × AsksCompound s pair shift p
-  compound-asks (x, low, high, t, o) p e most is =
-      let (n, f, ts, same, found) = compound-original s x pair shift low high h t o p e in
-      (omega (arith, compound-height s x pair shift low high h t o p e), (x, low, high, n, f, ts, found))
+  pub compound-asks : AsksTerm s pair at to h → (p : ℕ) → view (h % 8) (h / 8) ≡ Compound p → (s₁ : List ℕ) (w : ℕ) → s₁ ≡ set s at w → (most : ℕ)
+      → 2 * height (length s) s h + 1 ≡ most → (2 * height (length s₁) s₁ (6 + 8 * p) < most) × AsksCompound s₁ pair to p
+  compound-asks (x, t, o, a) p e s₁ w put most is =
+      let (n, f, ts, same, found) = compound-original s x pair to h at w t o (a .behind) p e in
+      let falls : 2 * height (length (set s at w)) (set s at w) (6 + 8 * p) < most = omega (arith, compound-height s x pair to h at w t o (a .behind) p e) in
+      rw put (falls, (x, n, f, ts, found))
 
-  pub compound-tells : (p : ℕ) → view (h % 8) (h / 8) ≡ Compound p → (s′ : List ℕ) (w : ℕ) → TellsCompound s pair shift p s′ w
-      → TellsTerm s pair shift h s′ w
-  compound-tells p e s′ w told x low high t o = compound-copied s x pair shift low high h s′ w t o p e told
+  pub compound-tells : (p : ℕ) → view (h % 8) (h / 8) ≡ Compound p → (s₁ s₂ : List ℕ) (w r : ℕ) → s₁ ≡ set s at w → w ≡ 6 + 8 * to
+      → TellsCompound s₁ pair to p s₂ r → TellsTerm s pair at to h s₂ r
+  compound-tells p e s₁ s₂ w r put is told x t o a = compound-copied s x pair to h at s₁ s₂ r t o a p e (rw is at put) told
 
--- Before the i-th of k arguments of the compound at p.
-abbrev pub Walking : List ℕ → ℕ → ℕ → ℕ → ℕ → List ℕ → ℕ → Type 0
-Walking s₀ pair shift p k s i =
-    (x : Item) (low high n : ℕ) (f : Functor) (ts : Terms) (o : Original s₀ x pair shift low high (6 + 8 * p) (compound n f ts))
-    → (j : ℕ) × (rest : Terms) × Progress s₀ s x pair shift low high (o .goes) k i n f ts j rest
+-- Before the i-th of k arguments of the compound at p, the scratch having been s₁ when its first word was copied.
+abbrev pub Walking : List ℕ → ℕ → ℕ → ℕ → ℕ → List ℕ → ℕ → ℕ → Type 0
+Walking s₁ pair to p k s free i =
+    (s₀ : List ℕ) → s₁ ≡ set s₀ to (getD s₀ p 0) → k ≡ getD s₀ p 0 % 8
+    → (x : Item) (n : ℕ) (f : Functor) (ts : Terms) → Original s₀ x pair to (6 + 8 * p) (compound n f ts)
+    → (j : ℕ) × (rest : Terms) × Progress s₀ s x pair to k i free n f ts j rest
 
-module _ (s₀ : List ℕ) (pair shift p : ℕ) where
-  -- The compound and its copy lie in the scratch.
-  pub cells-inside : AsksCompound s₀ pair shift p → (8 * p + 8 ≤ length s₀) × (8 * (p + shift) + 8 ≤ length s₀)
-  cells-inside (x, low, high, n, f, ts, o) =
-      let far = here s₀ x pair shift low high p n f ts o in
-      (omega (arith, there s₀ x pair shift low high p n f ts o, from-low s₀ x pair shift low high p n f ts o), far)
+pub walk-begins : (s₁ : List ℕ) (pair to p k : ℕ) → Walking s₁ pair to p k s₁ (to + 1 + k) 1
+walk-begins s₁ pair to p k s₀ put e x n f ts o = (0, ts, begin s₀ x pair to p n f ts o k e s₁ put)
 
-  pub walk-begins : (k : ℕ) → k ≡ getD s₀ (8 * p) 0 % 8 → Walking s₀ pair shift p k s₀ 1
-  walk-begins k e x low high n f ts o = (0, ts, begin s₀ x pair shift low high p n f ts o k e)
+-- The compound and its copy lie in the scratch.
+pub compound-inside : (s : List ℕ) (pair to p : ℕ) → AsksCompound s pair to p → (p + 8 ≤ length s) × (to + 9 ≤ length s)
+compound-inside s pair to p (x, n, f, ts, o) =
+    let end-in = room s x pair to p n f ts o in
+    (omega (arith, there s x pair to p n f ts o, o .behind), omega arith)
 
-  module _ (k : ℕ) (s : List ℕ) (i : ℕ) (walk : Walking s₀ pair shift p k s i) where
-    pub walk-size : AsksCompound s₀ pair shift p → (length s ≡ length s₀) × (k ≤ 6)
-    walk-size (x, low, high, n, f, ts, o) = let (j, rest, g) = walk x low high n f ts o in (g .over .only .size, g .few)
+module _ (s₀ : List ℕ) (pair to p k : ℕ) (e : k ≡ getD s₀ p 0 % 8) where
+  pub copy-inside : AsksCompound s₀ pair to p → to + 1 + k + 8 ≤ length s₀
+  copy-inside (x, n, f, ts, o) = omega (arith, room s₀ x pair to p n f ts o, number-is s₀ x pair to p n f ts o k e)
 
-    pub walk-asks : AsksCompound s₀ pair shift p → i ≤ k → (a : ℕ) → a ≡ getD s (8 * p + i) 0 → (most : ℕ)
-        → 2 * height (length s₀) s₀ (6 + 8 * p) ≡ most → (2 * height (length s) s a + 1 < most) × AsksTerm s pair shift a
-    walk-asks (x, low, high, n, f, ts, o) h a e most is =
-        let (j, rest, g) = walk x low high n f ts o in
-        let (t, others, same, deep, found) = argument s₀ x pair shift low high p n f ts o s k i j rest g h in
-        let read : Original s x pair shift low high a t = rw e found in
-        (argument-falls s₀ x pair shift low high p n f ts o s a t deep read most is, (x, low, high, t, read))
+  module _ (s₁ : List ℕ) (put : s₁ ≡ set s₀ to (getD s₀ p 0)) (s : List ℕ) (free i : ℕ) (walk : Walking s₁ pair to p k s free i) where
+    pub walk-size : AsksCompound s₀ pair to p → (length s ≡ length s₀) × (k ≤ 6)
+    walk-size (x, n, f, ts, o) = let (j, rest, g) = walk s₀ put e x n f ts o in (g .only .size, g .few)
 
-    pub walk-on : i ≤ k → (a : ℕ) → a ≡ getD s (8 * p + i) 0 → (s₁ : List ℕ) (w : ℕ) → TellsTerm s pair shift a s₁ w
-        → Walking s₀ pair shift p k (set s₁ (8 * (p + shift) + i) w) (i + 1)
-    walk-on h a e s₁ w told x low high n f ts o =
-        let (j, rest, g) = walk x low high n f ts o in
-        again s₀ x pair shift low high p n f ts o s k i j rest g h s₁ w (rw e at told)
+    pub walk-asks : AsksCompound s₀ pair to p → i ≤ k → (a : ℕ) → a ≡ getD s (p + i) 0 → (most : ℕ)
+        → 2 * height (length s₀) s₀ (6 + 8 * p) ≡ most → (2 * height (length s) s a + 1 < most) × AsksTerm s pair (to + i) free a
+    walk-asks (x, n, f, ts, o) h a read most is =
+        let (j, rest, g) = walk s₀ put e x n f ts o in
+        let (t, others, same, deep, found, aside) = argument s₀ x pair to p n f ts o s k i free j rest g h in
+        let found′ : Original s x pair free a t = rw read found in
+        (argument-falls s₀ x pair to p n f ts o s free a t deep found′ most is, (x, t, found′, aside))
 
-    pub walk-ends : k < i → TellsCompound s₀ pair shift p (set s (8 * (p + shift)) (getD s (8 * p) 0)) (6 + 8 * (p + shift))
-    walk-ends h x low high n f ts o =
-        let (j, rest, g) = walk x low high n f ts o in
-        ended s₀ x pair shift low high p n f ts o s k i j rest g h
+    pub walk-ends : k < i → TellsCompound s₀ pair to p s free
+    walk-ends h x n f ts o =
+        let (j, rest, g) = walk s₀ put e x n f ts o in
+        ended s₀ x pair to p n f ts o s k i free j rest g h
+
+pub walk-on : (s₁ : List ℕ) (pair to p k : ℕ) (s : List ℕ) (free i : ℕ) → Walking s₁ pair to p k s free i → i ≤ k → (a : ℕ) → a ≡ getD s (p + i) 0
+    → (s′ : List ℕ) (r : ℕ) → TellsTerm s pair (to + i) free a s′ r → Walking s₁ pair to p k s′ r (i + 1)
+walk-on s₁ pair to p k s free i walk h a read s′ r told s₀ put e x n f ts o =
+    let (j, rest, g) = walk s₀ put e x n f ts o in
+    again s₀ x pair to p n f ts o s k i free j rest g h s′ r (rw read at told)

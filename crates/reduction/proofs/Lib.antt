@@ -1,5 +1,3 @@
-pub mod Added
-pub mod Assigned
 pub mod Awaking
 pub mod Copies
 pub mod CopyCalls
@@ -9,4 +7,4 @@ pub mod HitSlots
 pub mod Hits
 pub mod Inserting
 pub mod Keeping
-pub mod ReduceCalls
+pub mod Spreading

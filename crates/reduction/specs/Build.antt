@@ -1,13 +1,11 @@
--- A term of an item copied for a unit: its pairs come from a pair on, and its compounds lie as the item's own do, so many places further on.
-use Prim.Native.Nat.{ℕ, _+_, _*_, _/_, _%_, _≤_, _<_}
+-- A term of an item copied for a unit: its pairs come from a pair on, and its compounds stand one behind the other from a word on.
+use Prim.Native.Nat.{ℕ, _+_, _*_, _≤_, _<_}
 use mathlib.Core.Path.{_≡_}
-use mathlib.Core.List.{List}
+use mathlib.Core.Logic.{_⊎_, _≢_}
+use mathlib.Core.List.{List, [], _∷_}
 use lib.ListN.{length, getD}
-use Rattle.meaning.specs.Terms.{Term, renamed}
-use Rattle.term.specs.Words.{view}
-use Rattle.term.specs.declared.word.View.{View}
-use Rattle.term.specs.declared.word.View.the-variants.{Nothing, Writer, Reader, Integer, Name, Empty, Compound}
-use Rattle.term.specs.Cells.{Places, term-word}
+use Rattle.meaning.specs.Terms.{Term, Terms, variable, constant, compound, end, more, count, renamed}
+use Rattle.term.specs.Cells.{Places, Numbered, term-word}
 use Rattle.term.specs.Holds.{Holds}
 use Rattle.term.specs.Setting.{Within}
 use Rattle.term.specs.Frames.{Only}
@@ -18,12 +16,51 @@ pub record Item : Type 0 where
   pub pairs : ℕ
   pub compounds : ℕ
 
--- Where the copies go: the pairs from a pair on; the compounds so many places further on, from low up to high.
-pub record Goes (x : Item) (pair shift low high : ℕ) : Type 0 where
+-- How many words the compounds of a term take: of each one for its functor and one for each argument.
+unfoldable mutual
+  pub size : Term → ℕ
+  size (variable h n) = 0
+  size (constant k) = 0
+  size (compound n f ts) = 1 + count ts + sizes ts
+
+  pub sizes : Terms → ℕ
+  sizes end = 0
+  sizes (more t ts) = size t + sizes ts
+
+-- Where the compounds of an item are copied to, by their numbers, and how many words each has there.
+pub record Copies : Type 0 where
+  pub at : ℕ → ℕ
+  pub width : ℕ → ℕ
+
+-- A term's compounds are copied to a word and those behind it: its own words, then its arguments' from left to right.
+unfoldable mutual
+  pub Spread : Copies → ℕ → Term → Type 0
+  Spread y to (variable h n) = Unit {0}
+  Spread y to (constant k) = Unit {0}
+  Spread y to (compound n f ts) = (y .at n ≡ to) × (y .width n ≡ 1 + count ts) × AllSpread y (to + 1 + count ts) ts
+
+  pub AllSpread : Copies → ℕ → Terms → Type 0
+  AllSpread y to end = Unit {0}
+  AllSpread y to (more t ts) = Spread y to t × AllSpread y (to + size t) ts
+
+-- The same of terms one behind the other.
+unfoldable pub total : List Term → ℕ
+total [] = 0
+total (t ∷ ts) = size t + total ts
+
+unfoldable pub ListSpread : Copies → ℕ → List Term → Type 0
+ListSpread y to [] = Unit {0}
+ListSpread y to (t ∷ ts) = Spread y to t × ListSpread y (to + size t) ts
+
+-- Their compounds have numbers from lo up to hi, each term's behind those of the terms before it.
+unfoldable pub Rising : ℕ → ℕ → List Term → Type 0
+Rising lo hi [] = lo ≤ hi
+Rising lo hi (t ∷ ts) = (a : ℕ) × (b : ℕ) × (lo ≤ a) × Numbered a b t × Rising b hi ts
+
+-- The item's pairs have their own numbers, its compounds lie before the trial's region, and the pairs' copies have places.
+pub record Goes (x : Item) (pair : ℕ) : Type 0 where
   pub own : (n : ℕ) → x .places .pair n ≡ n
-  pub before : (n : ℕ) → n < x .compounds → x .places .compound n < low
-  pub from : (n : ℕ) → n < x .compounds → low ≤ x .places .compound n + shift
-  pub below : (n : ℕ) → n < x .compounds → x .places .compound n + shift < high
+  pub before : (n : ℕ) → n < x .compounds → x .places .compound n + 8 ≤ 39936
   pub pairs-fit : pair + x .pairs ≤ 4294967296
 
 -- A term of the item in the scratch.
@@ -31,48 +68,37 @@ pub record ItemTerm (s : List ℕ) (x : Item) (t : Term) : Type 0 where
   pub held : Holds s (x .places) t
   pub within : Within (x .pairs) (x .compounds) t
 
--- A term of the item by its word, and room for its copy.
-pub record Original (s : List ℕ) (x : Item) (pair shift low high h : ℕ) (t : Term) : Type 0 where
-  pub goes : Goes x pair shift low high
+-- A term of the item by its word, and room for its compounds' copies from a word on.
+pub record Original (s : List ℕ) (x : Item) (pair to h : ℕ) (t : Term) : Type 0 where
+  pub goes : Goes x pair
   pub word : h ≡ term-word (x .places) t
   pub term : ItemTerm s x t
-  pub room : 8 * high ≤ length s
+  pub behind : 40704 ≤ to
+  pub room : to + size t + 8 ≤ length s
 
--- The unit's places for the item renamed by p and c: its pairs from a pair on, its compounds so many places further on.
-pub record Moved (x : Item) (places : Places) (pair shift p c : ℕ) : Type 0 where
+-- A word for the copy's word, none of those of its compounds.
+pub record Aside (s : List ℕ) (at to : ℕ) (t : Term) : Type 0 where
+  pub behind : 40704 ≤ at
+  pub inside : at < length s
+  pub apart : (at < to) ⊎ (to + size t ≤ at)
+
+-- The unit's places for the item renamed by p and c: its pairs from a pair on, its compounds where they are copied to.
+pub record Moved (x : Item) (places : Places) (pair : ℕ) (y : Copies) (p c : ℕ) : Type 0 where
   pub names : places .names ≡ x .places .names
   pub pair-at : (n : ℕ) → n < x .pairs → places .pair (p + n) ≡ pair + n
-  pub compound-at : (n : ℕ) → n < x .compounds → places .compound (c + n) ≡ x .places .compound n + shift
+  pub compound-at : (n : ℕ) → n < x .compounds → places .compound (c + n) ≡ y .at n
+  pub width-at : (n : ℕ) → n < x .compounds → places .width (c + n) ≡ y .width n
 
--- What stays held: the copy of any other term of the item, since a compound is copied to the same words each time.
-abbrev pub CopiesKept : List ℕ → List ℕ → Item → ℕ → ℕ → Type 0
-CopiesKept s s′ x pair shift = (places : Places) (p c : ℕ) → Moved x places pair shift p c
-    → (u : Term) → ItemTerm s x u → Holds s places (renamed p c u) → Holds s′ places (renamed p c u)
+-- The compounds of a term copied: the word behind them, which words have changed, and that the copy is held by places that have its compounds there.
+pub record Laid (s s′ : List ℕ) (x : Item) (pair to : ℕ) (t : Term) (r : ℕ) : Type 0 where
+  pub behind : r ≡ to + size t
+  pub only : Only to (to + size t) s s′
+  pub held : (places : Places) (y : Copies) (p c : ℕ) → Moved x places pair y p c → Spread y to t → Holds s′ places (renamed p c t)
 
--- The word of a copy, by what its original's word says.
-abbrev pub moved-as : ℕ → ℕ → ℕ → View → ℕ
-moved-as pair shift w Nothing = w
-moved-as pair shift w (Writer n) = 1 + 8 * (pair + n)
-moved-as pair shift w (Reader n) = 2 + 8 * (pair + n)
-moved-as pair shift w (Integer n) = w
-moved-as pair shift w (Name n) = w
-moved-as pair shift w Empty = w
-moved-as pair shift w (Compound n) = 6 + 8 * (n + shift)
-
-unfoldable pub moved : ℕ → ℕ → ℕ → ℕ
-moved pair shift w = moved-as pair shift w (view (w % 8) (w / 8))
-
--- Words of copies that stay: a first word that is its original's, and an argument's that is its original's moved.
-pub record WordsStay (s s′ : List ℕ) (pair shift low high : ℕ) : Type 0 where
-  pub functors : (q : ℕ) → q < low → q + shift < high → getD s (8 * (q + shift)) 0 ≡ getD s (8 * q) 0
-      → getD s′ (8 * (q + shift)) 0 ≡ getD s (8 * q) 0
-  pub arguments : (q i : ℕ) → q < low → q + shift < high → i < 7
-      → getD s (8 * (q + shift) + 1 + i) 0 ≡ moved pair shift (getD s (8 * q + 1 + i) 0)
-      → getD s′ (8 * (q + shift) + 1 + i) 0 ≡ moved pair shift (getD s (8 * q + 1 + i) 0)
-
--- The copy: its word, that it is held, and which words have changed.
-pub record Copied (s s′ : List ℕ) (x : Item) (pair shift low high : ℕ) (t : Term) (word : ℕ) : Type 0 where
-  pub only : Only (8 * low) (8 * high) s s′
-  pub stands : (places : Places) (p c : ℕ) → Moved x places pair shift p c → word ≡ term-word places (renamed p c t)
-  pub held : (places : Places) (p c : ℕ) → Moved x places pair shift p c → Holds s′ places (renamed p c t)
-  pub stay : WordsStay s s′ pair shift low high
+-- A term copied: its word besides, which stands at a word of its own.
+pub record Copied (s s′ : List ℕ) (x : Item) (pair at to : ℕ) (t : Term) (r : ℕ) : Type 0 where
+  pub behind : r ≡ to + size t
+  pub size-kept : length s′ ≡ length s
+  pub same : (k : ℕ) → k ≢ at → (k < to) ⊎ (to + size t ≤ k) → getD s′ k 0 ≡ getD s k 0
+  pub word : (places : Places) (y : Copies) (p c : ℕ) → Moved x places pair y p c → Spread y to t → getD s′ at 0 ≡ term-word places (renamed p c t)
+  pub held : (places : Places) (y : Copies) (p c : ℕ) → Moved x places pair y p c → Spread y to t → Holds s′ places (renamed p c t)

@@ -14,7 +14,7 @@ use Rattle.term.specs.Jobs.{HoldsGoals}
 use Rattle.term.specs.Setting.{Within}
 use Rattle.term.specs.States.{ring, listed}
 use Rattle.compare.specs.Gifts.{Entry, EntriesAt}
-use Rattle.reduction.specs.Build.{Item, Goes, ItemTerm, Moved, CopiesKept}
+use Rattle.reduction.specs.Build.{Item, Copies, total, ListSpread, Goes, ItemTerm, Moved}
 use Rattle.queues.specs.Ring.{RingOk}
 use Rattle.queues.specs.Log.{Slot, gone, waits, pairs-in, LogOk}
 
@@ -37,11 +37,14 @@ unfoldable pub EntryTerms : List ℕ → Item → Places → ℕ → List Entry 
 EntryTerms s x unit bound [] = Unit {0}
 EntryTerms s x unit bound (e ∷ es) = ((unit .pair (e .pair) < bound) × ItemTerm s x (e .term)) × EntryTerms s x unit bound es
 
-pub record Assigning (s : List ℕ) (x : Item) (unit : Places) (values bound pair shift low high n : ℕ) (list : List Entry) : Type 0 where
-  pub goes : Goes x pair shift low high
-  pub behind : 5088 ≤ low
-  pub order : low ≤ high
-  pub before : 8 * high ≤ values
+abbrev pub entry-terms : List Entry → List Term
+entry-terms list = map (λ e. e .term) list
+
+pub record Assigning (s : List ℕ) (x : Item) (unit : Places) (values bound pair to n : ℕ) (list : List Entry) : Type 0 where
+  pub goes : Goes x pair
+  pub behind : 40704 ≤ to
+  pub before : to + total (entry-terms list) ≤ values
+  pub room : to + total (entry-terms list) + 8 ≤ length s
   pub inside : values + bound ≤ length s
   pub few : n ≤ 192
   pub number : length list ≡ n
@@ -61,24 +64,30 @@ unfoldable pub NoEntry : Places → ℕ → List Entry → Type 0
 NoEntry unit z [] = Unit {0}
 NoEntry unit z (e ∷ es) = (z ≡ unit .pair (e .pair) → ⊥) × NoEntry unit z es
 
-pub record GoalAssigned (s s′ : List ℕ) (x : Item) (unit : Places) (values bound pair shift low high : ℕ) (list : List Entry) : Type 0 where
-  pub kept : Kept (λ k. Apart (8 * low) (8 * high) k × Apart values (values + bound) k) s s′
+pub record GoalAssigned (s s′ : List ℕ) (x : Item) (unit : Places) (values bound pair to : ℕ) (list : List Entry) (r : ℕ) : Type 0 where
+  pub behind : r ≡ to + total (entry-terms list)
+  pub kept : Kept (λ k. Apart to (to + total (entry-terms list)) k × Apart values (values + bound) k) s s′
   pub others : (z : ℕ) → NoEntry unit z list → getD s′ (values + z) 0 ≡ getD s (values + z) 0
-  pub given : (places : Places) (p c : ℕ) → Moved x places pair shift p c → EntriesGiven s′ unit places values p c list
-  pub copies : CopiesKept s s′ x pair shift
+  pub given : (places : Places) (y : Copies) (p c : ℕ) → Moved x places pair y p c → ListSpread y to (entry-terms list)
+      → EntriesGiven s′ unit places values p c list
 
 -- Goals of an item, whose words stand from a place on, for the queue's end.
 unfoldable pub GoalsWithin : ℕ → ℕ → List Named → Type 0
 GoalsWithin pairs compounds [] = Unit {0}
 GoalsWithin pairs compounds (g ∷ gs) = Within pairs compounds (as-term g) × GoalsWithin pairs compounds gs
 
-pub record Adding (s : List ℕ) (x : Item) (from n pair shift low high query queue size front active : ℕ) (goals : List Named) : Type 0 where
-  pub goes : Goes x pair shift low high
+abbrev pub goal-terms : List Named → List Term
+goal-terms goals = map as-term goals
+
+pub record Adding (s : List ℕ) (x : Item) (from n pair to query queue size front active : ℕ) (goals : List Named) : Type 0 where
+  pub goes : Goes x pair
+  pub behind : 40704 ≤ to
   pub number : n ≡ length goals
   pub words : HoldsGoals s (x .places) from 0 goals
   pub within : GoalsWithin (x .pairs) (x .compounds) goals
-  pub from-before : from + n ≤ 8 * low
-  pub before : 8 * high ≤ queue
+  pub from-before : from + n ≤ 39936
+  pub before : to + total (goal-terms goals) ≤ queue
+  pub room : to + total (goal-terms goals) + 8 ≤ length s
   pub ring-ok : RingOk s queue size front
   pub space : active + n ≤ size
   pub few : query < 8
@@ -87,12 +96,12 @@ unfoldable pub GoalsHeld : List ℕ → Places → ℕ → ℕ → List Named �
 GoalsHeld s places p c [] = Unit {0}
 GoalsHeld s places p c (g ∷ gs) = Holds s places (renamed p c (as-term g)) × GoalsHeld s places p c gs
 
-pub record Added (s s′ : List ℕ) (x : Item) (n pair shift low high query queue size front active : ℕ) (goals : List Named) : Type 0 where
-  pub kept : Kept (λ k. Apart (8 * low) (8 * high) k × Apart queue (queue + size) k) s s′
-  pub items : (places : Places) (p c : ℕ) → Moved x places pair shift p c
+pub record Added (s s′ : List ℕ) (x : Item) (n pair to query queue size front active : ℕ) (goals : List Named) (r : ℕ) : Type 0 where
+  pub behind : r ≡ to + total (goal-terms goals)
+  pub kept : Kept (λ k. Apart to (to + total (goal-terms goals)) k × Apart queue (queue + size) k) s s′
+  pub items : (places : Places) (y : Copies) (p c : ℕ) → Moved x places pair y p c → ListSpread y to (goal-terms goals)
       → ring s′ queue size front (active + n) ≡ ring s queue size front active ++ map (λ g. query + 8 * places .compound (c + g .number)) goals
-  pub held : (places : Places) (p c : ℕ) → Moved x places pair shift p c → GoalsHeld s′ places p c goals
-  pub copies : CopiesKept s s′ x pair shift
+  pub held : (places : Places) (y : Copies) (p c : ℕ) → Moved x places pair y p c → ListSpread y to (goal-terms goals) → GoalsHeld s′ places p c goals
 
 -- The places of the pairs that the trial's first n entries give a term.
 unfoldable pub entry-places : List ℕ → ℕ → List ℕ

@@ -1,5 +1,6 @@
 // A reduction: what the trial has given becomes the pairs' values, the body's goals and then the woken goals join the queue.
 use crate::build::copy;
+use crate::build::copy_arguments;
 use queues::goals::leave;
 use queues::goals::push;
 use queues::goals::take;
@@ -59,21 +60,20 @@ pub fn assign_head(s: &mut [u64], values: usize, pair: usize, pairs: usize)
 }
 
 // Z := the head's term, for each of the goal's pairs that is given one.
-pub fn assign_goal(s: &mut [u64], values: usize, pair: usize, shift: usize, n: usize)
-    requires { ⌜ ((x : Item) × (unit : Places) × (bound : ℕ) × (low : ℕ) × (high : ℕ) × (list : List Entry)
-        × Assigning (now s) x unit values bound pair shift low high n list) ⌝ }
-    ensures { λ r. ⌜ ((x : Item) (unit : Places) (bound low high : ℕ) (list : List Entry)
-        → Assigning (now (s .entry)) x unit values bound pair shift low high n list
-        → GoalAssigned (now (s .entry)) (now (s .exit)) x unit values bound pair shift low high list) ⌝ }
+pub fn assign_goal(s: &mut [u64], values: usize, pair: usize, to: usize, n: usize) -> usize
+    requires { ⌜ ((x : Item) × (unit : Places) × (bound : ℕ) × (list : List Entry) × Assigning (now s) x unit values bound pair to n list) ⌝ }
+    ensures { λ r. ⌜ ((x : Item) (unit : Places) (bound : ℕ) (list : List Entry) → Assigning (now (s .entry)) x unit values bound pair to n list
+        → GoalAssigned (now (s .entry)) (now (s .exit)) x unit values bound pair to list r) ⌝ }
 {
+    let mut free = to;
     let mut i = 0;
     while i < n {
         let z = index(word_at(s, TRIAL + 16, 2 * i));
         let h = word_at(s, TRIAL + 17, 2 * i);
-        let w = copy(s, pair, shift, h);
-        set_at(s, values, z, w);
+        free = copy(s, pair, values + z, free, h);
         i += 1;
     }
+    free
 }
 
 // A place of the log joins the list of so many, in which places rise.
@@ -114,40 +114,40 @@ pub fn wake(s: &mut [u64], log: usize, waiters: usize, sets: usize, n: usize) ->
     woken
 }
 
-// The word of a goal of a query, by the word of its term.
-fn goal_of(w: u64, query: usize) -> u64
-    requires { ⌜ (query < 8) × (w < 9223372036854775808) ⌝ }
-    ensures { λ r. ⌜ r ≡ 8 * (w / 8) + query ⌝ }
+// The word of a goal of a query, by its compound's place.
+fn goal_of(place: usize, query: usize) -> u64
+    requires { ⌜ (place ≤ 1152921504606846976) × (query < 8) ⌝ }
+    ensures { λ r. ⌜ r ≡ query + 8 * place ⌝ }
 {
-    8 * (w / 8) + word(query)
+    8 * word(place) + word(query)
 }
 
-// Goals of an item, whose words stand from a place on, are copied and join the queue in order.
+// Goals of an item, whose words stand from a place on, are copied and join the queue in order. The place behind the copies.
 pub fn add_goals(
     s: &mut [u64],
     from: usize,
     n: usize,
     pair: usize,
-    shift: usize,
+    to: usize,
     query: usize,
     queue: usize,
     size: usize,
     front: usize,
     active: usize,
-)
-    requires { ⌜ ((x : Item) × (low : ℕ) × (high : ℕ) × (goals : List Named)
-        × Adding (now s) x from n pair shift low high query queue size front active goals) ⌝ }
-    ensures { λ r. ⌜ ((x : Item) (low high : ℕ) (goals : List Named)
-        → Adding (now (s .entry)) x from n pair shift low high query queue size front active goals
-        → Added (now (s .entry)) (now (s .exit)) x n pair shift low high query queue size front active goals) ⌝ }
+) -> usize
+    requires { ⌜ ((x : Item) × (goals : List Named) × Adding (now s) x from n pair to query queue size front active goals) ⌝ }
+    ensures { λ r. ⌜ ((x : Item) (goals : List Named) → Adding (now (s .entry)) x from n pair to query queue size front active goals
+        → Added (now (s .entry)) (now (s .exit)) x n pair to query queue size front active goals r) ⌝ }
 {
+    let mut free = to;
     let mut i = 0;
     while i < n {
         let h = word_at(s, from, i);
-        let w = copy(s, pair, shift, h);
-        push(s, queue, size, front, active + i, goal_of(w, query));
+        push(s, queue, size, front, active + i, goal_of(free, query));
+        free = copy_arguments(s, pair, free, index(h / 8));
         i += 1;
     }
+    free
 }
 
 // The woken goals join the queue, in the order in which they began to wait.

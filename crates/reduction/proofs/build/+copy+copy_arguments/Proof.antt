@@ -6,10 +6,8 @@ use native.Mathlib.Omega.{arith}
 use lib.ListN.{length}
 use borrow.Fn.Kinds.{In}
 use borrow.Fn.PlainCycle.{Measures, is, falls, and}
-use Rattle.term.specs.declared.word.View.the-variants.{Writer, Reader}
 use Rattle.circle.proofs.Depth.{height}
 use Rattle.reduction.proofs.CopyCalls as calls
-use Rattle.reduction.proofs.Copying.{leaf-copied}
 use Rattle.reduction.proofs.build.copy.Reads as copy
 use Rattle.reduction.proofs.build.copy.Kinds as copy-kinds
 use Rattle.reduction.proofs.build.+copy+copy_arguments.Lts-copy as copy-lts
@@ -20,13 +18,13 @@ use Rattle.reduction.proofs.build.argument.Reads as argument-reads
 use Rattle.reduction.proofs.build.copy_functor.Reads as copy-functor-reads
 use Rattle.reduction.proofs.build.number.Reads as number-reads
 use Rattle.reduction.proofs.build.placed.Reads as placed-reads
-use Rattle.reduction.proofs.build.store.Reads as store-reads
+use Rattle.reduction.proofs.build.put.Reads as put-reads
 use Rattle.term.proofs.word.look.Reads as look-reads
 use Rattle.reduction.proofs.build.+copy+copy_arguments.{statement}
 use Rattle.reduction.proofs.build.+copy+copy_arguments.Tie.{close}
 
 abbrev μ-copy : Measures 1 copy-kinds.ps ℕ
-μ-copy κs a = 2 * height (length (a .0 .now)) (a .0 .now) (a .1 .1 .1 .0) + 1
+μ-copy κs a = 2 * height (length (a .0 .now)) (a .0 .now) (a .1 .1 .1 .1 .0) + 1
 
 abbrev μ-copy-arguments : Measures 1 copy-arguments-kinds.ps ℕ
 μ-copy-arguments κs a = 2 * height (length (a .0 .now)) (a .0 .now) (6 + 8 * a .1 .1 .1 .0)
@@ -44,10 +42,10 @@ abbrev copy-arguments-below : ℕ → In 1 copy-arguments-kinds.ps
 copy-arguments-below t = and 1 copy-arguments-kinds.ps (falls 1 copy-arguments-kinds.ps _<_ μ-copy-arguments t) copy-arguments.Pre
 
 abbrev Inv : copy-arguments-lts.InvT-loop
-Inv s₀ pair shift p k i₀ s i = calls.Walking s₀ pair shift p k s i
+Inv s₁ pair to p k free₀ i₀ s free i = calls.Walking s₁ pair to p k s free i
 
 abbrev μ-loop : copy-arguments-lts.MeasureT-loop
-μ-loop s₀ pair shift p k i₀ s i = k + 1 - i
+μ-loop s₁ pair to p k free₀ i₀ s free i = k + 1 - i
 
 pub +copy+copy-arguments-spec : {M : Type 1} → statement M
 +copy+copy-arguments-spec =
@@ -57,6 +55,8 @@ pub +copy+copy-arguments-spec : {M : Type 1} → statement M
       look-reads.Learnt,
       placed-reads.Asked,
       placed-reads.Learnt,
+      put-reads.Asked,
+      put-reads.Learnt,
       copy-arguments-below t,
       copy-arguments.Post,
     )
@@ -66,87 +66,69 @@ pub +copy+copy-arguments-spec : {M : Type 1} → statement M
     -- a writer
     (λ c. c .match .keys1)
     (λ c.
-    let S = c .before .before .before .before .before in let a = S .args in
-    let said = sym (c .before .before .before .look .ensures) ∙ c .before .x .given .1 in
-    omega (arith, calls.writer-fits (a .s .now) (a .pair) (a .shift) (a .h) (S .pre .1) _ said))
+    let S = c .before .before .before .before .before .before in let a = S .args in
+    let said = sym (c .before .before .before .before .look .ensures) ∙ c .before .before .x .given .1 in
+    omega (arith, calls.writer-fits (a .s .now) (a .pair) (a .at) (a .to) (a .h) (S .pre .1) _ said))
     (λ c κs.
-    let S = c .before .before .before .before .before in let a = S .args in
-    let said = sym (c .before .before .before .look .ensures) ∙ c .before .x .given .1 in
-    (omega arith, omega (arith, calls.writer-fits (a .s .now) (a .pair) (a .shift) (a .h) (S .pre .1) _ said)))
+    let S = c .before .before .before .before .before .before in let a = S .args in
+    let said = sym (c .before .before .before .before .look .ensures) ∙ c .before .before .x .given .1 in
+    (omega arith, omega (arith, calls.writer-fits (a .s .now) (a .pair) (a .at) (a .to) (a .h) (S .pre .1) _ said)))
+    (λ c κs. let S = c .before .before .before .before .before .before .before in let a = S .args in calls.term-inside (a .s .now) (a .pair) (a .at) (a .to) (a .h) (S .pre .1) .0)
     -- a reader
     (λ c. c .match .keys2)
     (λ c.
-    let S = c .before .before .before .before .before in let a = S .args in
-    let said = sym (c .before .before .before .look .ensures) ∙ c .before .x2 .given .1 in
-    omega (arith, calls.reader-fits (a .s .now) (a .pair) (a .shift) (a .h) (S .pre .1) _ said))
+    let S = c .before .before .before .before .before .before in let a = S .args in
+    let said = sym (c .before .before .before .before .look .ensures) ∙ c .before .before .x2 .given .1 in
+    omega (arith, calls.reader-fits (a .s .now) (a .pair) (a .at) (a .to) (a .h) (S .pre .1) _ said))
     (λ c κs.
-    let S = c .before .before .before .before .before in let a = S .args in
-    let said = sym (c .before .before .before .look .ensures) ∙ c .before .x2 .given .1 in
-    (omega arith, omega (arith, calls.reader-fits (a .s .now) (a .pair) (a .shift) (a .h) (S .pre .1) _ said)))
+    let S = c .before .before .before .before .before .before in let a = S .args in
+    let said = sym (c .before .before .before .before .look .ensures) ∙ c .before .before .x2 .given .1 in
+    (omega arith, omega (arith, calls.reader-fits (a .s .now) (a .pair) (a .at) (a .to) (a .h) (S .pre .1) _ said)))
+    (λ c κs. let S = c .before .before .before .before .before .before .before in let a = S .args in calls.term-inside (a .s .now) (a .pair) (a .at) (a .to) (a .h) (S .pre .1) .0)
     -- a compound
     (λ c. c .match .keys3)
     (λ c κs.
     let S = c .before .before .before .before .before .before in let a = S .args in
-    let said = sym (c .before .before .before .before .look .ensures) ∙ c .before .before .p .given .1 in
-    calls.compound-asks (a .s .now) (a .pair) (a .shift) (a .h) (S .pre .1) _ said t (S .pre .0))
-    -- the constants
-    (λ c. c .match .keys4)
-    (λ c. c .match .keys5)
-    (λ c. c .match .keys6)
-    (λ c. c .match .keys7)
+    (omega arith, omega (arith, calls.term-inside (a .s .now) (a .pair) (a .at) (a .to) (a .h) (S .pre .1) .1, S .good)))
+    (λ c κs. let S = c .before .before .before .before .before .before .before in let a = S .args in calls.term-inside (a .s .now) (a .pair) (a .at) (a .to) (a .h) (S .pre .1) .0)
+    (λ c κs.
+    let S = c .before .before .before .before .before .before .before .before .before .before .before in let a = S .args in
+    let said = sym (c .before .before .before .before .before .before .before .before .before .look .ensures) ∙ c .before .before .before .before .before .before .before .p .given .1 in
+    calls.compound-asks (a .s .now) (a .pair) (a .at) (a .to) (a .h) (S .pre .1) _ said _ _ (c .before .before .before .put3 .ensures) t (S .pre .0))
+    -- a constant
+    (λ c κs. let S = c .before .before .before .before in let a = S .args in calls.term-inside (a .s .now) (a .pair) (a .at) (a .to) (a .h) (S .pre .1) .0)
     -- what each arm gives
+    (λ c. c .before .before .put .kept .0)
     (λ c.
-    let S = c .before .before .before .before .before .before in let a = S .args in
-    let n = c .before .before .x .given .0 .0 in
-    let said = sym (c .before .before .before .before .look .ensures) ∙ c .before .before .x .given .1 in
-    λ x low high u o.
-    rw (c .placed .ensures)
-    (leaf-copied (a .s .now) x (a .pair) (a .shift) low high (a .h) u o (Writer n) said tt))
+    let S = c .before .before .before .before .before .before .before .before .before .before in let a = S .args in
+    let said = sym (c .before .before .before .before .before .before .before .before .look .ensures) ∙ c .before .before .before .before .before .before .x .given .1 in
+    rw (c .before .before .put .ensures)
+    (calls.writer-tells (a .s .now) (a .pair) (a .at) (a .to) (a .h) _ said _ (c .before .before .before .placed .ensures)))
+    (λ c. c .before .before .put2 .kept .0)
     (λ c.
-    let S = c .before .before .before .before .before .before in let a = S .args in
-    let n = c .before .before .x2 .given .0 .0 in
-    let said = sym (c .before .before .before .before .look .ensures) ∙ c .before .before .x2 .given .1 in
-    λ x low high u o.
-    rw (c .placed2 .ensures)
-    (leaf-copied (a .s .now) x (a .pair) (a .shift) low high (a .h) u o (Reader n) said tt))
-    (λ c. c .before .before .copy-arguments .kept .0)
+    let S = c .before .before .before .before .before .before .before .before .before .before in let a = S .args in
+    let said = sym (c .before .before .before .before .before .before .before .before .look .ensures) ∙ c .before .before .before .before .before .before .x2 .given .1 in
+    rw (c .before .before .put2 .ensures)
+    (calls.reader-tells (a .s .now) (a .pair) (a .at) (a .to) (a .h) _ said _ (c .before .before .before .placed2 .ensures)))
+    (λ c. c .before .before .copy-arguments .kept .0 ∙ c .before .before .before .before .before .before .put3 .kept .0)
     (λ c.
-    let S = c .before .before .before .before .before .before .before .before .before in let a = S .args in
-    let said = sym (c .before .before .before .before .before .before .before .look .ensures) ∙ c .before .before .before .before .before .p .given .1 in
-    calls.compound-tells (a .s .now) (a .pair) (a .shift) (a .h) _ said _ _ (c .before .before .copy-arguments .ensures))
+    let S = c .before .before .before .before .before .before .before .before .before .before .before .before .before .before in let a = S .args in
+    let said = sym (c .before .before .before .before .before .before .before .before .before .before .before .before .look .ensures) ∙ c .before .before .before .before .before .before .before .before .before .before .p .given .1 in
+    calls.compound-tells (a .s .now) (a .pair) (a .at) (a .to) (a .h) _ said _ _ _ _ (c .before .before .before .before .before .before .put3 .ensures) (c .before .before .before .before .before .before .before .placed3 .ensures) (c .before .before .copy-arguments .ensures))
+    (λ c. c .before .before .put4 .kept .0)
     (λ c.
-    let S = c .before .before .before .before in let a = S .args in
-    let said = sym (c .before .before .look .ensures) ∙ c .enum-told .given .1 in
-    λ x low high u o.
-    leaf-copied (a .s .now) x (a .pair) (a .shift) low high (a .h) u o _ said tt)
-    (λ c.
-    let S = c .before .before .before .before in let a = S .args in
-    let said = sym (c .before .before .look .ensures) ∙ c .enum-told2 .given .1 in
-    λ x low high u o.
-    leaf-copied (a .s .now) x (a .pair) (a .shift) low high (a .h) u o _ said tt)
-    (λ c.
-    let S = c .before .before .before .before in let a = S .args in
-    let said = sym (c .before .before .look .ensures) ∙ c .enum-told3 .given .1 in
-    λ x low high u o.
-    leaf-copied (a .s .now) x (a .pair) (a .shift) low high (a .h) u o _ said tt)
-    (λ c.
-    let S = c .before .before .before .before in let a = S .args in
-    let said = sym (c .before .before .look .ensures) ∙ c .enum-told4 .given .1 in
-    λ x low high u o.
-    leaf-copied (a .s .now) x (a .pair) (a .shift) low high (a .h) u o _ said tt))
+    let S = c .before .before .before .before .before .before .before in let a = S .args in
+    rw (c .before .before .put4 .ensures)
+    (calls.constant-tells (a .s .now) (a .pair) (a .at) (a .to) (a .h) _ (sym (c .before .before .before .before .before .look .ensures)) (c .before .before .before .before .match .keys4))))
     (λ t. copy-arguments-lts.spec (
       number-reads.Asked,
       number-reads.Learnt,
+      copy-functor-reads.Asked,
+      copy-functor-reads.Learnt,
       argument-reads.Asked,
       argument-reads.Learnt,
       copy-below t,
       copy.Post,
-      store-reads.Asked,
-      store-reads.Learnt,
-      copy-functor-reads.Asked,
-      copy-functor-reads.Learnt,
-      placed-reads.Asked,
-      placed-reads.Learnt,
     )
     (copy-arguments-at t)
     copy-arguments.Post
@@ -155,83 +137,65 @@ pub +copy+copy-arguments-spec : {M : Type 1} → statement M
     -- number-requires
     (λ c κs.
     let S = c .before .before in let a = S .args in
-    let inside = calls.cells-inside (a .s .now) (a .pair) (a .shift) (a .p) (S .pre .1) in
+    let inside = calls.compound-inside (a .s .now) (a .pair) (a .to) (a .p) (S .pre .1) in
     omega (arith, inside .0))
+    -- copy-functor-requires
+    (λ c κs.
+    let S = c .before .before .before .before in let a = S .args in
+    let inside = calls.compound-inside (a .s .now) (a .pair) (a .to) (a .p) (S .pre .1) in
+    (omega (arith, inside .0), omega (arith, inside .1)))
+    -- add-free
+    (λ c.
+    let S = c .before .before .before .before .before .before .before in let a = S .args in
+    let inside = calls.compound-inside (a .s .now) (a .pair) (a .to) (a .p) (S .pre .1) in
+    omega (arith, inside .1, S .good))
+    -- add-free-2
+    (λ c.
+    let S = c .before .before .before .before .before .before .before in let a = S .args in
+    let inside = calls.copy-inside (a .s .now) (a .pair) (a .to) (a .p) _ (c .before .before .before .before .number .ensures) (S .pre .1) in
+    omega (arith, inside, S .good))
     -- loop-holds
-    (λ c. let S = c .before .before .before in let a = S .args in calls.walk-begins (a .s .now) (a .pair) (a .shift) (a .p) (c .number .result) (c .number .ensures))
+    (λ c. let a = c .before .before .before .before .before .before .before .args in calls.walk-begins _ (a .pair) (a .to) (a .p) _)
     -- argument-requires
     (λ c κs.
-    let S = c .before .before .before .before .before .before in let a = S .args in
-    let inside = calls.cells-inside (a .s .now) (a .pair) (a .shift) (a .p) (S .pre .1) in
+    let S = c .before .before .before .before .before .before .before .before .before .before in let a = S .args in
     let L = c .before .before .loop in
-    let size = calls.walk-size (a .s .now) (a .pair) (a .shift) (a .p) _ (L .s) (L .i) (L .inv) (S .pre .1) in
+    let inside = calls.compound-inside (a .s .now) (a .pair) (a .to) (a .p) (S .pre .1) in
+    let size = calls.walk-size (a .s .now) (a .pair) (a .to) (a .p) _ (c .before .before .before .before .before .before .before .number .ensures) _ (c .before .before .before .before .before .copy-functor .ensures) (L .s) (L .free) (L .i) (L .inv) (S .pre .1) in
     omega (arith, c .before .loop-test .taken, inside .0, size .0, size .1))
-    -- copy-requires
-    (λ c κs.
-    let S = c .before .before .before .before .before .before .before .before in let a = S .args in
-    let L = c .before .before .before .before .loop in
-    let A = c .before .argument in
-    calls.walk-asks (a .s .now) (a .pair) (a .shift) (a .p) _ (L .s) (L .i) (L .inv) (S .pre .1)
-    (c .before .before .before .loop-test .taken) (A .result) (A .ensures) t (S .pre .0))
-    -- add-store
+    -- add-copy
     (λ c.
     let S = c .before .before .before .before .before .before .before .before .before .before .before .before in let a = S .args in
-    let inside = calls.cells-inside (a .s .now) (a .pair) (a .shift) (a .p) (S .pre .1) in
-    omega (arith, inside .1, S .good))
-    -- store-requires
+    let inside = calls.copy-inside (a .s .now) (a .pair) (a .to) (a .p) _ (c .before .before .before .before .before .before .before .before .before .number .ensures) (S .pre .1) in
+    omega (arith, c .before .before .before .loop-test .taken, inside, S .good))
+    -- copy-requires
     (λ c κs.
     let S = c .before .before .before .before .before .before .before .before .before .before .before .before in let a = S .args in
-    let inside = calls.cells-inside (a .s .now) (a .pair) (a .shift) (a .p) (S .pre .1) in
-    let L = c .before .before .before .before .before .before .before .before .loop in
-    let size = calls.walk-size (a .s .now) (a .pair) (a .shift) (a .p) _ (L .s) (L .i) (L .inv) (S .pre .1) in
-    omega (arith, c .before .before .before .before .before .before .before .loop-test .taken, inside .1, size .0, size .1, c .before .before .before .copy .kept .0))
+    let L = c .before .before .before .before .loop in
+    let A = c .before .argument in
+    calls.walk-asks (a .s .now) (a .pair) (a .to) (a .p) _ (c .before .before .before .before .before .before .before .before .before .number .ensures) _ (c .before .before .before .before .before .before .before .copy-functor .ensures) (L .s) (L .free) (L .i) (L .inv) (S .pre .1)
+    (c .before .before .before .loop-test .taken) (A .result) (A .ensures) t (S .pre .0))
     -- add-i
     (λ c.
     let S = c .before .before .before .before .before .before .before .before .before .before .before .before .before .before .before in let a = S .args in
-    let L = c .before .before .before .before .before .before .before .before .before .before .before .loop in
-    let size = calls.walk-size (a .s .now) (a .pair) (a .shift) (a .p) _ (L .s) (L .i) (L .inv) (S .pre .1) in
-    omega (arith, c .before .before .before .before .before .before .before .before .before .before .loop-test .taken, size .1))
+    let L = c .before .before .before .before .before .before .before .loop in
+    let size = calls.walk-size (a .s .now) (a .pair) (a .to) (a .p) _ (c .before .before .before .before .before .before .before .before .before .before .before .before .number .ensures) _ (c .before .before .before .before .before .before .before .before .before .before .copy-functor .ensures) (L .s) (L .free) (L .i) (L .inv) (S .pre .1) in
+    omega (arith, c .before .before .before .before .before .before .loop-test .taken, size .1))
     -- loop-less
-    (λ c. omega (arith, c .before .before .before .before .before .before .before .before .before .before .loop-test .taken))
+    (λ c. omega (arith, c .before .before .before .before .before .before .loop-test .taken))
     -- loop-again
     (λ c.
-    let S = c .before .before .before .before .before .before .before .before .before .before .before .before .before .before .before in let a = S .args in
-    let L = c .before .before .before .before .before .before .before .before .before .before .before .loop in
-    let A = c .before .before .before .before .before .before .before .before .argument in
-    rw (c .before .before .store .ensures)
-    (calls.walk-on (a .s .now) (a .pair) (a .shift) (a .p) _ (L .s) (L .i) (L .inv)
-    (c .before .before .before .before .before .before .before .before .before .before .loop-test .taken) (A .result) (A .ensures) _ _ (c .before .before .before .before .before .before .copy .ensures)))
-    -- add-copy-functor
-    (λ c.
-    let S = c .before .before .before .before .before .before in let a = S .args in
-    let inside = calls.cells-inside (a .s .now) (a .pair) (a .shift) (a .p) (S .pre .1) in
-    omega (arith, inside .1, S .good))
-    -- copy-functor-requires
-    (λ c κs.
-    let S = c .before .before .before .before .before .before in let a = S .args in
-    let inside = calls.cells-inside (a .s .now) (a .pair) (a .shift) (a .p) (S .pre .1) in
-    let L = c .before .before .loop in
-    let size = calls.walk-size (a .s .now) (a .pair) (a .shift) (a .p) _ (L .s) (L .i) (L .inv) (S .pre .1) in
-    (omega (arith, inside .0, size .0), omega (arith, inside .1, size .0)))
-    -- add-placed
-    (λ c.
-    let S = c .before .before .before .before .before .before .before .before .before in let a = S .args in
-    let inside = calls.cells-inside (a .s .now) (a .pair) (a .shift) (a .p) (S .pre .1) in
-    omega (arith, inside .1, S .good))
-    -- placed-requires
-    (λ c κs.
-    let S = c .before .before .before .before .before .before .before .before .before in let a = S .args in
-    let inside = calls.cells-inside (a .s .now) (a .pair) (a .shift) (a .p) (S .pre .1) in
-    (omega arith, omega (arith, inside .1, S .good)))
+    let a = c .before .before .before .before .before .before .before .before .before .before .before .before .before .before .before .args in
+    let L = c .before .before .before .before .before .before .before .loop in
+    let A = c .before .before .before .before .argument in
+    calls.walk-on _ (a .pair) (a .to) (a .p) _ (L .s) (L .free) (L .i) (L .inv) (c .before .before .before .before .before .before .loop-test .taken) (A .result) (A .ensures) _ _ (c .before .before .copy .ensures))
     -- same-length
     (λ c.
-    let S = c .before .before .before .before .before .before .before .before .before .before in let a = S .args in
-    let L = c .before .before .before .before .before .before .loop in
-    let size = calls.walk-size (a .s .now) (a .pair) (a .shift) (a .p) _ (L .s) (L .i) (L .inv) (S .pre .1) in
-    c .before .before .before .copy-functor .kept .0 ∙ size .0)
+    let S = c .before .before .before .before .before .before .before .before .before in let a = S .args in
+    let L = c .before .loop in
+    calls.walk-size (a .s .now) (a .pair) (a .to) (a .p) _ (c .before .before .before .before .before .before .number .ensures) _ (c .before .before .before .before .copy-functor .ensures) (L .s) (L .free) (L .i) (L .inv) (S .pre .1) .0)
     -- returns
     (λ c.
-    let S = c .before .before .before .before .before .before .before .before .before .before in let a = S .args in
-    let L = c .before .before .before .before .before .before .loop in
-    rw (c .placed .ensures, c .before .before .before .copy-functor .ensures)
-    (calls.walk-ends (a .s .now) (a .pair) (a .shift) (a .p) _ (L .s) (L .i) (L .inv) (c .before .before .before .before .before .loop-test .left))))
+    let S = c .before .before .before .before .before .before .before .before .before in let a = S .args in
+    let L = c .before .loop in
+    calls.walk-ends (a .s .now) (a .pair) (a .to) (a .p) _ (c .before .before .before .before .before .before .number .ensures) _ (c .before .before .before .before .copy-functor .ensures) (L .s) (L .free) (L .i) (L .inv) (c .loop-test .left)))
