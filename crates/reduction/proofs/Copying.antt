@@ -147,7 +147,8 @@ module _ (s : List ℕ) (x : Item) (pair to h : ℕ) where
               item-term-on x pair (o .goes) s (set s at w) (omega (arith, length-set s at w)) (λ k l. getD-set-other s at k w 0 (λ z. omega arith))
               (compound n f ts) (o′ .term);
           behind = o .behind;
-          room = omega (arith, o′ .room, length-set s at w);
+          inside = omega (arith, o′ .inside, length-set s at w);
+          room = λ some. omega (arith, o′ .room some, length-set s at w);
         },
       )
 
@@ -232,9 +233,9 @@ module _ (s₀ : List ℕ) (x : Item) (pair to p n : ℕ) (f : Functor) (ts : Te
   there = omega (arith, place, o .goes .before n known)
 
   -- Where its copy ends.
-  pub room : to + 1 + count ts + sizes ts + 8 ≤ length s₀
+  pub room : to + 1 + count ts + sizes ts + 7 ≤ length s₀
   unfolding size
-  room = omega (arith, o .room)
+  room = omega (arith, o .room (omega arith))
 
   first-word : getD s₀ p 0 ≡ functor-word (x .places) f (count ts)
   unfolding Holds
@@ -320,7 +321,8 @@ module _ (s₀ : List ℕ) (x : Item) (pair to p n : ℕ) (f : Functor) (ts : Te
                 item-term-on x pair (o .goes) s₀ s (omega (arith, g .only .size)) (λ m l. g .only .below m (omega (arith, o .behind))) t
                 (record { held = g .held .1; within = g .within .0 });
             behind = omega (arith, g .beyond, o .behind);
-            room = omega (arith, room, g .only .size, g .ends, g .number);
+            inside = omega (arith, room, g .only .size, g .ends, g .number);
+            room = λ some. omega (arith, room, g .only .size, g .ends, g .number);
           },
           record {
             behind = omega (arith, o .behind);

@@ -21,16 +21,16 @@ use Rattle.compare.specs.Gifts.{Entry}
 use Rattle.reduction.specs.Build.{Item, size, sizes, Copies, Spread, AllSpread, total, ListSpread, Rising, Moved}
 use Rattle.reduction.specs.Reducing.{EntryTerms, entry-terms, EntriesGiven, GoalsWithin, goal-terms, GoalsHeld}
 
--- A compound takes at most seven words, so eight for each number are enough.
+-- A compound takes at most seven words.
 mutual
   unfolding Numbered AllNumbered size sizes count
 
-  pub size-few : (lo hi : ℕ) (t : Term) → Numbered lo hi t → size t + 8 * lo ≤ 8 * hi
+  pub size-few : (lo hi : ℕ) (t : Term) → Numbered lo hi t → size t + 7 * lo ≤ 7 * hi
   size-few lo hi (variable h n) k = omega arith
   size-few lo hi (constant c) k = omega arith
   size-few lo hi (compound n f ts) k = omega (arith, k .1, sizes-few (lo + 1) hi ts (k .2))
 
-  pub sizes-few : (lo hi : ℕ) (ts : Terms) → AllNumbered lo hi ts → sizes ts + 8 * lo ≤ 8 * hi
+  pub sizes-few : (lo hi : ℕ) (ts : Terms) → AllNumbered lo hi ts → sizes ts + 7 * lo ≤ 7 * hi
   sizes-few lo hi end k = omega arith
   sizes-few lo hi (more t ts) k = omega (arith, size-few lo (k .0) t (k .1), sizes-few (k .0) hi ts (k .2))
 
@@ -39,7 +39,7 @@ unfolding Rising
 rising-order lo hi [] k = k
 rising-order lo hi (t ∷ ts) (a, b, l, n, k) = omega (arith, numbered-order a b t n, rising-order b hi ts k)
 
-pub total-few : (lo hi : ℕ) (ts : List Term) → Rising lo hi ts → total ts + 8 * lo ≤ 8 * hi
+pub total-few : (lo hi : ℕ) (ts : List Term) → Rising lo hi ts → total ts + 7 * lo ≤ 7 * hi
 unfolding Rising total
 total-few lo hi [] k = omega arith
 total-few lo hi (t ∷ ts) (a, b, l, n, k) = omega (arith, size-few a b t n, total-few b hi ts k)
