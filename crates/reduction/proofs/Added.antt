@@ -83,7 +83,10 @@ module _ (s₀ : List ℕ) (x : Item) (from n pair to query queue size front act
 
     pub inside : (rest : List Named) → Partly s₀ s x from n pair to query queue size front active goals i free rest → i < n
         → (from + i < length s) × (free ≤ length s)
-    inside rest g h = (omega (arith, a .from-before, a .behind, a .room, g .kept .size), omega (arith, g .ends, a .room, g .kept .size))
+    inside rest g h = (
+      omega (arith, a .from-before, a .behind, a .before, a .ring-ok .inside, g .kept .size),
+      omega (arith, g .ends, a .before, a .ring-ok .inside, g .kept .size),
+    )
 
     -- A goal of the item has joined; it is still there, to be copied.
     pub next-goal : (rest : List Named) → Partly s₀ s x from n pair to query queue size front active goals i free rest → i < n
@@ -106,7 +109,8 @@ module _ (s₀ : List ℕ) (x : Item) (from n pair to query queue size front act
                 item-term-on x pair (a .goes) s₀ s₁ (omega (arith, g .kept .size, f .only .size))
                 (λ k l. f .only .below k (omega arith) ∙ below (d ∷ others) g k l) (as-term d) (record { held = g .words .1; within = g .within .0 });
             behind = omega (arith, a .behind, g .beyond);
-            room = omega (arith, a .room, g .ends, g .kept .size, f .only .size);
+            inside = omega (arith, a .before, a .ring-ok .inside, g .ends, g .kept .size, f .only .size);
+            room = λ some. omega (arith, a .room (omega (arith, g .ends, g .beyond)), g .ends, g .kept .size, f .only .size);
           },
         )
 

@@ -124,7 +124,7 @@ module _ (s₀ : List ℕ) (x : Item) (unit : Places) (values bound pair to n : 
     trial-word rest g k h = g .kept .same k (inl (omega (arith, a .behind)), inl (omega (arith, a .behind, a .before)))
 
     pub inside : (rest : List Entry) → Partly s₀ s x unit values bound pair to n list i free rest → i < n → 39953 + 2 * i < length s
-    inside rest g h = omega (arith, g .kept .size, a .few, a .behind, a .room)
+    inside rest g h = omega (arith, g .kept .size, a .few, a .behind, a .before, a .inside)
 
     -- The next entry.
     pub next-entry : (rest : List Entry) → Partly s₀ s x unit values bound pair to n list i free rest → i < n
@@ -143,7 +143,8 @@ module _ (s₀ : List ℕ) (x : Item) (unit : Places) (values bound pair to n : 
         term =
             item-term-on x pair (a .goes) s₀ s (omega (arith, g .kept .size)) (λ k l. trial-word (e ∷ others) g k (omega arith)) (e .term) (g .terms .0 .1);
         behind = omega (arith, a .behind, g .beyond);
-        room = omega (arith, a .room, g .ends, g .kept .size);
+        inside = omega (arith, a .before, a .inside, g .ends, g .kept .size);
+        room = λ some. omega (arith, a .room (omega (arith, g .ends, g .beyond)), g .ends, g .kept .size);
       },
       record {
         behind = omega (arith, a .behind, a .before);
