@@ -1,7 +1,7 @@
 -- Goals of an item copied into the queue one behind the other: each copy's word joins the end, and the copies before it stay held.
 use Prim.Native.Nat.{ℕ, _+_, _*_, _/_, _≤_, _<_}
 use mathlib.Core.Path.{_≡_, refl, ap, sym, _∙_}
-use mathlib.Core.Logic.{_⊎_, inl, inr}
+use mathlib.Core.Logic.{inl}
 use mathlib.Core.List.{List, [], _∷_, _++_, map, append-assoc, append-nil}
 use native.Mathlib.Omega.{arith}
 use lib.ListN.{length, getD}
@@ -12,8 +12,8 @@ use Rattle.term.specs.Setting.{Within}
 use Rattle.term.specs.States.{ring}
 use Rattle.reduction.specs.Build as Build
 use Rattle.reduction.specs.Build.{Item, Copies, Spread, total, ListSpread, Original, Moved, Laid}
-use Rattle.queues.specs.Ring.{RingOk, Pushed}
-use Rattle.reduction.specs.Reducing.{Apart, Kept, GoalsWithin, goal-terms, Adding, GoalsHeld, Added}
+use Rattle.queues.specs.Ring.{Pushed}
+use Rattle.reduction.specs.Reducing.{Kept, GoalsWithin, goal-terms, Adding, GoalsHeld, Added}
 use Rattle.reduction.proofs.Copies.{item-term-on}
 use Rattle.reduction.proofs.Keeping.{apart-inside, kept-same, kept-then, kept-only}
 use Rattle.reduction.proofs.Spreading.{copy-stays}

@@ -1,22 +1,20 @@
 -- The values that a reduction assigns: the words that the head's writers were given, and the copies of the terms that the goal's pairs were given.
 -- No pair is given a term twice, and each copy lies behind those before it, so what was assigned stays; the entries lie before all that is written.
-use Prim.Native.Nat.{ℕ, zero, suc, _+_, _*_, _≤_, _<_}
-use mathlib.Core.Path.{_≡_, refl, ap, sym, _∙_}
+use Prim.Native.Nat.{ℕ, _+_, _*_, _≤_, _<_}
+use mathlib.Core.Path.{_≡_, refl, sym, _∙_}
 use mathlib.Core.Bool.{Bool, true, false}
-use mathlib.Core.Logic.{_⊎_, inl, inr}
+use mathlib.Core.Logic.{inl, inr}
 use mathlib.Core.List.{List, [], _∷_}
 use native.Mathlib.Omega.{arith}
 use lib.Dec.{eqb}
-use lib.ListN.{length, getD, set, length-set}
+use lib.ListN.{length, getD, set}
 use lib.Seq.{getD-set-same, getD-set-other}
 use borrow.Author.Tests.{eqb-true, eqb-false}
-use Rattle.meaning.specs.Terms.{Term, renamed}
-use Rattle.term.specs.Cells.{Places, term-word}
-use Rattle.term.specs.Holds.{Holds}
-use Rattle.term.specs.Frames.{Only}
+use Rattle.meaning.specs.Terms.{Term}
+use Rattle.term.specs.Cells.{Places}
 use Rattle.compare.specs.Gifts.{Entry, EntriesAt}
 use Rattle.reduction.specs.Build.{Item, size, Copies, total, ListSpread, Original, Aside, Moved, Copied}
-use Rattle.reduction.specs.Reducing.{Apart, Kept, HeadAssigned, EntryTerms, entry-terms, Assigning, EntriesGiven, NoEntry, GoalAssigned}
+use Rattle.reduction.specs.Reducing.{Apart, Kept, EntryTerms, entry-terms, Assigning, EntriesGiven, NoEntry, GoalAssigned}
 use Rattle.reduction.proofs.Copies.{item-term-on}
 use Rattle.reduction.proofs.Keeping.{not-apart, apart-inside, kept-same, kept-then, kept-set}
 use Rattle.reduction.proofs.Spreading.{copy-stays}

@@ -2,7 +2,7 @@
 -- and, behind all that has been copied, its compounds. So what is copied stays; the depth of the term falls from a compound to its arguments.
 use Prim.Native.Nat.{ℕ, _+_, _*_, _/_, _%_, _≤_, _<_}
 use mathlib.Core.Path.{_≡_, refl, ap, sym, _∙_}
-use mathlib.Core.Logic.{_⊎_, inl, inr}
+use mathlib.Core.Logic.{inl, inr}
 use mathlib.Core.List.{List, [], _∷_}
 use native.Mathlib.Omega.{arith}
 use lib.ListN.{length, getD, set, length-set}
@@ -36,10 +36,10 @@ use Rattle.term.specs.Cells.{Places, term-word, functor-word}
 use Rattle.term.specs.Holds.{Holds, HoldsFrom}
 use Rattle.term.specs.Setting.{Within, AllWithin}
 use Rattle.term.specs.Frames.{Only}
-use Rattle.term.proofs.Frames.{only-set, only-wider}
+use Rattle.term.proofs.Frames.{only-set}
 use Rattle.compare.proofs.Seen.{seen-term, seen-writer, seen-reader}
 use Rattle.circle.proofs.Depth.{depth, depths, height, height-is, shallow}
-use Rattle.reduction.specs.Build.{Item, size, sizes, Copies, Spread, AllSpread, ItemTerm, Original, Aside, Moved, Laid, Copied}
+use Rattle.reduction.specs.Build.{Item, size, sizes, Copies, Spread, AllSpread, Original, Aside, Moved, Laid, Copied}
 use Rattle.reduction.proofs.Copies.{count-renamed, same-constant-word, same-functor-word, item-term-on}
 use Rattle.reduction.proofs.Keeping.{only-apart}
 use Rattle.reduction.proofs.Spreading.{copy-stays}

@@ -1,16 +1,16 @@
 -- Compounds copied one behind the other: how many words they take, that there are places for them, lists of terms joined, and that copies stay held
 -- where their own words stay.
 use Prim.Native.Nat.{ℕ, _+_, _*_, _≤_, _<_}
-use mathlib.Core.Path.{_≡_, refl, ap, sym, _∙_}
+use mathlib.Core.Path.{_≡_, refl, _∙_}
+use mathlib.Core.Bool.{Bool, true, false}
 use mathlib.Core.List.{List, [], _∷_, _++_}
 use native.Mathlib.Omega.{arith}
 use lib.Dec.{ltb}
 use lib.ListN.{length, getD}
-use borrow.Author.Tests.{lt-ltb, le-ltb, ltb-true, ltb-false}
-use mathlib.Core.Bool.{Bool, true, false}
+use borrow.Author.Tests.{lt-ltb, le-ltb}
 use Rattle.meaning.specs.Bytes.{if_then_else_}
 use Rattle.meaning.specs.Terms.{Term, Terms, Named, variable, constant, compound, end, more, count, renamed, all-renamed, as-term}
-use Rattle.term.specs.Cells.{Places, Numbered, AllNumbered, term-word}
+use Rattle.term.specs.Cells.{Places, Numbered, AllNumbered}
 use Rattle.term.specs.Every.{Every, EveryOf}
 use Rattle.term.specs.Holds.{Holds}
 use Rattle.term.specs.Jobs.{GoalsNumbered}
@@ -59,7 +59,7 @@ list-spread-append y to (t ∷ ts) us k =
     let place : to + (size t + total ts) ≡ to + size t + total ts = omega arith in
     ((k .0, first), rw place second)
 
--- The first list may as well begin behind.
+-- What rises from a number rises from any before it.
 rising-later : (lo lo′ hi : ℕ) (ts : List Term) → lo′ ≤ lo → Rising lo hi ts → Rising lo′ hi ts
 unfolding Rising
 rising-later lo lo′ hi [] l k = omega arith
@@ -142,6 +142,7 @@ joined-between mid lo hi y z a b n = go (ltb n mid)
 between-wider : (lo hi lo′ hi′ : ℕ) (y : Copies) → lo′ ≤ lo → hi ≤ hi′ → Between lo hi y → Between lo′ hi′ y
 between-wider lo hi lo′ hi′ y l h a n = (omega (arith, a n .0), omega (arith, a n .1))
 
+-- No words for any number.
 nowhere : ℕ → Copies
 nowhere to = record { at = λ n. to; width = λ n. 0 }
 

@@ -1,5 +1,5 @@
 -- `reduction::reduce::add_goals` meets its contract: goal by goal its copy's word joins the queue, and its copy is made.
-use Prim.Native.Nat.{_+_, _*_, _/_, _-_, _≤_, _<_}
+use Prim.Native.Nat.{_/_, _-_}
 use mathlib.Core.Path.{ap, _∙_}
 use native.Mathlib.Omega.{arith}
 use Rattle.reduction.proofs.ReduceCalls as calls
