@@ -1,20 +1,19 @@
 -- The state after a reduction, in the scratch as its parts have left it.
-use Prim.Native.Nat.{ℕ, zero, suc, _+_, _-_, _*_, _≤_, _<_}
+use Prim.Native.Nat.{ℕ, suc, _+_, _-_, _*_, _≤_, _<_}
 use mathlib.Core.Path.{_≡_, refl, sym, ap, _∙_}
 use mathlib.Core.Bool.{Bool, true, false, not}
-use mathlib.Core.List.{List, [], _∷_, _++_, map, append-assoc}
+use mathlib.Core.List.{List, [], _∷_, _++_, map}
 use mathlib.Core.Option.{some}
 use native.Mathlib.Omega.{arith}
 use lib.ListN.{length, getD, length-append, length-map}
 use Rattle.meaning.specs.Bytes.{Bytes, those, if_then_else_}
-use Rattle.meaning.specs.Terms.{Term, Clause, Job, Query, Named}
-use Rattle.meaning.specs.Items.{job, reading}
+use Rattle.meaning.specs.Terms.{Term, Clause, Job}
 use Rattle.meaning.specs.State.{Room, QueryUnit, Goal, Waiting, State, value, unit-at, number-of, goals-at}
 use Rattle.meaning.specs.Compare.{Assignment}
 use Rattle.meaning.specs.Trial.{reduces}
 use Rattle.meaning.specs.Step.{unit-after, body-goals, wakes, goals-after, pairs-charged, compounds-charged, without-front, step}
 use Rattle.meaning.specs.Run.{fits, choice-for, run}
-use Rattle.meaning.proofs.Lists.EachOf.{Each, each-of-those}
+use Rattle.meaning.proofs.Lists.EachOf.{each-of-those}
 use Rattle.meaning.proofs.Lists.Filters.{length-those}
 use Rattle.meaning.proofs.Reading.{accepted-keeps-the-occurrence-rules}
 use Rattle.meaning.proofs.Runs.{run-within-room}
@@ -23,15 +22,12 @@ use Rattle.meaning.proofs.Runs.Counts.{within-says, after-within}
 use Rattle.meaning.proofs.Circle.{run-no-circle, step-values-stay}
 use Rattle.meaning.proofs.Single.{reduction-assigns-once}
 use Rattle.meaning.proofs.Trial.Chosen.{reduces-agrees}
-use Rattle.term.specs.Cells.{Places}
-use Rattle.term.specs.Jobs.{query-record, GoalsKnown, EachFrom, HoldsJob, ClauseAt, JobKept}
+use Rattle.term.specs.Jobs.{query-record, GoalsKnown, EachFrom, JobKept}
 use Rattle.term.specs.Layout.{values-region, waiters-region, sets-region, marks-region, ends-region, queue-region, waiting-region, failed-region, need-of}
-use Rattle.term.specs.Setting.{UnitStands}
-use Rattle.term.specs.States.{Atlas, setting, setting-at, goal-word, ring, listed, Lies, UnitsStand, FirstPair, AllStand, QueueStands, WaitingStand, FailedStand, HoldsState}
+use Rattle.term.specs.States.{Atlas, setting, goal-word, ring, UnitsStand, FirstPair, AllStand, QueueStands, WaitingStand, FailedStand, HoldsState}
 use Rattle.term.specs.declared.state.Standing.{Standing}
 use Rattle.term.proofs.Jobs.{holds-job-kept}
 use Rattle.compare.specs.Gifts.{Entry}
-use Rattle.compare.specs.Compare.{Gave}
 use Rattle.trial.specs.Choosing.{template, MarksBelow}
 use Rattle.queues.specs.Log.{Slot, LogOk, present}
 use Rattle.reduction.specs.Build.{Copies}
@@ -43,12 +39,11 @@ use Rattle.machine.specs.Taking.{Taken, Reducing}
 use Rattle.machine.proofs.BodyGoals.{body-fits, body-goals-stand, body-words}
 use Rattle.machine.proofs.Enlarging.{CopiedTo}
 use Rattle.machine.proofs.EntryByEntry.{no-entry-of, entry-stands}
-use Rattle.machine.proofs.Frames.{failed-kept}
 use Rattle.machine.proofs.GroundMarks.{grounds-grow}
 use Rattle.queues.proofs.Listed.{listed-kept}
 use Rattle.machine.proofs.Logged.{map-both, waiting-logged}
 use Rattle.machine.proofs.Next.{run-next}
-use Rattle.machine.proofs.NextUnit.{after-unit, enlarged, UnitReduced, next-unit-stands}
+use Rattle.machine.proofs.NextUnit.{enlarged, UnitReduced, next-unit-stands}
 use Rattle.machine.proofs.NextUnits.{atlas-after, units-after, Enlarges, as-many, grown, grown-here, goals-grow, goal-words-same, lies-after, units-stand, first-pairs-after}
 use Rattle.machine.proofs.OwnPairs.{run-own-pairs}
 use Rattle.machine.proofs.WaitingPairs.{OwnReaders, waiting-readers, slots-same}

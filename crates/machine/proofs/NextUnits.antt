@@ -6,21 +6,21 @@ use native.Mathlib.Decide.{decLt}
 use native.Mathlib.Omega.{arith}
 use lib.ListN.{length, getD, set, length-set}
 use Rattle.meaning.specs.Bytes.{Bytes}
-use Rattle.meaning.specs.Terms.{Clause, Query, Named, as-term}
-use Rattle.meaning.specs.State.{Room, QueryUnit, Goal, Waiting, unit-at}
+use Rattle.meaning.specs.Terms.{Clause, Query, as-term}
+use Rattle.meaning.specs.State.{Room, QueryUnit, Goal, unit-at}
 use Rattle.meaning.specs.Compare.{Assignment}
 use Rattle.meaning.proofs.Trial.Values.{unit-at-set-same, unit-at-set-other, length-values-after}
 use Rattle.term.specs.Cells.{Places}
 use Rattle.term.specs.Jobs.{query-record, EachFrom}
 use Rattle.term.specs.Layout.{values-region}
-use Rattle.term.specs.Setting.{Setting, Within, UnitStands}
+use Rattle.term.specs.Setting.{Within, UnitStands}
 use Rattle.term.specs.States.{Atlas, setting, setting-at, goal-word, Lies, UnitsStand, FirstPair, GoalStands, AllStand}
 use Rattle.reduction.specs.Build.{Copies}
-use Rattle.machine.specs.Extended.{extended, replaced-at}
-use Rattle.queues.proofs.Deciding.{if-below, if-beyond}
+use Rattle.machine.specs.Extended.{replaced-at}
+use Rattle.queues.proofs.Deciding.{if-beyond}
 use Rattle.machine.proofs.Enlarging.{CopiedTo, extended-agrees, replaced-there, replaced-elsewhere}
 use Rattle.machine.proofs.Frames.{unit-stands-kept}
-use Rattle.machine.proofs.Growing.{AgreeBelow, agree-same, Grown, term-grows}
+use Rattle.machine.proofs.Growing.{agree-same, Grown, term-grows}
 use Rattle.queues.proofs.Log.{by-place}
 use Rattle.machine.proofs.NextUnit.{after-unit, enlarged}
 use Rattle.machine.proofs.OwnPairs.{no-query, each-map-at}

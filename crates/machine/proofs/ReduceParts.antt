@@ -1,52 +1,46 @@
 -- The parts of a reduction, one behind the other: what each asks follows from what those before it have left.
-use Prim.Native.Nat.{ℕ, zero, suc, _+_, _-_, _*_, _≤_, _<_}
+use Prim.Native.Nat.{ℕ, _+_, _-_, _*_, _≤_, _<_}
 use mathlib.Core.Path.{_≡_, refl, sym, ap, _∙_}
-use mathlib.Core.Logic.{_⊎_, inl, inr}
-use mathlib.Core.Bool.{Bool, true, false, not}
+use mathlib.Core.Logic.{inl, inr}
+use mathlib.Core.Bool.{true}
 use mathlib.Core.List.{List, [], _∷_, _++_, map}
 use native.Mathlib.Omega.{arith}
 use lib.ListN.{length, getD, set, length-set}
 use lib.Seq.{getD-set-same, getD-set-other}
 use Rattle.meaning.specs.Bytes.{Bytes, those}
-use Rattle.meaning.specs.Terms.{Term, Terms, variable, constant, compound, end, more, Clause, Job, Named, renamed, all-renamed, as-term}
+use Rattle.meaning.specs.Terms.{Clause, Job}
 use Rattle.meaning.specs.State.{Room, QueryUnit, Goal, Waiting, State, unit-at, number-of}
 use Rattle.meaning.specs.Compare.{Assignment}
 use Rattle.meaning.specs.Trial.{reduces}
 use Rattle.meaning.specs.Step.{wakes, without-front}
 use Rattle.meaning.specs.Run.{fits, choice-for, run}
-use Rattle.meaning.proofs.Lists.EachOf.{Each, each-in, each-member}
+use Rattle.meaning.proofs.Lists.EachOf.{Each}
 use Rattle.meaning.proofs.Lists.Filters.{length-those}
 use Rattle.meaning.proofs.Reading.{accepted-keeps-the-occurrence-rules}
 use Rattle.meaning.proofs.Runs.Counts.{within-says}
 use Rattle.meaning.proofs.Single.{reduction-assigns-once}
 use Rattle.meaning.proofs.Trial.Chosen.{reduces-agrees}
-use Rattle.term.specs.Cells.{Places, term-word}
-use Rattle.term.specs.Every.{Every, EveryOf}
-use Rattle.term.specs.Holds.{Holds}
-use Rattle.term.specs.Jobs.{clause-record, clause-base, query-record, places-from, HoldsGoals, HoldsClause, ClauseAt}
-use Rattle.term.specs.Layout.{values-region, waiters-region, sets-region, marks-region, queue-region, waiting-region, failed-region, need-of, InRange}
-use Rattle.term.specs.Setting.{Setting, Within, AllWithin}
-use Rattle.term.specs.States.{Atlas, setting, goal-word, ring, listed, Lies, AllStand, HoldsState}
+use Rattle.term.specs.Cells.{Places}
+use Rattle.term.specs.Jobs.{clause-record, query-record, HoldsGoals}
+use Rattle.term.specs.Layout.{values-region, waiters-region, sets-region, queue-region, waiting-region, need-of}
+use Rattle.term.specs.States.{Atlas, setting, goal-word, ring, Lies, AllStand, HoldsState}
 use Rattle.term.specs.declared.state.Standing.{Standing}
-use Rattle.term.proofs.Holds.{holds-alike}
 use Rattle.term.proofs.Jobs.{holds-clause-kept}
-use Rattle.compare.specs.Gifts.{Entry, EntriesAt, entries-of, assignments}
-use Rattle.compare.specs.Compare.{Template, item-places, HeadTerm, AllEntries, Gave}
+use Rattle.compare.specs.Gifts.{Entry, entries-of, assignments}
+use Rattle.compare.specs.Compare.{item-places}
 use Rattle.trial.proofs.Once.{AllApart, once-apart, no-entry, entries-differ, entry-words, entry-held}
 use Rattle.reduction.specs.Build.{Item, Copies, total, ListSpread, Goes, Moved}
 use Rattle.reduction.proofs.Spreading.{total-append, list-spread-append, rising-append, goals-rising, goal-copies-stay, entry-copies-stay}
 use Rattle.trial.specs.Choosing.{template}
-use Rattle.queues.specs.Log.{Slot, LogOk, present}
-use Rattle.reduction.specs.Reducing.{Apart, Kept, HeadAssigned, EntryTerms, entry-terms, Assigning, EntriesGiven, NoEntry, GoalAssigned, GoalsWithin, goal-terms, Adding, GoalsHeld, Added, entry-places, hit, hits, woken, quieted, emptied, NotLogged, Wakes, Waked, AddsWoken, WokenAdded}
-use Rattle.queues.specs.Ring.{RingOk, Passed}
-use Rattle.machine.specs.Running.{slot-of, RunOnly, Running}
+use Rattle.queues.specs.Log.{Slot, LogOk}
+use Rattle.reduction.specs.Reducing.{Apart, HeadAssigned, EntryTerms, entry-terms, Assigning, EntriesGiven, GoalAssigned, goal-terms, Adding, GoalsHeld, Added, entry-places, hit, hits, woken, quieted, emptied, NotLogged, Wakes, Waked, AddsWoken, WokenAdded}
+use Rattle.machine.specs.Running.{slot-of, RunOnly}
 use Rattle.machine.specs.Taking.{Taken, Reducing}
 use Rattle.machine.proofs.BodyGoals.{BodyFits, body-fits}
 use Rattle.machine.proofs.ClauseEntries.{clause-item, entries-still, entries-held, entries-rising}
 use Rattle.machine.proofs.Enlarging.{CopiedTo, extended-moved}
 use Rattle.machine.proofs.FramesRunning.{few-units, tries-below, front-stands, front-number, front-place}
 use Rattle.machine.proofs.Fresh.{Fresh, fresh}
-use Rattle.term.proofs.Units.{within-every}
 use Rattle.queues.proofs.Listed.{listed-kept}
 use Rattle.machine.proofs.NextState.{Reduced, WokenAre}
 use Rattle.machine.proofs.NextUnit.{enlarged}

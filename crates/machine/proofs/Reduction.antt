@@ -1,8 +1,8 @@
 -- A reduction that fits is the next step of the run; one that does not fit leaves the state as it was.
-use Prim.Native.Nat.{ℕ, zero, suc, _+_, _-_, _*_, _≤_, _<_}
+use Prim.Native.Nat.{ℕ, _+_, _-_, _*_, _≤_, _<_}
 use mathlib.Core.Path.{_≡_, refl, sym, ap, _∙_}
-use mathlib.Core.Bool.{Bool, true, false, not, _&&_, true≢false, false≢true}
-use mathlib.Core.List.{List, [], _∷_}
+use mathlib.Core.Bool.{Bool, true, false, not, true≢false, false≢true}
+use mathlib.Core.List.{List}
 use native.Mathlib.Omega.{arith}
 use lib.Dec.{leb}
 use lib.ListN.{length, getD, set, length-set}
@@ -13,20 +13,19 @@ use Rattle.meaning.specs.State.{Room, Goal, State, number-of}
 use Rattle.meaning.specs.Compare.{Assignment}
 use Rattle.meaning.specs.Trial.{reduces}
 use Rattle.meaning.specs.Step.{without-front}
-use Rattle.meaning.specs.Run.{within, fits, choice-for, run}
+use Rattle.meaning.specs.Run.{within, fits, run}
 use Rattle.term.specs.Cells.{Places}
 use Rattle.term.specs.Jobs.{query-record}
 use Rattle.term.specs.Layout.{values-region, waiters-region, sets-region, queue-region, waiting-region}
 use Rattle.term.specs.States.{Atlas}
 use Rattle.term.specs.declared.state.Standing.{Standing}
-use Rattle.machine.specs.declared.step.Stepped.{Stepped}
 use Rattle.machine.specs.declared.step.Stepped.the-variants.{Next, NoRoom}
 use Rattle.queues.specs.Log.{Slot}
 use Rattle.compare.specs.Gifts.{Entry}
 use Rattle.reduction.specs.Build.{Item, Copies, total}
 use Rattle.reduction.specs.Reducing.{entry-terms, HeadAssigned, Assigning, GoalAssigned, Wakes, Waked, Adding, Added, AddsWoken, WokenAdded, entry-places, hits, emptied}
 use Rattle.queues.specs.Ring.{Passed}
-use Rattle.machine.specs.Running.{RunOnly, Running, StepIs}
+use Rattle.machine.specs.Running.{RunOnly, StepIs}
 use Rattle.machine.specs.Taking.{Taken, Counted, Reducing}
 use Rattle.machine.proofs.ClauseEntries.{clause-item}
 use Rattle.machine.proofs.NextState.{Reduced, StandingAfter, WokenAre, running-now}

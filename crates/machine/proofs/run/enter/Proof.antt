@@ -1,5 +1,4 @@
 -- `machine::run::enter` meets its contract: the query's goals are copied to the queue's end, and its unit stands.
-use Prim.Native.Nat.{_+_, _*_, _-_}
 use mathlib.Core.Path.{refl, _∙_}
 use native.Mathlib.Omega.{arith}
 use borrow.Author.Needs.{needs}
