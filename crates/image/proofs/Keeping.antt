@@ -18,7 +18,7 @@ use Rattle.tables.specs.Places.{Place}
 use Rattle.image.specs.Image.{goals-stored, places-stored}
 
 -- Goals: their words one behind the other, before the places of their compounds.
-module _ (places : CellPlaces) (base : ℕ) (at : (n : ℕ) → places .compound n ≡ base + n) where
+module _ (places : CellPlaces) (base : ℕ) (at : (n : ℕ) → places .compound n ≡ 8 * (base + n)) where
   pub goals-two : (place lo hi : ℕ) (gs : List Named) (s : List ℕ) → place + length gs ≤ 8 * base → GoalsNumbered lo hi gs
       → OnlyTwo place (place + length gs) (8 * (base + lo)) (8 * (base + hi)) s (goals-stored places place gs s)
   unfolding GoalsNumbered goals-stored
@@ -41,11 +41,13 @@ module _ (places : CellPlaces) (base : ℕ) (at : (n : ℕ) → places .compound
       (two-wider (place + 1) (place + 1 + length gs) (8 * (base + mid)) w place e v w s₂ s₃ (omega arith) (omega arith) (omega arith) (omega arith)
       (goals-two (place + 1) mid hi gs s₂ (omega arith) (k .2))))
 
-  pub goals-hold : (place i lo hi : ℕ) (gs : List Named) (s : List ℕ) → place + i + length gs ≤ 8 * base → 8 * (base + hi) ≤ length s
+  -- Stored, they are held, where each compound has eight words of its own.
+  pub goals-hold : ((n : ℕ) → places .width n ≡ 8)
+      → (place i lo hi : ℕ) (gs : List Named) (s : List ℕ) → place + i + length gs ≤ 8 * base → 8 * (base + hi) ≤ length s
       → GoalsNumbered lo hi gs → HoldsGoals (goals-stored places (place + i) gs s) places place i gs
   unfolding GoalsNumbered goals-stored HoldsGoals
-  goals-hold place i lo hi [] s room inside k = tt
-  goals-hold place i lo hi (g ∷ gs) s room inside k =
+  goals-hold wide place i lo hi [] s room inside k = tt
+  goals-hold wide place i lo hi (g ∷ gs) s room inside k =
       let t = as-term g in
       let v = term-word places t in
       let p = place + i in
@@ -60,10 +62,10 @@ module _ (places : CellPlaces) (base : ℕ) (at : (n : ℕ) → places .compound
       let rest : OnlyTwo (p + 1) (p + 1 + length gs) (8 * (base + mid)) (8 * (base + hi)) s₂ s₃ = goals-two (p + 1) mid hi gs s₂ (omega arith) (k .2) in
       let next : place + (i + 1) ≡ p + 1 = omega arith in (
         rest .below p (omega arith) ∙ getD-set-same s₁ p v 0 (omega arith),
-        holds-kept places base at s₁ s₃ (omega (arith, rest .size)) lo mid t
+        holds-kept places base at wide s₁ s₃ (omega (arith, rest .size)) lo mid t
             (λ j l h. rest .between j (omega arith) h ∙ getD-set-other s₁ p j v 0 (λ e. omega arith))
-            (k .1) (stored-holds places base at lo mid t s (k .1) (omega arith)),
-        rw next at (goals-hold place (i + 1) mid hi gs s₂ (omega arith) (omega arith) (k .2)),
+            (k .1) (stored-holds places base at wide lo mid t s (k .1) (omega arith)),
+        rw next at (goals-hold wide place (i + 1) mid hi gs s₂ (omega arith) (omega arith) (k .2)),
       )
 
 -- Places of the text, two words a place.

@@ -101,12 +101,12 @@ module _ (names : List Place) (k : ℕ) (few : k < 128) (c : Clause) (laid : Cla
         pairs = words .0;
         compounds = words .1;
         goals = words .2;
-        head = holds-kept p base (λ n. refl) s₁ s₃ (omega arith) 0 mid (as-term (c .head))
+        head = holds-kept p base (λ n. refl) (λ n. refl) s₁ s₃ (omega arith) 0 mid (as-term (c .head))
             (λ j l h. three .above j (omega arith) ∙ goals .between j (omega arith) h)
-            (laid .numbered .1) (stored-holds p base (λ n. refl) 0 mid (as-term (c .head)) s (laid .numbered .1) (omega arith));
-        body = holds-goals-kept p base (λ n. refl) s₂ s₃ (omega arith) (r + 4) 0 mid hi (c .body)
+            (laid .numbered .1) (stored-holds p base (λ n. refl) (λ n. refl) 0 mid (as-term (c .head)) s (laid .numbered .1) (omega arith));
+        body = holds-goals-kept p base (λ n. refl) (λ n. refl) s₂ s₃ (omega arith) (r + 4) 0 mid hi (c .body)
             (λ j l h. three .above (r + 4 + j) (omega arith)) (λ j l h. three .above j (omega arith)) (laid .numbered .2)
-            (rw none at (goals-hold p base (λ n. refl) (r + 4) 0 mid hi (c .body) s₁ (omega arith) (omega arith) (laid .numbered .2)));
+            (rw none at (goals-hold p base (λ n. refl) (λ n. refl) (r + 4) 0 mid hi (c .body) s₁ (omega arith) (omega arith) (laid .numbered .2)));
       }
 
 -- The query k, with where its variables first stand.
@@ -163,8 +163,8 @@ module _ (names : List Place) (k : ℕ) (few : k < 8) (q : Query) (laid : QueryL
         goals = last .below r (omega arith) ∙ words .0;
         pairs = last .below (r + 1) (omega arith) ∙ words .1;
         compounds = last .below (r + 2) (omega arith) ∙ words .2;
-        words = holds-goals-kept p base (λ n. refl) s₁ s₃ (omega arith) (r + 8) 0 0 hi (q .goals)
+        words = holds-goals-kept p base (λ n. refl) (λ n. refl) s₁ s₃ (omega arith) (r + 8) 0 0 hi (q .goals)
             (λ j l h. last .below (r + 8 + j) (omega arith) ∙ three .above (r + 8 + j) (omega arith))
             (λ j l h. last .above j (omega arith) ∙ three .above j (omega arith)) (laid .numbered)
-            (rw none at (goals-hold p base (λ n. refl) (r + 8) 0 0 hi (q .goals) s (omega arith) (omega arith) (laid .numbered)));
+            (rw none at (goals-hold p base (λ n. refl) (λ n. refl) (r + 8) 0 0 hi (q .goals) s (omega arith) (omega arith) (laid .numbered)));
       }

@@ -212,7 +212,7 @@ module _ (text rest : Bytes) (from base : ℕ) (known vars : List Place) (c : Cu
     pub compound-got : (s₂ : List ℕ) (name w k : ℕ) (e : Cursor) → place-of f (spellings known) ≡ some name
         → ArgumentsAre (c .compounds) 0 (arguments argument 6) text rest from base known vars (counted-one c) s item s₁ names₁ item₁ (Got k e)
         → s₂ ≡ set s₁ (8 * (base + c .compounds)) (k + 8 * (name + 1))
-        → w ≡ 6 + 8 * (base + c .compounds)
+        → w ≡ 6 + 8 * (8 * (base + c .compounds))
         → ReadIs as-term (compound-of argument f) text rest from base known vars c s item s₂ names₁ item₁ (Got w e)
     unfolding read-on give as-term item-places stored Numbered Known occurrences
     compound-got s₂ name w k e place a kept word =

@@ -119,7 +119,7 @@ module _ (text rest : Bytes) (from base : ℕ) (known vars : List Place) (c : Cu
           → ReadIs (λ (t : Term). t) rest-of-list text rest from base known₁ vars₁ e s₂ item₁ s₃ names₃ item₃ (Got v d)
           → s₄ ≡ set s₃ (8 * (base + c .compounds) + 1 + 1) v
           → s₅ ≡ set s₄ (8 * (base + c .compounds)) 2
-          → cell-word ≡ 6 + 8 * (base + c .compounds)
+          → cell-word ≡ 6 + 8 * (8 * (base + c .compounds))
           → ReadIs (λ (t : Term). t) (elements element (suc left)) text rest from base known vars c s item s₅ names₃ item₃ (Got cell-word d)
       unfolding read-on give item-places stored arguments-stored Numbered AllNumbered Known AllKnown occurrences all-occurrences count
       tail-got s₄ s₅ v cell-word d a kept₄ kept₅ word =

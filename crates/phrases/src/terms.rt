@@ -35,13 +35,13 @@ fn functor(name: usize, count: u64) -> u64
 
 // The word of the compound n of the item.
 fn compound_word(base: usize, n: usize) -> u64
-    requires { ⌜ (base < 1152921504606846976) × (n ≤ 32) ⌝ }
-    ensures { λ r. ⌜ r ≡ 6 + 8 * (base + n) ⌝ }
+    requires { ⌜ (base < 144115188075855872) × (n ≤ 32) ⌝ }
+    ensures { λ r. ⌜ r ≡ 6 + 8 * (8 * (base + n)) ⌝ }
 {
-    word(6 + 8 * (base + n))
+    word(6 + 64 * (base + n))
 }
 
-// The words of the compound n of the item, whose compounds have places from base on: its own word, and one for each argument.
+// The words of the compound n of the item, whose compounds have places from 8 * base on: its own word, and one for each argument.
 fn store_functor(s: &mut [u64], base: usize, n: usize, w: u64)
     requires { ⌜ (8 * (base + n) < length (now s)) × (length (now s) < 1152921504606846976) ⌝ }
     ensures { λ r. ⌜ now (s .exit) ≡ set (now (s .entry)) (8 * (base + n)) w ⌝ }

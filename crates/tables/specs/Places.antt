@@ -1,5 +1,5 @@
 -- Where the names of a text and the variables of an item first stand.
-use Prim.Native.Nat.{ℕ, _+_, _-_}
+use Prim.Native.Nat.{ℕ, _+_, _*_, _-_}
 use mathlib.Core.Bool.{Bool, true, false}
 use mathlib.Core.List.{List, [], _∷_, _++_, map}
 use Rattle.meaning.specs.Bytes.{Bytes, same, any, if_then_else_}
@@ -54,6 +54,6 @@ unfoldable pub variables-over : ℕ → List Placed → List Place → List Plac
 variables-over from [] places = places
 variables-over from (p ∷ ps) places = variables-over from ps (with-variable (p .at - from) (p .token) places)
 
--- An item's own places: pairs by their numbers, compounds from the item's first place on.
+-- An item's own places: pairs by their numbers, compounds from the item's first place on, eight words each.
 unfoldable pub item-places : List Place → ℕ → CellPlaces
 item-places names base = record { names = spellings names; pair = λ n. n; compound = λ n. 8 * (base + n); width = λ n. 8 }
