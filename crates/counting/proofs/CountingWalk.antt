@@ -1,5 +1,5 @@
 -- Counting a compound's arguments: the walk has counted some bytes, and what is left of them in the order of the whole brings it to the whole's length.
-use Prim.Native.Nat.{ℕ, _+_, _*_, _≤_, _<_}
+use Prim.Native.Nat.{ℕ, _+_, _≤_, _<_}
 use mathlib.Core.Path.{_≡_, refl, _∙_, sym, ap}
 use mathlib.Core.Logic.{_≢_}
 use mathlib.Core.List.{List, [], _∷_, _++_}
@@ -35,9 +35,9 @@ use Rattle.facts.proofs.Wholes.{some-argument, whole-is}
 pub position-kept : (s s′ : List ℕ) (text : Bytes) (x : Setting) (facts : ℕ) → Readable s text x facts → Changed s s′ x facts
     → (p i j : ℕ) (f : Functor) (u : Term) (us : Terms) → Position s x p i j f u us → Position s′ x p i j f u us
 position-kept s s′ text x facts r c p i j f u us a =
-    let own : (n : ℕ) → n < x .compounds → (k : ℕ) → 8 * x .places .compound n ≤ k → k < 8 * x .places .compound n + 8 → getD s′ k 0 ≡ getD s k 0 =
+    let own : (n : ℕ) → n < x .compounds → (k : ℕ) → x .places .compound n ≤ k → k < x .places .compound n + x .places .width n → getD s′ k 0 ≡ getD s k 0 =
     λ n h k l b. front-kept s s′ text x facts r c k (omega (arith, r .compound-behind n h)) (omega (arith, r .compound-before n h)) in
-    let from = 8 * x .places .compound (a .number) in record {
+    let from = x .places .compound (a .number) in record {
       number = a .number;
       index = a .index;
       place = a .place;
@@ -45,12 +45,13 @@ position-kept s s′ text x facts r c p i j f u us a =
       cell-at = record {
         inside = omega (arith, c .size, a .cell-at .inside);
         few = a .cell-at .few;
-        functor = own (a .number) (a .of-unit) from (omega arith) (omega arith) ∙ a .cell-at .functor;
+        wide = a .cell-at .wide;
+        functor = own (a .number) (a .of-unit) from (omega arith) (omega (arith, a .cell-at .wide)) ∙ a .cell-at .functor;
       };
       sound-functor = a .sound-functor;
       terms = record {
         held = holds-from-alike s s′ (x .places) (λ n. n < x .compounds) (omega (arith, c .size)) own (a .number) j (more u us)
-            (λ k l b. own (a .number) (a .of-unit) k (omega arith) b) (a .cell-at .few)
+            (λ k l b. own (a .number) (a .of-unit) k (omega arith) b) (a .cell-at .wide)
             (all-within-every (length (x .values)) (x .compounds) (more u us) (a .terms .within)) (a .terms .held);
         within = a .terms .within;
         known = a .terms .known;

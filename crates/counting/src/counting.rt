@@ -144,8 +144,8 @@ pub fn count_term(s: &mut [u64], facts: usize, at: usize, w: u64) -> usize
 
 // What stands before a compound's first argument.
 fn opening(s: &[u64], at: usize, p: usize) -> usize
-    requires { ⌜ ((text : Bytes) × (f : Functor) × (at ≤ 16777217) × (8 * p < length (now s)) × Opens (now s) text (getD (now s) (8 * p) 0 / 8) f) ⌝ }
-    ensures { λ r. ⌜ ((text : Bytes) (f : Functor) → Opens (now (s .entry)) text (getD (now (s .entry)) (8 * p) 0 / 8) f → r ≡ capped (at + length (opening-bytes f))) ⌝ }
+    requires { ⌜ ((text : Bytes) × (f : Functor) × (at ≤ 16777217) × (p < length (now s)) × Opens (now s) text (getD (now s) p 0 / 8) f) ⌝ }
+    ensures { λ r. ⌜ ((text : Bytes) (f : Functor) → Opens (now (s .entry)) text (getD (now (s .entry)) p 0 / 8) f → r ≡ capped (at + length (opening-bytes f))) ⌝ }
 {
     let f = functor(s, p);
     if f == 0 {
@@ -167,7 +167,7 @@ pub fn count_arguments(s: &mut [u64], facts: usize, at: usize, first: usize) -> 
     let mut p = first;
     let mut i = 1;
     loop {
-        let a = word_at(s, 8 * p, i);
+        let a = word_at(s, p, i);
         to = count_term(s, facts, to, a);
         match behind(s, facts, p, i) {
             Next::Goes(_, q, j) => {

@@ -1,5 +1,5 @@
 -- What the code asks and tells behind an argument, by the kind of its compound.
-use Prim.Native.Nat.{ℕ, _+_, _*_, _/_, _<_}
+use Prim.Native.Nat.{ℕ, _+_, _/_, _<_}
 use mathlib.Core.Path.{_≡_, refl}
 use mathlib.Core.Logic.{_≢_}
 use mathlib.Core.List.{List}
@@ -15,14 +15,14 @@ use Rattle.facts.specs.declared.cells.Next.the-variants.{Ends}
 use Rattle.facts.proofs.Walking.{position-inside, position-named, position-cell, position-element, position-tail, tail-shows}
 
 module _ (s : List ℕ) (x : Setting) (p i j : ℕ) (f : Functor) (u : Term) (us : Terms) (a : Position s x p i j f u us) where
-  pub named-asks : getD s (8 * p) 0 / 8 ≢ 0
+  pub named-asks : getD s p 0 / 8 ≢ 0
       → (x : Setting) × (f : Bytes) × (j : ℕ) × (u : Term) × (us : Terms) × Position s x p i j (named f) u us
   named-asks d = go (position-named s x p i j f u us a d)
     where
       go : (g : Bytes) × (f ≡ named g) → (x : Setting) × (f : Bytes) × (j : ℕ) × (u : Term) × (us : Terms) × Position s x p i j (named f) u us
       go (g, e) = (x, g, j, u, us, rw e at a)
 
-  pub named-tells : getD s (8 * p) 0 / 8 ≢ 0 → (r : Next)
+  pub named-tells : getD s p 0 / 8 ≢ 0 → (r : Next)
       → ((x : Setting) (f : Bytes) (j : ℕ) (u : Term) (us : Terms) → Position s x p i j (named f) u us → Found s x (named f) j us r)
       → Found s x f j us r
   named-tells d r told = go (position-named s x p i j f u us a d)
@@ -33,11 +33,11 @@ module _ (s : List ℕ) (x : Setting) (p i j : ℕ) (f : Functor) (u : Term) (us
   pub record Tail : Type 0 where
     pub tail-term : Term
     pub position : Position s x p 1 0 cell u (more tail-term end)
-    pub shows : Shows s x tail-term (getD s (8 * p + 2) 0)
-    pub inside : 8 * p + 2 < length s
+    pub shows : Shows s x tail-term (getD s (p + 2) 0)
+    pub inside : p + 2 < length s
     pub tells : (r : Next) → Found s x cell 0 (more tail-term end) r → Found s x f j us r
 
-  pub tail-asks : getD s (8 * p) 0 / 8 ≡ 0 → i ≡ 1 → Tail
+  pub tail-asks : getD s p 0 / 8 ≡ 0 → i ≡ 1 → Tail
   unfolding count
   tail-asks z one = go (position-cell s x p i j f u us a z)
     where
@@ -54,7 +54,7 @@ module _ (s : List ℕ) (x : Setting) (p i j : ℕ) (f : Functor) (u : Term) (us
       go : f ≡ cell → Tail
       go e = with-cell e (position-element s x p i j u us (rw e at a) one)
 
-  pub tail-tells : getD s (8 * p) 0 / 8 ≡ 0 → i ≢ 1 → Found s x f j us (Ends 93)
+  pub tail-tells : getD s p 0 / 8 ≡ 0 → i ≢ 1 → Found s x f j us (Ends 93)
   tail-tells z d = go (position-cell s x p i j f u us a z)
     where
       go : f ≡ cell → Found s x f j us (Ends 93)

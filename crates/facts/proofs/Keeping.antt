@@ -1,5 +1,5 @@
 -- What counting changes leaves the unit's terms and values as they are.
-use Prim.Native.Nat.{ℕ, _+_, _-_, _*_, _≤_, _<_}
+use Prim.Native.Nat.{ℕ, _+_, _-_, _≤_, _<_}
 use mathlib.Core.Path.{_≡_, refl, _∙_, sym, ap}
 use mathlib.Core.Logic.{_≢_}
 use mathlib.Core.List.{List}
@@ -31,7 +31,7 @@ module _ (s s′ : List ℕ) (text : Bytes) (x : Setting) (facts : ℕ) (r : Rea
   pub front-kept : (k : ℕ) → 39937 ≤ k → k < facts → getD s′ k 0 ≡ getD s k 0
   front-kept k l h = c .others k (λ e. omega arith) (λ n b. (λ e. omega arith, λ e. omega arith, λ e. omega arith))
 
-  compound-kept : (n : ℕ) → n < x .compounds → (k : ℕ) → 8 * x .places .compound n ≤ k → k < 8 * x .places .compound n + 8 → getD s′ k 0 ≡ getD s k 0
+  compound-kept : (n : ℕ) → n < x .compounds → (k : ℕ) → x .places .compound n ≤ k → k < x .places .compound n + x .places .width n → getD s′ k 0 ≡ getD s k 0
   compound-kept n h k l b = front-kept k (omega (arith, r .compound-behind n h)) (omega (arith, r .compound-before n h))
 
   size-kept : length s ≤ length s′

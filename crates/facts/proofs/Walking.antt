@@ -37,34 +37,34 @@ apart tag n h = (omega arith, omega arith)
 
 -- A compound's first word: its functor above, the number of its arguments below.
 pub functor-parts : (s : List ℕ) (places : Places) (n : ℕ) (f : Functor) (k : ℕ) → CellAt s places n f k
-    → (getD s (8 * places .compound n) 0 / 8 ≡ functor-number places f) × (getD s (8 * places .compound n) 0 % 8 ≡ k)
+    → (getD s (places .compound n) 0 / 8 ≡ functor-number places f) × (getD s (places .compound n) 0 % 8 ≡ k)
 functor-parts s places n f k c =
     let parts = apart k (functor-number places f) (omega (arith, c .few)) in
     (rw (c .functor) (parts .1), rw (c .functor) (parts .0))
 
 module _ (s : List ℕ) (x : Setting) (p i j : ℕ) (f : Functor) (u : Term) (us : Terms) (a : Position s x p i j f u us) where
-  pub position-inside : 8 * p + i < length s
+  pub position-inside : p + i < length s
   unfolding count
   position-inside =
       let c = a .cell-at .inside in
       let few : j + suc (count us) ≤ 6 = a .cell-at .few in
       omega (arith, a .index, a .place)
 
-  pub functor-inside : 8 * p < length s
+  pub functor-inside : p < length s
   functor-inside = omega (arith, position-inside)
 
-  pub position-functor : getD s (8 * p) 0 / 8 ≡ functor-number (x .places) f
+  pub position-functor : getD s p 0 / 8 ≡ functor-number (x .places) f
   position-functor = rw (a .place) (functor-parts s (x .places) (a .number) f (j + count (more u us)) (a .cell-at) .0)
 
-  pub position-arity : getD s (8 * p) 0 % 8 ≡ j + suc (count us)
+  pub position-arity : getD s p 0 % 8 ≡ j + suc (count us)
   unfolding count
   position-arity = rw (a .place) (functor-parts s (x .places) (a .number) f (j + suc (count us)) (a .cell-at) .1)
 
   -- The word of the argument.
-  pub position-shows : Shows s x u (getD s (8 * p + i) 0)
+  pub position-shows : Shows s x u (getD s (p + i) 0)
   unfolding HoldsFrom AllWithin AllKnown AllRanged AllSound
   position-shows =
-      let same : 8 * p + i ≡ 8 * x .places .compound (a .number) + 1 + j = omega (arith, a .index, a .place) in record {
+      let same : p + i ≡ x .places .compound (a .number) + 1 + j = omega (arith, a .index, a .place) in record {
         term = record {
           held = a .terms .held .1;
           of = record { within = a .terms .within .0; known = a .terms .known .0; ranged = a .terms .ranged .0 };
@@ -124,7 +124,7 @@ others-one order values v vs =
     ap (λ (l : Bytes). 44 ∷ l) (append-assoc (written order alone (full values v)) (other-arguments order (all-full values vs)) (41 ∷ []))
 
 pub behind-argument-goes : (s : List ℕ) (x : Setting) (p i j : ℕ) (f : Bytes) (u : Term) (us : Terms) → Position s x p i j (named f) u us
-    → i < getD s (8 * p) 0 % 8 → Found s x (named f) j us (Goes 44 p (i + 1))
+    → i < getD s p 0 % 8 → Found s x (named f) j us (Goes 44 p (i + 1))
 unfolding count
 behind-argument-goes s x p i j f u end a h = absurd (omega (arith, position-arity s x p i j (named f) u end a, a .index))
 behind-argument-goes s x p i j f u (more v vs) a h = (
@@ -139,7 +139,7 @@ behind-argument-goes s x p i j f u (more v vs) a h = (
 )
 
 pub behind-argument-ends : (s : List ℕ) (x : Setting) (p i j : ℕ) (f : Bytes) (u : Term) (us : Terms) → Position s x p i j (named f) u us
-    → getD s (8 * p) 0 % 8 ≤ i → Found s x (named f) j us (Ends 41)
+    → getD s p 0 % 8 ≤ i → Found s x (named f) j us (Ends 41)
 unfolding count other-arguments all-full
 behind-argument-ends s x p i j f u end a h = (λ order. refl, λ seen. seen-after-end seen)
 behind-argument-ends s x p i j f u (more v vs) a h = absurd (omega (arith, position-arity s x p i j (named f) u (more v vs) a, a .index))
@@ -189,7 +189,7 @@ module _ (s : List ℕ) (x : Setting) (p w : ℕ) (u v : Term) (a : Position s x
             ∙ seen-after-more seen (Term.constant Constant.empty) end ∙ seen-after-end (seen-after seen (Term.constant Constant.empty)) ∙ seen-after-constant seen Constant.empty,
       )
 
-  pub element-bar-compound : (q : ℕ) → seen w ≡ Compound q → getD s (8 * q) 0 / 8 ≢ 0 → Found s x cell 0 (more v end) (Goes 124 p 2)
+  pub element-bar-compound : (q : ℕ) → seen w ≡ Compound q → getD s q 0 / 8 ≢ 0 → Found s x cell 0 (more v end) (Goes 124 p 2)
   unfolding Holds
   element-bar-compound q e d =
       bar (barred-last s x v w l (λ z. go-empty z) (λ n ts z. go-cell n ts z))
@@ -243,7 +243,7 @@ module _ (s : List ℕ) (x : Setting) (p w : ℕ) (u v : Term) (a : Position s x
         λ m k. rw same (inl k),
       )
 
-  pub element-cell : (q : ℕ) → seen w ≡ Compound q → getD s (8 * q) 0 / 8 ≡ 0 → Found s x cell 0 (more v end) (Goes 44 q 1)
+  pub element-cell : (q : ℕ) → seen w ≡ Compound q → getD s q 0 / 8 ≡ 0 → Found s x cell 0 (more v end) (Goes 44 q 1)
   unfolding Holds Sound
   element-cell q e zero-functor = go (compound-told (x .places) (l .last) q (sym (seen-term (x .places) (l .last) w (l .word)) ∙ e))
     where
@@ -254,17 +254,17 @@ module _ (s : List ℕ) (x : Setting) (p w : ℕ) (u v : Term) (a : Position s x
       go (n, named f, ts, z, b) =
           let held : Holds s (x .places) (Term.compound n (named f) ts) = rw z at (l .term .held) in
           let upper = functor-parts s (x .places) n (named f) (count ts) (held .0) .0 in
-          let none : getD s (8 * x .places .compound n) 0 / 8 ≡ 0 = rw b at zero-functor in
+          let none : getD s (x .places .compound n) 0 / 8 ≡ 0 = rw b at zero-functor in
           absurd (omega (arith, none, upper))
 
 -- Where the compound is seen by its functor's word.
 pub position-named : (s : List ℕ) (x : Setting) (p i j : ℕ) (f : Functor) (u : Term) (us : Terms) → Position s x p i j f u us
-    → getD s (8 * p) 0 / 8 ≢ 0 → (g : Bytes) × (f ≡ named g)
+    → getD s p 0 / 8 ≢ 0 → (g : Bytes) × (f ≡ named g)
 position-named s x p i j cell u us a d = absurd (d (position-functor s x p i j cell u us a))
 position-named s x p i j (named g) u us a d = (g, refl)
 
 pub position-cell : (s : List ℕ) (x : Setting) (p i j : ℕ) (f : Functor) (u : Term) (us : Terms) → Position s x p i j f u us
-    → getD s (8 * p) 0 / 8 ≡ 0 → f ≡ cell
+    → getD s p 0 / 8 ≡ 0 → f ≡ cell
 position-cell s x p i j cell u us a z = refl
 position-cell s x p i j (named g) u us a z = absurd (omega (arith, position-functor s x p i j (named g) u us a))
 
@@ -284,11 +284,11 @@ position-tail s x p i (suc j) u end a d = (λ order. refl, λ seen. seen-after-e
 position-tail s x p i (suc j) u (more v vs) a d = absurd (omega (arith, a .sound-functor))
 
 -- The compound that a term of the unit is lies in the scratch.
-pub led-inside : (s : List ℕ) (x : Setting) (v : Term) (w q : ℕ) → Led s x v w → seen w ≡ Compound q → 8 * q + 8 ≤ length s
+pub led-inside : (s : List ℕ) (x : Setting) (v : Term) (w q : ℕ) → Led s x v w → seen w ≡ Compound q → q + 8 ≤ length s
 unfolding Holds
 led-inside s x v w q l e = go (compound-told (x .places) (l .last) q (sym (seen-term (x .places) (l .last) w (l .word)) ∙ e))
   where
-    go : (n : ℕ) × (f : Functor) × (ts : Terms) × (l .last ≡ Term.compound n f ts) × (q ≡ x .places .compound n) → 8 * q + 8 ≤ length s
+    go : (n : ℕ) × (f : Functor) × (ts : Terms) × (l .last ≡ Term.compound n f ts) × (q ≡ x .places .compound n) → q + 8 ≤ length s
     go (n, f, ts, z, b) = let held : Holds s (x .places) (Term.compound n f ts) = rw z at (l .term .held) in rw b (held .0 .inside)
 
 -- Neither `[]` nor a compound is seen.
@@ -299,5 +299,5 @@ pub other-compound : (v : View) → OneOf (0 ∷ 1 ∷ 2 ∷ 3 ∷ 4 ∷ []) (ta
 other-compound v k q e = miss (0 ∷ 1 ∷ 2 ∷ 3 ∷ 4 ∷ []) 6 tt (rw e at k)
 
 -- The word of a list's tail.
-pub tail-shows : (s : List ℕ) (x : Setting) (p : ℕ) (u v : Term) → Position s x p 1 0 cell u (more v end) → Shows s x v (getD s (8 * p + 2) 0)
+pub tail-shows : (s : List ℕ) (x : Setting) (p : ℕ) (u v : Term) → Position s x p 1 0 cell u (more v end) → Shows s x v (getD s (p + 2) 0)
 tail-shows s x p u v a = position-shows s x p 2 1 cell v end (position-next s x p 1 0 cell u v end a)

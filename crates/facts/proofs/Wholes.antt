@@ -1,5 +1,5 @@
 -- A compound's bytes: its opening, then the rest from its first argument on.
-use Prim.Native.Nat.{ℕ, _+_, _*_, _/_, _≤_, _<_}
+use Prim.Native.Nat.{ℕ, _+_, _/_, _≤_, _<_}
 use mathlib.Core.Path.{_≡_, refl, _∙_, ap}
 use mathlib.Core.List.{List, [], _∷_, _++_, append-assoc}
 use native.Mathlib.Omega.{arith}
@@ -42,7 +42,7 @@ some-argument n f (more u us) k = (u, us, refl)
 
 -- The functor's word.
 pub stands-opens : (s : List ℕ) (text : Bytes) (x : Setting) (facts : ℕ) → Readable s text x facts → (n : ℕ) (f : Functor) (ts : Terms) (p : ℕ)
-    → StandsAt s x n f ts p → (8 * p < length s) × Opens s text (getD s (8 * p) 0 / 8) f
+    → StandsAt s x n f ts p → (p < length s) × Opens s text (getD s p 0 / 8) f
 unfolding Holds Known
 stands-opens s text x facts r n cell ts p a =
     let c = a .term .held .0 in

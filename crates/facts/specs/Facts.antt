@@ -47,8 +47,8 @@ pub record Readable (s : List ℕ) (text : Bytes) (x : Setting) (facts : ℕ) : 
   pub room : getD s 39937 0 ≡ x .pairs
   pub links : length (x .values) ≤ x .pairs
   pub apart : (n m : ℕ) → n < length (x .values) → m < length (x .values) → x .places .pair n ≡ x .places .pair m → n ≡ m
-  pub compound-behind : (n : ℕ) → n < x .compounds → 40704 ≤ 8 * x .places .compound n
-  pub compound-before : (n : ℕ) → n < x .compounds → 8 * x .places .compound n + 8 + x .pairs ≤ facts
+  pub compound-behind : (n : ℕ) → n < x .compounds → 40704 ≤ x .places .compound n
+  pub compound-before : (n : ℕ) → n < x .compounds → x .places .compound n + x .places .width n + x .pairs ≤ facts
   pub no-circle : circle (x .values) ≡ false
   pub sound : SoundValues (x .values)
   pub stands : UnitStands s x (facts - x .pairs)

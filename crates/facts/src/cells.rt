@@ -3,7 +3,7 @@ use crate::ends::end;
 use term::word::View;
 use term::word::look;
 ghost use mathlib.Core.Path.{_≡_};
-ghost use Prim.Native.Nat.{ℕ, _+_, _*_, _/_, _%_, _<_};
+ghost use Prim.Native.Nat.{ℕ, _+_, _/_, _%_, _<_};
 ghost use lib.ListN.{length, getD};
 ghost use Rattle.meaning.specs.Bytes.{Bytes};
 ghost use Rattle.meaning.specs.Terms.{Functor, cell, named, Term, Terms, more};
@@ -26,17 +26,17 @@ pub fn word_at(s: &[u64], from: usize, i: usize) -> u64
 
 // The number of the name of a compound's functor plus one, 0 for a list cell; and the number of its arguments.
 pub fn functor(s: &[u64], p: usize) -> usize
-    requires { ⌜ 8 * p < length (now s) ⌝ }
-    ensures { λ r. ⌜ r ≡ getD (now (s .entry)) (8 * p) 0 / 8 ⌝ }
+    requires { ⌜ p < length (now s) ⌝ }
+    ensures { λ r. ⌜ r ≡ getD (now (s .entry)) p 0 / 8 ⌝ }
 {
-    index(s[8 * p] / 8)
+    index(s[p] / 8)
 }
 
 pub fn arity(s: &[u64], p: usize) -> usize
-    requires { ⌜ 8 * p < length (now s) ⌝ }
-    ensures { λ r. ⌜ r ≡ getD (now (s .entry)) (8 * p) 0 % 8 ⌝ }
+    requires { ⌜ p < length (now s) ⌝ }
+    ensures { λ r. ⌜ r ≡ getD (now (s .entry)) p 0 % 8 ⌝ }
 {
-    index(s[8 * p] % 8)
+    index(s[p] % 8)
 }
 
 // What stands behind an argument of a compound: a byte, and then an argument of a compound; or a last byte.
@@ -87,7 +87,7 @@ pub fn behind(s: &[u64], facts: usize, p: usize, i: usize) -> Next
         return behind_argument(s, p, i);
     }
     if i == 1 {
-        return behind_element(s, p, end(s, facts, word_at(s, 8 * p, 2)));
+        return behind_element(s, p, end(s, facts, word_at(s, p, 2)));
     }
     Next::Ends(b']')
 }

@@ -90,7 +90,7 @@ module _ (figures : Room) (s s′ : List ℕ) (o : FactsOnly figures s s′) whe
     facts = waiters-region figures
 
     -- The compounds' words.
-    compound-kept : (n : ℕ) → n < y .compounds → (k : ℕ) → 8 * y .places .compound n ≤ k → k < 8 * y .places .compound n + 8 → getD s′ k 0 ≡ getD s k 0
+    compound-kept : (n : ℕ) → n < y .compounds → (k : ℕ) → y .places .compound n ≤ k → k < y .places .compound n + y .places .width n → getD s′ k 0 ≡ getD s k 0
     compound-kept n h k l b = o .before k (omega (arith, r .compound-behind n h)) (omega (arith, r .compound-before n h))
 
     size-kept : length s ≤ length s′

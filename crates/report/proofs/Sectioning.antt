@@ -116,9 +116,9 @@ from-first P i l d h e = let none : 0 + i ≡ i = omega arith in subst (λ (k : 
 
 -- A unit and its goals stay.
 module _ (figures : Room) (s s′ : List ℕ) (b : Beside figures s s′) (x : Setting) (same : x .pairs ≡ figures .pairs)
-    (compound-behind : (n : ℕ) → n < x .compounds → 40704 ≤ 8 * x .places .compound n)
-    (compound-before : (n : ℕ) → n < x .compounds → 8 * x .places .compound n + 8 ≤ values-region figures) where
-  compound-stays : (n : ℕ) → n < x .compounds → (k : ℕ) → 8 * x .places .compound n ≤ k → k < 8 * x .places .compound n + 8 → getD s′ k 0 ≡ getD s k 0
+    (compound-behind : (n : ℕ) → n < x .compounds → 40704 ≤ x .places .compound n)
+    (compound-before : (n : ℕ) → n < x .compounds → x .places .compound n + x .places .width n ≤ values-region figures) where
+  compound-stays : (n : ℕ) → n < x .compounds → (k : ℕ) → x .places .compound n ≤ k → k < x .places .compound n + x .places .width n → getD s′ k 0 ≡ getD s k 0
   compound-stays n h k l m = b .front k (omega (arith, compound-before n h)) (λ e. omega (arith, compound-behind n h))
 
   term-stays : (t : Term) → UnitTerm s x t → UnitTerm s′ x t
@@ -178,7 +178,7 @@ module _ (s s₁ : List ℕ) (text : Bytes) (names : List Bytes) (figures : Room
   abbrev unit : ℕ → Setting
   unit k = setting-at figures (F .atlas) (state .units) k
 
-  lies : Lies names figures (F .atlas) (state .units) (state .pairs) (state .compounds)
+  lies : Lies names figures (F .atlas) (state .units) (state .pairs) (state .compounds) (t .cells)
   lies = F .state .lies
 
   charged : t .pairs ≤ figures .pairs
@@ -202,11 +202,11 @@ module _ (s s₁ : List ℕ) (text : Bytes) (names : List Bytes) (figures : Room
         getD-set-other s₁ 39937 (fact-place (unit k) (waiters-region figures) n + i) (figures .pairs) 0 (λ e. omega arith)
         ∙ c .zero (F .atlas k .pair n) i (pair-low n l) m
 
-    compound-behind : (n : ℕ) → n < unit k .compounds → 40704 ≤ 8 * F .atlas k .compound n
-    compound-behind n l = omega (arith, lies .compound-behind k n (below k h) l)
+    compound-behind : (n : ℕ) → n < unit k .compounds → 40704 ≤ F .atlas k .compound n
+    compound-behind n l = lies .compound-behind k n (below k h) l
 
-    compound-before : (n : ℕ) → n < unit k .compounds → 8 * F .atlas k .compound n + 8 ≤ values-region figures
-    compound-before n l = omega (arith, lies .compound-below k n (below k h) l, lies .compounds-fit)
+    compound-before : (n : ℕ) → n < unit k .compounds → F .atlas k .compound n + F .atlas k .width n ≤ values-region figures
+    compound-before n l = omega (arith, lies .compound-below k n (below k h) l, lies .cells-fit, lies .compounds-fit)
 
     no-end : (n : ℕ) (u : Option Term) → getD s′ (fact-place (unit k) (waiters-region figures) n) 0 ≡ 0 → EndAt s′ (unit k) (waiters-region figures) n u
     no-end n none e = e

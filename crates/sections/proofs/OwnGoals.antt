@@ -116,8 +116,8 @@ list-goals s g one zeroth (suc n) h p =
     (ap (λ (k : ℕ). standing (getD s k 0)) place ∙ standing-positive (getD s (g .from + n) 0) (last .0))
 
 -- Goals that stand have words, and their query's place for a remainder.
-module _ (s : List ℕ) (names : List Bytes) (figures : Room) (atlas : Atlas) (units : List QueryUnit) (pairs compounds : ℕ)
-    (lies : Lies names figures atlas units pairs compounds) (few : length units ≤ 8) where
+module _ (s : List ℕ) (names : List Bytes) (figures : Room) (atlas : Atlas) (units : List QueryUnit) (pairs compounds cells : ℕ)
+    (lies : Lies names figures atlas units pairs compounds cells) (few : length units ≤ 8) where
   goal-positive : (g : Goal) → GoalStands s figures atlas units g → 0 < goal-word atlas g
   unfolding Within as-term
   goal-positive g stands = omega (arith, lies .compound-behind (g .query) (g .goal .number) (stands .query) (stands .term .of .within .0))
@@ -160,11 +160,11 @@ module _ (s : List ℕ) (names : List Bytes) (figures : Room) (queries : List Qu
   own-map : (q : ℕ) (gs : List Goal) (ws : List ℕ) → AllStand s figures atlas (state .units) gs → ws ≡ map (goal-word atlas) gs
       → those (rests q) ws ≡ map (goal-word atlas) (those (of q) gs)
   own-map q gs ws all e =
-      ap (those (rests q)) e ∙ own-words s names figures atlas (state .units) (state .pairs) (state .compounds) (held .lies) few q gs all
+      ap (those (rests q)) e ∙ own-words s names figures atlas (state .units) (state .pairs) (state .compounds) (t .cells) (held .lies) few q gs all
 
   positive : (gs : List Goal) (ws : List ℕ) → AllStand s figures atlas (state .units) gs → ws ≡ map (goal-word atlas) gs → Each (λ w. 0 < w) ws
   positive gs ws all e =
-      rw e (goal-words-positive s names figures atlas (state .units) (state .pairs) (state .compounds) (held .lies) few gs all)
+      rw e (goal-words-positive s names figures atlas (state .units) (state .pairs) (state .compounds) (t .cells) (held .lies) few gs all)
 
   pub own-active : (q : ℕ)
       → own-from s (active-group figures t) q 0 (t .active) ≡ map (goal-word atlas) (those (of q) (state .goals .queue))

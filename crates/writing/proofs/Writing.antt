@@ -103,7 +103,7 @@ module _ (s : List ℕ) (text : Bytes) (x : Setting) (facts : ℕ) (order : List
   pub record Within-it (q : ℕ) : Type 0 where
     pub functor : Functor
     pub later : Bytes
-    pub opens : (8 * q < length s) × Opens s text (getD s (8 * q) 0 / 8) functor
+    pub opens : (q < length s) × Opens s text (getD s q 0 / 8) functor
     pub before : Before Nothing s x facts order q 1 later
     pub is : opening-bytes functor ++ later ≡ written order alone (full (x .values) t)
 
@@ -248,10 +248,10 @@ module _ (frames s : List ℕ) (text : Bytes) (x : Setting) (facts : ℕ) (order
     fits = omega (arith, sizes, fit, G .puts .place, puts-length (G .puts));
   }
 
-  pub going-inside : 8 * p + i < length s
+  pub going-inside : p + i < length s
   going-inside = position-inside s x p i (B .j) (B .f) (B .u) (B .us) (B .position)
 
-  pub going-shows : Shows s x (B .u) (getD s (8 * p + i) 0)
+  pub going-shows : Shows s x (B .u) (getD s (p + i) 0)
   going-shows = position-shows s x p i (B .j) (B .f) (B .u) (B .us) (B .position)
 
   pub going-falls : (to < length b₀ + 1) × (at ≤ to)

@@ -87,9 +87,9 @@ fn leaf(text: &[u8], s: &[u64], facts: usize, buffer: &mut [u8], at: usize, w: u
 
 // What stands before a compound's first argument: its name and a parenthesis, or a bracket.
 fn opening(text: &[u8], s: &[u64], buffer: &mut [u8], at: usize, p: usize) -> usize
-    requires { ⌜ ((f : Functor) × (8 * p < length (now s)) × Opens (now s) (now text) (getD (now s) (8 * p) 0 / 8) f
+    requires { ⌜ ((f : Functor) × (p < length (now s)) × Opens (now s) (now text) (getD (now s) p 0 / 8) f
         × (at + length (opening-bytes f) ≤ length (now buffer))) ⌝ }
-    ensures { λ r. ⌜ ((f : Functor) → Opens (now (s .entry)) (now (text .entry)) (getD (now (s .entry)) (8 * p) 0 / 8) f
+    ensures { λ r. ⌜ ((f : Functor) → Opens (now (s .entry)) (now (text .entry)) (getD (now (s .entry)) p 0 / 8) f
         → Puts (now (buffer .entry)) (now (buffer .exit)) at r (opening-bytes f)) ⌝ }
 {
     let f = functor(s, p);
@@ -123,7 +123,7 @@ fn write_arguments(
     let mut p = first;
     let mut i = 1;
     loop {
-        let a = word_at(s, 8 * p, i);
+        let a = word_at(s, p, i);
         let e = end(s, facts, a);
         match look(e) {
             View::Compound(q) => {

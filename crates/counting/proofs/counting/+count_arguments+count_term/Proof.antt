@@ -131,24 +131,6 @@ count-arguments-loop-holds t c text x seen n f ts C low a =
     let O = stands-opens (S .args .s .now) text x (S .args .facts) (C .readable) n f ts (S .args .first) a in
     walk-first (S .args .s .now) text x (S .args .facts) seen n f ts (S .args .at) (S .args .first) (c .opening .result) C low a (c .opening .ensures text f (O .1))
 
-count-arguments-mul-word-at : (t : ℕ) → count-arguments-lts.Need-mul-word-at (
-  opening-reads.Asked,
-  opening-reads.Learnt,
-  word-at-reads.Asked,
-  word-at-reads.Learnt,
-  count-term-below t,
-  count-term.Post,
-  behind-reads.Asked,
-  behind-reads.Learnt,
-  further-reads.Asked,
-  further-reads.Learnt,
-) (count-arguments-at t) count-arguments.Post count-arguments-Inv-loop count-arguments-μ-loop
-count-arguments-mul-word-at t c =
-    let S = c .before .before .before .before .before in let pre = S .pre .1 in
-    let at = c .before .loop in
-    let W = at .inv (pre .0) (pre .1) (pre .2) (pre .3) (pre .4) (pre .5) (pre .6) (pre .7) (pre .8) in
-    omega (arith, position-inside (at .s) (pre .1) (at .p) (at .i) (W .j) (W .g) (W .u) (W .us) (W .position), W .changed .size)
-
 count-arguments-word-at-requires : (t : ℕ) → count-arguments-lts.Need-word-at-requires (
   opening-reads.Asked,
   opening-reads.Learnt,
@@ -790,7 +772,6 @@ pub +count-arguments+count-term-spec : {M : Type 1} → statement M
     count-arguments-μ-loop
     (count-arguments-opening-requires t)
     (count-arguments-loop-holds t)
-    (count-arguments-mul-word-at t)
     (count-arguments-word-at-requires t)
     (count-arguments-count-term-requires t)
     (count-arguments-behind-requires t)

@@ -1,6 +1,5 @@
 -- `facts::cells::behind` meets its contract: arguments in parentheses, the element of a list, or its tail.
 use mathlib.Core.Path.{_≡_, _∙_, sym}
-use native.Mathlib.Omega.{arith}
 use borrow.Author.Needs.{needs}
 use Rattle.facts.proofs.Behinds.{named-asks, named-tells, tail-asks, tail-tells}
 use Rattle.facts.proofs.Walking.{functor-inside, position-inside}
@@ -23,11 +22,6 @@ returns c text x f j u us r a =
     let start = c .before .before .before .before in
     named-tells (start .args .s .now) x (start .args .p) (start .args .i) j f u us a (λ z. c .before .if1 .taken (c .before .before .functor .ensures ∙ z))
     (c .behind-argument .result) (c .behind-argument .ensures)
-
-mul-word-at : tie.Need-mul-word-at
-mul-word-at c =
-    let start = c .before .before .before .before in
-    omega (arith, functor-inside (start .args .s .now) (start .pre .1) (start .args .p) (start .args .i) (start .pre .3) (start .pre .2) (start .pre .4) (start .pre .5) (start .pre .7))
 
 word-at-requires : tie.Need-word-at-requires
 word-at-requires c κs =
@@ -76,7 +70,6 @@ behind-spec =
     functor-requires
     behind-argument-requires
     returns
-    mul-word-at
     word-at-requires
     end-requires
     behind-element-requires

@@ -114,27 +114,6 @@ write-arguments-loop-holds t c x order bs r B fit =
     let S = c .before .before .before in
     going-first _ (S .args .s .now) x (S .args .facts) order bs (S .args .buffer .now) (S .args .at) (S .args .first) refl B
 
-write-arguments-mul-word-at : (t : ℕ) → write-arguments-lts.Need-mul-word-at (
-  word-at-reads.Asked,
-  word-at-reads.Learnt,
-  end-reads.Asked,
-  end-reads.Learnt,
-  look-reads.Asked,
-  look-reads.Learnt,
-  opening-reads.Asked,
-  opening-reads.Learnt,
-  write-term-below t,
-  write-term.Post,
-  leaf-reads.Asked,
-  leaf-reads.Learnt,
-  rise-reads.Asked,
-  rise-reads.Learnt,
-) (write-arguments-at t) write-arguments.Post write-arguments-Inv-loop write-arguments-μ-loop
-write-arguments-mul-word-at t c =
-    let S = c .before .before .before .before in let pre = S .pre .1 in let at = c .loop in
-    let r = pre .3 in let fit = pre .5 in let G = at .inv (pre .0) (pre .1) (pre .2) r (pre .4) fit in
-    omega (arith, going-inside (at .frames) (S .args .s .now) (S .args .text .now) (pre .0) (S .args .facts) (pre .1) (pre .2) (S .args .buffer .now) (at .buffer) (S .args .at) (at .p) (at .i) (at .depth) (at .to) r fit G)
-
 write-arguments-word-at-requires : (t : ℕ) → write-arguments-lts.Need-word-at-requires (
   word-at-reads.Asked,
   word-at-reads.Learnt,
@@ -859,7 +838,6 @@ pub +write-arguments+write-term-spec : {M : Type 1} → statement M
     write-arguments-Inv-loop
     write-arguments-μ-loop
     (write-arguments-loop-holds t)
-    (write-arguments-mul-word-at t)
     (write-arguments-word-at-requires t)
     (write-arguments-end-requires t)
     (write-arguments-look-requires t)
