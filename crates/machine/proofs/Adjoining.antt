@@ -18,26 +18,28 @@ use Rattle.term.specs.Setting.{Within, Ranged, OfUnit, UnitStands}
 use Rattle.term.specs.States.{Atlas, setting, setting-at, goal-word, Lies, UnitsStand, FirstPair, GoalStands, AllStand}
 use Rattle.term.proofs.Jobs.{each-map}
 use Rattle.machine.specs.Extended.{replaced-at}
+use Rattle.reduction.specs.Build.{Copies}
 use Rattle.reduction.specs.Reducing.{GoalsWithin}
-use Rattle.machine.proofs.Enlarging.{replaced-there, replaced-elsewhere}
+use Rattle.machine.proofs.Enlarging.{CopiedTo, replaced-there, replaced-elsewhere}
 use Rattle.term.proofs.Units.{unit-term-alike}
 use Rattle.machine.proofs.Frames.{unit-stands-kept}
 use Rattle.queues.proofs.Log.{by-place}
 use Rattle.machine.proofs.Starting.{units-number, unit-older, unit-newest}
 
--- The pairs from P on, the compounds from C on among the room's.
-abbrev pub next-places : List Bytes → ℕ → ℕ → Places
-next-places names P C = record { names = names; pair = λ n. P + n; compound = λ n. 5088 + C + n }
+-- The pairs from P on, the compounds where they are copied to.
+abbrev pub next-places : List Bytes → ℕ → Copies → Places
+next-places names P y = record { names = names; pair = λ n. P + n; compound = λ n. y .at n; width = λ n. y .width n }
 
--- Where all lies, that the query fits, and which words stay.
-pub record Adjoins (s s′ : List ℕ) (names : List Bytes) (figures : Room) (atlas : Atlas) (done : List Query) (x : Query) (P C : ℕ) : Type 0 where
-  pub lies : Lies names figures atlas (map first-unit done) P C
+-- Where all lies, that the query fits, where its compounds are copied to, and which words stay.
+pub record Adjoins (s s′ : List ℕ) (names : List Bytes) (figures : Room) (atlas : Atlas) (done : List Query) (x : Query) (P C cells cells′ : ℕ) (y : Copies) : Type 0 where
+  pub lies : Lies names figures atlas (map first-unit done) P C cells
   pub pairs-fit : P + length (x .variables) ≤ figures .pairs
   pub compounds-fit : C + x .compounds ≤ figures .compounds
   pub few : length done < 8
   pub inside : values-region figures + figures .pairs ≤ length s′
   pub size : length s′ ≡ length s
-  pub older : (k : ℕ) → 40704 ≤ k → k < 40704 + 8 * C → getD s′ k 0 ≡ getD s k 0
+  pub copied : CopiedTo y cells cells′ (C + x .compounds)
+  pub older : (k : ℕ) → 40704 ≤ k → k < cells → getD s′ k 0 ≡ getD s k 0
   pub values : (k : ℕ) → values-region figures ≤ k → k < values-region figures + figures .pairs → getD s′ k 0 ≡ getD s k 0
   pub zero : (k : ℕ) → values-region figures ≤ k → k < values-region figures + figures .pairs → getD s k 0 ≡ 0
   pub records : (k : ℕ) → k < length done → getD s′ (query-record k + 3) 0 ≡ getD s (query-record k + 3) 0
@@ -55,13 +57,13 @@ pub all-append : (s : List ℕ) (figures : Room) (atlas : Atlas) (units : List Q
 all-append s figures atlas units [] hs a b = b
 all-append s figures atlas units (g ∷ gs) hs a b = (a .0, all-append s figures atlas units gs hs (a .1) b)
 
-module _ (s s′ : List ℕ) (names : List Bytes) (figures : Room) (atlas : Atlas) (done : List Query) (x : Query) (P C : ℕ)
-    (r : Adjoins s s′ names figures atlas done x P C) where
+module _ (s s′ : List ℕ) (names : List Bytes) (figures : Room) (atlas : Atlas) (done : List Query) (x : Query) (P C cells cells′ : ℕ) (y : Copies)
+    (r : Adjoins s s′ names figures atlas done x P C cells cells′ y) where
   abbrev q : ℕ
   q = length done
 
   abbrev atlas′ : Atlas
-  atlas′ = replaced-at atlas q (next-places names P C)
+  atlas′ = replaced-at atlas q (next-places names P y)
 
   abbrev units : List QueryUnit
   units = map first-unit done
@@ -75,20 +77,20 @@ module _ (s s′ : List ℕ) (names : List Bytes) (figures : Room) (atlas : Atla
   not-last : (k : ℕ) → k < q → k ≡ q → ⊥
   not-last k h e = omega arith
 
-  setting-newest : setting-at figures atlas′ units′ q ≡ setting figures (next-places names P C) (first-unit x)
+  setting-newest : setting-at figures atlas′ units′ q ≡ setting figures (next-places names P y) (first-unit x)
   setting-newest =
-      let a = replaced-there atlas q (next-places names P C) in
+      let a = replaced-there atlas q (next-places names P y) in
       let u = unit-newest done x in
       cc
 
   setting-older : (k : ℕ) → k < q → setting-at figures atlas′ units′ k ≡ setting-at figures atlas units k
   setting-older k h =
-      let a = replaced-elsewhere atlas q k (next-places names P C) (not-last k h) in
+      let a = replaced-elsewhere atlas q k (next-places names P y) (not-last k h) in
       let u = unit-older done x k h in
       cc
 
   older-words : (k : ℕ) → k < q → (n : ℕ) → n < unit-at k units .compounds
-      → (w : ℕ) → 8 * atlas k .compound n ≤ w → w < 8 * atlas k .compound n + 8 → getD s′ w 0 ≡ getD s w 0
+      → (w : ℕ) → atlas k .compound n ≤ w → w < atlas k .compound n + atlas k .width n → getD s′ w 0 ≡ getD s w 0
   older-words k h n l w a b =
       let i : k < length units = omega (arith, as-many) in
       r .older w (omega (arith, r .lies .compound-behind k n i l)) (omega (arith, r .lies .compound-below k n i l))
@@ -112,29 +114,30 @@ module _ (s s′ : List ℕ) (names : List Bytes) (figures : Room) (atlas : Atla
       here : n < length (unit-at q units′ .values) → PairAt q n
       here m =
           newer-pair refl (omega (arith, ap (λ (u : QueryUnit). length (u .values)) (unit-newest done x), own-pairs))
-          (ap (λ (y : Places). y .pair n) (replaced-there atlas q (next-places names P C)))
+          (ap (λ (y : Places). y .pair n) (replaced-there atlas q (next-places names P y)))
 
       there : k < q → PairAt k n
       there i =
           older-pair i (rw (unit-older done x k i) at l)
-          (ap (λ (y : Places). y .pair n) (replaced-elsewhere atlas q k (next-places names P C) (not-last k i)))
+          (ap (λ (y : Places). y .pair n) (replaced-elsewhere atlas q k (next-places names P y) (not-last k i)))
 
   data CompoundAt (k n : ℕ) : Type 0 where
-    older-compound : k < q → n < unit-at k units .compounds → atlas′ k .compound n ≡ atlas k .compound n → CompoundAt k n
-    newer-compound : n < x .compounds → atlas′ k .compound n ≡ 5088 + C + n → CompoundAt k n
+    older-compound : k < q → n < unit-at k units .compounds → atlas′ k .compound n ≡ atlas k .compound n → atlas′ k .width n ≡ atlas k .width n
+        → CompoundAt k n
+    newer-compound : atlas′ k .compound n ≡ y .at n → atlas′ k .width n ≡ y .width n → CompoundAt k n
 
   compound-at : (k n : ℕ) → k < length units′ → n < unit-at k units′ .compounds → CompoundAt k n
-  compound-at k n h l = by-place k q (λ e. rw e (here (rw e at l))) (λ e. there (omega (arith, units-number done x)))
+  compound-at k n h l = by-place k q (λ e. rw e here) (λ e. there (omega (arith, units-number done x)))
     where
-      here : n < unit-at q units′ .compounds → CompoundAt q n
-      here m =
-          newer-compound (omega (arith, ap (λ (u : QueryUnit). u .compounds) (unit-newest done x), own-compounds))
-          (ap (λ (y : Places). y .compound n) (replaced-there atlas q (next-places names P C)))
+      here : CompoundAt q n
+      here =
+          let new = replaced-there atlas q (next-places names P y) in
+          newer-compound (ap (λ (z : Places). z .compound n) new) (ap (λ (z : Places). z .width n) new)
 
       there : k < q → CompoundAt k n
       there i =
-          older-compound i (rw (unit-older done x k i) at l)
-          (ap (λ (y : Places). y .compound n) (replaced-elsewhere atlas q k (next-places names P C) (not-last k i)))
+          let old = replaced-elsewhere atlas q k (next-places names P y) (not-last k i) in
+          older-compound i (rw (unit-older done x k i) at l) (ap (λ (z : Places). z .compound n) old) (ap (λ (z : Places). z .width n) old)
 
   below : (k n : ℕ) → PairAt k n → atlas′ k .pair n < P + length (x .variables)
   below k n (older-pair h b e) = omega (arith, r .lies .pair-below k n (omega (arith, as-many)) b)
@@ -147,26 +150,27 @@ module _ (s s′ : List ℕ) (names : List Bytes) (figures : Room) (atlas : Atla
   apart k l n m (newer-pair h b e) (older-pair i d f) same = absurd (omega (arith, r .lies .pair-below l m (omega (arith, as-many)) d))
   apart k l n m (newer-pair h b e) (newer-pair i d f) same = (h ∙ sym i, omega arith)
 
-  behind-first : (k n : ℕ) → CompoundAt k n → 5088 ≤ atlas′ k .compound n
-  behind-first k n (older-compound h b e) = omega (arith, r .lies .compound-behind k n (omega (arith, as-many)) b)
-  behind-first k n (newer-compound b e) = omega arith
+  behind-first : (k n : ℕ) → CompoundAt k n → 40704 ≤ atlas′ k .compound n
+  behind-first k n (older-compound h b e f) = omega (arith, r .lies .compound-behind k n (omega (arith, as-many)) b)
+  behind-first k n (newer-compound e f) = omega (arith, r .copied .behind, r .copied .at n .0)
 
-  below-last : (k n : ℕ) → CompoundAt k n → atlas′ k .compound n < 5088 + (C + x .compounds)
-  below-last k n (older-compound h b e) = omega (arith, r .lies .compound-below k n (omega (arith, as-many)) b)
-  below-last k n (newer-compound b e) = omega arith
+  below-last : (k n : ℕ) → CompoundAt k n → atlas′ k .compound n + atlas′ k .width n ≤ cells′
+  below-last k n (older-compound h b e f) = omega (arith, r .lies .compound-below k n (omega (arith, as-many)) b, r .copied .order)
+  below-last k n (newer-compound e f) = omega (arith, r .copied .at n .1)
 
   names-now : (k : ℕ) → atlas′ k .names ≡ names
   names-now k =
       by-place k q
-      (λ e. rw e (ap (λ (y : Places). y .names) (replaced-there atlas q (next-places names P C))))
-      (λ e. ap (λ (y : Places). y .names) (replaced-elsewhere atlas q k (next-places names P C) e) ∙ r .lies .names-are k)
+      (λ e. rw e (ap (λ (y : Places). y .names) (replaced-there atlas q (next-places names P y))))
+      (λ e. ap (λ (y : Places). y .names) (replaced-elsewhere atlas q k (next-places names P y) e) ∙ r .lies .names-are k)
 
-  pub lies-now : Lies names figures atlas′ units′ (P + length (x .variables)) (C + x .compounds)
+  pub lies-now : Lies names figures atlas′ units′ (P + length (x .variables)) (C + x .compounds) cells′
   lies-now =
       record {
         names-are = names-now;
         pairs-fit = r .pairs-fit;
         compounds-fit = r .compounds-fit;
+        cells-fit = r .copied .fit;
         pair-below = λ k n h l. below k n (pair-at k n h l);
         pair-apart = λ k l n m h i a b e. apart k l n m (pair-at k n h a) (pair-at l m i b) e;
         compound-behind = λ k n h l. behind-first k n (compound-at k n h l);
@@ -178,7 +182,7 @@ module _ (s s′ : List ℕ) (names : List Bytes) (figures : Room) (atlas : Atla
   unfolding first-unit
   no-value n = value-replicate (length (x .variables)) n
 
-  first-stands : UnitStands s′ (setting figures (next-places names P C) (first-unit x)) (values-region figures)
+  first-stands : UnitStands s′ (setting figures (next-places names P y) (first-unit x)) (values-region figures)
   first-stands =
       record {
         held = record {
@@ -195,7 +199,7 @@ module _ (s s′ : List ℕ) (names : List Bytes) (figures : Room) (atlas : Atla
         of = λ n t h e. let z : _≡_ {A = Option Term} none (some t) = sym (no-value n) ∙ e in never t z;
       }
     where
-      never : (t : Term) → _≡_ {A = Option Term} none (some t) → OfUnit (setting figures (next-places names P C) (first-unit x)) t
+      never : (t : Term) → _≡_ {A = Option Term} none (some t) → OfUnit (setting figures (next-places names P y) (first-unit x)) t
       never t e = let z : _≡_ {A = ℕ} 0 1 = cc in absurd (omega arith)
 
   tries-now : UnitsStand s figures atlas units → (k : ℕ) → k < length units′ → getD s′ (query-record k + 4) 0 ≡ unit-at k units′ .tries
@@ -230,16 +234,16 @@ module _ (s s′ : List ℕ) (names : List Bytes) (figures : Room) (atlas : Atla
       let e : 0 + q ≡ q = omega arith in
       each-append (FirstPair s′ atlas′) 0 done (x ∷ [])
       (each-map (FirstPair s atlas) (FirstPair s′ atlas′) 0 done
-      (λ k y a b own n l.
+      (λ k d a b own n l.
       let h : k < q = omega arith in
-      ap (λ (z : Places). z .pair n) (replaced-elsewhere atlas q k (next-places names P C) (not-last k h))
+      ap (λ (z : Places). z .pair n) (replaced-elsewhere atlas q k (next-places names P y) (not-last k h))
       ∙ own n l ∙ ap (λ w. w + n) (sym (r .records k h)))
       f)
       (rw e (newest, tt))
     where
       newest : FirstPair s′ atlas′ q x
       newest n l =
-          ap (λ (z : Places). z .pair n) (replaced-there atlas q (next-places names P C)) ∙ ap (λ w. w + n) (sym (r .first))
+          ap (λ (z : Places). z .pair n) (replaced-there atlas q (next-places names P y)) ∙ ap (λ w. w + n) (sym (r .first))
 
   -- The goals that stood stand, with the same words.
   goal-older : (g : Goal) → GoalStands s figures atlas units g → GoalStands s′ figures atlas′ units′ g
@@ -262,16 +266,16 @@ module _ (s s′ : List ℕ) (names : List Bytes) (figures : Room) (atlas : Atla
       let i : g .query < q = omega (arith, as-many, h .0 .query) in
       let first : goal-word atlas′ g ≡ goal-word atlas g =
       ap (λ (z : Places). g .query + 8 * z .compound (g .goal .number))
-      (replaced-elsewhere atlas q (g .query) (next-places names P C) (not-last (g .query) i))
+      (replaced-elsewhere atlas q (g .query) (next-places names P y) (not-last (g .query) i))
       in
       let later = words-older gs (h .1) in
       cc
 
   -- The query's own goals.
   abbrev HeldHere : List Named → Type 0
-  HeldHere gs = Each (λ g. Holds s′ (next-places names P C) (as-term g)) gs
+  HeldHere gs = Each (λ g. Holds s′ (next-places names P y) (as-term g)) gs
 
-  goal-newer : (g : Named) → Holds s′ (next-places names P C) (as-term g) → Within (length (x .variables)) (x .compounds) (as-term g)
+  goal-newer : (g : Named) → Holds s′ (next-places names P y) (as-term g) → Within (length (x .variables)) (x .compounds) (as-term g)
       → Known names (as-term g) → Ranged (as-term g) → GoalStands s′ figures atlas′ units′ (record { query = q; goal = g })
   goal-newer g held within known ranged =
       record {
@@ -286,13 +290,14 @@ module _ (s s′ : List ℕ) (names : List Bytes) (figures : Room) (atlas : Atla
   goals-newer [] h w k i = tt
   goals-newer (g ∷ gs) h w k i = (goal-newer g (h .0) (w .0) (k .0) (i .0), goals-newer gs (h .1) (w .1) (k .1) (i .1))
 
-  pub words-newer : (gs : List Named) → map (goal-word atlas′) (goals-at q gs) ≡ map (λ g. q + 8 * next-places names P C .compound (0 + g .number)) gs
+  pub words-newer : (gs : List Named) → map (goal-word atlas′) (goals-at q gs) ≡ map (λ g. q + 8 * next-places names P y .compound (0 + g .number)) gs
   unfolding goals-at
   words-newer [] = refl
   words-newer (g ∷ gs) =
-      let there : atlas′ q .compound (g .number) ≡ 5088 + C + g .number =
-      ap (λ (z : Places). z .compound (g .number)) (replaced-there atlas q (next-places names P C))
+      let plain : 0 + g .number ≡ g .number = omega arith in
+      let there : atlas′ q .compound (g .number) ≡ y .at (0 + g .number) =
+      ap (λ (z : Places). z .compound (g .number)) (replaced-there atlas q (next-places names P y)) ∙ ap (y .at) (sym plain)
       in
-      let first : q + 8 * atlas′ q .compound (g .number) ≡ q + 8 * (5088 + C + (0 + g .number)) = omega (arith, there) in
+      let first : q + 8 * atlas′ q .compound (g .number) ≡ q + 8 * y .at (0 + g .number) = ap (λ w. q + 8 * w) there in
       let later = words-newer gs in
       cc

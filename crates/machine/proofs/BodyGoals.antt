@@ -22,6 +22,7 @@ use Rattle.term.specs.Jobs.{GoalsKnown}
 use Rattle.term.specs.Setting.{Setting, Within, AllWithin, Ranged, AllRanged, UnitTerm}
 use Rattle.term.specs.States.{Atlas, setting, setting-at, goal-word, GoalStands, AllStand}
 use Rattle.machine.specs.Extended.{replaced-at}
+use Rattle.reduction.specs.Build.{Copies}
 use Rattle.reduction.specs.Reducing.{GoalsHeld, GoalsWithin}
 use Rattle.machine.proofs.Enlarging.{replaced-there}
 use Rattle.machine.proofs.NextUnit.{after-unit, enlarged}
@@ -79,8 +80,8 @@ body-fits text j e c m =
     let f = each-in _ (accepted-keeps-the-figures text j e .clauses) m in
     record { within = goals-within _ (c .body) (f .body); ranged = goals-ranged _ (c .body) (f .body) }
 
-module _ (s s′ : List ℕ) (names : List Bytes) (figures : Room) (atlas : Atlas) (units : List QueryUnit) (q P C : ℕ) (c : Clause) (given : List Assignment)
-    (r : Enlarges s s′ names figures atlas units q P C c) where
+module _ (s s′ : List ℕ) (names : List Bytes) (figures : Room) (atlas : Atlas) (units : List QueryUnit) (q P C cells cells′ : ℕ) (y : Copies) (c : Clause) (given : List Assignment)
+    (r : Enlarges s s′ names figures atlas units q P C cells cells′ y c) where
   abbrev p : ℕ
   p = length (unit-at q units .values)
 
@@ -88,16 +89,16 @@ module _ (s s′ : List ℕ) (names : List Bytes) (figures : Room) (atlas : Atla
   c₀ = unit-at q units .compounds
 
   abbrev places : Places
-  places = enlarged (atlas q) (unit-at q units) P C
+  places = enlarged (atlas q) (unit-at q units) P y
 
   body-goal : (g : Named) → Holds s′ places (renamed p c₀ (as-term g)) → Within (c .pairs) (c .compounds) (as-term g) → Known names (as-term g)
       → Ranged (as-term g)
-      → GoalStands s′ figures (atlas-after atlas units q P C) (units-after c given units q) (record { query = q; goal = renamed-goal p c₀ g })
+      → GoalStands s′ figures (atlas-after atlas units q P y) (units-after c given units q) (record { query = q; goal = renamed-goal p c₀ g })
   unfolding renamed-goal as-term renamed
   body-goal g held within known ranged =
       record {
-        query = omega (arith, r .inside, as-many s s′ names figures atlas units q P C c given r);
-        term = rw (setting-here s s′ names figures atlas units q P C c given r)
+        query = omega (arith, r .inside, as-many s s′ names figures atlas units q P C cells cells′ y c given r);
+        term = rw (setting-here s s′ names figures atlas units q P C cells cells′ y c given r)
             (record {
               held = held;
               of = record {
@@ -110,18 +111,18 @@ module _ (s s′ : List ℕ) (names : List Bytes) (figures : Room) (atlas : Atla
 
   body-stand : (gs : List Named) → GoalsHeld s′ places p c₀ gs → GoalsWithin (c .pairs) (c .compounds) gs → GoalsKnown names gs
       → Each (λ g. Ranged (as-term g)) gs
-      → AllStand s′ figures (atlas-after atlas units q P C) (units-after c given units q) (goals-at q (map (renamed-goal p c₀) gs))
+      → AllStand s′ figures (atlas-after atlas units q P y) (units-after c given units q) (goals-at q (map (renamed-goal p c₀) gs))
   unfolding GoalsHeld GoalsWithin GoalsKnown goals-at
   body-stand [] h w k i = tt
   body-stand (g ∷ gs) h w k i = (body-goal g (h .0) (w .0) (k .0) (i .0), body-stand gs (h .1) (w .1) (k .1) (i .1))
 
   pub body-goals-stand : GoalsHeld s′ places p c₀ (c .body) → BodyFits c → GoalsKnown names (c .body)
-      → AllStand s′ figures (atlas-after atlas units q P C) (units-after c given units q) (body-goals c (unit-at q units) q)
+      → AllStand s′ figures (atlas-after atlas units q P y) (units-after c given units q) (body-goals c (unit-at q units) q)
   unfolding body-goals next-pair
   body-goals-stand h f k = body-stand (c .body) h (f .within) k (f .ranged)
 
   body-words-of : (gs : List Named)
-      → map (goal-word (atlas-after atlas units q P C)) (goals-at q (map (renamed-goal p c₀) gs)) ≡ map (λ g. q + 8 * places .compound (c₀ + g .number)) gs
+      → map (goal-word (atlas-after atlas units q P y)) (goals-at q (map (renamed-goal p c₀) gs)) ≡ map (λ g. q + 8 * places .compound (c₀ + g .number)) gs
   unfolding goals-at renamed-goal
   body-words-of [] = refl
   body-words-of (g ∷ gs) =
@@ -132,7 +133,7 @@ module _ (s s′ : List ℕ) (names : List Bytes) (figures : Room) (atlas : Atla
       let later = body-words-of gs in
       cc
 
-  pub body-words : map (goal-word (atlas-after atlas units q P C)) (body-goals c (unit-at q units) q)
+  pub body-words : map (goal-word (atlas-after atlas units q P y)) (body-goals c (unit-at q units) q)
       ≡ map (λ g. q + 8 * places .compound (c₀ + g .number)) (c .body)
   unfolding body-goals next-pair
   body-words = body-words-of (c .body)

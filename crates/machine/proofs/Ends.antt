@@ -53,18 +53,18 @@ module _ (s s′ : List ℕ) (figures : Room) (atlas atlas′ : Atlas) (units un
       rw e (end-at-grows p (getD s (ends-region figures + p) 0) (all p h (λ z. d (e ∙ z))))
 
 -- The units differ at most in their tries, and the words of their compounds stay.
-module _ (s s′ : List ℕ) (names : List Bytes) (figures : Room) (atlas : Atlas) (units units′ : List QueryUnit) (pairs compounds : ℕ)
-    (lies : Lies names figures atlas units pairs compounds) (kept : UnitsKept figures compounds s s′) (alike : UnitsAlike units units′) where
+module _ (s s′ : List ℕ) (names : List Bytes) (figures : Room) (atlas : Atlas) (units units′ : List QueryUnit) (pairs compounds cells : ℕ)
+    (lies : Lies names figures atlas units pairs compounds cells) (kept : UnitsKept figures cells s s′) (alike : UnitsAlike units units′) where
   alike-grown : (k : ℕ) → k < length units → Grown s s′ (setting-at figures atlas units k) (setting-at figures atlas units′ k)
   alike-grown k h =
-      rw (same-setting s s′ names figures atlas units units′ pairs compounds lies kept alike k)
+      rw (same-setting s s′ names figures atlas units units′ pairs compounds cells lies kept alike k)
       (record {
         agree = agree-same (length (unit-at k units .values)) (unit-at k units .compounds) (atlas k);
         more-pairs = omega arith;
         more-compounds = omega arith;
         room = refl;
         size = omega (arith, kept .size);
-        words = cells-at s s′ names figures atlas units units′ pairs compounds lies kept alike k h;
+        words = cells-at s s′ names figures atlas units units′ pairs compounds cells lies kept alike k h;
       })
 
   pub end-at-alike : (p w : ℕ) → EndAt s figures atlas units p w → EndAt s′ figures atlas units′ p w

@@ -80,37 +80,31 @@ module _ (s : List ℕ) (text : Bytes) (names : List Bytes) (j : Job) (figures :
     omega (arith, goals-fit s text names j figures done x rest atlas t e is, e .in-range .goals, goals-number),
   )
 
-  module _ (shift queue : ℕ) (shifted : shift + 32 * q ≡ 352 + t .compounds) (queue-is : queue ≡ queue-region figures) where
-    adds-here : (y : Item) × (low : ℕ) × (high : ℕ) × (goals : List Named)
-        × Adding s y (4608 + 64 * q + 8) n (t .pairs) shift low high q queue (figures .goals) 0 (t .active) goals
+  module _ (queue : ℕ) (queue-is : queue ≡ queue-region figures) where
+    adds-here : (y : Item) × (goals : List Named)
+        × Adding s y (4608 + 64 * q + 8) n (t .pairs) (t .cells) q queue (figures .goals) 0 (t .active) goals
     adds-here = (
       item-of names (length done) x,
-      5088 + t .compounds,
-      5088 + t .compounds + x .compounds,
       x .goals,
-      rw (at, queue-is) (adding s text names j figures done x rest atlas t e is n shift goals-number (omega arith)),
+      rw (at, queue-is) (adding s text names j figures done x rest atlas t e is n goals-number),
     )
 
-    pub enters : (s₁ s′ : List ℕ) (w : ℕ) (u : Standing)
-        → ((y : Item) (low high : ℕ) (goals : List Named)
-        → Adding s y (4608 + 64 * q + 8) n (t .pairs) shift low high q queue (figures .goals) 0 (t .active) goals
-        → Added s s₁ y n (t .pairs) shift low high q queue (figures .goals) 0 (t .active) goals)
-        → w ≡ t .pairs → s′ ≡ set s₁ (4608 + 64 * q + 3) w → Onward t u pairs compounds n
+    pub enters : (s₁ s′ : List ℕ) (w r : ℕ) (u : Standing)
+        → ((y : Item) (goals : List Named)
+        → Adding s y (4608 + 64 * q + 8) n (t .pairs) (t .cells) q queue (figures .goals) 0 (t .active) goals
+        → Added s s₁ y n (t .pairs) (t .cells) q queue (figures .goals) 0 (t .active) goals r)
+        → w ≡ t .pairs → s′ ≡ set s₁ (4608 + 64 * q + 3) w → Onward t u pairs compounds r n
         → EnterOnly figures s s′ × ((atlas′ : Atlas) × Entered s′ text names j figures (done ++ x ∷ []) atlas′ u)
-    enters s₁ s′ w u call word-is set-is on =
-        let shifts : shift + 32 * length done ≡ 352 + t .compounds = omega arith in
-        let asked = adding s text names j figures done x rest atlas t e is n shift goals-number shifts in
-        let added =
-        rw (at, queue-is) at
-        (call (item-of names (length done) x) (5088 + t .compounds) (5088 + t .compounds + x .compounds) (x .goals) (rw (at, queue-is) asked))
-        in
+    enters s₁ s′ w r u call word-is set-is on =
+        let asked = adding s text names j figures done x rest atlas t e is n goals-number in
+        let added = rw (at, queue-is) at (call (item-of names (length done) x) (x .goals) (rw (at, queue-is) asked)) in
         let stored : s′ ≡ set s₁ (4608 + 64 * length done + 3) (t .pairs) =
         set-is ∙ ap (λ v. set s₁ (4608 + 64 * q + 3) v) word-is ∙ ap (λ k. set s₁ (4608 + 64 * k + 3) (t .pairs)) at
         in (
-          only s text names j figures done x rest atlas t e is n shift goals-number shifts s₁ added s′ stored,
+          only s text names j figures done x rest atlas t e is n goals-number s₁ r added s′ stored,
           (
             _,
-            entered-now s text names j figures done x rest atlas t e is n shift goals-number shifts s₁ added s′ stored u
+            entered-now s text names j figures done x rest atlas t e is n goals-number s₁ r added s′ stored u
                 (rw (sym pairs-number, sym compounds-number) on),
           ),
         )
@@ -120,13 +114,12 @@ pub sums : (s : List ℕ) (figures : Room) (q : ℕ) (t : Standing) {n pairs com
 sums s figures q t {n} {pairs} {compounds} (text, names, j, done, x, rest, atlas, e, is, at) numbers =
     sums-fit s text names j figures done x rest atlas t e is q n pairs compounds at numbers
 
-pub adds : (s : List ℕ) (figures : Room) (q : ℕ) (t : Standing) {n pairs compounds : ℕ} (shift queue : ℕ) → Enters s figures q t
-    → Numbers s q n pairs compounds
-    → shift + 32 * q ≡ 352 + t .compounds → queue ≡ queue-region figures
-    → (y : Item) × (low : ℕ) × (high : ℕ) × (goals : List Named)
-    × Adding s y (4608 + 64 * q + 8) n (t .pairs) shift low high q queue (figures .goals) 0 (t .active) goals
-adds s figures q t {n} {pairs} {compounds} shift queue (text, names, j, done, x, rest, atlas, e, is, at) numbers shifted queue-is =
-    adds-here s text names j figures done x rest atlas t e is q n pairs compounds at numbers shift queue shifted queue-is
+pub adds : (s : List ℕ) (figures : Room) (q : ℕ) (t : Standing) {n pairs compounds : ℕ} (queue : ℕ) → Enters s figures q t
+    → Numbers s q n pairs compounds → queue ≡ queue-region figures
+    → (y : Item) × (goals : List Named)
+    × Adding s y (4608 + 64 * q + 8) n (t .pairs) (t .cells) q queue (figures .goals) 0 (t .active) goals
+adds s figures q t {n} {pairs} {compounds} queue (text, names, j, done, x, rest, atlas, e, is, at) numbers queue-is =
+    adds-here s text names j figures done x rest atlas t e is q n pairs compounds at numbers queue queue-is
 
 -- One change after another.
 pub enter-same : (figures : Room) (s : List ℕ) → EnterOnly figures s s
@@ -158,16 +151,16 @@ some-goal figures names [] some fit ok = absurd (omega arith)
 some-goal figures names (x ∷ rest) some fit ok = omega (arith, fits-so-far figures (x ∷ rest) [] x rest refl ok .goals, fit .0 .some-goals)
 
 abbrev first-atlas : List Bytes → Atlas
-first-atlas names k = record { names = names; pair = λ n. n; compound = λ n. n }
+first-atlas names k = record { names = names; pair = λ n. n; compound = λ n. n; width = λ n. 0 }
 
 abbrev pub NothingStands : Standing → Type 0
 NothingStands t =
-    (t .pairs ≡ 0) × (t .compounds ≡ 0) × (t .front ≡ 0) × (t .active ≡ 0) × (t .log ≡ 0) × (t .waiting ≡ 0) × (t .failed ≡ 0) × (t .steps ≡ 0)
+    (t .pairs ≡ 0) × (t .compounds ≡ 0) × (t .cells ≡ 40704) × (t .front ≡ 0) × (t .active ≡ 0) × (t .log ≡ 0) × (t .waiting ≡ 0) × (t .failed ≡ 0) × (t .steps ≡ 0)
 
 pub none-entered : (s : List ℕ) (text : Bytes) (names : List Bytes) (j : Job) (figures : Room) (t : Standing) → Ready s text names figures j
     → queries-fit figures (j .queries) ≡ true → NothingStands t → (atlas : Atlas) × Entered s text names j figures [] atlas t
 unfolding start number-of all-goals query-pairs query-compounds EachFrom ring logged listed
-none-entered s text names j figures t r fit (pairs, compounds, front, active, log, waiting, failed, steps) =
+none-entered s text names j figures t r fit (pairs, compounds, cells, front, active, log, waiting, failed, steps) =
     let f = accepted-keeps-the-figures text j (r .reads) in (
       first-atlas names,
       record {
@@ -185,6 +178,7 @@ none-entered s text names j figures t r fit (pairs, compounds, front, active, lo
             names-are = λ k. refl;
             pairs-fit = omega arith;
             compounds-fit = omega arith;
+            cells-fit = omega arith;
             pair-below = λ k n h l. absurd (omega arith);
             pair-apart = λ k l n m h i a b e. absurd (omega arith);
             compound-behind = λ k n h l. absurd (omega arith);
@@ -200,6 +194,7 @@ none-entered s text names j figures t r fit (pairs, compounds, front, active, lo
           waiting = rw (log, waiting) (record { fits = omega arith; number = refl; words = refl });
           failed = rw failed (record { number = refl; words = refl });
         };
+        cells = omega arith;
         front = front;
         log = log;
         room-zero = λ k h l. r .zero k (omega arith) (omega arith);

@@ -15,16 +15,17 @@ use Rattle.meaning.proofs.Reading.Figures.{QueryFits}
 use Rattle.term.specs.Cells.{Places}
 use Rattle.term.specs.Holds.{Holds}
 use Rattle.term.specs.Jobs.{query-record, query-base, places-from, HoldsQuery, JobKept}
-use Rattle.term.specs.Layout.{queue-region}
+use Rattle.term.specs.Layout.{values-region, queue-region}
 use Rattle.term.specs.Setting.{Ranged}
 use Rattle.term.specs.States.{Atlas, goal-word, ring, listed, logged, AllStand, QueueStands, WaitingStand, FailedStand, HoldsState}
 use Rattle.term.specs.declared.state.Standing.{Standing}
 use Rattle.term.proofs.Holds.{holds-alike}
 use Rattle.term.proofs.Jobs.{each-at, holds-job-kept}
-use Rattle.reduction.specs.Build.{Item, Goes, Moved}
+use Rattle.reduction.specs.Build.{Item, Copies, total, Moved}
+use Rattle.reduction.proofs.Spreading.{goals-rising}
 use Rattle.machine.specs.Entering.{EnterOnly, Entered}
 use Rattle.machine.specs.Extended.{replaced-at}
-use Rattle.reduction.specs.Reducing.{Apart, GoalsWithin, GoalsHeld, Adding, Added}
+use Rattle.reduction.specs.Reducing.{Apart, GoalsWithin, goal-terms, GoalsHeld, Adding, Added}
 use Rattle.machine.proofs.Adjoining.{
   next-places,
   Adjoins,
@@ -37,6 +38,7 @@ use Rattle.machine.proofs.Adjoining.{
   goals-newer,
   words-newer,
 }
+use Rattle.machine.proofs.Fresh.{Fresh, fresh}
 use Rattle.machine.proofs.BodyGoals.{goals-within, goals-ranged}
 use Rattle.term.proofs.Units.{within-every}
 use Rattle.machine.proofs.OwnPairs.{no-query}
@@ -65,9 +67,10 @@ abbrev pub item-of : List Bytes → ℕ → Query → Item
 item-of names q x = record { places = places-from names (query-base q); pairs = length (x .variables); compounds = x .compounds }
 
 -- The standing with a query more.
-pub record Onward (t u : Standing) (pairs compounds goals : ℕ) : Type 0 where
+pub record Onward (t u : Standing) (pairs compounds cells goals : ℕ) : Type 0 where
   pub pairs-are : u .pairs ≡ t .pairs + pairs
   pub compounds-are : u .compounds ≡ t .compounds + compounds
+  pub cells-are : u .cells ≡ cells
   pub active-is : u .active ≡ t .active + goals
   pub front : u .front ≡ 0
   pub log : u .log ≡ 0
@@ -89,14 +92,11 @@ module _ (s : List ℕ) (text : Bytes) (names : List Bytes) (j : Job) (figures :
   abbrev item : Item
   item = item-of names (length done) x
 
-  abbrev places : Places
-  places = next-places names P C
+  abbrev cells : ℕ
+  cells = t .cells
 
-  abbrev low : ℕ
-  low = 5088 + C
-
-  abbrev high : ℕ
-  high = 5088 + C + x .compounds
+  abbrev cells′ : ℕ
+  cells′ = t .cells + total (goal-terms (x .goals))
 
   pub in-order : length done < length (j .queries)
   in-order = omega (arith, ap (length {A = Query}) is, length-append done (x ∷ rest))
@@ -148,42 +148,56 @@ module _ (s : List ℕ) (text : Bytes) (names : List Bytes) (j : Job) (figures :
   pub goals-fit : t .active + length (x .goals) ≤ figures .goals
   goals-fit = omega (arith, active-is, room .goals)
 
-  module _ (n shift : ℕ) (number : n ≡ length (x .goals)) (shifted : shift + 32 * length done ≡ 352 + t .compounds) where
-    goes : Goes item P shift low high
-    goes =
-        record {
-          own = λ m. refl;
-          before = λ m h. omega (arith, few, query .laid .few-compounds);
-          from = λ m h. omega (arith, shifted);
-          below = λ m h. omega (arith, shifted);
-          pairs-fit = omega (arith, pairs-fit, e .in-range .pairs);
-        }
+  -- Where its compounds are copied to.
+  pub copies : Fresh (t .cells) (t .compounds + x .compounds) (goal-terms (x .goals))
+  unfolding start
+  copies =
+      fresh 0 (x .compounds) (t .cells) (t .compounds) (goal-terms (x .goals)) (goals-rising 0 (x .compounds) (x .goals) (query .laid .numbered))
+      (e .cells) (omega (arith, e .state .lies .cells-fit, compounds-are))
 
-    pub adding : Adding s item (4608 + 64 * length done + 8) n (t .pairs) shift low high (length done)
+  abbrev y : Copies
+  y = copies .copies
+
+  abbrev places : Places
+  places = next-places names P y
+
+  -- They lie before the values.
+  before-values : cells′ ≤ values-region figures
+  before-values = omega (arith, copies .copied .fit, compounds-fit)
+
+  moved : Moved item places P y 0 0
+  moved =
+      record {
+        names = refl;
+        pair-at = λ m h. omega arith;
+        compound-at = λ m h. ap (y .at) (omega arith);
+        width-at = λ m h. ap (y .width) (omega arith);
+      }
+
+  module _ (n : ℕ) (number : n ≡ length (x .goals)) where
+    pub adding : Adding s item (4608 + 64 * length done + 8) n (t .pairs) (t .cells) (length done)
         (queue-region figures) (figures .goals) 0 (t .active) (x .goals)
     adding =
         record {
-          goes = goes;
+          goes = record {
+            own = λ m. refl;
+            before = λ m h. omega (arith, few, query .laid .few-compounds);
+            pairs-fit = omega (arith, pairs-fit, e .in-range .pairs);
+          };
+          behind = e .cells;
           number = number;
           words = query .words;
           within = within;
           from-before = omega (arith, few, number, query .laid .few-goals);
-          before = omega (arith, compounds-fit);
+          before = omega (arith, before-values);
+          room = λ some. omega (arith, copies .room some, compounds-fit, e .inside, e .state .queue .front-inside);
           ring-ok = record { inside = omega (arith, e .inside); front-inside = omega (arith, e .state .queue .front-inside, e .front) };
           space = omega (arith, goals-fit, number);
           few = few;
         }
 
-    moved : Moved item places P shift 0 0
-    moved =
-        record {
-          names = refl;
-          pair-at = λ m h. omega arith;
-          compound-at = λ m h. omega (arith, shifted);
-        }
-
-    module _ (s₁ : List ℕ)
-        (added : Added s s₁ item n (t .pairs) shift low high (length done) (queue-region figures) (figures .goals) 0 (t .active) (x .goals))
+    module _ (s₁ : List ℕ) (r : ℕ)
+        (added : Added s s₁ item n (t .pairs) (t .cells) (length done) (queue-region figures) (figures .goals) 0 (t .active) (x .goals) r)
         (s′ : List ℕ) (set-is : s′ ≡ set s₁ (4608 + 64 * length done + 3) (t .pairs)) where
       size : length s′ ≡ length s
       size = ap length set-is ∙ length-set s₁ (query-record q + 3) P ∙ added .kept .size
@@ -191,7 +205,7 @@ module _ (s : List ℕ) (text : Bytes) (names : List Bytes) (j : Job) (figures :
       set-same : (k : ℕ) → (k ≡ query-record q + 3 → ⊥) → getD s′ k 0 ≡ getD s₁ k 0
       set-same k other = ap (λ l. getD l k 0) set-is ∙ getD-set-other s₁ (query-record q + 3) k P 0 other
 
-      same : (k : ℕ) → Apart (8 * low) (8 * high) k → Apart (queue-region figures) (queue-region figures + figures .goals) k
+      same : (k : ℕ) → Apart cells cells′ k → Apart (queue-region figures) (queue-region figures + figures .goals) k
           → (k ≡ query-record q + 3 → ⊥) → getD s′ k 0 ≡ getD s k 0
       same k a b other = set-same k other ∙ added .kept .same k (a, b)
 
@@ -203,20 +217,20 @@ module _ (s : List ℕ) (text : Bytes) (names : List Bytes) (j : Job) (figures :
       -- A word of a record but where its own pairs begin.
       record-word : (k i : ℕ) → k < 8 → i < 64 → i ≢ 3 → getD s′ (query-record k + i) 0 ≡ getD s (query-record k + i) 0
       record-word k i h l other =
-          same (query-record k + i) (inl (omega arith)) (inl (omega arith)) (λ f. other (omega (arith, f)))
+          same (query-record k + i) (inl (omega (arith, e .cells))) (inl (omega arith)) (λ f. other (omega (arith, f)))
 
       pub only : EnterOnly figures s s′
       only =
           record {
             size = size;
-            before = λ k h. same k (inl (omega arith)) (inl (omega arith)) (λ f. omega (arith, f));
+            before = λ k h. same k (inl (omega (arith, e .cells))) (inl (omega arith)) (λ f. omega (arith, f));
             records = record-word;
-            items = λ k h l. same k (inl (omega arith)) (inl (omega arith)) (λ f. omega (arith, f, few));
-            pairs = λ k h l. same k (inr (omega (arith, compounds-fit))) (inl (omega arith)) (λ f. omega (arith, f, few));
-            behind = λ k h. same k (inr (omega (arith, compounds-fit))) (inr (omega arith)) (λ f. omega (arith, f, few));
+            items = λ k h l. same k (inl (omega (arith, e .cells))) (inl (omega arith)) (λ f. omega (arith, f, few));
+            pairs = λ k h l. same k (inr (omega (arith, before-values))) (inl (omega arith)) (λ f. omega (arith, f, few));
+            behind = λ k h. same k (inr (omega (arith, before-values))) (inr (omega arith)) (λ f. omega (arith, f, few));
           }
 
-      adjoins : Adjoins s s′ names figures atlas done x (t .pairs) (t .compounds)
+      adjoins : Adjoins s s′ names figures atlas done x (t .pairs) (t .compounds) (t .cells) (t .cells + total (goal-terms (x .goals))) y
       unfolding start
       adjoins =
           record {
@@ -226,10 +240,11 @@ module _ (s : List ℕ) (text : Bytes) (names : List Bytes) (j : Job) (figures :
             few = few;
             inside = omega (arith, size, e .inside);
             size = size;
-            older = λ k h l. same k (inl (omega arith)) (inl (omega (arith, compounds-fit))) (λ f. omega (arith, f, few));
+            copied = copies .copied;
+            older = λ k h l. same k (inl l) (inl (omega (arith, before-values))) (λ f. omega (arith, f, few));
             values = λ k h l. only .pairs k h (omega arith);
             zero = λ k h l. e .room-zero k h (omega arith);
-            records = λ k h. same (query-record k + 3) (inl (omega (arith, few))) (inl (omega (arith, few))) (λ f. omega (arith, f));
+            records = λ k h. same (query-record k + 3) (inl (omega (arith, few, e .cells))) (inl (omega (arith, few))) (λ f. omega (arith, f));
             first = first;
             tries = λ k h. record-word k 4 h (omega arith) (λ f. omega (arith, f));
             untried = e .tries-zero q few;
@@ -242,13 +257,13 @@ module _ (s : List ℕ) (text : Bytes) (names : List Bytes) (j : Job) (figures :
       here [] w h = tt
       here (g ∷ gs) w h = (
         holds-alike s₁ s′ places (λ m. m < x .compounds) (omega (arith, size, added .kept .size))
-            (λ m b k a c. set-same k (λ f. omega (arith, f, few))) (as-term g)
+            (λ m b k a c. set-same k (λ f. omega (arith, f, few, copies .copied .behind, copies .copied .at m .0))) (as-term g)
             (within-every (length (x .variables)) (x .compounds) (as-term g) (w .0)) (rw (renamed-none (as-term g)) at (h .0)),
         here gs (w .1) (h .1),
       )
 
       abbrev atlas′ : Atlas
-      atlas′ = replaced-at atlas (length done) (next-places names (t .pairs) (t .compounds))
+      atlas′ = replaced-at atlas (length done) (next-places names (t .pairs) y)
 
       old-queue : AllStand s figures atlas (map first-unit done) (all-goals 0 done)
       unfolding start
@@ -262,8 +277,8 @@ module _ (s : List ℕ) (text : Bytes) (names : List Bytes) (j : Job) (figures :
       queue-held-now =
           rw (goals-one-more done x)
           (all-append s′ figures atlas′ (map first-unit (done ++ x ∷ [])) (all-goals 0 done) (goals-at q (x .goals))
-          (goals-older s s′ names figures atlas done x P C adjoins (all-goals 0 done) old-queue)
-          (goals-newer s s′ names figures atlas done x P C adjoins (x .goals) (here (x .goals) within (added .held places 0 0 moved)) within
+          (goals-older s s′ names figures atlas done x P C cells cells′ y adjoins (all-goals 0 done) old-queue)
+          (goals-newer s s′ names figures atlas done x P C cells cells′ y adjoins (x .goals) (here (x .goals) within (added .held places y 0 0 moved (copies .spread-there))) within
           (query .laid .known) ranged))
 
       number-now : t .active + length (x .goals) ≡ length (all-goals 0 (done ++ x ∷ []))
@@ -275,16 +290,16 @@ module _ (s : List ℕ) (text : Bytes) (names : List Bytes) (j : Job) (figures :
       words-now =
           ring-kept (queue-region figures) (figures .goals) s₁ s′ 0 (t .active + n) (omega (arith, goals-fit, number))
           (λ k h l. set-same k (λ f. omega (arith, f, few)))
-          ∙ added .items places 0 0 moved
+          ∙ added .items places y 0 0 moved (copies .spread-there)
           ∙ rw (
             goals-one-more done x,
             map-append (goal-word atlas′) (all-goals 0 done) (goals-at q (x .goals)),
-            words-older s s′ names figures atlas done x P C adjoins (all-goals 0 done) old-queue,
-            words-newer s s′ names figures atlas done x P C adjoins (x .goals),
+            words-older s s′ names figures atlas done x P C cells cells′ y adjoins (all-goals 0 done) old-queue,
+            words-newer s s′ names figures atlas done x P C cells cells′ y adjoins (x .goals),
             old-words,
           ) refl
 
-      module _ (u : Standing) (onward : Onward t u (length (x .variables)) (x .compounds) n) where
+      module _ (u : Standing) (onward : Onward t u (length (x .variables)) (x .compounds) r n) where
         queue-now : QueueStands s′ figures atlas′ (u .front) (u .active) (all-goals 0 (done ++ x ∷ []))
         queue-now =
             rw (onward .front, onward .active-is)
@@ -318,9 +333,9 @@ module _ (s : List ℕ) (text : Bytes) (names : List Bytes) (j : Job) (figures :
               compounds = onward .compounds-are ∙ compounds-now;
               steps = onward .steps;
               fits = omega (arith, number-now, goals-fit);
-              lies = rw (sym pairs-now, sym compounds-now) (lies-now s s′ names figures atlas done x P C adjoins);
-              units = units-now s s′ names figures atlas done x P C adjoins (e .state .units);
-              first-pairs = first-pairs-now s s′ names figures atlas done x P C adjoins (e .state .first-pairs);
+              lies = rw (onward .cells-are, added .behind, sym pairs-now, sym compounds-now) (lies-now s s′ names figures atlas done x P C cells cells′ y adjoins);
+              units = units-now s s′ names figures atlas done x P C cells cells′ y adjoins (e .state .units);
+              first-pairs = first-pairs-now s s′ names figures atlas done x P C cells cells′ y adjoins (e .state .first-pairs);
               queue-held = queue-held-now;
               waiting-held = tt;
               failed-held = tt;
@@ -347,6 +362,7 @@ module _ (s : List ℕ) (text : Bytes) (names : List Bytes) (j : Job) (figures :
               fit = e .fit;
               held = holds-job-kept s s′ names job-kept j (e .held);
               state = state-now;
+              cells = omega (arith, onward .cells-are, added .behind, e .cells);
               front = onward .front;
               log = onward .log;
               room-zero = λ k h l. only .pairs k h l ∙ e .room-zero k h l;

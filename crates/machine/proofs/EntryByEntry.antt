@@ -46,16 +46,16 @@ entry-given s unit places values p c (d ∷ es) e m g = go (in-cons-cases m) (λ
     go (inl same) later = rw same (g .0)
     go (inr n) later = later n
 
-pub entry-stands : (s : List ℕ) (x : Setting) (y : Template) (es : List Entry) (e : Entry) → In e es → AllEntries s x y es
+pub entry-stands : (s : List ℕ) (x : Setting) (y : Template) (low high : ℕ) (es : List Entry) (e : Entry) → In e es → AllEntries s x y low high es
     → (e .pair < length (x .values)) × (lo : ℕ) × (hi : ℕ) × HeadTerm s x y lo hi (e .term)
 unfolding AllEntries
-entry-stands s x y [] e m g = absurd (in-none m)
-entry-stands s x y (d ∷ es) e m g = go (in-cons-cases m) (λ n. entry-stands s x y es e n (g .1))
+entry-stands s x y low high [] e m g = absurd (in-none m)
+entry-stands s x y low high (d ∷ es) e m g = go (in-cons-cases m) (λ n. entry-stands s x y (g .2) high es e n (g .5))
   where
     go : (e ≡ d) ⊎ In e es
         → (In e es → (e .pair < length (x .values)) × (lo : ℕ) × (hi : ℕ) × HeadTerm s x y lo hi (e .term))
         → (e .pair < length (x .values)) × (lo : ℕ) × (hi : ℕ) × HeadTerm s x y lo hi (e .term)
-    go (inl same) later = rw same (g .0)
+    go (inl same) later = rw same (g .0, g .1, g .2, g .4)
     go (inr n) later = later n
 
 pub no-entry-of : (unit : Places) (z : ℕ) (es : List Entry) → ((e : Entry) → In e es → z ≡ unit .pair (e .pair) → ⊥) → NoEntry unit z es

@@ -23,7 +23,7 @@ use Rattle.queues.proofs.Ring.{ring-kept}
 
 -- One unit: the words of its compounds, and of its pairs, stay.
 module _ (s s′ : List ℕ) (x : Setting) (size : length s ≤ length s′)
-    (cells : (n : ℕ) → n < x .compounds → (k : ℕ) → 8 * x .places .compound n ≤ k → k < 8 * x .places .compound n + 8 → getD s′ k 0 ≡ getD s k 0) where
+    (cells : (n : ℕ) → n < x .compounds → (k : ℕ) → x .places .compound n ≤ k → k < x .places .compound n + x .places .width n → getD s′ k 0 ≡ getD s k 0) where
   every-value : (v : Option Term) → ((t : Term) → v ≡ some t → OfUnit x t) → EveryValue (λ n. n < x .compounds) v
   unfolding EveryValue
   every-value none of = tt
@@ -65,16 +65,21 @@ units-set units q u h v c = record {
       (λ e. ap (λ w. w .compounds) (getD-set-other units q k u no-unit e));
 }
 
--- The words of the charged compounds and of the values stay.
-pub record UnitsKept (figures : Room) (compounds : ℕ) (s s′ : List ℕ) : Type 0 where
+-- The words of the compounds, which lie before a first free word, and of the values stay.
+pub record UnitsKept (figures : Room) (free : ℕ) (s s′ : List ℕ) : Type 0 where
   pub size : length s′ ≡ length s
-  pub cells : (k : ℕ) → 40704 ≤ k → k < 40704 + 8 * compounds → getD s′ k 0 ≡ getD s k 0
+  pub cells : (k : ℕ) → 40704 ≤ k → k < free → getD s′ k 0 ≡ getD s k 0
   pub values : (k : ℕ) → values-region figures ≤ k → k < values-region figures + figures .pairs → getD s′ k 0 ≡ getD s k 0
 
-module _ (s s′ : List ℕ) (names : List Bytes) (figures : Room) (atlas : Atlas) (units units′ : List QueryUnit) (pairs compounds : ℕ)
-    (lies : Lies names figures atlas units pairs compounds) (kept : UnitsKept figures compounds s s′) (alike : UnitsAlike units units′) where
+-- The compounds lie before the values.
+pub cells-before : {names : List Bytes} {figures : Room} {atlas : Atlas} {units : List QueryUnit} {pairs compounds cells : ℕ}
+    → Lies names figures atlas units pairs compounds cells → cells ≤ values-region figures
+cells-before lies = omega (arith, lies .cells-fit, lies .compounds-fit)
+
+module _ (s s′ : List ℕ) (names : List Bytes) (figures : Room) (atlas : Atlas) (units units′ : List QueryUnit) (pairs compounds cells : ℕ)
+    (lies : Lies names figures atlas units pairs compounds cells) (kept : UnitsKept figures cells s s′) (alike : UnitsAlike units units′) where
   pub cells-at : (q : ℕ) → q < length units → (n : ℕ) → n < unit-at q units .compounds
-      → (k : ℕ) → 8 * atlas q .compound n ≤ k → k < 8 * atlas q .compound n + 8 → getD s′ k 0 ≡ getD s k 0
+      → (k : ℕ) → atlas q .compound n ≤ k → k < atlas q .compound n + atlas q .width n → getD s′ k 0 ≡ getD s k 0
   cells-at q h n l k a b =
       kept .cells k (omega (arith, lies .compound-behind q n h l)) (omega (arith, lies .compound-below q n h l))
 
@@ -105,11 +110,12 @@ module _ (s s′ : List ℕ) (names : List Bytes) (figures : Room) (atlas : Atla
   goals-kept [] h = tt
   goals-kept (g ∷ gs) h = (goal-kept g (h .0), goals-kept gs (h .1))
 
-  pub lies-kept : Lies names figures atlas units′ pairs compounds
+  pub lies-kept : Lies names figures atlas units′ pairs compounds cells
   lies-kept = record {
     names-are = lies .names-are;
     pairs-fit = lies .pairs-fit;
     compounds-fit = lies .compounds-fit;
+    cells-fit = lies .cells-fit;
     pair-below = λ k n h l. lies .pair-below k n (rw (alike .number) at h) (rw (alike .values k) at l);
     pair-apart = λ k m n o h i l p e.
         lies .pair-apart k m n o (rw (alike .number) at h) (rw (alike .number) at i) (rw (alike .values k) at l) (rw (alike .values m) at p) e;
@@ -118,29 +124,29 @@ module _ (s s′ : List ℕ) (names : List Bytes) (figures : Room) (atlas : Atla
   }
 
 -- The units stand: their values, and their tries where those words stay.
-pub units-kept : (s s′ : List ℕ) (names : List Bytes) (figures : Room) (atlas : Atlas) (units : List QueryUnit) (pairs compounds : ℕ)
-    → Lies names figures atlas units pairs compounds → UnitsKept figures compounds s s′
+pub units-kept : (s s′ : List ℕ) (names : List Bytes) (figures : Room) (atlas : Atlas) (units : List QueryUnit) (pairs compounds cells : ℕ)
+    → Lies names figures atlas units pairs compounds cells → UnitsKept figures cells s s′
     → ((k : ℕ) → k < length units → getD s′ (query-record k + 4) 0 ≡ getD s (query-record k + 4) 0)
     → UnitsStand s figures atlas units → UnitsStand s′ figures atlas units
-units-kept s s′ names figures atlas units pairs compounds lies kept own h = record {
-  unit = λ k l. unit-kept s s′ names figures atlas units units pairs compounds lies kept (units-same units) k l (h .unit k l);
+units-kept s s′ names figures atlas units pairs compounds cells lies kept own h = record {
+  unit = λ k l. unit-kept s s′ names figures atlas units units pairs compounds cells lies kept (units-same units) k l (h .unit k l);
   tries = λ k l. own k l ∙ h .tries k l;
 }
 
 -- One query has a try more.
-pub units-tried : (s s′ : List ℕ) (names : List Bytes) (figures : Room) (atlas : Atlas) (units : List QueryUnit) (pairs compounds : ℕ)
-    → Lies names figures atlas units pairs compounds → UnitsKept figures compounds s s′ → (q : ℕ) (u : QueryUnit) → q < length units
+pub units-tried : (s s′ : List ℕ) (names : List Bytes) (figures : Room) (atlas : Atlas) (units : List QueryUnit) (pairs compounds cells : ℕ)
+    → Lies names figures atlas units pairs compounds cells → UnitsKept figures cells s s′ → (q : ℕ) (u : QueryUnit) → q < length units
     → u .values ≡ unit-at q units .values → u .compounds ≡ unit-at q units .compounds → u .tries ≡ unit-at q units .tries + 1
     → ((k : ℕ) → k < length units → (k ≡ q → ⊥) → getD s′ (query-record k + 4) 0 ≡ getD s (query-record k + 4) 0)
     → getD s′ (query-record q + 4) 0 ≡ getD s (query-record q + 4) 0 + 1
     → UnitsStand s figures atlas units → UnitsStand s′ figures atlas (set units q u)
 unfolding unit-at
-units-tried s s′ names figures atlas units pairs compounds lies kept q u inside v c e others own h =
+units-tried s s′ names figures atlas units pairs compounds cells lies kept q u inside v c e others own h =
     let alike = units-set units q u inside v c in
     record {
       unit = λ k l.
           let m : k < length units = omega (arith, alike .number) in
-          unit-kept s s′ names figures atlas units (set units q u) pairs compounds lies kept alike k m (h .unit k m);
+          unit-kept s s′ names figures atlas units (set units q u) pairs compounds cells lies kept alike k m (h .unit k m);
       tries = λ k l. tries-now k (omega (arith, alike .number));
     }
   where

@@ -25,7 +25,7 @@ use Rattle.trial.specs.Choosing.{Trying, MarksBelow, TrialOnly}
 use Rattle.queues.specs.Log.{Slot}
 use Rattle.machine.specs.Running.{RunOnly, AllEnds, Running, GroundMarks}
 use Rattle.machine.proofs.Ends.{ends-alike}
-use Rattle.machine.proofs.Frames.{UnitsKept, units-same, units-kept, goals-kept, first-pairs-kept, queue-kept, failed-kept, waiting-kept}
+use Rattle.machine.proofs.Frames.{UnitsKept, cells-before, units-same, units-kept, goals-kept, first-pairs-kept, queue-kept, failed-kept, waiting-kept}
 use Rattle.machine.proofs.GroundMarks.{grounds-of}
 use Rattle.queues.proofs.Ring.{round-below}
 use Rattle.queues.proofs.Waking.{log-kept}
@@ -38,9 +38,9 @@ pub record StateKept (figures : Room) (s s′ : List ℕ) : Type 0 where
   pub units : (k : ℕ) → 40704 ≤ k → k < waiters-region figures → getD s′ k 0 ≡ getD s k 0
   pub goals : (k : ℕ) → queue-region figures ≤ k → k < need-of figures → getD s′ k 0 ≡ getD s k 0
 
-pub state-units-kept : (figures : Room) (s s′ : List ℕ) (compounds : ℕ) → compounds ≤ figures .compounds → StateKept figures s s′
-    → UnitsKept figures compounds s s′
-state-units-kept figures s s′ compounds fits kept = record {
+pub state-units-kept : (figures : Room) (s s′ : List ℕ) (cells : ℕ) → cells ≤ values-region figures → StateKept figures s s′
+    → UnitsKept figures cells s s′
+state-units-kept figures s s′ cells fits kept = record {
   size = kept .size;
   cells = λ k a b. kept .units k a (omega arith);
   values = λ k a b. kept .units k (omega arith) b;
@@ -58,8 +58,9 @@ state-kept s s′ names figures queries atlas state t few few-units kept h =
     let units = state .units in
     let pairs = state .pairs in
     let compounds = state .compounds in
-    let own = state-units-kept figures s s′ compounds (h .lies .compounds-fit) kept in
-    let stay = goals-kept s s′ names figures atlas units units pairs compounds (h .lies) own (units-same units) in
+    let cells = t .cells in
+    let own = state-units-kept figures s s′ cells (cells-before (h .lies)) kept in
+    let stay = goals-kept s s′ names figures atlas units units pairs compounds cells (h .lies) own (units-same units) in
     let all = queue-fits (state .goals) (figures .goals) (h .fits) in
     record {
       pairs = h .pairs;
@@ -67,7 +68,7 @@ state-kept s s′ names figures queries atlas state t few few-units kept h =
       steps = h .steps;
       fits = h .fits;
       lies = h .lies;
-      units = units-kept s s′ names figures atlas units pairs compounds (h .lies) own (λ k l. kept .tries k (omega arith)) (h .units);
+      units = units-kept s s′ names figures atlas units pairs compounds cells (h .lies) own (λ k l. kept .tries k (omega arith)) (h .units);
       first-pairs = first-pairs-kept s s′ atlas queries few (kept .first-pairs) (h .first-pairs);
       queue-held = stay (state .goals .queue) (h .queue-held);
       waiting-held = stay (map (λ w. w .goal) (state .goals .waiting)) (h .waiting-held);
@@ -173,7 +174,7 @@ running-tried s s′ text names j figures limit atlas slots t stamp stamp′ r o
     running-kept s text names j figures limit atlas slots t stamp r s′ stamp′ (trial-state-kept figures s s′ only) (trial-job-kept figures s s′ only)
     (λ k a b. only .same k (inr (omega arith)) (inl (omega arith))) marks
     (ends-alike s s′ names figures atlas (run j limit figures .state .units) (run j limit figures .state .units) (run j limit figures .state .pairs)
-    (run j limit figures .state .compounds) (r .state .lies) (state-units-kept figures s s′ (run j limit figures .state .compounds) (r .state .lies .compounds-fit)
+    (run j limit figures .state .compounds) (t .cells) (r .state .lies) (state-units-kept figures s s′ (t .cells) (cells-before (r .state .lies))
     (trial-state-kept figures s s′ only)) (units-same (run j limit figures .state .units))
     (λ k a b. only .same k (inr (omega arith)) (inr (omega arith))) (r .ends)) grounds
 
@@ -207,7 +208,7 @@ module _ (s : List ℕ) (names : List Bytes) (figures : Room) (queries : List Qu
   front-number =
       goal-within (length (unit-at (g .query) (state .units) .values)) (unit-at (g .query) (state .units) .compounds) g (front-stands .term .of .within)
 
-  pub front-place : 5088 ≤ atlas (g .query) .compound (g .goal .number)
+  pub front-place : 40704 ≤ atlas (g .query) .compound (g .goal .number)
   front-place = h .lies .compound-behind (g .query) (g .goal .number) (front-stands .query) front-number
 
 -- The ends of a query's own unit.
@@ -252,7 +253,7 @@ trying s text names j figures limit atlas slots t stamp g others r front =
       goal-place = refl;
       apart = λ n m a b e. h .lies .pair-apart q q n m (goal .query) (goal .query) a b e .1;
       compound-behind = λ n a. h .lies .compound-behind q n (goal .query) a;
-      compound-before = λ n a. omega (arith, h .lies .compound-below q n (goal .query) a, h .lies .compounds-fit);
+      compound-before = λ n a. omega (arith, h .lies .compound-below q n (goal .query) a, cells-before (h .lies));
       values-behind = omega arith;
       marks-behind = omega arith;
       inside = omega (arith, r .inside);
@@ -265,5 +266,5 @@ trying s text names j figures limit atlas slots t stamp g others r front =
       links-are = refl;
       ends-behind = omega arith;
       ends = unit-ends s text names j figures limit atlas slots t stamp r q (goal .query);
-      grounds = grounds-of s names figures atlas (state .units) (state .pairs) (state .compounds) (h .lies) (r .grounds) q (goal .query);
+      grounds = grounds-of s names figures atlas (state .units) (state .pairs) (state .compounds) (t .cells) (h .lies) (r .grounds) q (goal .query);
     }

@@ -17,10 +17,10 @@ use Rattle.machine.specs.Running.{GroundMarks}
 use Rattle.machine.proofs.Frames.{UnitsAlike}
 
 -- Of one query.
-pub grounds-of : (s : List ℕ) (names : List Bytes) (figures : Room) (atlas : Atlas) (units : List QueryUnit) (pairs compounds : ℕ)
-    → Lies names figures atlas units pairs compounds → GroundMarks s figures atlas units
+pub grounds-of : (s : List ℕ) (names : List Bytes) (figures : Room) (atlas : Atlas) (units : List QueryUnit) (pairs compounds cells : ℕ)
+    → Lies names figures atlas units pairs compounds cells → GroundMarks s figures atlas units
     → (q : ℕ) → q < length units → Grounds (atlas q) (unit-at q units .values) (marks-region figures) s
-grounds-of s names figures atlas units pairs compounds lies all q inside n h e =
+grounds-of s names figures atlas units pairs compounds cells lies all q inside n h e =
     let (k, there, g) = all (atlas q .pair n) (omega (arith, lies .pair-below q n inside h, lies .pairs-fit)) e in
     let (query, pair) = lies .pair-apart k q (g .pair) n there inside (g .below) h (g .place) in
     subst (Ground (unit-at q units .values)) pair (subst (λ i. Ground (unit-at i units .values) (g .pair)) query (g .ground))

@@ -32,9 +32,10 @@ pub record AgreeBelow (p c : ℕ) (places places′ : Places) : Type 0 where
   pub names : places′ .names ≡ places .names
   pub pair : (n : ℕ) → n < p → places′ .pair n ≡ places .pair n
   pub compound : (n : ℕ) → n < c → places′ .compound n ≡ places .compound n
+  pub width : (n : ℕ) → n < c → places′ .width n ≡ places .width n
 
 pub agree-same : (p c : ℕ) (places : Places) → AgreeBelow p c places places
-agree-same p c places = record { names = refl; pair = λ n h. refl; compound = λ n h. refl }
+agree-same p c places = record { names = refl; pair = λ n h. refl; compound = λ n h. refl; width = λ n h. refl }
 
 -- They agree on the words of older terms, and on what it is to hold them.
 module _ (p c : ℕ) (places places′ : Places) (same : AgreeBelow p c places places′) where
@@ -66,7 +67,8 @@ module _ (p c : ℕ) (places places′ : Places) (same : AgreeBelow p c places p
             record {
               inside = omega (arith, d .0 .inside);
               few = d .0 .few;
-              functor = ap (λ x. getD s (8 * x) 0) e ∙ d .0 .functor ∙ sym (functor-same f (count ts));
+              wide = omega (arith, d .0 .wide, same .width n (o .0));
+              functor = ap (λ x. getD s x 0) e ∙ d .0 .functor ∙ sym (functor-same f (count ts));
             },
             held-from-agrees n 0 ts (o .0) (o .1) (d .1),
           )
@@ -74,7 +76,7 @@ module _ (p c : ℕ) (places places′ : Places) (same : AgreeBelow p c places p
       held-from-agrees : (n i : ℕ) (ts : Terms) → n < c → AllWithin p c ts → HoldsFrom s places n i ts → HoldsFrom s places′ n i ts
       held-from-agrees n i end b o d = tt
       held-from-agrees n i (more t ts) b o d = (
-        ap (λ x. getD s (8 * x + 1 + i) 0) (same .compound n b) ∙ d .0 ∙ sym (word-agrees t (o .0)),
+        ap (λ x. getD s (x + 1 + i) 0) (same .compound n b) ∙ d .0 ∙ sym (word-agrees t (o .0)),
         held-agrees t (o .0) (d .1),
         held-from-agrees n (i + 1) ts b (o .1) (d .2),
       )
@@ -86,7 +88,7 @@ pub record Grown (s s′ : List ℕ) (x x′ : Setting) : Type 0 where
   pub more-compounds : x .compounds ≤ x′ .compounds
   pub room : x .pairs ≡ x′ .pairs
   pub size : length s ≤ length s′
-  pub words : (n : ℕ) → n < x .compounds → (k : ℕ) → 8 * x .places .compound n ≤ k → k < 8 * x .places .compound n + 8 → getD s′ k 0 ≡ getD s k 0
+  pub words : (n : ℕ) → n < x .compounds → (k : ℕ) → x .places .compound n ≤ k → k < x .places .compound n + x .places .width n → getD s′ k 0 ≡ getD s k 0
 
 abbrev pub OfValue : Setting → Option Term → Type 0
 OfValue x none = Unit {0}

@@ -19,7 +19,7 @@ use Rattle.term.specs.declared.state.Standing.{Standing}
 use Rattle.queues.specs.Ring.{Passed}
 use Rattle.machine.specs.Running.{RunOnly, AllEnds}
 use Rattle.machine.proofs.Ends.{ends-alike}
-use Rattle.machine.proofs.Frames.{UnitsKept, units-set, units-tried, goals-kept, lies-kept, first-pairs-kept, failed-kept, waiting-kept}
+use Rattle.machine.proofs.Frames.{cells-before, UnitsKept, units-set, units-tried, goals-kept, lies-kept, first-pairs-kept, failed-kept, waiting-kept}
 use Rattle.machine.proofs.FramesRunning.{queue-fits, front-stands, others-stand}
 use Rattle.machine.proofs.Logged.{map-both}
 use Rattle.queues.proofs.Ring.{ring-kept}
@@ -88,6 +88,7 @@ abbrev pub failed-standing : Standing → ℕ → Standing
 failed-standing t front = record {
   pairs = t .pairs;
   compounds = t .compounds;
+  cells = t .cells;
   front = front;
   active = t .active - 1;
   log = t .log;
@@ -100,6 +101,7 @@ abbrev pub waiting-standing : Standing → ℕ → ℕ → Standing
 waiting-standing t front place = record {
   pairs = t .pairs;
   compounds = t .compounds;
+  cells = t .cells;
   front = front;
   active = t .active - 1;
   log = place + 1;
@@ -124,35 +126,35 @@ module _ (s s′ : List ℕ) (names : List Bytes) (figures : Room) (queries : Li
   its-query : g .query < length (state .units)
   its-query = front-stands s names figures queries atlas state t h g others front .query
 
-  own : UnitsKept figures (state .compounds) s s′
+  own : UnitsKept figures (t .cells) s s′
   own = record {
     size = kept .size;
-    cells = λ k a b. kept .words k (omega arith) (omega (arith, h .lies .compounds-fit));
+    cells = λ k a b. kept .words k (omega arith) (omega (arith, cells-before (h .lies)));
     values = λ k a b. kept .words k (omega arith) b;
   }
 
   module _ (u : QueryUnit) (v : u .values ≡ unit-at (g .query) (state .units) .values)
       (c : u .compounds ≡ unit-at (g .query) (state .units) .compounds) where
-    pub lies-next : Lies names figures atlas (set (state .units) (g .query) u) (state .pairs + 0) (state .compounds + 0)
+    pub lies-next : Lies names figures atlas (set (state .units) (g .query) u) (state .pairs + 0) (state .compounds + 0) (t .cells)
     lies-next =
         let p : state .pairs + 0 ≡ state .pairs = omega arith in
         let d : state .compounds + 0 ≡ state .compounds = omega arith in
-        rw (p, d) (lies-kept s s′ names figures atlas (state .units) (set (state .units) (g .query) u) (state .pairs) (state .compounds) (h .lies) own
+        rw (p, d) (lies-kept s s′ names figures atlas (state .units) (set (state .units) (g .query) u) (state .pairs) (state .compounds) (t .cells) (h .lies) own
         (units-set (state .units) (g .query) u its-query v c))
 
     pub units-next : u .tries ≡ unit-at (g .query) (state .units) .tries + 1 → UnitsStand s′ figures atlas (set (state .units) (g .query) u)
     units-next e =
-        units-tried s s′ names figures atlas (state .units) (state .pairs) (state .compounds) (h .lies) own (g .query) u its-query v c e
+        units-tried s s′ names figures atlas (state .units) (state .pairs) (state .compounds) (t .cells) (h .lies) own (g .query) u its-query v c e
         (λ k l d. kept .tries k (omega arith) d) (kept .tried) (h .units)
 
     pub goals-next : (gs : List Goal) → AllStand s figures atlas (state .units) gs → AllStand s′ figures atlas (set (state .units) (g .query) u) gs
     goals-next =
-        goals-kept s s′ names figures atlas (state .units) (set (state .units) (g .query) u) (state .pairs) (state .compounds) (h .lies) own
+        goals-kept s s′ names figures atlas (state .units) (set (state .units) (g .query) u) (state .pairs) (state .compounds) (t .cells) (h .lies) own
         (units-set (state .units) (g .query) u its-query v c)
 
     ends-next : AllEnds s figures atlas (state .units) → AllEnds s′ figures atlas (set (state .units) (g .query) u)
     ends-next =
-        ends-alike s s′ names figures atlas (state .units) (set (state .units) (g .query) u) (state .pairs) (state .compounds) (h .lies) own
+        ends-alike s s′ names figures atlas (state .units) (set (state .units) (g .query) u) (state .pairs) (state .compounds) (t .cells) (h .lies) own
         (units-set (state .units) (g .query) u its-query v c) (λ k a b. kept .ring-words k (omega arith) (omega arith))
 
   pub ends-failed : AllEnds s figures atlas (state .units) → AllEnds s′ figures atlas (step joins-failed g others state .units)

@@ -22,7 +22,7 @@ use Rattle.machine.specs.Taking.{Taken, JoiningWaiting}
 use Rattle.machine.specs.declared.step.Stepped.{Stepped}
 use Rattle.machine.proofs.Ends.{end-at-alike, find}
 use Rattle.machine.proofs.Failing.{front-query, query-below}
-use Rattle.machine.proofs.Frames.{units-same}
+use Rattle.machine.proofs.Frames.{cells-before, units-same}
 use Rattle.machine.proofs.FrontGoal.{word-place}
 use Rattle.machine.proofs.GroundMarks.{grounds-alike}
 use Rattle.machine.proofs.FramesRunning.{StateKept, state-units-kept, unit-ends, running-kept, run-only-then, front-stands}
@@ -49,7 +49,7 @@ module _ {s : List ℕ} {text : Bytes} {names : List Bytes} {j : Job} {figures :
             ends = unit-ends s text names j figures limit atlas slots t (t .steps * 32768 + 32770) (k .running) (g .query) here;
           };
           apart = λ n m a b e. h .lies .pair-apart (g .query) (g .query) n m here here a b e .1;
-          before = λ n a. omega (arith, h .lies .compound-below (g .query) n here a, h .lies .compounds-fit);
+          before = λ n a. omega (arith, h .lies .compound-below (g .query) n here a, cells-before (h .lies));
         };
         term = front-stands s names figures (j .queries) atlas (run j limit figures .state) t h g others (k .front) .term;
         place = e ∙ ap (λ w. w / 8) (joins .goal-is)
@@ -106,8 +106,8 @@ module _ {s : List ℕ} {text : Bytes} {names : List Bytes} {j : Job} {figures :
             let same = kept .others (ends-region figures + p) (λ m b z. none m b (omega arith)) in
             let st = run j limit figures .state in
             rw same
-            (end-at-alike s s′ names figures atlas units units (st .pairs) (st .compounds) (k .running .state .lies)
-            (state-units-kept figures s s′ (st .compounds) (k .running .state .lies .compounds-fit) state-stays) (units-same units)
+            (end-at-alike s s′ names figures atlas units units (st .pairs) (st .compounds) (t .cells) (k .running .state .lies)
+            (state-units-kept figures s s′ (t .cells) (cells-before (k .running .state .lies)) state-stays) (units-same units)
             p (getD s (ends-region figures + p) 0) (k .running .ends p h (λ z. d (same ∙ z))))
 
     pub still-taken : Taken s′ text names j figures limit atlas slots g others t

@@ -1,6 +1,7 @@
 pub mod Adjoining
 pub mod BodyGoals
 pub mod Enlarging
+pub mod ClauseEntries
 pub mod Ends
 pub mod EnterCalls
 pub mod Entering
@@ -10,6 +11,7 @@ pub mod Finishing
 pub mod Frames
 pub mod FramesRunning
 pub mod FreePlaces
+pub mod Fresh
 pub mod FrontGoal
 pub mod Going
 pub mod GoingOn

@@ -1,20 +1,19 @@
 -- The state after a reduction, in the scratch as its parts have left it.
-use Prim.Native.Nat.{ℕ, zero, suc, _+_, _-_, _*_, _≤_, _<_}
+use Prim.Native.Nat.{ℕ, suc, _+_, _-_, _*_, _≤_, _<_}
 use mathlib.Core.Path.{_≡_, refl, sym, ap, _∙_}
 use mathlib.Core.Bool.{Bool, true, false, not}
-use mathlib.Core.List.{List, [], _∷_, _++_, map, append-assoc}
+use mathlib.Core.List.{List, [], _∷_, _++_, map}
 use mathlib.Core.Option.{some}
 use native.Mathlib.Omega.{arith}
 use lib.ListN.{length, getD, length-append, length-map}
 use Rattle.meaning.specs.Bytes.{Bytes, those, if_then_else_}
-use Rattle.meaning.specs.Terms.{Term, Clause, Job, Query, Named}
-use Rattle.meaning.specs.Items.{job, reading}
+use Rattle.meaning.specs.Terms.{Term, Clause, Job}
 use Rattle.meaning.specs.State.{Room, QueryUnit, Goal, Waiting, State, value, unit-at, number-of, goals-at}
 use Rattle.meaning.specs.Compare.{Assignment}
 use Rattle.meaning.specs.Trial.{reduces}
 use Rattle.meaning.specs.Step.{unit-after, body-goals, wakes, goals-after, pairs-charged, compounds-charged, without-front, step}
 use Rattle.meaning.specs.Run.{fits, choice-for, run}
-use Rattle.meaning.proofs.Lists.EachOf.{Each, each-of-those}
+use Rattle.meaning.proofs.Lists.EachOf.{each-of-those}
 use Rattle.meaning.proofs.Lists.Filters.{length-those}
 use Rattle.meaning.proofs.Reading.{accepted-keeps-the-occurrence-rules}
 use Rattle.meaning.proofs.Runs.{run-within-room}
@@ -23,59 +22,60 @@ use Rattle.meaning.proofs.Runs.Counts.{within-says, after-within}
 use Rattle.meaning.proofs.Circle.{run-no-circle, step-values-stay}
 use Rattle.meaning.proofs.Single.{reduction-assigns-once}
 use Rattle.meaning.proofs.Trial.Chosen.{reduces-agrees}
-use Rattle.term.specs.Cells.{Places}
-use Rattle.term.specs.Jobs.{query-record, GoalsKnown, EachFrom, HoldsJob, ClauseAt, JobKept}
+use Rattle.term.specs.Jobs.{query-record, GoalsKnown, EachFrom, JobKept}
 use Rattle.term.specs.Layout.{values-region, waiters-region, sets-region, marks-region, ends-region, queue-region, waiting-region, failed-region, need-of}
-use Rattle.term.specs.Setting.{UnitStands}
-use Rattle.term.specs.States.{Atlas, setting, setting-at, goal-word, ring, listed, Lies, UnitsStand, FirstPair, AllStand, QueueStands, WaitingStand, FailedStand, HoldsState}
+use Rattle.term.specs.States.{Atlas, setting, goal-word, ring, UnitsStand, FirstPair, AllStand, QueueStands, WaitingStand, FailedStand, HoldsState}
 use Rattle.term.specs.declared.state.Standing.{Standing}
 use Rattle.term.proofs.Jobs.{holds-job-kept}
 use Rattle.compare.specs.Gifts.{Entry}
-use Rattle.compare.specs.Compare.{Gave}
 use Rattle.trial.specs.Choosing.{template, MarksBelow}
 use Rattle.queues.specs.Log.{Slot, LogOk, present}
+use Rattle.reduction.specs.Build.{Copies}
 use Rattle.reduction.specs.Reducing.{NoEntry, EntriesGiven, GoalsHeld, hits, woken, emptied, hit, goal-in}
 use Rattle.queues.specs.Ring.{Passed}
 use Rattle.machine.specs.Running.{slot-of, RunOnly, AllEnds, Running, GroundMarks}
 use Rattle.machine.proofs.Ends.{ends-grow}
 use Rattle.machine.specs.Taking.{Taken, Reducing}
 use Rattle.machine.proofs.BodyGoals.{body-fits, body-goals-stand, body-words}
+use Rattle.machine.proofs.Enlarging.{CopiedTo}
 use Rattle.machine.proofs.EntryByEntry.{no-entry-of, entry-stands}
-use Rattle.machine.proofs.Frames.{failed-kept}
 use Rattle.machine.proofs.GroundMarks.{grounds-grow}
 use Rattle.queues.proofs.Listed.{listed-kept}
 use Rattle.machine.proofs.Logged.{map-both, waiting-logged}
 use Rattle.machine.proofs.Next.{run-next}
-use Rattle.machine.proofs.NextUnit.{after-unit, enlarged, UnitReduced, next-unit-stands}
+use Rattle.machine.proofs.NextUnit.{enlarged, UnitReduced, next-unit-stands}
 use Rattle.machine.proofs.NextUnits.{atlas-after, units-after, Enlarges, as-many, grown, grown-here, goals-grow, goal-words-same, lies-after, units-stand, first-pairs-after}
 use Rattle.machine.proofs.OwnPairs.{run-own-pairs}
 use Rattle.machine.proofs.WaitingPairs.{OwnReaders, waiting-readers, slots-same}
 
--- What the parts of a reduction have left: P pairs and C compounds were charged, q is the goal's query.
-pub record Reduced (s s′ : List ℕ) (figures : Room) (atlas : Atlas) (units : List QueryUnit) (q P C : ℕ) (c : Clause) (list : List Entry) (slots : List Slot)
+-- What the parts of a reduction have left: P pairs and C compounds were charged, the first free word was `cells` and is `cells′`, the clause's compounds
+-- are copied to y, q is the goal's query.
+pub record Reduced (s s′ : List ℕ) (figures : Room) (atlas : Atlas) (units : List QueryUnit) (q P C cells cells′ : ℕ) (y : Copies) (c : Clause) (list : List Entry) (slots : List Slot)
     (zs : List ℕ) (front active : ℕ) : Type 0 where
   pub only : RunOnly figures s s′
   pub tried : getD s′ (query-record q + 4) 0 ≡ getD s (query-record q + 4) 0 + 1
   pub tries : (k : ℕ) → k < 8 → (k ≡ q → ⊥) → getD s′ (query-record k + 4) 0 ≡ getD s (query-record k + 4) 0
-  pub older : (k : ℕ) → 40704 ≤ k → k < 40704 + 8 * C → getD s′ k 0 ≡ getD s k 0
+  pub copied : CopiedTo y cells cells′ (C + c .compounds)
+  pub older : (k : ℕ) → 40704 ≤ k → k < cells → getD s′ k 0 ≡ getD s k 0
   pub others : (z : ℕ) → z < P → NoEntry (atlas q) z list → getD s′ (values-region figures + z) 0 ≡ getD s (values-region figures + z) 0
   pub head : (a : ℕ) → a < c .pairs → getD s′ (values-region figures + (P + a)) 0 ≡ getD s (39936 + a) 0
-  pub entries : EntriesGiven s′ (atlas q) (enlarged (atlas q) (unit-at q units) P C) (values-region figures)
+  pub entries : EntriesGiven s′ (atlas q) (enlarged (atlas q) (unit-at q units) P y) (values-region figures)
       (length (unit-at q units .values)) (unit-at q units .compounds) list
-  pub goals : GoalsHeld s′ (enlarged (atlas q) (unit-at q units) P C) (length (unit-at q units .values)) (unit-at q units .compounds) (c .body)
+  pub goals : GoalsHeld s′ (enlarged (atlas q) (unit-at q units) P y) (length (unit-at q units .values)) (unit-at q units .compounds) (c .body)
   pub marks : (k : ℕ) → marks-region figures ≤ k → k < marks-region figures + figures .pairs → getD s′ k 0 ≡ getD s k 0
   pub failed : (k : ℕ) → failed-region figures ≤ k → k < need-of figures → getD s′ k 0 ≡ getD s k 0
   pub log : LogOk s′ (waiting-region figures) (waiters-region figures) (sets-region figures) (figures .pairs) (emptied zs slots)
   pub queue : ring s′ (queue-region figures) (figures .goals) front (active + length (c .body) + length (hits zs 0 slots))
       ≡ (ring s (queue-region figures) (figures .goals) front active
-      ++ map (λ g. q + 8 * enlarged (atlas q) (unit-at q units) P C .compound (unit-at q units .compounds + g .number)) (c .body))
+      ++ map (λ g. q + 8 * enlarged (atlas q) (unit-at q units) P y .compound (unit-at q units .compounds + g .number)) (c .body))
       ++ woken zs slots
   pub ends : (k : ℕ) → ends-region figures ≤ k → k < queue-region figures → getD s′ k 0 ≡ getD s k 0
 
 -- The standing after it.
-pub record StandingAfter (t u : Standing) (c : Clause) (front n : ℕ) : Type 0 where
+pub record StandingAfter (t u : Standing) (c : Clause) (cells front n : ℕ) : Type 0 where
   pub pairs : u .pairs ≡ t .pairs + c .pairs
   pub compounds : u .compounds ≡ t .compounds + c .compounds
+  pub cells-are : u .cells ≡ cells
   pub front-is : u .front ≡ front
   pub active : u .active ≡ t .active - 1 + length (c .body) + n
   pub log : u .log ≡ t .log
@@ -120,14 +120,14 @@ module _ (s : List ℕ) (figures : Room) (atlas : Atlas) (units : List QueryUnit
       go false later = later
 
 module _ (s s′ : List ℕ) (text : Bytes) (names : List Bytes) (j : Job) (figures : Room) (limit : ℕ) (atlas : Atlas) (slots : List Slot) (g : Goal)
-    (others : List Goal) (t u : Standing) (query k n : ℕ) (c : Clause) (given : List Assignment) (front : ℕ) (zs : List ℕ)
+    (others : List Goal) (t u : Standing) (query k n : ℕ) (c : Clause) (given : List Assignment) (cells′ : ℕ) (y : Copies) (front : ℕ) (zs : List ℕ)
     (taken : Taken s text names j figures limit atlas slots g others t)
     (red : Reducing s names j figures limit atlas g query k n c given)
     (fit : fits figures (reduces c given) (run j limit figures .state) (without-front others (run j limit figures .state .goals)) ≡ true)
     (passed : Passed (figures .goals) (t .front) front)
-    (done : Reduced s s′ figures atlas (run j limit figures .state .units) (g .query) (t .pairs) (t .compounds) c (red .gave .1 .list) slots zs front
-    (t .active - 1))
-    (after : StandingAfter t u c front (length (hits zs 0 slots)))
+    (done : Reduced s s′ figures atlas (run j limit figures .state .units) (g .query) (t .pairs) (t .compounds) (t .cells) cells′ y c (red .gave .gave .list) slots
+    zs front (t .active - 1))
+    (after : StandingAfter t u c cells′ front (length (hits zs 0 slots)))
     (waked : WokenAre atlas (g .query) given (run j limit figures .state .goals .waiting) slots zs) where
   abbrev σ : State
   σ = run j limit figures .state
@@ -141,11 +141,14 @@ module _ (s s′ : List ℕ) (text : Bytes) (names : List Bytes) (j : Job) (figu
   abbrev C : ℕ
   C = t .compounds
 
+  abbrev cells : ℕ
+  cells = t .cells
+
   abbrev unit : QueryUnit
   unit = unit-at q (σ .units)
 
   abbrev atlas′ : Atlas
-  atlas′ = atlas-after atlas (σ .units) q P C
+  atlas′ = atlas-after atlas (σ .units) q P y
 
   abbrev units′ : List QueryUnit
   units′ = units-after c given (σ .units) q
@@ -164,7 +167,7 @@ module _ (s s′ : List ℕ) (text : Bytes) (names : List Bytes) (j : Job) (figu
   here : q < length (σ .units)
   here = front-stand .0 .query
 
-  enlarges : Enlarges s s′ names figures atlas (σ .units) q P C c
+  enlarges : Enlarges s s′ names figures atlas (σ .units) q P C cells cells′ y c
   enlarges =
       record {
         lies = rw (st .pairs, st .compounds) (st .lies);
@@ -172,19 +175,20 @@ module _ (s s′ : List ℕ) (text : Bytes) (names : List Bytes) (j : Job) (figu
         pairs-fit = omega (arith, charged .0, st .pairs);
         compounds-fit = omega (arith, charged .1, st .compounds);
         size = done .only .size;
+        copied = done .copied;
         older = done .older;
       }
 
-  unit-reduced : UnitReduced s s′ figures unit (atlas q) (values-region figures) P C k n c given
+  unit-reduced : UnitReduced s s′ figures unit (atlas q) (values-region figures) P y k n c given
   unit-reduced =
       record {
         stands = st .units .unit q here;
-        gave = red .gave .1;
+        gave = red .gave .gave;
         once = reduction-assigns-once j (accepted-keeps-the-occurrence-rules text j (taken .running .reads)) limit figures g others (taken .front) c given (red .chosen);
         below = λ m h. enlarges .lies .pair-below q m here h;
         apart = λ m l h i e. enlarges .lies .pair-apart q q m l here here h i e .1;
         fit = enlarges .pairs-fit;
-        grown = grown-here s s′ names figures atlas (σ .units) q P C c given enlarges;
+        grown = grown-here s s′ names figures atlas (σ .units) q P C cells cells′ y c given enlarges;
         inside = omega (arith, taken .running .inside, done .only .size);
         others = done .others;
         head = done .head;
@@ -195,20 +199,20 @@ module _ (s s′ : List ℕ) (text : Bytes) (names : List Bytes) (j : Job) (figu
       → getD s′ (values-region figures + atlas i .pair m) 0 ≡ getD s (values-region figures + atlas i .pair m) 0
   other-pair i m h other b =
       done .others (atlas i .pair m) (enlarges .lies .pair-below i m h b)
-      (no-entry-of (atlas q) (atlas i .pair m) (red .gave .1 .list)
+      (no-entry-of (atlas q) (atlas i .pair m) (red .gave .gave .list)
       (λ e l same.
       other (enlarges .lies .pair-apart i q m (e .pair) h here b
-      (entry-stands s (setting figures (atlas q) unit) (template k c) (red .gave .1 .list) e l (red .gave .1 .held) .0) same .0)))
+      (entry-stands s (setting figures (atlas q) unit) (template k c) (red .gave .gave .low) (red .gave .gave .high) (red .gave .gave .list) e l (red .gave .gave .held) .0) same .0)))
 
   units-now : UnitsStand s′ figures atlas′ units′
   units-now =
-      units-stand s s′ names figures atlas (σ .units) q P C c given enlarges
-      (next-unit-stands s s′ figures unit (atlas q) (values-region figures) P C k n c given unit-reduced)
+      units-stand s s′ names figures atlas (σ .units) q P C cells cells′ y c given enlarges
+      (next-unit-stands s s′ figures unit (atlas q) (values-region figures) P y k n c given unit-reduced)
       other-pair (done .tried) (λ i h other. done .tries i (omega (arith, run-units j limit figures, taken .running .held .few-queries)) other) (st .units)
 
   first-pairs-now : EachFrom (FirstPair s′ atlas′) 0 (j .queries)
   first-pairs-now =
-      first-pairs-after s s′ names figures atlas (σ .units) q P C c given enlarges (j .queries) (sym (run-units j limit figures))
+      first-pairs-after s s′ names figures atlas (σ .units) q P C cells cells′ y c given enlarges (j .queries) (sym (run-units j limit figures))
       (taken .running .held .few-queries) (run-own-pairs j limit figures)
       (λ i h. done .only .records i 3 h (omega arith) (λ e. omega arith)) (st .first-pairs)
 
@@ -220,7 +224,7 @@ module _ (s s′ : List ℕ) (text : Bytes) (names : List Bytes) (j : Job) (figu
   left = those (λ w. not (wakes q given w)) (σ .goals .waiting)
 
   grow : (gs : List Goal) → AllStand s figures atlas (σ .units) gs → AllStand s′ figures atlas′ units′ gs
-  grow gs h = goals-grow s s′ names figures atlas (σ .units) q P C c given enlarges gs h
+  grow gs h = goals-grow s s′ names figures atlas (σ .units) q P C cells cells′ y c given enlarges gs h
 
   woke-stand : AllStand s figures atlas (σ .units) woke
   woke-stand = all-those s figures atlas (σ .units) (wakes q given) (σ .goals .waiting) (st .waiting-held)
@@ -235,7 +239,7 @@ module _ (s s′ : List ℕ) (text : Bytes) (names : List Bytes) (j : Job) (figu
   body-now : AllStand s′ figures atlas′ units′ (body-goals c unit q)
   unfolding choice-for
   body-now =
-      body-goals-stand s s′ names figures atlas (σ .units) q P C c given enlarges (done .goals)
+      body-goals-stand s s′ names figures atlas (σ .units) q P C cells cells′ y c given enlarges (done .goals)
       (body-fits text j (taken .running .reads) c (reduces-agrees unit (g .goal) c given (j .clauses) (red .chosen) .0))
       known-body
 
@@ -246,7 +250,7 @@ module _ (s s′ : List ℕ) (text : Bytes) (names : List Bytes) (j : Job) (figu
       (grow woke woke-stand)
 
   words-same : (gs : List Goal) → AllStand s figures atlas (σ .units) gs → map (goal-word atlas′) gs ≡ map (goal-word atlas) gs
-  words-same gs h = goal-words-same s s′ names figures atlas (σ .units) q P C c given enlarges gs h
+  words-same gs h = goal-words-same s s′ names figures atlas (σ .units) q P C cells cells′ y c given enlarges gs h
 
   active-is : t .active ≡ length others + 1
   active-is = st .queue .number ∙ rw (taken .front) (omega arith)
@@ -285,7 +289,7 @@ module _ (s s′ : List ℕ) (text : Bytes) (names : List Bytes) (j : Job) (figu
         waked .woken-are,
         ← words-same others (front-stand .1),
         ← words-same woke woke-stand,
-        ← body-words s s′ names figures atlas (σ .units) q P C c given enlarges,
+        ← body-words s s′ names figures atlas (σ .units) q P C cells cells′ y c given enlarges,
         map-both (goal-word atlas′) (others ++ body-goals c unit q) woke,
         map-both (goal-word atlas′) others (body-goals c unit q),
       )
@@ -303,7 +307,7 @@ module _ (s s′ : List ℕ) (text : Bytes) (names : List Bytes) (j : Job) (figu
   left-is : present (emptied zs slots) (length (emptied zs slots)) ≡ map (slot-of atlas′) left
   left-is =
       waked .left-are
-      ∙ sym (slots-same s s′ names figures atlas (σ .units) q P C c given enlarges left left-stand
+      ∙ sym (slots-same s s′ names figures atlas (σ .units) q P C cells cells′ y c given enlarges left left-stand
       (each-of-those (OwnReaders (σ .units)) (λ w. not (wakes q given w)) (σ .goals .waiting) (waiting-readers text j (taken .running .reads) limit figures)))
 
   log-number-now : u .log ≡ length (emptied zs slots)
@@ -342,7 +346,7 @@ module _ (s s′ : List ℕ) (text : Bytes) (names : List Bytes) (j : Job) (figu
         compounds = after .compounds ∙ ap (λ m. m + c .compounds) (st .compounds);
         steps = after .steps ∙ ap (λ m. m + 1) (st .steps);
         fits = number-now;
-        lies = rw (← st .pairs, ← st .compounds) (lies-after s s′ names figures atlas (σ .units) q P C c given enlarges);
+        lies = rw (after .cells-are, ← st .pairs, ← st .compounds) (lies-after s s′ names figures atlas (σ .units) q P C cells cells′ y c given enlarges);
         units = units-now;
         first-pairs = first-pairs-now;
         queue-held = queue-now;
@@ -380,15 +384,15 @@ module _ (s s′ : List ℕ) (text : Bytes) (names : List Bytes) (j : Job) (figu
   ends-now : AllEnds s′ figures atlas′ (step (reduces c given) g others σ .units)
   unfolding step unit-after
   ends-now =
-      ends-grow s s′ figures atlas atlas′ (σ .units) units′ (omega (arith, as-many s s′ names figures atlas (σ .units) q P C c given enlarges))
-      (grown s s′ names figures atlas (σ .units) q P C c given enlarges) stays (done .ends) (taken .running .ends)
+      ends-grow s s′ figures atlas atlas′ (σ .units) units′ (omega (arith, as-many s s′ names figures atlas (σ .units) q P C cells cells′ y c given enlarges))
+      (grown s s′ names figures atlas (σ .units) q P C cells cells′ y c given enlarges) stays (done .ends) (taken .running .ends)
 
   grounds-now : GroundMarks s′ figures atlas′ (step (reduces c given) g others σ .units)
   unfolding step unit-after
   grounds-now =
-      grounds-grow s s′ figures atlas atlas′ (σ .units) units′ (done .marks) (omega (arith, as-many s s′ names figures atlas (σ .units) q P C c given enlarges))
-      (λ i h. grown s s′ names figures atlas (σ .units) q P C c given enlarges i h .more-pairs)
-      (λ i m h l. grown s s′ names figures atlas (σ .units) q P C c given enlarges i h .agree .pair m l)
+      grounds-grow s s′ figures atlas atlas′ (σ .units) units′ (done .marks) (omega (arith, as-many s s′ names figures atlas (σ .units) q P C cells cells′ y c given enlarges))
+      (λ i h. grown s s′ names figures atlas (σ .units) q P C cells cells′ y c given enlarges i h .more-pairs)
+      (λ i m h l. grown s s′ names figures atlas (σ .units) q P C cells cells′ y c given enlarges i h .agree .pair m l)
       (λ i h. stays i) (taken .running .grounds)
 
   pub running-now : Running s′ text names j figures (limit + 1) atlas′ (emptied zs slots) u (u .steps * 32768 + 2)

@@ -24,35 +24,36 @@ use Rattle.compare.specs.Compare.{Gave, HeadTerm}
 use Rattle.trial.proofs.Once.{AllApart, once-apart, assigned-is, to-clause}
 use Rattle.trial.specs.Choosing.{template}
 use Rattle.machine.specs.Extended.{extended}
+use Rattle.reduction.specs.Build.{Copies}
 use Rattle.reduction.specs.Reducing.{EntriesGiven, NoEntry}
 use Rattle.machine.proofs.Enlarging.{extended-agrees, extended-pair}
 use Rattle.machine.proofs.EntryByEntry.{find-entry, entry-given, entry-stands, no-entry-of, entry-is-given, value-without-entry}
 use Rattle.machine.proofs.Growing.{Grown, OfValue, PairStands, pair-stands, unit-stands, value-word-grows, value-held-grows, value-of-grows, pair-grows}
 use Rattle.machine.proofs.Renaming.{renamed-within, renamed-known, renamed-ranged}
 
--- The unit after it, and its places: the clause's pairs from P on, its compounds from C on among the room's.
+-- The unit after it, and its places: the clause's pairs from P on, its compounds where they are copied to.
 abbrev pub after-unit : Clause → List Assignment → QueryUnit → QueryUnit
 after-unit c given unit = record { values = values-after c given unit; compounds = unit .compounds + c .compounds; tries = unit .tries + 1 }
 
-abbrev pub enlarged : Places → QueryUnit → ℕ → ℕ → Places
-enlarged at unit P C = extended at (length (unit .values)) (unit .compounds) P (5088 + C)
+abbrev pub enlarged : Places → QueryUnit → ℕ → Copies → Places
+enlarged at unit P y = extended at (length (unit .values)) (unit .compounds) P y
 
 -- What the trial gave, what the unit was, and what the reduction has written.
-pub record UnitReduced (s s′ : List ℕ) (figures : Room) (unit : QueryUnit) (at : Places) (from P C k n : ℕ) (c : Clause) (given : List Assignment) : Type 0 where
+pub record UnitReduced (s s′ : List ℕ) (figures : Room) (unit : QueryUnit) (at : Places) (from P : ℕ) (y : Copies) (k n : ℕ) (c : Clause) (given : List Assignment) : Type 0 where
   pub stands : UnitStands s (setting figures at unit) from
   pub gave : Gave s s (setting figures at unit) (template k c) given n
   pub once : AssignedOnce (unit .values) (c .pairs) given
   pub below : (m : ℕ) → m < length (unit .values) → at .pair m < P
   pub apart : (m l : ℕ) → m < length (unit .values) → l < length (unit .values) → at .pair m ≡ at .pair l → m ≡ l
   pub fit : P + c .pairs ≤ figures .pairs
-  pub grown : Grown s s′ (setting figures at unit) (setting figures (enlarged at unit P C) (after-unit c given unit))
+  pub grown : Grown s s′ (setting figures at unit) (setting figures (enlarged at unit P y) (after-unit c given unit))
   pub inside : from + figures .pairs ≤ length s′
   pub others : (z : ℕ) → z < P → NoEntry at z (gave .list) → getD s′ (from + z) 0 ≡ getD s (from + z) 0
   pub head : (a : ℕ) → a < c .pairs → getD s′ (from + (P + a)) 0 ≡ getD s (39936 + a) 0
-  pub entries : EntriesGiven s′ at (enlarged at unit P C) from (length (unit .values)) (unit .compounds) (gave .list)
+  pub entries : EntriesGiven s′ at (enlarged at unit P y) from (length (unit .values)) (unit .compounds) (gave .list)
 
-module _ (s s′ : List ℕ) (figures : Room) (unit : QueryUnit) (at : Places) (from P C k n : ℕ) (c : Clause) (given : List Assignment)
-    (r : UnitReduced s s′ figures unit at from P C k n c given) where
+module _ (s s′ : List ℕ) (figures : Room) (unit : QueryUnit) (at : Places) (from P : ℕ) (y : Copies) (k n : ℕ) (c : Clause) (given : List Assignment)
+    (r : UnitReduced s s′ figures unit at from P y k n c given) where
   abbrev p : ℕ
   p = length (unit .values)
 
@@ -60,7 +61,7 @@ module _ (s s′ : List ℕ) (figures : Room) (unit : QueryUnit) (at : Places) (
   x = setting figures at unit
 
   abbrev x′ : Setting
-  x′ = setting figures (enlarged at unit P C) (after-unit c given unit)
+  x′ = setting figures (enlarged at unit P y) (after-unit c given unit)
 
   abbrev PairNow : ℕ → Type 0
   PairNow m = PairStands s′ x′ from m (value (values-after c given unit) m)
@@ -88,9 +89,9 @@ module _ (s s′ : List ℕ) (figures : Room) (unit : QueryUnit) (at : Places) (
 
   entry-pair : (m : ℕ) → m < p → (e : Entry) → In e (r .gave .list) → e .pair ≡ m → PairNow m
   entry-pair m h e k q =
-      let stands = entry-stands s x (template _ c) (r .gave .list) e k (r .gave .held) in
-      let now = entry-given s′ at (enlarged at unit P C) from p (unit .compounds) (r .gave .list) e k (r .entries) in
-      let there : enlarged at unit P C .pair m ≡ at .pair m = extended-agrees at p (unit .compounds) P (5088 + C) .pair m h in
+      let stands = entry-stands s x (template _ c) (r .gave .low) (r .gave .high) (r .gave .list) e k (r .gave .held) in
+      let now = entry-given s′ at (enlarged at unit P y) from p (unit .compounds) (r .gave .list) e k (r .entries) in
+      let there : enlarged at unit P y .pair m ≡ at .pair m = extended-agrees at p (unit .compounds) P y .pair m h in
       let is : value (values-after c given unit) m ≡ some (renamed p (unit .compounds) (e .term)) = rw (← q) (entry-value e k (stands .0)) in
       let same : at .pair (e .pair) ≡ at .pair m = ap (at .pair) q in
       rw is
@@ -113,7 +114,7 @@ module _ (s s′ : List ℕ) (figures : Room) (unit : QueryUnit) (at : Places) (
   plain-pair m h other =
       let free : NoEntry at (at .pair m) (r .gave .list) =
       no-entry-of at (at .pair m) (r .gave .list)
-      (λ e k q. other e k (r .apart m (e .pair) h (entry-stands s x (template _ c) (r .gave .list) e k (r .gave .held) .0) q))
+      (λ e k q. other e k (r .apart m (e .pair) h (entry-stands s x (template _ c) (r .gave .low) (r .gave .high) (r .gave .list) e k (r .gave .held) .0) q))
       in
       rw (plain-value m h other)
       (pair-grows s s′ x x′ (r .grown) from m (value (unit .values) m) h (r .others (at .pair m) (r .below m h) free)
@@ -127,7 +128,7 @@ module _ (s s′ : List ℕ) (figures : Room) (unit : QueryUnit) (at : Places) (
       go : ((b : Assignment) × In b given × (b .pair ≡ p + a) × (b .value ≡ t)) ⊎ (value (unit .values) (p + a) ≡ some t) → OfUnit x t × Holds s at t
       go (inl (b, m, q, f)) =
           let its : UnitTerm s x (b .value) =
-          each-in _ (to-clause p (unit .compounds) s x (template k c) (r .gave .gifts) (r .gave .gifts-held) refl)
+          each-in _ (to-clause p (unit .compounds) s x (template k c) (r .gave .low) (r .gave .high) (r .gave .gifts) (r .gave .gifts-held) refl)
           (in-list (r .gave .given-are) m) (omega arith)
           in
           let now : UnitTerm s x t = rw f at its in
@@ -142,7 +143,7 @@ module _ (s s′ : List ℕ) (figures : Room) (unit : QueryUnit) (at : Places) (
   head-pair a h =
       let v = value (values-after c given unit) (p + a) in
       let its = head-value a v refl in
-      let there : enlarged at unit P C .pair (p + a) ≡ P + a = extended-pair at p (unit .compounds) P (5088 + C) a in
+      let there : enlarged at unit P y .pair (p + a) ≡ P + a = extended-pair at p (unit .compounds) P y a in
       record {
         place = omega (arith, there, r .fit);
         stands =

@@ -6,43 +6,45 @@ use native.Mathlib.Decide.{decLt}
 use native.Mathlib.Omega.{arith}
 use lib.ListN.{length, getD, set, length-set}
 use Rattle.meaning.specs.Bytes.{Bytes}
-use Rattle.meaning.specs.Terms.{Clause, Query, Named, as-term}
-use Rattle.meaning.specs.State.{Room, QueryUnit, Goal, Waiting, unit-at}
+use Rattle.meaning.specs.Terms.{Clause, Query, as-term}
+use Rattle.meaning.specs.State.{Room, QueryUnit, Goal, unit-at}
 use Rattle.meaning.specs.Compare.{Assignment}
 use Rattle.meaning.proofs.Trial.Values.{unit-at-set-same, unit-at-set-other, length-values-after}
 use Rattle.term.specs.Cells.{Places}
 use Rattle.term.specs.Jobs.{query-record, EachFrom}
 use Rattle.term.specs.Layout.{values-region}
-use Rattle.term.specs.Setting.{Setting, Within, UnitStands}
+use Rattle.term.specs.Setting.{Within, UnitStands}
 use Rattle.term.specs.States.{Atlas, setting, setting-at, goal-word, Lies, UnitsStand, FirstPair, GoalStands, AllStand}
-use Rattle.machine.specs.Extended.{extended, replaced-at}
-use Rattle.queues.proofs.Deciding.{if-below, if-beyond}
-use Rattle.machine.proofs.Enlarging.{extended-agrees, extended-pair, extended-compound, replaced-there, replaced-elsewhere}
+use Rattle.reduction.specs.Build.{Copies}
+use Rattle.machine.specs.Extended.{replaced-at}
+use Rattle.queues.proofs.Deciding.{if-beyond}
+use Rattle.machine.proofs.Enlarging.{CopiedTo, extended-agrees, replaced-there, replaced-elsewhere}
 use Rattle.machine.proofs.Frames.{unit-stands-kept}
-use Rattle.machine.proofs.Growing.{AgreeBelow, agree-same, Grown, term-grows}
+use Rattle.machine.proofs.Growing.{agree-same, Grown, term-grows}
 use Rattle.queues.proofs.Log.{by-place}
 use Rattle.machine.proofs.NextUnit.{after-unit, enlarged}
 use Rattle.machine.proofs.OwnPairs.{no-query, each-map-at}
 
-abbrev pub atlas-after : Atlas → List QueryUnit → ℕ → ℕ → ℕ → Atlas
-atlas-after atlas units q P C = replaced-at atlas q (enlarged (atlas q) (unit-at q units) P C)
+abbrev pub atlas-after : Atlas → List QueryUnit → ℕ → ℕ → Copies → Atlas
+atlas-after atlas units q P y = replaced-at atlas q (enlarged (atlas q) (unit-at q units) P y)
 
 abbrev pub units-after : Clause → List Assignment → List QueryUnit → ℕ → List QueryUnit
 units-after c given units q = set units q (after-unit c given (unit-at q units))
 
--- Where all lies, that the clause fits, and that the older compounds' words stay.
-pub record Enlarges (s s′ : List ℕ) (names : List Bytes) (figures : Room) (atlas : Atlas) (units : List QueryUnit) (q P C : ℕ) (c : Clause) : Type 0 where
-  pub lies : Lies names figures atlas units P C
+-- Where all lies, that the clause fits, where its compounds are copied to, and that the older compounds' words stay.
+pub record Enlarges (s s′ : List ℕ) (names : List Bytes) (figures : Room) (atlas : Atlas) (units : List QueryUnit) (q P C cells cells′ : ℕ) (y : Copies) (c : Clause) : Type 0 where
+  pub lies : Lies names figures atlas units P C cells
   pub inside : q < length units
   pub pairs-fit : P + c .pairs ≤ figures .pairs
   pub compounds-fit : C + c .compounds ≤ figures .compounds
   pub size : length s′ ≡ length s
-  pub older : (k : ℕ) → 40704 ≤ k → k < 40704 + 8 * C → getD s′ k 0 ≡ getD s k 0
+  pub copied : CopiedTo y cells cells′ (C + c .compounds)
+  pub older : (k : ℕ) → 40704 ≤ k → k < cells → getD s′ k 0 ≡ getD s k 0
 
-module _ (s s′ : List ℕ) (names : List Bytes) (figures : Room) (atlas : Atlas) (units : List QueryUnit) (q P C : ℕ) (c : Clause) (given : List Assignment)
-    (r : Enlarges s s′ names figures atlas units q P C c) where
+module _ (s s′ : List ℕ) (names : List Bytes) (figures : Room) (atlas : Atlas) (units : List QueryUnit) (q P C cells cells′ : ℕ) (y : Copies) (c : Clause) (given : List Assignment)
+    (r : Enlarges s s′ names figures atlas units q P C cells cells′ y c) where
   abbrev atlas′ : Atlas
-  atlas′ = atlas-after atlas units q P C
+  atlas′ = atlas-after atlas units q P y
 
   abbrev units′ : List QueryUnit
   units′ = units-after c given units q
@@ -56,28 +58,28 @@ module _ (s s′ : List ℕ) (names : List Bytes) (figures : Room) (atlas : Atla
   pub as-many : length units′ ≡ length units
   as-many = length-set units q (after-unit c given (unit-at q units))
 
-  pub setting-here : setting-at figures atlas′ units′ q ≡ setting figures (enlarged (atlas q) (unit-at q units) P C) (after-unit c given (unit-at q units))
+  pub setting-here : setting-at figures atlas′ units′ q ≡ setting figures (enlarged (atlas q) (unit-at q units) P y) (after-unit c given (unit-at q units))
   setting-here =
-      let a = replaced-there atlas q (enlarged (atlas q) (unit-at q units) P C) in
+      let a = replaced-there atlas q (enlarged (atlas q) (unit-at q units) P y) in
       let u = unit-at-set-same units q (after-unit c given (unit-at q units)) (r .inside) in
       cc
 
   pub setting-elsewhere : (k : ℕ) → (k ≡ q → ⊥) → setting-at figures atlas′ units′ k ≡ setting-at figures atlas units k
   setting-elsewhere k other =
-      let a = replaced-elsewhere atlas q k (enlarged (atlas q) (unit-at q units) P C) other in
+      let a = replaced-elsewhere atlas q k (enlarged (atlas q) (unit-at q units) P y) other in
       let u = unit-at-set-other units q k (after-unit c given (unit-at q units)) other in
       cc
 
   older-words : (k : ℕ) → k < length units → (n : ℕ) → n < unit-at k units .compounds
-      → (w : ℕ) → 8 * atlas k .compound n ≤ w → w < 8 * atlas k .compound n + 8 → getD s′ w 0 ≡ getD s w 0
+      → (w : ℕ) → atlas k .compound n ≤ w → w < atlas k .compound n + atlas k .width n → getD s′ w 0 ≡ getD s w 0
   older-words k h n l w a b =
       r .older w (omega (arith, r .lies .compound-behind k n h l)) (omega (arith, r .lies .compound-below k n h l))
 
   pub grown-here : Grown s s′ (setting figures (atlas q) (unit-at q units))
-      (setting figures (enlarged (atlas q) (unit-at q units) P C) (after-unit c given (unit-at q units)))
+      (setting figures (enlarged (atlas q) (unit-at q units) P y) (after-unit c given (unit-at q units)))
   grown-here =
       record {
-        agree = extended-agrees (atlas q) p c₀ P (5088 + C);
+        agree = extended-agrees (atlas q) p c₀ P y;
         more-pairs = omega (arith, length-values-after c given (unit-at q units));
         more-compounds = omega arith;
         room = refl;
@@ -128,9 +130,6 @@ module _ (s s′ : List ℕ) (names : List Bytes) (figures : Room) (atlas : Atla
   new-pairs : length (unit-at q units′ .values) ≡ p + c .pairs
   new-pairs = rw (unit-at-set-same units q (after-unit c given (unit-at q units)) (r .inside)) (length-values-after c given (unit-at q units))
 
-  new-compounds : unit-at q units′ .compounds ≡ c₀ + c .compounds
-  new-compounds = ap (λ (u : QueryUnit). u .compounds) (unit-at-set-same units q (after-unit c given (unit-at q units)) (r .inside))
-
   -- A pair below P is the older one of its number; the n-th behind the older ones is at P + n.
   pub data PairAt (k n : ℕ) : Type 0 where
     older-pair : n < length (unit-at k units .values) → atlas′ k .pair n ≡ atlas k .pair n → PairAt k n
@@ -145,37 +144,42 @@ module _ (s s′ : List ℕ) (names : List Bytes) (figures : Room) (atlas : Atla
       here : n < length (unit-at q units′ .values) → PairAt q n
       here m = go (decLt n p)
         where
-          there : atlas′ q .pair n ≡ enlarged (atlas q) (unit-at q units) P C .pair n
-          there = ap (λ (x : Places). x .pair n) (replaced-there atlas q (enlarged (atlas q) (unit-at q units) P C))
+          there : atlas′ q .pair n ≡ enlarged (atlas q) (unit-at q units) P y .pair n
+          there = ap (λ (x : Places). x .pair n) (replaced-there atlas q (enlarged (atlas q) (unit-at q units) P y))
 
           go : Dec (n < p) → PairAt q n
-          go (yes b) = older-pair b (there ∙ extended-agrees (atlas q) p c₀ P (5088 + C) .pair n b)
+          go (yes b) = older-pair b (there ∙ extended-agrees (atlas q) p c₀ P y .pair n b)
           go (no b) =
               newer-pair (n - p) (omega (arith, new-pairs)) refl (omega arith)
               (there ∙ if-beyond n p (atlas q .pair n) (P + (n - p)) (omega arith))
 
   pub data CompoundAt (k n : ℕ) : Type 0 where
-    older-compound : n < unit-at k units .compounds → atlas′ k .compound n ≡ atlas k .compound n → CompoundAt k n
-    newer-compound : (a : ℕ) → a < c .compounds → atlas′ k .compound n ≡ 5088 + C + a → CompoundAt k n
+    older-compound : n < unit-at k units .compounds → atlas′ k .compound n ≡ atlas k .compound n → atlas′ k .width n ≡ atlas k .width n → CompoundAt k n
+    newer-compound : (a : ℕ) → atlas′ k .compound n ≡ y .at a → atlas′ k .width n ≡ y .width a → CompoundAt k n
 
   compound-at : (k n : ℕ) → k < length units → n < unit-at k units′ .compounds → CompoundAt k n
-  compound-at k n h l =
-      by-place k q (λ e. rw e (here (rw e at l))) (λ e. older-compound (rw (elsewhere e) at l) (ap (λ (x : Places). x .compound n) (replaced-elsewhere atlas q k _ e)))
+  compound-at k n h l = by-place k q (λ e. rw e (go (decLt n c₀))) elsewhere
     where
-      elsewhere : (k ≡ q → ⊥) → unit-at k units′ ≡ unit-at k units
-      elsewhere e = unit-at-set-other units q k (after-unit c given (unit-at q units)) e
+      elsewhere : (k ≡ q → ⊥) → CompoundAt k n
+      elsewhere e =
+          let there = replaced-elsewhere atlas q k (enlarged (atlas q) (unit-at q units) P y) e in
+          older-compound (rw (unit-at-set-other units q k (after-unit c given (unit-at q units)) e) at l)
+          (ap (λ (x : Places). x .compound n) there) (ap (λ (x : Places). x .width n) there)
 
-      here : n < unit-at q units′ .compounds → CompoundAt q n
-      here m = go (decLt n c₀)
+      go : Dec (n < c₀) → CompoundAt q n
+      go d =
+          let there = replaced-there atlas q (enlarged (atlas q) (unit-at q units) P y) in
+          here d (ap (λ (x : Places). x .compound n) there) (ap (λ (x : Places). x .width n) there)
         where
-          there : atlas′ q .compound n ≡ enlarged (atlas q) (unit-at q units) P C .compound n
-          there = ap (λ (x : Places). x .compound n) (replaced-there atlas q (enlarged (atlas q) (unit-at q units) P C))
-
-          go : Dec (n < c₀) → CompoundAt q n
-          go (yes b) = older-compound b (there ∙ extended-agrees (atlas q) p c₀ P (5088 + C) .compound n b)
-          go (no b) =
-              newer-compound (n - c₀) (omega (arith, new-compounds))
-              (there ∙ if-beyond n c₀ (atlas q .compound n) (5088 + C + (n - c₀)) (omega arith))
+          here : Dec (n < c₀) → atlas′ q .compound n ≡ enlarged (atlas q) (unit-at q units) P y .compound n
+              → atlas′ q .width n ≡ enlarged (atlas q) (unit-at q units) P y .width n → CompoundAt q n
+          here (yes b) e f =
+              let same = extended-agrees (atlas q) p c₀ P y in
+              older-compound b (e ∙ same .compound n b) (f ∙ same .width n b)
+          here (no b) e f =
+              newer-compound (n - c₀)
+              (e ∙ if-beyond n c₀ (atlas q .compound n) (y .at (n - c₀)) (omega arith))
+              (f ∙ if-beyond n c₀ (atlas q .width n) (y .width (n - c₀)) (omega arith))
 
   below : (k n : ℕ) → k < length units → PairAt k n → atlas′ k .pair n < P + c .pairs
   below k n h (older-pair b e) = omega (arith, r .lies .pair-below k n h b)
@@ -187,26 +191,27 @@ module _ (s s′ : List ℕ) (names : List Bytes) (figures : Room) (atlas : Atla
   apart k l n m h i (newer-pair a d f g o) (older-pair b e) same = absurd (omega (arith, r .lies .pair-below l m i b))
   apart k l n m h i (newer-pair a d f g o) (newer-pair a′ d′ f′ g′ o′) same = (f ∙ sym f′, omega arith)
 
-  behind-first : (k n : ℕ) → k < length units → CompoundAt k n → 5088 ≤ atlas′ k .compound n
-  behind-first k n h (older-compound b e) = omega (arith, r .lies .compound-behind k n h b)
-  behind-first k n h (newer-compound a b e) = omega arith
+  behind-first : (k n : ℕ) → k < length units → CompoundAt k n → 40704 ≤ atlas′ k .compound n
+  behind-first k n h (older-compound b e f) = omega (arith, r .lies .compound-behind k n h b)
+  behind-first k n h (newer-compound a e f) = omega (arith, r .copied .behind, r .copied .at a .0)
 
-  below-last : (k n : ℕ) → k < length units → CompoundAt k n → atlas′ k .compound n < 5088 + (C + c .compounds)
-  below-last k n h (older-compound b e) = omega (arith, r .lies .compound-below k n h b)
-  below-last k n h (newer-compound a b e) = omega arith
+  below-last : (k n : ℕ) → k < length units → CompoundAt k n → atlas′ k .compound n + atlas′ k .width n ≤ cells′
+  below-last k n h (older-compound b e f) = omega (arith, r .lies .compound-below k n h b, r .copied .order)
+  below-last k n h (newer-compound a e f) = omega (arith, r .copied .at a .1)
 
   pub names-after : (k : ℕ) → atlas′ k .names ≡ names
   names-after k =
       by-place k q
-      (λ e. rw e (ap (λ (x : Places). x .names) (replaced-there atlas q (enlarged (atlas q) (unit-at q units) P C)) ∙ r .lies .names-are q))
-      (λ e. ap (λ (x : Places). x .names) (replaced-elsewhere atlas q k (enlarged (atlas q) (unit-at q units) P C) e) ∙ r .lies .names-are k)
+      (λ e. rw e (ap (λ (x : Places). x .names) (replaced-there atlas q (enlarged (atlas q) (unit-at q units) P y)) ∙ r .lies .names-are q))
+      (λ e. ap (λ (x : Places). x .names) (replaced-elsewhere atlas q k (enlarged (atlas q) (unit-at q units) P y) e) ∙ r .lies .names-are k)
 
-  pub lies-after : Lies names figures atlas′ units′ (P + c .pairs) (C + c .compounds)
+  pub lies-after : Lies names figures atlas′ units′ (P + c .pairs) (C + c .compounds) cells′
   lies-after =
       record {
         names-are = names-after;
         pairs-fit = r .pairs-fit;
         compounds-fit = r .compounds-fit;
+        cells-fit = r .copied .fit;
         pair-below = λ k n h l. let i : k < length units = omega (arith, as-many) in below k n i (pair-at k n i l);
         pair-apart = λ k l n m h i a b e.
             let x : k < length units = omega (arith, as-many) in
@@ -217,7 +222,7 @@ module _ (s s′ : List ℕ) (names : List Bytes) (figures : Room) (atlas : Atla
       }
 
   -- The units stand: the goal's, and each other by the words of its pairs.
-  pub units-stand : UnitStands s′ (setting figures (enlarged (atlas q) (unit-at q units) P C) (after-unit c given (unit-at q units))) (values-region figures)
+  pub units-stand : UnitStands s′ (setting figures (enlarged (atlas q) (unit-at q units) P y) (after-unit c given (unit-at q units))) (values-region figures)
       → ((k n : ℕ) → k < length units → (k ≡ q → ⊥) → n < length (unit-at k units .values)
       → getD s′ (values-region figures + atlas k .pair n) 0 ≡ getD s (values-region figures + atlas k .pair n) 0)
       → getD s′ (query-record q + 4) 0 ≡ getD s (query-record q + 4) 0 + 1

@@ -1,49 +1,46 @@
 -- The parts of a reduction, one behind the other: what each asks follows from what those before it have left.
-use Prim.Native.Nat.{ℕ, zero, suc, _+_, _-_, _*_, _≤_, _<_}
+use Prim.Native.Nat.{ℕ, _+_, _-_, _*_, _≤_, _<_}
 use mathlib.Core.Path.{_≡_, refl, sym, ap, _∙_}
-use mathlib.Core.Logic.{_⊎_, inl, inr}
-use mathlib.Core.Bool.{Bool, true, false, not}
+use mathlib.Core.Logic.{inl, inr}
+use mathlib.Core.Bool.{true}
 use mathlib.Core.List.{List, [], _∷_, _++_, map}
 use native.Mathlib.Omega.{arith}
 use lib.ListN.{length, getD, set, length-set}
 use lib.Seq.{getD-set-same, getD-set-other}
 use Rattle.meaning.specs.Bytes.{Bytes, those}
-use Rattle.meaning.specs.Terms.{Term, Terms, variable, constant, compound, end, more, Clause, Job, Named, renamed, all-renamed, as-term}
+use Rattle.meaning.specs.Terms.{Clause, Job}
 use Rattle.meaning.specs.State.{Room, QueryUnit, Goal, Waiting, State, unit-at, number-of}
 use Rattle.meaning.specs.Compare.{Assignment}
 use Rattle.meaning.specs.Trial.{reduces}
 use Rattle.meaning.specs.Step.{wakes, without-front}
 use Rattle.meaning.specs.Run.{fits, choice-for, run}
-use Rattle.meaning.proofs.Lists.EachOf.{Each, each-in, each-member}
+use Rattle.meaning.proofs.Lists.EachOf.{Each}
 use Rattle.meaning.proofs.Lists.Filters.{length-those}
 use Rattle.meaning.proofs.Reading.{accepted-keeps-the-occurrence-rules}
 use Rattle.meaning.proofs.Runs.Counts.{within-says}
 use Rattle.meaning.proofs.Single.{reduction-assigns-once}
 use Rattle.meaning.proofs.Trial.Chosen.{reduces-agrees}
-use Rattle.term.specs.Cells.{Places, term-word}
-use Rattle.term.specs.Every.{Every, EveryOf}
-use Rattle.term.specs.Holds.{Holds}
-use Rattle.term.specs.Jobs.{clause-record, clause-base, query-record, places-from, HoldsGoals, HoldsClause, ClauseAt}
-use Rattle.term.specs.Layout.{values-region, waiters-region, sets-region, marks-region, queue-region, waiting-region, failed-region, need-of, InRange}
-use Rattle.term.specs.Setting.{Setting, Within, AllWithin}
-use Rattle.term.specs.States.{Atlas, setting, goal-word, ring, listed, Lies, AllStand, HoldsState}
+use Rattle.term.specs.Cells.{Places}
+use Rattle.term.specs.Jobs.{clause-record, query-record, HoldsGoals}
+use Rattle.term.specs.Layout.{values-region, waiters-region, sets-region, queue-region, waiting-region, need-of}
+use Rattle.term.specs.States.{Atlas, setting, goal-word, ring, Lies, AllStand, HoldsState}
 use Rattle.term.specs.declared.state.Standing.{Standing}
-use Rattle.term.proofs.Holds.{holds-alike}
 use Rattle.term.proofs.Jobs.{holds-clause-kept}
-use Rattle.compare.specs.Gifts.{Entry, EntriesAt, entries-of, assignments}
-use Rattle.compare.specs.Compare.{Template, item-places, HeadTerm, AllEntries, Gave}
+use Rattle.compare.specs.Gifts.{Entry, entries-of, assignments}
+use Rattle.compare.specs.Compare.{item-places}
 use Rattle.trial.proofs.Once.{AllApart, once-apart, no-entry, entries-differ, entry-words, entry-held}
-use Rattle.reduction.specs.Build.{Item, Goes, ItemTerm, Moved, CopiesKept}
+use Rattle.reduction.specs.Build.{Item, Copies, total, ListSpread, Goes, Moved}
+use Rattle.reduction.proofs.Spreading.{total-append, list-spread-append, rising-append, goals-rising, goal-copies-stay, entry-copies-stay}
 use Rattle.trial.specs.Choosing.{template}
-use Rattle.queues.specs.Log.{Slot, LogOk, present}
-use Rattle.reduction.specs.Reducing.{Apart, Kept, HeadAssigned, EntryTerms, Assigning, EntriesGiven, NoEntry, GoalAssigned, GoalsWithin, Adding, GoalsHeld, Added, entry-places, hit, hits, woken, quieted, emptied, NotLogged, Wakes, Waked, AddsWoken, WokenAdded}
-use Rattle.queues.specs.Ring.{RingOk, Passed}
-use Rattle.machine.specs.Running.{slot-of, RunOnly, Running}
+use Rattle.queues.specs.Log.{Slot, LogOk}
+use Rattle.reduction.specs.Reducing.{Apart, HeadAssigned, EntryTerms, entry-terms, Assigning, EntriesGiven, GoalAssigned, goal-terms, Adding, GoalsHeld, Added, entry-places, hit, hits, woken, quieted, emptied, NotLogged, Wakes, Waked, AddsWoken, WokenAdded}
+use Rattle.machine.specs.Running.{slot-of, RunOnly}
 use Rattle.machine.specs.Taking.{Taken, Reducing}
 use Rattle.machine.proofs.BodyGoals.{BodyFits, body-fits}
-use Rattle.machine.proofs.Enlarging.{extended-moved}
-use Rattle.machine.proofs.FramesRunning.{few-units, tries-below}
-use Rattle.term.proofs.Units.{within-every}
+use Rattle.machine.proofs.ClauseEntries.{clause-item, entries-still, entries-held, entries-rising}
+use Rattle.machine.proofs.Enlarging.{CopiedTo, extended-moved}
+use Rattle.machine.proofs.FramesRunning.{few-units, tries-below, front-stands, front-number, front-place}
+use Rattle.machine.proofs.Fresh.{Fresh, fresh}
 use Rattle.queues.proofs.Listed.{listed-kept}
 use Rattle.machine.proofs.NextState.{Reduced, WokenAre}
 use Rattle.machine.proofs.NextUnit.{enlarged}
@@ -51,99 +48,6 @@ use Rattle.queues.proofs.Ring.{ring-kept}
 use Rattle.machine.proofs.WaitingPairs.{OwnReaders, waiting-readers}
 use Rattle.queues.proofs.Waking.{log-kept}
 use Rattle.machine.proofs.Woken.{woken-are, others-wait, woken-number, entry-places-are, entries-below, hit-wakes}
-
--- The clause as an item, and how far its compounds are moved.
-abbrev pub clause-item : List Bytes → ℕ → Clause → Item
-clause-item names k c = record { places = item-places names k; pairs = c .pairs; compounds = c .compounds }
-
--- The numbers of a copy's compounds.
-mutual
-  unfolding Within AllWithin renamed all-renamed Every EveryOf
-
-  copy-every : (p c pairs compounds : ℕ) (t : Term) → Within pairs compounds t → Every (λ n. (a : ℕ) × (n ≡ c + a) × (a < compounds)) (renamed p c t)
-  copy-every p c pairs compounds (variable h n) w = tt
-  copy-every p c pairs compounds (constant x) w = tt
-  copy-every p c pairs compounds (compound n f ts) w = ((n, refl, w .0), copies-every p c pairs compounds ts (w .1))
-
-  copies-every : (p c pairs compounds : ℕ) (ts : Terms) → AllWithin pairs compounds ts
-      → EveryOf (λ n. (a : ℕ) × (n ≡ c + a) × (a < compounds)) (all-renamed p c ts)
-  copies-every p c pairs compounds end w = tt
-  copies-every p c pairs compounds (more t ts) w = (copy-every p c pairs compounds t (w .0), copies-every p c pairs compounds ts (w .1))
-
--- A copy stays where the words of the copies' places stay.
-module _ (s s′ : List ℕ) (x : Item) (places : Places) (pair shift low high p c : ℕ) (goes : Goes x pair shift low high) (moved : Moved x places pair shift p c)
-    (size : length s′ ≡ length s) (same : (k : ℕ) → 8 * low ≤ k → k < 8 * high → getD s′ k 0 ≡ getD s k 0) where
-  copy-word : (n : ℕ) → (a : ℕ) × (n ≡ c + a) × (a < x .compounds)
-      → (k : ℕ) → 8 * places .compound n ≤ k → k < 8 * places .compound n + 8 → getD s′ k 0 ≡ getD s k 0
-  copy-word n (a, e, h) k l b =
-      let at : places .compound n ≡ x .places .compound a + shift = ap (places .compound) e ∙ moved .compound-at a h in
-      same k (omega (arith, goes .from a h)) (omega (arith, goes .below a h))
-
-  pub copy-stays : (t : Term) → Within (x .pairs) (x .compounds) t → Holds s places (renamed p c t) → Holds s′ places (renamed p c t)
-  copy-stays t w h =
-      holds-alike s s′ places (λ n. (a : ℕ) × (n ≡ c + a) × (a < x .compounds)) (omega arith) copy-word (renamed p c t)
-      (copy-every p c (x .pairs) (x .compounds) t w) h
-
-  pub goal-copies-stay : (gs : List Named) → GoalsWithin (x .pairs) (x .compounds) gs → GoalsHeld s places p c gs → GoalsHeld s′ places p c gs
-  unfolding GoalsWithin GoalsHeld
-  goal-copies-stay [] w h = tt
-  goal-copies-stay (g ∷ gs) w h = (copy-stays (as-term g) (w .0) (h .0), goal-copies-stay gs (w .1) (h .1))
-
--- The terms of a clause stay held where the words below the trial's region stay.
-pub item-stays : (s s′ : List ℕ) (names : List Bytes) (k pairs compounds : ℕ) → k < 128 → compounds ≤ 32 → length s′ ≡ length s
-    → ((w : ℕ) → w < 39936 → getD s′ w 0 ≡ getD s w 0) → (t : Term) → Within pairs compounds t → Holds s (item-places names k) t → Holds s′ (item-places names k) t
-item-stays s s′ names k pairs compounds small few size same t w h =
-    holds-alike s s′ (item-places names k) (λ n. n < compounds) (omega arith) (λ n l v a b. same v (omega arith)) t (within-every pairs compounds t w) h
-
--- The entries.
-entries-still : (s s′ : List ℕ) (item unit : Places) (n : ℕ) (es : List Entry)
-    → ((k : ℕ) → 39952 ≤ k → k < 39952 + 2 * (n + length es) → getD s′ k 0 ≡ getD s k 0)
-    → EntriesAt s item unit n es → EntriesAt s′ item unit n es
-unfolding EntriesAt
-entries-still s s′ item unit n [] same k = tt
-entries-still s s′ item unit n (e ∷ es) same k = (
-  same (39952 + 2 * n) (omega arith) (omega arith) ∙ k .0,
-  same (39953 + 2 * n) (omega arith) (omega arith) ∙ k .1,
-  entries-still s s′ item unit (n + 1) es (λ m a b. same m a (omega arith)) (k .2),
-)
-
-entry-terms : (s s′ : List ℕ) (figures : Room) (unit : QueryUnit) (at : Places) (P k : ℕ) (c : Clause) (es : List Entry) → k < 128 → c .compounds ≤ 32
-    → length s′ ≡ length s → ((w : ℕ) → w < 39936 → getD s′ w 0 ≡ getD s w 0) → ((m : ℕ) → m < length (unit .values) → at .pair m < P)
-    → AllEntries s (setting figures at unit) (template k c) es → EntryTerms s′ (clause-item (at .names) k c) at P es
-unfolding AllEntries EntryTerms
-entry-terms s s′ figures unit at P k c [] small few size same below h = tt
-entry-terms s s′ figures unit at P k c (e ∷ es) small few size same below h = (
-  (
-    below (e .pair) (h .0 .0),
-    record {
-      held = item-stays s s′ (at .names) k (c .pairs) (c .compounds) small few size same (e .term) (h .0 .3 .within) (h .0 .3 .held);
-      within = h .0 .3 .within;
-    },
-  ),
-  entry-terms s s′ figures unit at P k c es small few size same below (h .1),
-)
-
--- The entries' words and copies from one scratch to a later one.
-given-still : (s s′ : List ℕ) (x : Item) (unit places : Places) (values p c bound : ℕ) (es : List Entry)
-    → ((z : ℕ) → z < bound → getD s′ (values + z) 0 ≡ getD s (values + z) 0)
-    → ((t : Term) → Within (x .pairs) (x .compounds) t → Holds s places (renamed p c t) → Holds s′ places (renamed p c t))
-    → EntryTerms s x unit bound es → EntriesGiven s unit places values p c es → EntriesGiven s′ unit places values p c es
-unfolding EntryTerms EntriesGiven
-given-still s s′ x unit places values p c bound [] same still w h = tt
-given-still s s′ x unit places values p c bound (d ∷ es) same still w h = (
-  (same (unit .pair (d .pair)) (w .0 .0) ∙ h .0 .0, still (d .term) (w .0 .1 .within) (h .0 .1)),
-  given-still s s′ x unit places values p c bound es same still (w .1) (h .1),
-)
-
-copies-to : (s s′ : List ℕ) (x : Item) (unit places : Places) (values p c bound pair shift : ℕ) (es : List Entry)
-    → ((z : ℕ) → z < bound → getD s′ (values + z) 0 ≡ getD s (values + z) 0) → CopiesKept s s′ x pair shift → Moved x places pair shift p c
-    → EntryTerms s x unit bound es → EntriesGiven s unit places values p c es → EntriesGiven s′ unit places values p c es
-unfolding EntryTerms EntriesGiven
-copies-to s s′ x unit places values p c bound pair shift [] same kept moved w h = tt
-copies-to s s′ x unit places values p c bound pair shift (d ∷ es) same kept moved w h = (
-  (same (unit .pair (d .pair)) (w .0 .0) ∙ h .0 .0, kept places p c moved (d .term) (w .0 .1) (h .0 .1)),
-  copies-to s s′ x unit places values p c bound pair shift es same kept moved (w .1) (h .1),
-)
 
 goals-first : (atlas : Atlas) (ws : List Waiting) → map (λ w. goal-word atlas (w .goal)) ws ≡ map (goal-word atlas) (map (λ w. w .goal) ws)
 goals-first atlas [] = refl
@@ -172,23 +76,21 @@ module _ {s : List ℕ} {text : Bytes} {names : List Bytes} {j : Job} {figures :
   abbrev vals : ℕ
   vals = values-region figures
 
-  abbrev low : ℕ
-  low = 5088 + C
-
-  abbrev high : ℕ
-  high = 5088 + C + c .compounds
-
-  abbrev shift : ℕ
-  shift = 4448 + C - 32 * k
-
   abbrev x : Item
   x = clause-item (atlas q .names) k c
 
   abbrev list : List Entry
-  list = red .gave .1 .list
+  list = red .gave .gave .list
 
-  abbrev places : Places
-  places = enlarged (atlas q) unit P C
+  -- The first free word, that behind the copies of what is given, and that behind the copies of the body.
+  abbrev cells : ℕ
+  cells = t .cells
+
+  abbrev middle : ℕ
+  middle = t .cells + total (entry-terms list)
+
+  abbrev cells′ : ℕ
+  cells′ = t .cells + total (entry-terms list) + total (goal-terms (c .body))
 
   abbrev st : HoldsState s names figures (j .queries) atlas σ t
   st = taken .running .state
@@ -200,10 +102,57 @@ module _ {s : List ℕ} {text : Bytes} {names : List Bytes} {j : Job} {figures :
       let a = within-says figures (σ .pairs + c .pairs) (σ .compounds + c .compounds) (number-of (without-front others (σ .goals)) + length (c .body)) fit in
       (omega (arith, a .0, st .pairs), omega (arith, a .1, st .compounds), a .2)
 
+  here : q < length (σ .units)
+  here = front-stands s names figures (j .queries) atlas σ t st g others (taken .front) .query
+
+  lies : Lies names figures atlas (σ .units) P C cells
+  lies = rw (st .pairs, st .compounds) (st .lies)
+
+  -- The goal in front is a compound.
+  cells-behind : 40704 ≤ cells
+  cells-behind =
+      omega (
+        arith,
+        front-place s names figures (j .queries) atlas σ t st g others (taken .front),
+        lies .compound-below q (g .goal .number) here (front-number s names figures (j .queries) atlas σ t st g others (taken .front)),
+      )
+
+  -- Where the clause's compounds are copied to.
+  pub copies : Fresh (t .cells) (t .compounds + c .compounds) (entry-terms (red .gave .gave .list) ++ goal-terms (c .body))
+  copies =
+      let gave = red .gave .gave in
+      fresh (gave .low) (c .compounds) cells C (entry-terms list ++ goal-terms (c .body))
+      (rising-append (gave .low) (gave .high) (c .compounds) (entry-terms list) (goal-terms (c .body))
+      (entries-rising s (setting figures (atlas q) unit) (template k c) (gave .low) (gave .high) list (gave .held))
+      (goals-rising (gave .high) (c .compounds) (c .body) (red .gave .body)))
+      cells-behind (lies .cells-fit)
+
+  abbrev y : Copies
+  y = copies .copies
+
+  abbrev places : Places
+  places = enlarged (atlas q) unit P y
+
+  both : total (entry-terms list ++ goal-terms (c .body)) ≡ total (entry-terms list) + total (goal-terms (c .body))
+  both = total-append (entry-terms list) (goal-terms (c .body))
+
+  copied : CopiedTo y cells cells′ (C + c .compounds)
+  copied =
+      let e : cells + total (entry-terms list ++ goal-terms (c .body)) ≡ cells′ = omega (arith, both) in
+      rw e at (copies .copied)
+
+  spread-2 : ListSpread y cells (entry-terms list)
+  spread-2 = list-spread-append y cells (entry-terms list) (goal-terms (c .body)) (copies .spread-there) .0
+
+  spread-4 : ListSpread y middle (goal-terms (c .body))
+  spread-4 = list-spread-append y cells (entry-terms list) (goal-terms (c .body)) (copies .spread-there) .1
+
   -- What every part leans on, in numbers.
   pub record Sizes : Type 0 where
     pub pairs : P + c .pairs ≤ figures .pairs
-    pub compounds : C + c .compounds ≤ figures .compounds
+    pub behind : 40704 ≤ cells
+    pub before : cells′ ≤ vals
+    pub space : 1 ≤ total (entry-terms list) + total (goal-terms (c .body)) → cells′ < vals
     pub number : k < 128
     pub few-pairs : c .pairs ≤ 16
     pub few-compounds : c .compounds ≤ 32
@@ -211,6 +160,7 @@ module _ {s : List ℕ} {text : Bytes} {names : List Bytes} {j : Job} {figures :
     pub room : need-of figures ≤ length s
     pub entries : n ≤ 192
     pub small-pairs : figures .pairs ≤ 65535
+    pub some-goals : 1 ≤ figures .goals
     pub used : length slots ≤ 2 * figures .goals
     pub few-queries : q < 8
 
@@ -218,108 +168,98 @@ module _ {s : List ℕ} {text : Bytes} {names : List Bytes} {j : Job} {figures :
   sizes =
       record {
         pairs = charges .0;
-        compounds = charges .1;
+        behind = cells-behind;
+        before = omega (arith, copied .fit, charges .1);
+        space = λ some. omega (arith, copies .room (omega (arith, both)), both, charges .1);
         number = red .at .number;
         few-pairs = red .at .held .laid .few-pairs;
         few-compounds = red .at .held .laid .few-compounds;
         few-goals = red .at .held .laid .few-goals;
         room = taken .running .inside;
-        entries = red .gave .0;
+        entries = red .gave .few;
         small-pairs = taken .running .in-range .pairs;
+        some-goals = omega (arith, st .queue .front-inside);
         used = omega (arith, taken .running .log-number, st .waiting .fits);
         few-queries = omega (arith, here, few-units s text names j figures limit atlas slots t _ (taken .running));
       }
-    where
-      here : g .query < length (run j limit figures .state .units)
-      here = let all : AllStand s figures atlas (run j limit figures .state .units) (g ∷ others) = rw (taken .front) at (taken .running .state .queue-held) in all .0 .query
 
   pub few-query : q < 8
   few-query = sizes .few-queries
 
-  here : q < length (σ .units)
-  here = let all : AllStand s figures atlas (σ .units) (g ∷ others) = rw (taken .front) at (st .queue-held) in all .0 .query
-
-  lies : Lies names figures atlas (σ .units) P C
-  lies = rw (st .pairs, st .compounds) (st .lies)
-
-  goes : Goes x P shift low high
+  goes : Goes x P
   goes =
       let z = sizes in
       record {
         own = λ m. refl;
         before = λ m h. omega (arith, z .number, z .few-compounds);
-        from = λ m h. omega (arith, z .number);
-        below = λ m h. omega (arith, z .number);
         pairs-fit = omega (arith, z .pairs, z .small-pairs);
       }
 
-  moved : Moved x places P shift (length (unit .values)) (unit .compounds)
-  moved =
-      extended-moved (atlas q) (length (unit .values)) (unit .compounds) P low x shift refl
-      (λ m h. omega (arith, sizes .number))
+  moved : Moved x places P y (length (unit .values)) (unit .compounds)
+  moved = extended-moved (atlas q) (length (unit .values)) (unit .compounds) P y x refl
 
   -- The entries one by one.
   entry-word : (i : ℕ) → i < n → getD s (39952 + 2 * i) 0 ≡ atlas q .pair (getD list i no-entry .pair)
   entry-word i h =
       let is : 0 + i ≡ i = omega arith in
-      rw is at (entry-words s (item-places (atlas q .names) k) (atlas q) 0 list i (omega (arith, red .gave .1 .size)) (red .gave .1 .stand) .0)
+      rw is at (entry-words s (item-places (atlas q .names) k) (atlas q) 0 list i (omega (arith, red .gave .gave .size)) (red .gave .gave .stand) .0)
 
   entry-below : (i : ℕ) → i < n → getD list i no-entry .pair < length (unit .values)
-  entry-below i h = entry-held s (setting figures (atlas q) unit) (template k c) list i (omega (arith, red .gave .1 .size)) (red .gave .1 .held) .0
+  entry-below i h = entry-held s (setting figures (atlas q) unit) (template k c) (red .gave .gave .low) (red .gave .gave .high) list i (omega (arith, red .gave .gave .size)) (red .gave .gave .held) .0
 
   entries-apart : (i m : ℕ) → i < n → m < n → getD s (39952 + 2 * i) 0 ≡ getD s (39952 + 2 * m) 0 → i ≡ m
   entries-apart i m h l e =
-      let size : length list ≡ n = red .gave .1 .size in
+      let size : length list ≡ n = red .gave .gave .size in
       let once = reduction-assigns-once j (accepted-keeps-the-occurrence-rules text j (taken .running .reads)) limit figures g others (taken .front) c given (red .chosen) in
-      differ list (red .gave .1 .list-is) (rw (red .gave .1 .given-are) at (once-apart once)) (omega arith) (omega arith)
+      differ list (red .gave .gave .list-is) (rw (red .gave .gave .given-are) at (once-apart once)) (omega arith) (omega arith)
       (lies .pair-apart q q _ _ here here (entry-below i h) (entry-below m l) (sym (entry-word i h) ∙ e ∙ entry-word m l) .1)
     where
-      differ : (es : List Entry) → es ≡ entries-of (red .gave .1 .gifts)
+      differ : (es : List Entry) → es ≡ entries-of (red .gave .gave .gifts)
           → AllApart (assignments (length (unit-at (g .query) (run j limit figures .state .units) .values))
-          (unit-at (g .query) (run j limit figures .state .units) .compounds) (red .gave .1 .gifts))
+          (unit-at (g .query) (run j limit figures .state .units) .compounds) (red .gave .gave .gifts))
           → i < length es → m < length es → getD es i no-entry .pair ≡ getD es m no-entry .pair → i ≡ m
       differ es is apart a b same =
-          entries-differ _ _ (red .gave .1 .gifts) i m apart (rw is at a) (rw is at b) (rw is at same)
+          entries-differ _ _ (red .gave .gave .gifts) i m apart (rw is at a) (rw is at b) (rw is at same)
 
   -- The head's writers are assigned.
   module _ (s₁ : List ℕ) (h₁ : HeadAssigned s s₁ (values-region figures) (t .pairs) (c .pairs)) where
     below-1 : (w : ℕ) → w < vals + P → getD s₁ w 0 ≡ getD s w 0
     below-1 w h = h₁ .kept .same w (inl h)
 
-    pub assigning : Assigning s₁ x (atlas q) vals P P shift low high n list
+    pub assigning : Assigning s₁ x (atlas q) vals P P cells n list
     assigning =
         let z = sizes in
         let size : length s₁ ≡ length s = h₁ .kept .size in
-        let count : length list ≡ n = red .gave .1 .size in
+        let count : length list ≡ n = red .gave .gave .size in
         record {
           goes = goes;
-          order = omega arith;
-          behind = omega arith;
-          before = omega (arith, z .compounds);
+          behind = z .behind;
+          before = omega (arith, z .before);
+          room = λ some. omega (arith, z .space (omega arith), z .room, z .some-goals);
           inside = omega (arith, z .room, z .pairs);
           few = z .entries;
           number = count;
           stand =
               entries-still s s₁ (item-places (atlas q .names) k) (atlas q) 0 list
-              (λ w a b. below-1 w (omega (arith, z .entries))) (red .gave .1 .stand);
+              (λ w a b. below-1 w (omega (arith, z .entries))) (red .gave .gave .stand);
           terms =
-              entry-terms s s₁ figures unit (atlas q) P k c list (z .number) (z .few-compounds) size (λ w h. below-1 w (omega arith))
-              (λ m h. lies .pair-below q m here h) (red .gave .1 .held);
+              entries-held s s₁ figures unit (atlas q) P k c (red .gave .gave .low) (red .gave .gave .high) list (z .number) (z .few-compounds) size (λ w h. below-1 w (omega arith))
+              (λ m h. lies .pair-below q m here h) (red .gave .gave .held);
           apart = λ i m a b e.
               entries-apart i m a b
               (sym (below-1 (39952 + 2 * i) (omega (arith, z .entries))) ∙ e ∙ below-1 (39952 + 2 * m) (omega (arith, z .entries)));
         }
 
     -- The entries' pairs are assigned.
-    module _ (s₂ : List ℕ) (h₂ : GoalAssigned s₁ s₂ (clause-item (atlas (g .query) .names) k c) (atlas (g .query)) (values-region figures) (t .pairs) (t .pairs)
-        (4448 + t .compounds - 32 * k) (5088 + t .compounds) (5088 + t .compounds + c .compounds) (red .gave .1 .list)) where
+    module _ (s₂ : List ℕ) (r₂ : ℕ) (h₂ : GoalAssigned s₁ s₂ (clause-item (atlas (g .query) .names) k c) (atlas (g .query)) (values-region figures) (t .pairs)
+        (t .pairs) (t .cells) (red .gave .gave .list) r₂) where
       low-2 : (w : ℕ) → w < 40704 → getD s₂ w 0 ≡ getD s w 0
-      low-2 w h = h₂ .kept .same w (inl (omega arith), inl (omega arith)) ∙ h₁ .kept .same w (inl (omega arith))
+      low-2 w h = h₂ .kept .same w (inl (omega (arith, sizes .behind)), inl (omega arith)) ∙ h₁ .kept .same w (inl (omega arith))
 
       high-2 : (w : ℕ) → vals + figures .pairs ≤ w → getD s₂ w 0 ≡ getD s w 0
       high-2 w h =
           let z = sizes in
-          h₂ .kept .same w (inr (omega (arith, z .compounds)), inr (omega (arith, z .pairs))) ∙ h₁ .kept .same w (inr (omega (arith, z .pairs)))
+          h₂ .kept .same w (inr (omega (arith, z .before)), inr (omega (arith, z .pairs))) ∙ h₁ .kept .same w (inr (omega (arith, z .pairs)))
 
       size-2 : length s₂ ≡ length s
       size-2 = h₂ .kept .size ∙ h₁ .kept .size
@@ -346,9 +286,9 @@ module _ {s : List ℕ} {text : Bytes} {names : List Bytes} {j : Job} {figures :
 
       zs-are : zs ≡ map (λ e. atlas q .pair (e .pair)) list
       zs-are =
-          let count : length list ≡ n = red .gave .1 .size in
+          let count : length list ≡ n = red .gave .gave .size in
           entry-places-are s₂ (item-places (atlas q .names) k) (atlas q) n list count
-          (entries-still s s₂ (item-places (atlas q .names) k) (atlas q) 0 list (λ w a b. low-2 w (omega (arith, sizes .entries))) (red .gave .1 .stand))
+          (entries-still s s₂ (item-places (atlas q .names) k) (atlas q) 0 list (λ w a b. low-2 w (omega (arith, sizes .entries))) (red .gave .gave .stand))
 
       each-hit : (ws : List Waiting) → AllStand s figures atlas (σ .units) (map (λ w. w .goal) ws) → Each (OwnReaders (σ .units)) ws
           → Each (λ w. hit zs (slot-of atlas w) ≡ wakes q given w) ws
@@ -356,7 +296,7 @@ module _ {s : List ℕ} {text : Bytes} {names : List Bytes} {j : Job} {figures :
       each-hit (w ∷ ws) a b = (
         rw zs-are
             (hit-wakes atlas (σ .units) q given list here (lies .pair-apart)
-            (entries-below s (setting figures (atlas q) unit) (template k c) list (red .gave .1 .held)) (red .gave .1 .pairs-are) w (a .0 .query) (b .0)),
+            (entries-below s (setting figures (atlas q) unit) (template k c) (red .gave .gave .low) (red .gave .gave .high) list (red .gave .gave .held)) (red .gave .gave .pairs-are) w (a .0 .query) (b .0)),
         each-hit ws (a .1) (b .1),
       )
 
@@ -404,30 +344,32 @@ module _ {s : List ℕ} {text : Bytes} {names : List Bytes} {j : Job} {figures :
         few-woken = omega (arith, h₃ .number, hits-number, length-those (wakes q given) (σ .goals .waiting), st .waiting .number)
 
         module _ (front body : ℕ) (front-inside : front < figures .goals) (body-is : body ≡ length (c .body)) where
-          pub adding : Adding s₃ x (clause-record k + 4) body P shift low high q (queue-region figures) (figures .goals) front (t .active - 1) (c .body)
+          pub adding : Adding s₃ x (clause-record k + 4) body P middle q (queue-region figures) (figures .goals) front (t .active - 1) (c .body)
           adding =
               let z = sizes in
               record {
                 goes = goes;
+                behind = omega (arith, z .behind);
                 number = body-is;
                 words = body-held;
                 within = fits-body .within;
                 from-before = omega (arith, z .number, z .few-goals);
-                before = omega (arith, z .compounds);
+                before = omega (arith, z .before);
+                room = λ some. omega (arith, z .space (omega arith), z .room, z .some-goals, size-3);
                 ring-ok = record { inside = omega (arith, z .room, size-3); front-inside = front-inside };
                 space = omega (arith, goals-now, active-is);
                 few = z .few-queries;
               }
 
           -- The body's goals join the queue.
-          module _ (s₄ : List ℕ) (h₄ : Added s₃ s₄ (clause-item (atlas (g .query) .names) k c) body (t .pairs) (4448 + t .compounds - 32 * k) (5088 + t .compounds)
-              (5088 + t .compounds + c .compounds) (g .query) (queue-region figures) (figures .goals) front (t .active - 1) (c .body)) where
+          module _ (s₄ : List ℕ) (r₄ : ℕ) (h₄ : Added s₃ s₄ (clause-item (atlas (g .query) .names) k c) body (t .pairs)
+              (t .cells + total (entry-terms (red .gave .gave .list))) (g .query) (queue-region figures) (figures .goals) front (t .active - 1) (c .body) r₄) where
             log-4 : LogOk s₄ (waiting-region figures) (waiters-region figures) (sets-region figures) (figures .pairs) (quieted zs slots)
             log-4 =
                 let z = sizes in
                 log-kept s₃ s₄ (waiting-region figures) (waiters-region figures) (sets-region figures) (figures .pairs) (quieted zs slots) (h₃ .ok) (h₄ .kept .size)
-                (λ w a b. h₄ .kept .same w (inr (omega (arith, z .compounds)), inl (omega arith)))
-                (λ w a b. h₄ .kept .same w (inr (omega (arith, z .compounds)), inr (omega arith)))
+                (λ w a b. h₄ .kept .same w (inr (omega (arith, z .before)), inl (omega arith)))
+                (λ w a b. h₄ .kept .same w (inr (omega (arith, z .before)), inr (omega arith)))
 
             pub adds-woken : AddsWoken s₄ (waiting-region figures) (waiters-region figures) (sets-region figures) (figures .pairs) slots zs r (queue-region figures)
                 (figures .goals) front (t .active - 1 + body)
@@ -437,7 +379,7 @@ module _ {s : List ℕ} {text : Bytes} {names : List Bytes} {j : Job} {figures :
                   ok = log-4;
                   number = h₃ .number;
                   places =
-                      listed-kept s₃ s₄ 40464 r (λ w a b. h₄ .kept .same w (inl (omega (arith, h₃ .few)), inl (omega (arith, h₃ .few)))) ∙ h₃ .places;
+                      listed-kept s₃ s₄ 40464 r (λ w a b. h₄ .kept .same w (inl (omega (arith, h₃ .few, z .behind)), inl (omega (arith, h₃ .few)))) ∙ h₃ .places;
                   few = h₃ .few;
                   behind = omega arith;
                   ring-ok = record { inside = omega (arith, z .room, size-3, h₄ .kept .size); front-inside = front-inside };
@@ -450,18 +392,26 @@ module _ {s : List ℕ} {text : Bytes} {names : List Bytes} {j : Job} {figures :
             -- The woken goals join it, and the query has a try more.
             module _ (s₅ : List ℕ) (h₅ : WokenAdded s₄ s₅ (waiting-region figures) (waiters-region figures) (sets-region figures) (figures .pairs) slots
                 (entry-places s₂ n) r (queue-region figures) (figures .goals) front (t .active - 1 + body)) where
-              same-5 : (w : ℕ) → Apart (vals + P) (vals + P + c .pairs) w → Apart (8 * low) (8 * high) w → Apart vals (vals + P) w → Apart 40464 40656 w
+              -- A word of no copy is none of either part's.
+              no-copy-2 : (w : ℕ) → Apart cells cells′ w → Apart cells middle w
+              no-copy-2 w (inl h) = inl h
+              no-copy-2 w (inr h) = inr (omega arith)
+
+              no-copy-4 : (w : ℕ) → Apart cells cells′ w → Apart middle cells′ w
+              no-copy-4 w (inl h) = inl (omega arith)
+              no-copy-4 w (inr h) = inr h
+
+              same-5 : (w : ℕ) → Apart (vals + P) (vals + P + c .pairs) w → Apart cells cells′ w → Apart vals (vals + P) w → Apart 40464 40656 w
                   → NotLogged (waiting-region figures) (waiters-region figures) (sets-region figures) (figures .pairs) (length slots) w
                   → Apart (queue-region figures) (queue-region figures + figures .goals) w → getD s₅ w 0 ≡ getD s w 0
               same-5 w a b d e f h =
-                  h₅ .kept .same w (h, f) ∙ h₄ .kept .same w (b, h) ∙ h₃ .kept .same w (e, f) ∙ h₂ .kept .same w (b, d) ∙ h₁ .kept .same w a
+                  h₅ .kept .same w (h, f) ∙ h₄ .kept .same w (no-copy-4 w b, h) ∙ h₃ .kept .same w (e, f) ∙ h₂ .kept .same w (no-copy-2 w b, d)
+                  ∙ h₁ .kept .same w a
 
               low-5 : (w : ℕ) → w < 40464 → getD s₅ w 0 ≡ getD s w 0
               low-5 w h =
-                  same-5 w (inl (omega arith)) (inl (omega arith)) (inl (omega arith)) (inl h) (inl (omega arith), inl (omega arith)) (inl (omega arith))
-
-              low-4 : (w : ℕ) → w < 39936 → getD s₄ w 0 ≡ getD s w 0
-              low-4 w h = h₄ .kept .same w (inl (omega arith), inl (omega arith)) ∙ low-3 w (omega arith)
+                  same-5 w (inl (omega arith)) (inl (omega (arith, sizes .behind))) (inl (omega arith)) (inl h) (inl (omega arith), inl (omega arith))
+                  (inl (omega arith))
 
               size-4 : length s₄ ≡ length s
               size-4 = h₄ .kept .size ∙ size-3
@@ -497,7 +447,7 @@ module _ {s : List ℕ} {text : Bytes} {names : List Bytes} {j : Job} {figures :
                     items = λ w a b. beyond w a ∙ low-5 w (omega arith);
                     behind = λ w a.
                         beyond w (omega arith)
-                        ∙ same-5 w (inr (omega (arith, z .pairs))) (inr (omega (arith, z .compounds))) (inr (omega (arith, z .pairs))) (inr (omega arith))
+                        ∙ same-5 w (inr (omega (arith, z .pairs))) (inr (omega (arith, z .before))) (inr (omega (arith, z .pairs))) (inr (omega arith))
                         (inr (omega arith), inr (omega (arith, z .used))) (inr (omega arith));
                   }
 
@@ -507,7 +457,7 @@ module _ {s : List ℕ} {text : Bytes} {names : List Bytes} {j : Job} {figures :
                   let z = sizes in
                   beyond w (omega arith)
                   ∙ h₅ .kept .same w (inl (omega arith), (inl b, inl (omega arith)))
-                  ∙ h₄ .kept .same w (inr (omega (arith, z .compounds)), inl (omega arith))
+                  ∙ h₄ .kept .same w (inr (omega (arith, z .before)), inl (omega arith))
                   ∙ h₃ .kept .same w (inr (omega arith), (inl b, inl (omega arith)))
 
               head-6 : (a : ℕ) → a < c .pairs → getD s₆ (vals + (P + a)) 0 ≡ getD s (39936 + a) 0
@@ -515,30 +465,37 @@ module _ {s : List ℕ} {text : Bytes} {names : List Bytes} {j : Job} {figures :
                   let z = sizes in
                   let e : vals + (P + a) ≡ vals + P + a = omega arith in
                   since-2 (vals + (P + a)) (omega arith) (omega (arith, z .pairs))
-                  ∙ h₂ .kept .same (vals + (P + a)) (inr (omega (arith, z .compounds)), inr (omega arith))
+                  ∙ h₂ .kept .same (vals + (P + a)) (inr (omega (arith, z .before)), inr (omega arith))
                   ∙ rw e (h₁ .given a h)
 
-              terms-in : (s′ : List ℕ) → length s′ ≡ length s → ((w : ℕ) → w < 39936 → getD s′ w 0 ≡ getD s w 0) → EntryTerms s′ x (atlas q) P list
-              terms-in s′ size same =
-                  entry-terms s s′ figures unit (atlas q) P k c list (sizes .number) (sizes .few-compounds) size same (λ m h. lies .pair-below q m here h)
-                  (red .gave .1 .held)
+              terms-2 : EntryTerms s₂ x (atlas q) P list
+              terms-2 =
+                  entries-held s s₂ figures unit (atlas q) P k c (red .gave .gave .low) (red .gave .gave .high) list (sizes .number) (sizes .few-compounds) size-2
+                  (λ w h. low-2 w (omega arith)) (λ m h. lies .pair-below q m here h) (red .gave .gave .held)
+
+              -- The copies from one scratch to a later one: of what is given, and of the body.
+              entries-to : (s₀ s′ : List ℕ) → length s′ ≡ length s₀ → ((w : ℕ) → vals ≤ w → w < vals + P → getD s′ w 0 ≡ getD s₀ w 0)
+                  → ((w : ℕ) → cells ≤ w → w < middle → getD s′ w 0 ≡ getD s₀ w 0)
+                  → EntriesGiven s₀ (atlas q) places vals (length (unit .values)) (unit .compounds) list
+                  → EntriesGiven s′ (atlas q) places vals (length (unit .values)) (unit .compounds) list
+              entries-to s₀ s′ size words same =
+                  entry-copies-stay x places P y (length (unit .values)) (unit .compounds) moved s₀ s′ (omega arith) (atlas q) vals P cells list
+                  (λ m h. words (vals + m) (omega arith) (omega arith)) same s₂ terms-2 spread-2
 
               entries-3 : EntriesGiven s₃ (atlas q) places vals (length (unit .values)) (unit .compounds) list
               entries-3 =
                   let z = sizes in
-                  given-still s₂ s₃ x (atlas q) places vals (length (unit .values)) (unit .compounds) P list
-                  (λ m h. h₃ .kept .same (vals + m) (inr (omega arith), (inl (omega (arith, z .pairs)), inl (omega (arith, z .pairs)))))
-                  (copy-stays s₂ s₃ x places P shift low high (length (unit .values)) (unit .compounds) goes moved (h₃ .kept .size)
-                  (λ w a b. h₃ .kept .same w (inr (omega arith), (inl (omega (arith, z .compounds)), inl (omega (arith, z .compounds))))))
-                  (terms-in s₂ size-2 (λ w h. low-2 w (omega arith)))
-                  (h₂ .given places (length (unit .values)) (unit .compounds) moved)
+                  entries-to s₂ s₃ (h₃ .kept .size)
+                  (λ w a b. h₃ .kept .same w (inr (omega arith), (inl (omega (arith, z .pairs)), inl (omega (arith, z .pairs)))))
+                  (λ w a b. h₃ .kept .same w (inr (omega (arith, z .behind)), (inl (omega (arith, z .before)), inl (omega (arith, z .before)))))
+                  (h₂ .given places y (length (unit .values)) (unit .compounds) moved spread-2)
 
               entries-4 : EntriesGiven s₄ (atlas q) places vals (length (unit .values)) (unit .compounds) list
               entries-4 =
                   let z = sizes in
-                  copies-to s₃ s₄ x (atlas q) places vals (length (unit .values)) (unit .compounds) P P shift list
-                  (λ m h. h₄ .kept .same (vals + m) (inr (omega (arith, z .compounds)), inl (omega (arith, z .pairs))))
-                  (h₄ .copies) moved (terms-in s₃ size-3 (λ w h. low-3 w (omega arith))) entries-3
+                  entries-to s₃ s₄ (h₄ .kept .size)
+                  (λ w a b. h₄ .kept .same w (inr (omega (arith, z .before)), inl (omega (arith, z .pairs))))
+                  (λ w a b. h₄ .kept .same w (inl b, inl (omega (arith, z .before)))) entries-3
 
               since-4 : (w : ℕ) → 40704 ≤ w → w < waiters-region figures → getD s₆ w 0 ≡ getD s₄ w 0
               since-4 w a b = beyond w (omega arith) ∙ h₅ .kept .same w (inl (omega arith), (inl b, inl (omega arith)))
@@ -546,18 +503,17 @@ module _ {s : List ℕ} {text : Bytes} {names : List Bytes} {j : Job} {figures :
               entries-6 : EntriesGiven s₆ (atlas q) places vals (length (unit .values)) (unit .compounds) list
               entries-6 =
                   let z = sizes in
-                  given-still s₄ s₆ x (atlas q) places vals (length (unit .values)) (unit .compounds) P list
-                  (λ m h. since-4 (vals + m) (omega arith) (omega (arith, z .pairs)))
-                  (copy-stays s₄ s₆ x places P shift low high (length (unit .values)) (unit .compounds) goes moved (size-6 ∙ h₅ .kept .size)
-                  (λ w a b. since-4 w (omega arith) (omega (arith, z .compounds))))
-                  (terms-in s₄ size-4 low-4) entries-4
+                  entries-to s₄ s₆ (size-6 ∙ h₅ .kept .size)
+                  (λ w a b. since-4 w (omega arith) (omega (arith, z .pairs)))
+                  (λ w a b. since-4 w (omega (arith, z .behind)) (omega (arith, z .before))) entries-4
 
               goals-6 : GoalsHeld s₆ places (length (unit .values)) (unit .compounds) (c .body)
               goals-6 =
                   let z = sizes in
-                  goal-copies-stay s₄ s₆ x places P shift low high (length (unit .values)) (unit .compounds) goes moved (size-6 ∙ h₅ .kept .size)
-                  (λ w a b. since-4 w (omega arith) (omega (arith, z .compounds)))
-                  (c .body) (fits-body .within) (h₄ .held places (length (unit .values)) (unit .compounds) moved)
+                  let size : length s₆ ≡ length s₄ = size-6 ∙ h₅ .kept .size in
+                  goal-copies-stay x places P y (length (unit .values)) (unit .compounds) moved s₄ s₆ (omega arith) middle (c .body)
+                  (λ w a b. since-4 w (omega (arith, z .behind)) (omega (arith, z .before)))
+                  (fits-body .within) spread-4 (h₄ .held places y (length (unit .values)) (unit .compounds) moved spread-4)
 
               log-6 : LogOk s₆ (waiting-region figures) (waiters-region figures) (sets-region figures) (figures .pairs) (emptied zs slots)
               log-6 =
@@ -578,9 +534,9 @@ module _ {s : List ℕ} {text : Bytes} {names : List Bytes} {j : Job} {figures :
                   (ring-kept (queue-region figures) (figures .goals) s₅ s₆ front (t .active - 1 + body + r) (omega (arith, adds-woken .space))
                   (λ w a b. beyond w (omega arith))
                   ∙ h₅ .items
-                  ∙ ap (λ l. l ++ woken zs slots) (h₄ .items places (length (unit .values)) (unit .compounds) moved))
+                  ∙ ap (λ l. l ++ woken zs slots) (h₄ .items places y (length (unit .values)) (unit .compounds) moved spread-4))
 
-              pub reduced : Reduced s s₆ figures atlas (σ .units) q P C c list slots zs front (t .active - 1)
+              pub reduced : Reduced s s₆ figures atlas (σ .units) q P C cells cells′ y c list slots zs front (t .active - 1)
               reduced =
                   let z = sizes in
                   record {
@@ -591,10 +547,11 @@ module _ {s : List ℕ} {text : Bytes} {names : List Bytes} {j : Job} {figures :
                     tries = λ i h other.
                         getD-set-other s₅ (query-record q + 4) (query-record i + 4) (getD s₅ (query-record q + 4) 0 + 1) 0 (λ e. other (omega arith))
                         ∙ low-5 (query-record i + 4) (omega arith);
+                    copied = copied;
                     older = λ w a b.
                         beyond w (omega arith)
-                        ∙ same-5 w (inl (omega (arith, z .compounds))) (inl (omega arith)) (inl (omega (arith, z .compounds))) (inr (omega arith))
-                        (inl (omega (arith, z .compounds)), inl (omega (arith, z .compounds))) (inl (omega (arith, z .compounds)));
+                        ∙ same-5 w (inl (omega (arith, z .before))) (inl b) (inl (omega (arith, z .before))) (inr (omega arith))
+                        (inl (omega (arith, z .before)), inl (omega (arith, z .before))) (inl (omega (arith, z .before)));
                     others = λ m h no.
                         since-2 (vals + m) (omega arith) (omega (arith, z .pairs)) ∙ h₂ .others m no ∙ h₁ .kept .same (vals + m) (inl (omega arith));
                     head = head-6;
@@ -602,16 +559,16 @@ module _ {s : List ℕ} {text : Bytes} {names : List Bytes} {j : Job} {figures :
                     goals = goals-6;
                     marks = λ w a b.
                         beyond w (omega arith)
-                        ∙ same-5 w (inr (omega (arith, z .pairs))) (inr (omega (arith, z .compounds))) (inr (omega (arith, z .pairs))) (inr (omega arith))
+                        ∙ same-5 w (inr (omega (arith, z .pairs))) (inr (omega (arith, z .before))) (inr (omega (arith, z .pairs))) (inr (omega arith))
                         (inr (omega arith), inl (omega arith)) (inl (omega arith));
                     failed = λ w a b.
                         beyond w (omega arith)
-                        ∙ same-5 w (inr (omega (arith, z .pairs))) (inr (omega (arith, z .compounds))) (inr (omega (arith, z .pairs))) (inr (omega arith))
+                        ∙ same-5 w (inr (omega (arith, z .pairs))) (inr (omega (arith, z .before))) (inr (omega (arith, z .pairs))) (inr (omega arith))
                         (inr (omega arith), inr (omega (arith, z .used))) (inr (omega arith));
                     log = log-6;
                     queue = queue-6;
                     ends = λ w a b.
                         beyond w (omega arith)
-                        ∙ same-5 w (inr (omega (arith, z .pairs))) (inr (omega (arith, z .compounds))) (inr (omega (arith, z .pairs))) (inr (omega arith))
+                        ∙ same-5 w (inr (omega (arith, z .pairs))) (inr (omega (arith, z .before))) (inr (omega (arith, z .pairs))) (inr (omega arith))
                         (inr (omega arith), inl (omega arith)) (inl b);
                   }

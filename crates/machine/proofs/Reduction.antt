@@ -1,8 +1,8 @@
 -- A reduction that fits is the next step of the run; one that does not fit leaves the state as it was.
-use Prim.Native.Nat.{ℕ, zero, suc, _+_, _-_, _*_, _≤_, _<_}
+use Prim.Native.Nat.{ℕ, _+_, _-_, _*_, _≤_, _<_}
 use mathlib.Core.Path.{_≡_, refl, sym, ap, _∙_}
-use mathlib.Core.Bool.{Bool, true, false, not, _&&_, true≢false, false≢true}
-use mathlib.Core.List.{List, [], _∷_}
+use mathlib.Core.Bool.{Bool, true, false, not, true≢false, false≢true}
+use mathlib.Core.List.{List}
 use native.Mathlib.Omega.{arith}
 use lib.Dec.{leb}
 use lib.ListN.{length, getD, set, length-set}
@@ -13,21 +13,21 @@ use Rattle.meaning.specs.State.{Room, Goal, State, number-of}
 use Rattle.meaning.specs.Compare.{Assignment}
 use Rattle.meaning.specs.Trial.{reduces}
 use Rattle.meaning.specs.Step.{without-front}
-use Rattle.meaning.specs.Run.{within, fits, choice-for, run}
+use Rattle.meaning.specs.Run.{within, fits, run}
 use Rattle.term.specs.Cells.{Places}
 use Rattle.term.specs.Jobs.{query-record}
 use Rattle.term.specs.Layout.{values-region, waiters-region, sets-region, queue-region, waiting-region}
 use Rattle.term.specs.States.{Atlas}
 use Rattle.term.specs.declared.state.Standing.{Standing}
-use Rattle.machine.specs.declared.step.Stepped.{Stepped}
 use Rattle.machine.specs.declared.step.Stepped.the-variants.{Next, NoRoom}
 use Rattle.queues.specs.Log.{Slot}
 use Rattle.compare.specs.Gifts.{Entry}
-use Rattle.reduction.specs.Build.{Item}
-use Rattle.reduction.specs.Reducing.{HeadAssigned, Assigning, GoalAssigned, Wakes, Waked, Adding, Added, AddsWoken, WokenAdded, entry-places, hits, emptied}
+use Rattle.reduction.specs.Build.{Item, Copies, total}
+use Rattle.reduction.specs.Reducing.{entry-terms, HeadAssigned, Assigning, GoalAssigned, Wakes, Waked, Adding, Added, AddsWoken, WokenAdded, entry-places, hits, emptied}
 use Rattle.queues.specs.Ring.{Passed}
-use Rattle.machine.specs.Running.{RunOnly, Running, StepIs}
+use Rattle.machine.specs.Running.{RunOnly, StepIs}
 use Rattle.machine.specs.Taking.{Taken, Counted, Reducing}
+use Rattle.machine.proofs.ClauseEntries.{clause-item}
 use Rattle.machine.proofs.NextState.{Reduced, StandingAfter, WokenAre, running-now}
 use Rattle.machine.proofs.NextUnits.{atlas-after}
 use Rattle.machine.proofs.ReduceParts as parts
@@ -125,22 +125,23 @@ module _ {s : List ℕ} {text : Bytes} {names : List Bytes} {j : Job} {figures :
         → StepIs s s text names j figures limit atlas g others t NoRoom
     reduction-stops fit = record { only = run-only-same figures s; told = (rw (red .chosen) fit, taken .running .state) }
 
-    pub reduction-steps : (s′ : List ℕ) (u : Standing) (front : ℕ) (zs : List ℕ)
+    pub reduction-steps : (s′ : List ℕ) (u : Standing) (cells′ : ℕ) (y : Copies) (front : ℕ) (zs : List ℕ)
         → fits figures (reduces c given) (run j limit figures .state) (without-front others (run j limit figures .state .goals)) ≡ true
         → Passed (figures .goals) (t .front) front
-        → Reduced s s′ figures atlas (run j limit figures .state .units) (g .query) (t .pairs) (t .compounds) c (red .gave .1 .list) slots zs front (t .active - 1)
-        → StandingAfter t u c front (length (hits zs 0 slots))
+        → Reduced s s′ figures atlas (run j limit figures .state .units) (g .query) (t .pairs) (t .compounds) (t .cells) cells′ y c (red .gave .gave .list) slots zs
+        front (t .active - 1)
+        → StandingAfter t u c cells′ front (length (hits zs 0 slots))
         → WokenAre atlas (g .query) given (run j limit figures .state .goals .waiting) slots zs
         → StepIs s s′ text names j figures limit atlas g others t (Next u)
-    reduction-steps s′ u front zs fit passed done after waked =
+    reduction-steps s′ u cells′ y front zs fit passed done after waked =
         record {
           only = done .only;
           told = (
             rw (red .chosen) fit,
-            atlas-after atlas (σ .units) (g .query) (t .pairs) (t .compounds),
+            atlas-after atlas (σ .units) (g .query) (t .pairs) y,
             emptied zs slots,
             after .steps,
-            running-now s s′ text names j figures limit atlas slots g others t u query k n c given front zs taken red fit passed done after waked,
+            running-now s s′ text names j figures limit atlas slots g others t u query k n c given cells′ y front zs taken red fit passed done after waked,
           );
         }
 
@@ -167,46 +168,48 @@ module _ {s : List ℕ} {text : Bytes} {names : List Bytes} {j : Job} {figures :
     h₁ : HeadAssigned s s₁ (values-region figures) (t .pairs) (c .pairs)
     h₁ = rw (e₁, e₂) at raw₁
 
-    module _ {values₂ shift : ℕ} (e₃ : values₂ ≡ values-region figures) (e₄ : shift ≡ 4448 + t .compounds - 32 * k) where
-      pub asks-2 : (x : Item) × (unit : Places) × (bound : ℕ) × (low : ℕ) × (high : ℕ) × (list : List Entry)
-          × Assigning s₁ x unit values₂ bound (t .pairs) shift low high n list
-      asks-2 = (parts.clause-item (atlas (g .query) .names) k c, atlas (g .query), t .pairs, 5088 + t .compounds, 5088 + t .compounds + c .compounds, red .gave .1 .list, rw (e₃, e₄) (parts.assigning taken red fit s₁ h₁))
+    module _ {values₂ : ℕ} (e₃ : values₂ ≡ values-region figures) where
+      pub asks-2 : (x : Item) × (unit : Places) × (bound : ℕ) × (list : List Entry) × Assigning s₁ x unit values₂ bound (t .pairs) (t .cells) n list
+      asks-2 = (clause-item (atlas (g .query) .names) k c, atlas (g .query), t .pairs, red .gave .gave .list, rw e₃ (parts.assigning taken red fit s₁ h₁))
 
-      module _ {s₂ : List ℕ} (raw₂ : (x : Item) (unit : Places) (bound low high : ℕ) (list : List Entry)
-          → Assigning s₁ x unit values₂ bound (t .pairs) shift low high n list → GoalAssigned s₁ s₂ x unit values₂ bound (t .pairs) shift low high list) where
-        h₂ : GoalAssigned s₁ s₂ (parts.clause-item (atlas (g .query) .names) k c) (atlas (g .query)) (values-region figures) (t .pairs) (t .pairs)
-            (4448 + t .compounds - 32 * k) (5088 + t .compounds) (5088 + t .compounds + c .compounds) (red .gave .1 .list)
-        h₂ = (rw (e₃, e₄) at raw₂) _ _ _ _ _ _ (parts.assigning taken red fit s₁ h₁)
+      module _ {s₂ : List ℕ} {r₂ : ℕ} (raw₂ : (x : Item) (unit : Places) (bound : ℕ) (list : List Entry)
+          → Assigning s₁ x unit values₂ bound (t .pairs) (t .cells) n list → GoalAssigned s₁ s₂ x unit values₂ bound (t .pairs) (t .cells) list r₂) where
+        h₂ : GoalAssigned s₁ s₂ (clause-item (atlas (g .query) .names) k c) (atlas (g .query)) (values-region figures) (t .pairs) (t .pairs) (t .cells)
+            (red .gave .gave .list) r₂
+        h₂ = (rw e₃ at raw₂) _ _ _ _ (parts.assigning taken red fit s₁ h₁)
 
         module _ {waiting₁ waiters sets : ℕ} (e₅ : waiting₁ ≡ waiting-region figures) (e₆ : waiters ≡ waiters-region figures) (e₇ : sets ≡ sets-region figures) where
           pub asks-3 : (all : ℕ) × (vs : List Slot) × Wakes s₂ waiting₁ waiters sets all vs n
-          asks-3 = (figures .pairs, slots, rw (e₅, e₆, e₇) (parts.waking taken red fit s₁ h₁ s₂ h₂))
+          asks-3 = (figures .pairs, slots, rw (e₅, e₆, e₇) (parts.waking taken red fit s₁ h₁ s₂ r₂ h₂))
 
           module _ {s₃ : List ℕ} {r : ℕ} (raw₃ : (all : ℕ) (vs : List Slot) → Wakes s₂ waiting₁ waiters sets all vs n → Waked s₂ s₃ waiting₁ waiters sets all vs n r) where
             h₃ : Waked s₂ s₃ (waiting-region figures) (waiters-region figures) (sets-region figures) (figures .pairs) slots n r
-            h₃ = (rw (e₅, e₆, e₇) at raw₃) _ _ (parts.waking taken red fit s₁ h₁ s₂ h₂)
+            h₃ = (rw (e₅, e₆, e₇) at raw₃) _ _ (parts.waking taken red fit s₁ h₁ s₂ r₂ h₂)
 
             module _ {front active body queue₁ : ℕ} (passed : Passed (figures .goals) (t .front) front) (e₈ : active ≡ t .active - 1) (e₉ : body ≡ length (c .body))
                 (d₁ : queue₁ ≡ queue-region figures) where
-              pub asks-4 : (x : Item) × (low : ℕ) × (high : ℕ) × (goals : List Named)
-                  × Adding s₃ x (2560 + 16 * k + 4) body (t .pairs) shift low high query queue₁ (figures .goals) front active goals
-              asks-4 =
-                  (parts.clause-item (atlas (g .query) .names) k c, 5088 + t .compounds, 5088 + t .compounds + c .compounds, c .body, rw (e₄, e₈, d₁, red .query-is) (parts.adding taken red fit s₁ h₁ s₂ h₂ s₃ r h₃ front body (passed .front-inside) e₉))
+              pub asks-4 : (x : Item) × (goals : List Named)
+                  × Adding s₃ x (2560 + 16 * k + 4) body (t .pairs) r₂ query queue₁ (figures .goals) front active goals
+              asks-4 = (
+                clause-item (atlas (g .query) .names) k c,
+                c .body,
+                rw (h₂ .behind, e₈, d₁, red .query-is) (parts.adding taken red fit s₁ h₁ s₂ r₂ h₂ s₃ r h₃ front body (passed .front-inside) e₉),
+              )
 
-              module _ {s₄ : List ℕ} (raw₄ : (x : Item) (low high : ℕ) (goals : List Named)
-                  → Adding s₃ x (2560 + 16 * k + 4) body (t .pairs) shift low high query queue₁ (figures .goals) front active goals
-                  → Added s₃ s₄ x body (t .pairs) shift low high query queue₁ (figures .goals) front active goals) where
-                h₄ : Added s₃ s₄ (parts.clause-item (atlas (g .query) .names) k c) body (t .pairs) (4448 + t .compounds - 32 * k) (5088 + t .compounds)
-                    (5088 + t .compounds + c .compounds) (g .query) (queue-region figures) (figures .goals) front (t .active - 1) (c .body)
+              module _ {s₄ : List ℕ} {r₄ : ℕ} (raw₄ : (x : Item) (goals : List Named)
+                  → Adding s₃ x (2560 + 16 * k + 4) body (t .pairs) r₂ query queue₁ (figures .goals) front active goals
+                  → Added s₃ s₄ x body (t .pairs) r₂ query queue₁ (figures .goals) front active goals r₄) where
+                h₄ : Added s₃ s₄ (clause-item (atlas (g .query) .names) k c) body (t .pairs) (t .cells + total (entry-terms (red .gave .gave .list)))
+                    (g .query) (queue-region figures) (figures .goals) front (t .active - 1) (c .body) r₄
                 h₄ =
-                    (rw (e₄, e₈, d₁, red .query-is) at raw₄) _ _ _ _
-                    (parts.adding taken red fit s₁ h₁ s₂ h₂ s₃ r h₃ front body (passed .front-inside) e₉)
+                    (rw (h₂ .behind, e₈, d₁, red .query-is) at raw₄) _ _
+                    (parts.adding taken red fit s₁ h₁ s₂ r₂ h₂ s₃ r h₃ front body (passed .front-inside) e₉)
 
                 module _ {waiting₂ queue₂ : ℕ} (d₂ : waiting₂ ≡ waiting-region figures) (d₃ : queue₂ ≡ queue-region figures) where
                   pub asks-5 : (ws : ℕ) × (ss : ℕ) × (all : ℕ) × (vs : List Slot) × (zs : List ℕ)
                       × AddsWoken s₄ waiting₂ ws ss all vs zs r queue₂ (figures .goals) front (active + body)
                   asks-5 =
-                      (waiters-region figures, sets-region figures, figures .pairs, slots, entry-places s₂ n, rw (d₂, d₃, e₈) (parts.adds-woken taken red fit s₁ h₁ s₂ h₂ s₃ r h₃ front body (passed .front-inside) e₉ s₄ h₄))
+                      (waiters-region figures, sets-region figures, figures .pairs, slots, entry-places s₂ n, rw (d₂, d₃, e₈) (parts.adds-woken taken red fit s₁ h₁ s₂ r₂ h₂ s₃ r h₃ front body (passed .front-inside) e₉ s₄ r₄ h₄))
 
                   module _ {s₅ : List ℕ} (raw₅ : (ws ss all : ℕ) (vs : List Slot) (zs : List ℕ)
                       → AddsWoken s₄ waiting₂ ws ss all vs zs r queue₂ (figures .goals) front (active + body)
@@ -215,33 +218,33 @@ module _ {s : List ℕ} {text : Bytes} {names : List Bytes} {j : Job} {figures :
                         (queue-region figures) (figures .goals) front (t .active - 1 + body)
                     h₅ =
                         (rw (d₂, d₃, e₈) at raw₅) _ _ _ _ _
-                        (parts.adds-woken taken red fit s₁ h₁ s₂ h₂ s₃ r h₃ front body (passed .front-inside) e₉ s₄ h₄)
+                        (parts.adds-woken taken red fit s₁ h₁ s₂ r₂ h₂ s₃ r h₃ front body (passed .front-inside) e₉ s₄ r₄ h₄)
 
                     size-5 : length s₅ ≡ length s
-                    size-5 = parts.size-5 taken red fit s₁ h₁ s₂ h₂ s₃ r h₃ front body (passed .front-inside) e₉ s₄ h₄ s₅ h₅
+                    size-5 = parts.size-5 taken red fit s₁ h₁ s₂ r₂ h₂ s₃ r h₃ front body (passed .front-inside) e₉ s₄ r₄ h₄ s₅ h₅
 
                     pub asks-6 : (query < 8) × (5120 ≤ length s₅) × (getD s₅ (query-record query + 4) 0 ≤ 1000000)
                     asks-6 =
                         rw (red .query-is) (
                           parts.few-query taken red fit,
                           omega (arith, size-5, taken .running .inside),
-                          parts.tries-few taken red fit s₁ h₁ s₂ h₂ s₃ r h₃ front body (passed .front-inside) e₉ s₄ h₄ s₅ h₅,
+                          parts.tries-few taken red fit s₁ h₁ s₂ r₂ h₂ s₃ r h₃ front body (passed .front-inside) e₉ s₄ r₄ h₄ s₅ h₅,
                         )
 
                     pub woken-few : (active + body + r ≤ figures .goals) × (r ≤ t .waiting)
                     woken-few = (
-                      rw e₈ (parts.adds-woken taken red fit s₁ h₁ s₂ h₂ s₃ r h₃ front body (passed .front-inside) e₉ s₄ h₄ .space),
-                      parts.few-woken taken red fit s₁ h₁ s₂ h₂ s₃ r h₃,
+                      rw e₈ (parts.adds-woken taken red fit s₁ h₁ s₂ r₂ h₂ s₃ r h₃ front body (passed .front-inside) e₉ s₄ r₄ h₄ .space),
+                      parts.few-woken taken red fit s₁ h₁ s₂ r₂ h₂ s₃ r h₃,
                     )
 
                     module _ (s₆ : List ℕ) (raw₆ : s₆ ≡ set s₅ (query-record query + 4) (getD s₅ (query-record query + 4) 0 + 1)) where
                       pub size-6 : length s₆ ≡ length s
                       size-6 = ap length raw₆ ∙ length-set s₅ (query-record query + 4) (getD s₅ (query-record query + 4) 0 + 1) ∙ size-5
 
-                      pub ends : (u : Standing) → StandingAfter t u c front r → StepIs s s₆ text names j figures limit atlas g others t (Next u)
+                      pub ends : (u : Standing) → StandingAfter t u c r₄ front r → StepIs s s₆ text names j figures limit atlas g others t (Next u)
                       ends u after =
                           rw (raw₆, red .query-is)
-                          (reduction-steps taken red _ u front (entry-places s₂ n) fit passed
-                          (parts.reduced taken red fit s₁ h₁ s₂ h₂ s₃ r h₃ front body (passed .front-inside) e₉ s₄ h₄ s₅ h₅)
-                          (rw (← h₃ .number) after)
-                          (parts.waked-are taken red fit s₁ h₁ s₂ h₂))
+                          (reduction-steps taken red _ u _ _ front (entry-places s₂ n) fit passed
+                          (parts.reduced taken red fit s₁ h₁ s₂ r₂ h₂ s₃ r h₃ front body (passed .front-inside) e₉ s₄ r₄ h₄ s₅ h₅)
+                          (rw (← h₃ .number, ← h₄ .behind) after)
+                          (parts.waked-are taken red fit s₁ h₁ s₂ r₂ h₂))

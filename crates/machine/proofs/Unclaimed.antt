@@ -99,8 +99,8 @@ pub record Apart (units : List QueryUnit) (g : Goal) (readers : List ℕ) (waiti
   pub their-readers : (w : Waiting) → In w waiting → (p : ℕ) → In p (w .readers) → p < length (unit-at (w .goal .query) units .values)
   pub different : (w : Waiting) → In w waiting → w .goal .query ≡ g .query → (p : ℕ) → In p (w .readers) → In p readers → ⊥
 
-module _ (names : List Bytes) (figures : Room) (atlas : Atlas) (units : List QueryUnit) (pairs compounds : ℕ)
-    (lies : Lies names figures atlas units pairs compounds) (g : Goal) (readers : List ℕ) (waiting : List Waiting)
+module _ (names : List Bytes) (figures : Room) (atlas : Atlas) (units : List QueryUnit) (pairs compounds cells : ℕ)
+    (lies : Lies names figures atlas units pairs compounds cells) (g : Goal) (readers : List ℕ) (waiting : List Waiting)
     (a : Apart units g readers waiting) where
   none-waits : (w : Waiting) → In w waiting → (r : ℕ) → In r readers → among (atlas (g .query) .pair r) (pairs-in (slot-of atlas w)) ≡ false
   none-waits w m r n =

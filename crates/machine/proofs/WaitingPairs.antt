@@ -18,6 +18,7 @@ use Rattle.meaning.proofs.Runs.{run-placed}
 use Rattle.meaning.proofs.Reading.{accepted-keeps-the-occurrence-rules}
 use Rattle.meaning.proofs.Single.{single-occurrence}
 use Rattle.term.specs.States.{Atlas, goal-word, AllStand}
+use Rattle.reduction.specs.Build.{Copies}
 use Rattle.queues.specs.Log.{Slot, waits, gathered}
 use Rattle.machine.specs.Running.{slot-of}
 use Rattle.machine.proofs.Growing.{Grown}
@@ -37,16 +38,16 @@ waiting-readers text j reads limit figures =
     each-in _ (single-occurrence j (accepted-keeps-the-occurrence-rules text j reads) limit figures k inside .readers-in-range)
     (in-those (λ u. of k (u .goal)) m (eq-eqb k k refl)))
 
-module _ (s s′ : List ℕ) (names : List Bytes) (figures : Room) (atlas : Atlas) (units : List QueryUnit) (q P C : ℕ) (c : Clause) (given : List Assignment)
-    (r : Enlarges s s′ names figures atlas units q P C c) where
+module _ (s s′ : List ℕ) (names : List Bytes) (figures : Room) (atlas : Atlas) (units : List QueryUnit) (q P C cells cells′ : ℕ) (y : Copies) (c : Clause) (given : List Assignment)
+    (r : Enlarges s s′ names figures atlas units q P C cells cells′ y c) where
   abbrev atlas′ : Atlas
-  atlas′ = atlas-after atlas units q P C
+  atlas′ = atlas-after atlas units q P y
 
   pairs-same : (k : ℕ) → k < length units → (ps : List ℕ) → Each (λ p. p < length (unit-at k units .values)) ps
       → map (λ p. atlas′ k .pair p) ps ≡ map (λ p. atlas k .pair p) ps
   pairs-same k h [] b = refl
   pairs-same k h (p ∷ ps) b =
-      let first = grown s s′ names figures atlas units q P C c given r k h .agree .pair p (b .0) in
+      let first = grown s s′ names figures atlas units q P C cells cells′ y c given r k h .agree .pair p (b .0) in
       let later = pairs-same k h ps (b .1) in
       cc
 
@@ -54,7 +55,7 @@ module _ (s s′ : List ℕ) (names : List Bytes) (figures : Room) (atlas : Atla
       → map (slot-of atlas′) ws ≡ map (slot-of atlas) ws
   slots-same [] h b = refl
   slots-same (w ∷ ws) h b =
-      let goal = goal-word-same s s′ names figures atlas units q P C c given r (w .goal) (h .0) in
+      let goal = goal-word-same s s′ names figures atlas units q P C cells cells′ y c given r (w .goal) (h .0) in
       let set = ap (gathered []) (pairs-same (w .goal .query) (h .0 .query) (w .readers) (b .0)) in
       let later = slots-same ws (h .1) (b .1) in
       cc

@@ -85,9 +85,9 @@ module _ (s s₁ : List ℕ) (text : Bytes) (names : List Bytes) (j : Job) (figu
         );
         space = omega (arith, place-inside, k .running .inside, free .only .size);
         apart = omega (arith, joins .few);
-        small = reader-small names figures atlas (state .units) (state .pairs) (state .compounds) (k .running .state .lies) g readers
+        small = reader-small names figures atlas (state .units) (state .pairs) (state .compounds) (t .cells) (k .running .state .lies) g readers
             (state .goals .waiting) apart s₁ n words;
-        unclaimed = reader-unclaimed names figures atlas (state .units) (state .pairs) (state .compounds) (k .running .state .lies) g readers
+        unclaimed = reader-unclaimed names figures atlas (state .units) (state .pairs) (state .compounds) (t .cells) (k .running .state .lies) g readers
             (state .goals .waiting) apart s₁ n words (free .slots-now) goals-are;
       }
 

@@ -147,11 +147,11 @@ unfolding entry-places
 entry-places-are s item unit n list size k =
     let e : n ≡ 0 + length list = omega arith in rw e (places-on s item unit 0 list k)
 
-pub entries-below : (s : List ℕ) (x : Setting) (y : Template) (list : List Entry) → AllEntries s x y list
+pub entries-below : (s : List ℕ) (x : Setting) (y : Template) (low high : ℕ) (list : List Entry) → AllEntries s x y low high list
     → Each (λ e. e .pair < length (x .values)) list
 unfolding AllEntries
-entries-below s x y [] k = tt
-entries-below s x y (e ∷ es) k = (k .0 .0, entries-below s x y es (k .1))
+entries-below s x y low high [] k = tt
+entries-below s x y low high (e ∷ es) k = (k .0, entries-below s x y (k .2) high es (k .5))
 
 any-map : {A B : Type 0} (t : B → Bool) (f : A → B) (l : List A) → any t (map f l) ≡ any (λ a. t (f a)) l
 unfolding any

@@ -37,6 +37,7 @@ pub record Entered (s : List ℕ) (text : Bytes) (names : List Bytes) (j : Job) 
   pub fit : queries-fit figures (j .queries) ≡ true
   pub held : HoldsJob s names j
   pub state : HoldsState s names figures done atlas (start done) t
+  pub cells : 40704 ≤ t .cells
   pub front : t .front ≡ 0
   pub log : t .log ≡ 0
   pub room-zero : (k : ℕ) → values-region figures ≤ k → k < queue-region figures → getD s k 0 ≡ 0

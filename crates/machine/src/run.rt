@@ -3,6 +3,7 @@ use crate::step::Stepped;
 use crate::step::step;
 use reduction::reduce::add_goals;
 use term::layout;
+use term::layout::COMPOUNDS;
 use term::layout::QUERIES;
 use term::layout::Room;
 use term::state::Standing;
@@ -99,12 +100,12 @@ fn enter(s: &mut [u64], room: Room, q: usize, t: Standing) -> Standing
     let goals = index(word_at(s, QUERIES + 64 * q, 0));
     let pairs = index(word_at(s, QUERIES + 64 * q, 1));
     let compounds = index(word_at(s, QUERIES + 64 * q, 2));
-    add_goals(
+    let cells = add_goals(
         s,
         QUERIES + 64 * q + 8,
         goals,
         t.pairs,
-        352 + t.compounds - 32 * q,
+        t.cells,
         q,
         layout::queue(room),
         room.goals,
@@ -115,6 +116,7 @@ fn enter(s: &mut [u64], room: Room, q: usize, t: Standing) -> Standing
     Standing {
         pairs: t.pairs + pairs,
         compounds: t.compounds + compounds,
+        cells,
         front: 0,
         active: t.active + goals,
         log: 0,
@@ -136,6 +138,7 @@ fn enter_all(s: &mut [u64], room: Room, queries: usize) -> Standing
     let mut t = Standing {
         pairs: 0,
         compounds: 0,
+        cells: COMPOUNDS,
         front: 0,
         active: 0,
         log: 0,

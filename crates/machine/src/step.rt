@@ -98,11 +98,10 @@ fn reduce(s: &mut [u64], room: Room, t: Standing, query: usize, k: usize, n: usi
     if !fits(room, t, pairs, compounds, body) {
         return Stepped::NoRoom;
     }
-    let shift = 4448 + t.compounds - 32 * k;
     let front = behind(room.goals, t.front);
     let active = t.active - 1;
     assign_head(s, layout::values(room), t.pairs, pairs);
-    assign_goal(s, layout::values(room), t.pairs, shift, n);
+    let free = assign_goal(s, layout::values(room), t.pairs, t.cells, n);
     let woken = wake(
         s,
         layout::waiting(room),
@@ -110,12 +109,12 @@ fn reduce(s: &mut [u64], room: Room, t: Standing, query: usize, k: usize, n: usi
         layout::sets(room),
         n,
     );
-    add_goals(
+    let cells = add_goals(
         s,
         CLAUSES + 16 * k + 4,
         body,
         t.pairs,
-        shift,
+        free,
         query,
         layout::queue(room),
         room.goals,
@@ -135,6 +134,7 @@ fn reduce(s: &mut [u64], room: Room, t: Standing, query: usize, k: usize, n: usi
     Stepped::Next(Standing {
         pairs: t.pairs + pairs,
         compounds: t.compounds + compounds,
+        cells,
         front,
         active: active + body + woken,
         log: t.log,
@@ -194,6 +194,7 @@ fn add_waiting(
     Stepped::Next(Standing {
         pairs: t.pairs,
         compounds: t.compounds,
+        cells: t.cells,
         front: behind(room.goals, t.front),
         active: t.active - 1,
         log: log + 1,
@@ -239,6 +240,7 @@ fn join_failed(s: &mut [u64], room: Room, t: Standing, goal: u64, query: usize) 
     Stepped::Next(Standing {
         pairs: t.pairs,
         compounds: t.compounds,
+        cells: t.cells,
         front: behind(room.goals, t.front),
         active: t.active - 1,
         log: t.log,

@@ -47,8 +47,8 @@ TellsCompound s pair to p s′ r =
 
 module _ (s : List ℕ) (pair at to h : ℕ) where
   -- The copy's word and its compounds have places.
-  pub term-inside : AsksTerm s pair at to h → (at < length s) × (to + 8 ≤ length s)
-  term-inside (x, t, o, a) = (a .inside, omega (arith, o .room))
+  pub term-inside : AsksTerm s pair at to h → (at < length s) × (to ≤ length s)
+  term-inside (x, t, o, a) = (a .inside, omega (arith, o .inside))
 
   -- A pair's copy is one of the pairs.
   pub writer-fits : AsksTerm s pair at to h → (m : ℕ) → view (h % 8) (h / 8) ≡ Writer m → pair + m < 4294967296
@@ -89,13 +89,13 @@ pub walk-begins : (s₁ : List ℕ) (pair to p k : ℕ) → Walking s₁ pair to
 walk-begins s₁ pair to p k s₀ put e x n f ts o = (0, ts, begin s₀ x pair to p n f ts o k e s₁ put)
 
 -- The compound and its copy lie in the scratch.
-pub compound-inside : (s : List ℕ) (pair to p : ℕ) → AsksCompound s pair to p → (p + 8 ≤ length s) × (to + 9 ≤ length s)
+pub compound-inside : (s : List ℕ) (pair to p : ℕ) → AsksCompound s pair to p → (p + 8 ≤ length s) × (to + 8 ≤ length s)
 compound-inside s pair to p (x, n, f, ts, o) =
     let end-in = room s x pair to p n f ts o in
     (omega (arith, there s x pair to p n f ts o, o .behind), omega arith)
 
 module _ (s₀ : List ℕ) (pair to p k : ℕ) (e : k ≡ getD s₀ p 0 % 8) where
-  pub copy-inside : AsksCompound s₀ pair to p → to + 1 + k + 8 ≤ length s₀
+  pub copy-inside : AsksCompound s₀ pair to p → to + 1 + k + 7 ≤ length s₀
   copy-inside (x, n, f, ts, o) = omega (arith, room s₀ x pair to p n f ts o, number-is s₀ x pair to p n f ts o k e)
 
   module _ (s₁ : List ℕ) (put : s₁ ≡ set s₀ to (getD s₀ p 0)) (s : List ℕ) (free i : ℕ) (walk : Walking s₁ pair to p k s free i) where

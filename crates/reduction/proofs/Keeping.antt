@@ -14,6 +14,11 @@ pub not-apart : (lo hi k i : ℕ) → Apart lo hi k → lo ≤ i → i < hi → 
 not-apart lo hi k i (inl a) l h e = omega arith
 not-apart lo hi k i (inr a) l h e = omega arith
 
+-- Apart from a region is apart from what lies in it.
+pub apart-inside : (lo hi lo′ hi′ k : ℕ) → lo ≤ lo′ → hi′ ≤ hi → Apart lo hi k → Apart lo′ hi′ k
+apart-inside lo hi lo′ hi′ k l h (inl a) = inl (omega arith)
+apart-inside lo hi lo′ hi′ k l h (inr a) = inr (omega arith)
+
 pub only-apart : (lo hi k : ℕ) (s s′ : List ℕ) → Only lo hi s s′ → Apart lo hi k → getD s′ k 0 ≡ getD s k 0
 only-apart lo hi k s s′ o (inl a) = o .below k a
 only-apart lo hi k s s′ o (inr a) = o .above k a

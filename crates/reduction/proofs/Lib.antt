@@ -1,3 +1,5 @@
+pub mod Added
+pub mod Assigned
 pub mod Awaking
 pub mod Copies
 pub mod CopyCalls
@@ -7,4 +9,5 @@ pub mod HitSlots
 pub mod Hits
 pub mod Inserting
 pub mod Keeping
+pub mod ReduceCalls
 pub mod Spreading

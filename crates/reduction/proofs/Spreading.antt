@@ -1,16 +1,16 @@
 -- Compounds copied one behind the other: how many words they take, that there are places for them, lists of terms joined, and that copies stay held
 -- where their own words stay.
 use Prim.Native.Nat.{ℕ, _+_, _*_, _≤_, _<_}
-use mathlib.Core.Path.{_≡_, refl, ap, sym, _∙_}
+use mathlib.Core.Path.{_≡_, refl, _∙_}
+use mathlib.Core.Bool.{Bool, true, false}
 use mathlib.Core.List.{List, [], _∷_, _++_}
 use native.Mathlib.Omega.{arith}
 use lib.Dec.{ltb}
 use lib.ListN.{length, getD}
-use borrow.Author.Tests.{lt-ltb, le-ltb, ltb-true, ltb-false}
-use mathlib.Core.Bool.{Bool, true, false}
+use borrow.Author.Tests.{lt-ltb, le-ltb}
 use Rattle.meaning.specs.Bytes.{if_then_else_}
 use Rattle.meaning.specs.Terms.{Term, Terms, Named, variable, constant, compound, end, more, count, renamed, all-renamed, as-term}
-use Rattle.term.specs.Cells.{Places, Numbered, AllNumbered, term-word}
+use Rattle.term.specs.Cells.{Places, Numbered, AllNumbered}
 use Rattle.term.specs.Every.{Every, EveryOf}
 use Rattle.term.specs.Holds.{Holds}
 use Rattle.term.specs.Jobs.{GoalsNumbered}
@@ -21,16 +21,16 @@ use Rattle.compare.specs.Gifts.{Entry}
 use Rattle.reduction.specs.Build.{Item, size, sizes, Copies, Spread, AllSpread, total, ListSpread, Rising, Moved}
 use Rattle.reduction.specs.Reducing.{EntryTerms, entry-terms, EntriesGiven, GoalsWithin, goal-terms, GoalsHeld}
 
--- A compound takes at most seven words, so eight for each number are enough.
+-- A compound takes at most seven words.
 mutual
   unfolding Numbered AllNumbered size sizes count
 
-  pub size-few : (lo hi : ℕ) (t : Term) → Numbered lo hi t → size t + 8 * lo ≤ 8 * hi
+  pub size-few : (lo hi : ℕ) (t : Term) → Numbered lo hi t → size t + 7 * lo ≤ 7 * hi
   size-few lo hi (variable h n) k = omega arith
   size-few lo hi (constant c) k = omega arith
   size-few lo hi (compound n f ts) k = omega (arith, k .1, sizes-few (lo + 1) hi ts (k .2))
 
-  pub sizes-few : (lo hi : ℕ) (ts : Terms) → AllNumbered lo hi ts → sizes ts + 8 * lo ≤ 8 * hi
+  pub sizes-few : (lo hi : ℕ) (ts : Terms) → AllNumbered lo hi ts → sizes ts + 7 * lo ≤ 7 * hi
   sizes-few lo hi end k = omega arith
   sizes-few lo hi (more t ts) k = omega (arith, size-few lo (k .0) t (k .1), sizes-few (k .0) hi ts (k .2))
 
@@ -39,7 +39,7 @@ unfolding Rising
 rising-order lo hi [] k = k
 rising-order lo hi (t ∷ ts) (a, b, l, n, k) = omega (arith, numbered-order a b t n, rising-order b hi ts k)
 
-pub total-few : (lo hi : ℕ) (ts : List Term) → Rising lo hi ts → total ts + 8 * lo ≤ 8 * hi
+pub total-few : (lo hi : ℕ) (ts : List Term) → Rising lo hi ts → total ts + 7 * lo ≤ 7 * hi
 unfolding Rising total
 total-few lo hi [] k = omega arith
 total-few lo hi (t ∷ ts) (a, b, l, n, k) = omega (arith, size-few a b t n, total-few b hi ts k)
@@ -59,7 +59,7 @@ list-spread-append y to (t ∷ ts) us k =
     let place : to + (size t + total ts) ≡ to + size t + total ts = omega arith in
     ((k .0, first), rw place second)
 
--- The first list may as well begin behind.
+-- What rises from a number rises from any before it.
 rising-later : (lo lo′ hi : ℕ) (ts : List Term) → lo′ ≤ lo → Rising lo hi ts → Rising lo′ hi ts
 unfolding Rising
 rising-later lo lo′ hi [] l k = omega arith
@@ -142,6 +142,7 @@ joined-between mid lo hi y z a b n = go (ltb n mid)
 between-wider : (lo hi lo′ hi′ : ℕ) (y : Copies) → lo′ ≤ lo → hi ≤ hi′ → Between lo hi y → Between lo′ hi′ y
 between-wider lo hi lo′ hi′ y l h a n = (omega (arith, a n .0), omega (arith, a n .1))
 
+-- No words for any number.
 nowhere : ℕ → Copies
 nowhere to = record { at = λ n. to; width = λ n. 0 }
 

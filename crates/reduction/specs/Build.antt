@@ -1,5 +1,5 @@
 -- A term of an item copied for a unit: its pairs come from a pair on, and its compounds stand one behind the other from a word on.
-use Prim.Native.Nat.{ℕ, _+_, _*_, _≤_, _<_}
+use Prim.Native.Nat.{ℕ, _+_, _≤_, _<_}
 use mathlib.Core.Path.{_≡_}
 use mathlib.Core.Logic.{_⊎_, _≢_}
 use mathlib.Core.List.{List, [], _∷_}
@@ -68,13 +68,14 @@ pub record ItemTerm (s : List ℕ) (x : Item) (t : Term) : Type 0 where
   pub held : Holds s (x .places) t
   pub within : Within (x .pairs) (x .compounds) t
 
--- A term of the item by its word, and room for its compounds' copies from a word on.
+-- A term of the item by its word, and room for its compounds' copies from a word on, each with eight words of the scratch from its first on.
 pub record Original (s : List ℕ) (x : Item) (pair to h : ℕ) (t : Term) : Type 0 where
   pub goes : Goes x pair
   pub word : h ≡ term-word (x .places) t
   pub term : ItemTerm s x t
   pub behind : 40704 ≤ to
-  pub room : to + size t + 8 ≤ length s
+  pub inside : to + size t ≤ length s
+  pub room : 1 ≤ size t → to + size t + 7 ≤ length s
 
 -- A word for the copy's word, none of those of its compounds.
 pub record Aside (s : List ℕ) (at to : ℕ) (t : Term) : Type 0 where

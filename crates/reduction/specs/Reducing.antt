@@ -44,7 +44,7 @@ pub record Assigning (s : List ℕ) (x : Item) (unit : Places) (values bound pai
   pub goes : Goes x pair
   pub behind : 40704 ≤ to
   pub before : to + total (entry-terms list) ≤ values
-  pub room : to + total (entry-terms list) + 8 ≤ length s
+  pub room : 1 ≤ total (entry-terms list) → to + total (entry-terms list) + 7 ≤ length s
   pub inside : values + bound ≤ length s
   pub few : n ≤ 192
   pub number : length list ≡ n
@@ -87,7 +87,7 @@ pub record Adding (s : List ℕ) (x : Item) (from n pair to query queue size fro
   pub within : GoalsWithin (x .pairs) (x .compounds) goals
   pub from-before : from + n ≤ 39936
   pub before : to + total (goal-terms goals) ≤ queue
-  pub room : to + total (goal-terms goals) + 8 ≤ length s
+  pub room : 1 ≤ total (goal-terms goals) → to + total (goal-terms goals) + 7 ≤ length s
   pub ring-ok : RingOk s queue size front
   pub space : active + n ≤ size
   pub few : query < 8

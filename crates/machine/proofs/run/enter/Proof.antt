@@ -1,5 +1,4 @@
 -- `machine::run::enter` meets its contract: the query's goals are copied to the queue's end, and its unit stands.
-use Prim.Native.Nat.{_+_, _*_, _-_}
 use mathlib.Core.Path.{refl, _∙_}
 use native.Mathlib.Omega.{arith}
 use borrow.Author.Needs.{needs}
@@ -89,31 +88,15 @@ add-add-goals-2 c =
     let b = bounded (S .args .s .now) (figures (S .args .room)) (S .args .q) (S .args .t) (S .pre) in
     omega arith
 
-add-add-goals-3 : tie.Need-add-add-goals-3
-add-add-goals-3 c = search needs
-
-mul-add-goals-2 : tie.Need-mul-add-goals-2
-mul-add-goals-2 c =
-    let S = c .before .before .before .before .before .before .before .before .before .before .before .before in
-    let b = bounded (S .args .s .now) (figures (S .args .room)) (S .args .q) (S .args .t) (S .pre) in
-    omega arith
-
-sub-add-goals : tie.Need-sub-add-goals
-sub-add-goals c =
-    let S = c .before .before .before .before .before .before .before .before .before .before .before .before in
-    let b = bounded (S .args .s .now) (figures (S .args .room)) (S .args .q) (S .args .t) (S .pre) in
-    omega arith
-
 queue-requires : tie.Need-queue-requires
 queue-requires c κs = search needs
 
 add-goals-requires : tie.Need-add-goals-requires
 add-goals-requires c κs =
-    let z = c .before .before .before in
+    let z = c .before .before in
     let y = z .before .before .before in
     let x = y .before .before .before in
     let S = x .before .before .before .before in
-    let b = bounded (S .args .s .now) (figures (S .args .room)) (S .args .q) (S .args .t) (S .pre) in
     let numbers : Numbers (S .args .s .now) (S .args .q) (x .index .result) (y .index2 .result) (z .index3 .result) =
     record {
       goals-are = x .index .ensures ∙ x .before .word-at .ensures;
@@ -121,20 +104,19 @@ add-goals-requires c κs =
       compounds-are = z .index3 .ensures ∙ z .before .word-at3 .ensures;
     }
     in
-    adds (S .args .s .now) (figures (S .args .room)) (S .args .q) (S .args .t) (352 + S .args .t .compounds - 32 * S .args .q)
-    (c .queue .result) (S .pre) numbers (omega arith) (c .queue .ensures)
+    adds (S .args .s .now) (figures (S .args .room)) (S .args .q) (S .args .t) (c .queue .result) (S .pre) numbers (c .queue .ensures)
 
 mul-set-at : tie.Need-mul-set-at
 mul-set-at c =
     let call = c .before .before .before in
-    let S = call .before .before .before .before .before .before .before .before .before .before .before .before .before .before in
+    let S = call .before .before .before .before .before .before .before .before .before .before .before .before .before in
     let b = bounded (S .args .s .now) (figures (S .args .room)) (S .args .q) (S .args .t) (S .pre) in
     omega arith
 
 add-set-at : tie.Need-add-set-at
 add-set-at c =
     let call = c .before .before .before in
-    let S = call .before .before .before .before .before .before .before .before .before .before .before .before .before .before in
+    let S = call .before .before .before .before .before .before .before .before .before .before .before .before .before in
     let b = bounded (S .args .s .now) (figures (S .args .room)) (S .args .q) (S .args .t) (S .pre) in
     omega arith
 
@@ -144,12 +126,28 @@ word-requires c κs = search needs
 set-at-requires : tie.Need-set-at-requires
 set-at-requires c κs =
     let call = c .before .before .before .before in
-    let S = call .before .before .before .before .before .before .before .before .before .before .before .before .before .before in
+    let S = call .before .before .before .before .before .before .before .before .before .before .before .before .before in
     let b = bounded (S .args .s .now) (figures (S .args .room)) (S .args .q) (S .args .t) (S .pre) in
     omega (arith, call .add-goals .kept .0)
 
-add-t21 : tie.Need-add-t21
-add-t21 c =
+add-t13 : tie.Need-add-t13
+add-t13 c =
+    let z = c .before .before .before .before .before .before .before .before .before .before .before in
+    let y = z .before .before .before in
+    let x = y .before .before .before in
+    let S = x .before .before .before .before in
+    let numbers : Numbers (S .args .s .now) (S .args .q) (x .index .result) (y .index2 .result) (z .index3 .result) =
+    record {
+      goals-are = x .index .ensures ∙ x .before .word-at .ensures;
+      pairs-are = y .index2 .ensures ∙ y .before .word-at2 .ensures;
+      compounds-are = z .index3 .ensures ∙ z .before .word-at3 .ensures;
+    }
+    in
+    let fit = sums (S .args .s .now) (figures (S .args .room)) (S .args .q) (S .args .t) (S .pre) numbers in
+    omega arith
+
+add-t20 : tie.Need-add-t20
+add-t20 c =
     let z = c .before .before .before .before .before .before .before .before .before .before .before .before in
     let y = z .before .before .before in
     let x = y .before .before .before in
@@ -164,25 +162,9 @@ add-t21 c =
     let fit = sums (S .args .s .now) (figures (S .args .room)) (S .args .q) (S .args .t) (S .pre) numbers in
     omega arith
 
-add-t22 : tie.Need-add-t22
-add-t22 c =
+add-t21 : tie.Need-add-t21
+add-t21 c =
     let z = c .before .before .before .before .before .before .before .before .before .before .before .before .before in
-    let y = z .before .before .before in
-    let x = y .before .before .before in
-    let S = x .before .before .before .before in
-    let numbers : Numbers (S .args .s .now) (S .args .q) (x .index .result) (y .index2 .result) (z .index3 .result) =
-    record {
-      goals-are = x .index .ensures ∙ x .before .word-at .ensures;
-      pairs-are = y .index2 .ensures ∙ y .before .word-at2 .ensures;
-      compounds-are = z .index3 .ensures ∙ z .before .word-at3 .ensures;
-    }
-    in
-    let fit = sums (S .args .s .now) (figures (S .args .room)) (S .args .q) (S .args .t) (S .pre) numbers in
-    omega arith
-
-add-t23 : tie.Need-add-t23
-add-t23 c =
-    let z = c .before .before .before .before .before .before .before .before .before .before .before .before .before .before in
     let y = z .before .before .before in
     let x = y .before .before .before in
     let S = x .before .before .before .before in
@@ -201,11 +183,10 @@ same-length c = search needs
 
 returns : tie.Need-returns
 returns c =
-    let z = c .before .before .before .before .before .before .before .before .before .before .before .before .before .before in
+    let z = c .before .before .before .before .before .before .before .before .before .before .before .before .before in
     let y = z .before .before .before in
     let x = y .before .before .before in
     let S = x .before .before .before .before in
-    let b = bounded (S .args .s .now) (figures (S .args .room)) (S .args .q) (S .args .t) (S .pre) in
     let numbers : Numbers (S .args .s .now) (S .args .q) (x .index .result) (y .index2 .result) (z .index3 .result) =
     record {
       goals-are = x .index .ensures ∙ x .before .word-at .ensures;
@@ -218,11 +199,12 @@ returns c =
     λ text names j done query rest atlas e is at.
     enters (S .args .s .now) text names j (figures (S .args .room)) done query rest atlas (S .args .t) e is (S .args .q)
     (x .index .result) (y .index2 .result) (z .index3 .result) at numbers
-    (352 + S .args .t .compounds - 32 * S .args .q) (call .before .queue .result) (omega arith) (call .before .queue .ensures)
-    _ _ (after .before .word .result) _ (call .add-goals .ensures) (after .before .word .ensures) (after .set-at .ensures)
+    (call .before .queue .result) (call .before .queue .ensures)
+    _ _ (after .before .word .result) _ _ (call .add-goals .ensures) (after .before .word .ensures) (after .set-at .ensures)
     (record {
       pairs-are = refl;
       compounds-are = refl;
+      cells-are = refl;
       active-is = refl;
       front = refl;
       log = refl;
@@ -250,17 +232,14 @@ enter-spec =
     mul-add-goals
     add-add-goals
     add-add-goals-2
-    add-add-goals-3
-    mul-add-goals-2
-    sub-add-goals
     queue-requires
     add-goals-requires
     mul-set-at
     add-set-at
     word-requires
     set-at-requires
+    add-t13
+    add-t20
     add-t21
-    add-t22
-    add-t23
     same-length
     returns)

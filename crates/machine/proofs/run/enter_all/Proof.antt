@@ -27,7 +27,7 @@ loop-holds : tie.Need-loop-holds Inv-loop μ-loop
 loop-holds c =
     let S = c .before in
     λ text names j r fit number.
-    partly-none (S .args .s .now) text names j (figures (S .args .room)) _ r fit (refl, refl, refl, refl, refl, refl, refl, refl)
+    partly-none (S .args .s .now) text names j (figures (S .args .room)) _ r fit (refl, refl, refl, refl, refl, refl, refl, refl, refl)
 
 enter-requires : tie.Need-enter-requires Inv-loop μ-loop
 enter-requires c κs =

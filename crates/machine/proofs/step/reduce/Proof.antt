@@ -1,6 +1,6 @@
 -- `machine::step::reduce` meets its contract: if the reduction fits, its parts follow one another; else nothing has changed.
-use Prim.Native.Nat.{ℕ, _+_, _-_, _*_, _≤_, _<_}
-use mathlib.Core.Path.{_≡_, refl, ap, _∙_}
+use Prim.Native.Nat.{ℕ, _+_, _-_, _≤_}
+use mathlib.Core.Path.{refl, ap, _∙_}
 use mathlib.Core.Bool.{true, false}
 use mir.Syntax.{w64}
 use mir.Val.{Fits}
@@ -51,14 +51,21 @@ index-requires-3 c κs = search needs
 
 fits-requires : tie.Need-fits-requires
 fits-requires c κs =
-    let S = c .before .before .before .before .before .before .before .before .before .before in
+    let second = c .before .before .before in
+    let first = second .before .before .before in
+    let S = first .before .before .before .before in
     let p = S .pre in
     let taken = p .10 in
     let red = p .11 in
-    let e-pairs = c .before .before .before .before .before .before .index .ensures ∙ c .before .before .before .before .before .before .before .word-at .ensures ∙ red .at .held .pairs in
-    let e-compounds = c .before .before .before .index2 .ensures ∙ c .before .before .before .before .word-at2 .ensures ∙ red .at .held .compounds in
+    let e-pairs = first .index .ensures ∙ first .before .word-at .ensures ∙ red .at .held .pairs in
+    let e-compounds = second .index2 .ensures ∙ second .before .word-at2 .ensures ∙ red .at .held .compounds in
     let e-body = c .index3 .ensures ∙ c .before .word-at3 .ensures ∙ red .at .held .goals in
-    (calls.counted taken, omega (arith, e-pairs, red .at .held .laid .few-pairs), omega (arith, e-compounds, red .at .held .laid .few-compounds), omega (arith, e-body, red .at .held .laid .few-goals))
+    (
+      calls.counted taken,
+      omega (arith, e-pairs, red .at .held .laid .few-pairs),
+      omega (arith, e-compounds, red .at .held .laid .few-compounds),
+      omega (arith, e-body, red .at .held .laid .few-goals),
+    )
 
 same-length : tie.Need-same-length
 same-length c = search needs
@@ -66,208 +73,469 @@ same-length c = search needs
 returns : tie.Need-returns
 returns c =
     λ text names j limit atlas slots g others clause given taken red.
-    let S = c .before .before .before .before .before .before .before .before .before .before .before .before in
-    let e-pairs = c .before .before .before .before .before .before .before .before .index .ensures ∙ c .before .before .before .before .before .before .before .before .before .word-at .ensures ∙ red .at .held .pairs in
-    let e-compounds = c .before .before .before .before .before .index2 .ensures ∙ c .before .before .before .before .before .before .word-at2 .ensures ∙ red .at .held .compounds in
-    let e-body = c .before .before .index3 .ensures ∙ c .before .before .before .word-at3 .ensures ∙ red .at .held .goals in
-    let fit = calls.fit-told taken (clause) (given) _ _ _ e-pairs e-compounds e-body _ false (c .before .fits2 .ensures) (calls.not-true _ (c .if1 .taken)) in
+    let third = c .before .before in
+    let second = third .before .before .before in
+    let first = second .before .before .before in
+    let S = first .before .before .before .before in
+    let e-pairs = first .index .ensures ∙ first .before .word-at .ensures ∙ red .at .held .pairs in
+    let e-compounds = second .index2 .ensures ∙ second .before .word-at2 .ensures ∙ red .at .held .compounds in
+    let e-body = third .index3 .ensures ∙ third .before .word-at3 .ensures ∙ red .at .held .goals in
+    let fit = calls.fit-told taken clause given _ _ _ e-pairs e-compounds e-body _ false (c .before .fits2 .ensures) (calls.not-true _ (c .if1 .taken)) in
     calls.reduction-stops taken red fit
-
-add-shift : tie.Need-add-shift
-add-shift c = search needs
-
-mul-shift : tie.Need-mul-shift
-mul-shift c = search needs
-
-sub-shift : tie.Need-sub-shift
-sub-shift c = search needs
 
 behind-requires : tie.Need-behind-requires
 behind-requires c κs = search needs
 
 sub-active : tie.Need-sub-active
-sub-active c = let n = calls.counted (c .before .before .before .before .before .before .before .before .before .before .before .before .before .before .before .pre .10) in omega (arith, n .some)
+sub-active c = let n = calls.counted (c .before .before .before .before .before .before .before .before .before .before .before .before .before .before .pre .10) in omega (arith, n .some)
 
 values-requires : tie.Need-values-requires
-values-requires c κs = c .before .before .before .before .before .before .before .before .before .before .before .before .before .before .before .before .pre .10 .running .in-range
+values-requires c κs =
+    let test = c .before .before .before in
+    let third = test .before .before in
+    let second = third .before .before .before in
+    let first = second .before .before .before in
+    let S = first .before .before .before .before in
+    S .pre .10 .running .in-range
 
 assign-head-requires : tie.Need-assign-head-requires
 assign-head-requires c κs =
-    let S = c .before .before .before .before .before .before .before .before .before .before .before .before .before .before .before .before .before in
+    let test = c .before .before .before .before in
+    let third = test .before .before in
+    let second = third .before .before .before in
+    let first = second .before .before .before in
+    let S = first .before .before .before .before in
     let p = S .pre in
     let taken = p .10 in
     let red = p .11 in
-    let e-pairs = c .before .before .before .before .before .before .before .before .before .before .before .before .before .index .ensures ∙ c .before .before .before .before .before .before .before .before .before .before .before .before .before .before .word-at .ensures ∙ red .at .held .pairs in
-    let e-compounds = c .before .before .before .before .before .before .before .before .before .before .index2 .ensures ∙ c .before .before .before .before .before .before .before .before .before .before .before .word-at2 .ensures ∙ red .at .held .compounds in
-    let e-body = c .before .before .before .before .before .before .before .index3 .ensures ∙ c .before .before .before .before .before .before .before .before .word-at3 .ensures ∙ red .at .held .goals in
-    let fit = calls.fit-told taken (p .8) (p .9) _ _ _ e-pairs e-compounds e-body _ true (c .before .before .before .before .before .before .fits2 .ensures) (calls.not-false _ (c .before .before .before .before .before .if1 .left)) in
-    calls.asks-1 taken red fit (c .values .ensures) e-pairs
+    let e-pairs = first .index .ensures ∙ first .before .word-at .ensures ∙ red .at .held .pairs in
+    let e-compounds = second .index2 .ensures ∙ second .before .word-at2 .ensures ∙ red .at .held .compounds in
+    let e-body = third .index3 .ensures ∙ third .before .word-at3 .ensures ∙ red .at .held .goals in
+    let fit = calls.fit-told taken (p .8) (p .9) _ _ _ e-pairs e-compounds e-body _ true (test .before .fits2 .ensures) (calls.not-false _ (test .if1 .left)) in
+    calls.asks-1 taken red fit
+    (c .values .ensures) e-pairs
 
 values-requires-2 : tie.Need-values-requires-2
-values-requires-2 c κs = c .before .before .before .before .before .before .before .before .before .before .before .before .before .before .before .before .before .before .before .before .before .pre .10 .running .in-range
+values-requires-2 c κs =
+    let heads = c .before .before .before in
+    let test = heads .before .before .before .before .before in
+    let third = test .before .before in
+    let second = third .before .before .before in
+    let first = second .before .before .before in
+    let S = first .before .before .before .before in
+    S .pre .10 .running .in-range
 
 assign-goal-requires : tie.Need-assign-goal-requires
 assign-goal-requires c κs =
-    let S = c .before .before .before .before .before .before .before .before .before .before .before .before .before .before .before .before .before .before .before .before .before .before in
+    let heads = c .before .before .before .before in
+    let test = heads .before .before .before .before .before in
+    let third = test .before .before in
+    let second = third .before .before .before in
+    let first = second .before .before .before in
+    let S = first .before .before .before .before in
     let p = S .pre in
     let taken = p .10 in
     let red = p .11 in
-    let e-pairs = c .before .before .before .before .before .before .before .before .before .before .before .before .before .before .before .before .before .before .index .ensures ∙ c .before .before .before .before .before .before .before .before .before .before .before .before .before .before .before .before .before .before .before .word-at .ensures ∙ red .at .held .pairs in
-    let e-compounds = c .before .before .before .before .before .before .before .before .before .before .before .before .before .before .before .index2 .ensures ∙ c .before .before .before .before .before .before .before .before .before .before .before .before .before .before .before .before .word-at2 .ensures ∙ red .at .held .compounds in
-    let e-body = c .before .before .before .before .before .before .before .before .before .before .before .before .index3 .ensures ∙ c .before .before .before .before .before .before .before .before .before .before .before .before .before .word-at3 .ensures ∙ red .at .held .goals in
-    let fit = calls.fit-told taken (p .8) (p .9) _ _ _ e-pairs e-compounds e-body _ true (c .before .before .before .before .before .before .before .before .before .before .before .fits2 .ensures) (calls.not-false _ (c .before .before .before .before .before .before .before .before .before .before .if1 .left)) in
-    calls.asks-2 taken red fit (c .before .before .before .before .before .values .ensures) e-pairs (c .before .before .before .before .assign-head .ensures) (c .values2 .ensures) refl
+    let e-pairs = first .index .ensures ∙ first .before .word-at .ensures ∙ red .at .held .pairs in
+    let e-compounds = second .index2 .ensures ∙ second .before .word-at2 .ensures ∙ red .at .held .compounds in
+    let e-body = third .index3 .ensures ∙ third .before .word-at3 .ensures ∙ red .at .held .goals in
+    let fit = calls.fit-told taken (p .8) (p .9) _ _ _ e-pairs e-compounds e-body _ true (test .before .fits2 .ensures) (calls.not-false _ (test .if1 .left)) in
+    calls.asks-2 taken red fit
+    (heads .before .values .ensures) e-pairs (heads .assign-head .ensures) (c .values2 .ensures)
 
 waiting-requires : tie.Need-waiting-requires
-waiting-requires c κs = c .before .before .before .before .before .before .before .before .before .before .before .before .before .before .before .before .before .before .before .before .before .before .before .before .before .before .pre .10 .running .in-range
+waiting-requires c κs =
+    let gives = c .before .before .before in
+    let heads = gives .before .before .before .before .before in
+    let test = heads .before .before .before .before .before in
+    let third = test .before .before in
+    let second = third .before .before .before in
+    let first = second .before .before .before in
+    let S = first .before .before .before .before in
+    S .pre .10 .running .in-range
 
 waiters-requires : tie.Need-waiters-requires
-waiters-requires c κs = c .before .before .before .before .before .before .before .before .before .before .before .before .before .before .before .before .before .before .before .before .before .before .before .before .before .before .before .pre .10 .running .in-range
+waiters-requires c κs =
+    let gives = c .before .before .before .before in
+    let heads = gives .before .before .before .before .before in
+    let test = heads .before .before .before .before .before in
+    let third = test .before .before in
+    let second = third .before .before .before in
+    let first = second .before .before .before in
+    let S = first .before .before .before .before in
+    S .pre .10 .running .in-range
 
 sets-requires : tie.Need-sets-requires
-sets-requires c κs = c .before .before .before .before .before .before .before .before .before .before .before .before .before .before .before .before .before .before .before .before .before .before .before .before .before .before .before .before .pre .10 .running .in-range
+sets-requires c κs =
+    let gives = c .before .before .before .before .before in
+    let heads = gives .before .before .before .before .before in
+    let test = heads .before .before .before .before .before in
+    let third = test .before .before in
+    let second = third .before .before .before in
+    let first = second .before .before .before in
+    let S = first .before .before .before .before in
+    S .pre .10 .running .in-range
 
 wake-requires : tie.Need-wake-requires
 wake-requires c κs =
-    let S = c .before .before .before .before .before .before .before .before .before .before .before .before .before .before .before .before .before .before .before .before .before .before .before .before .before .before .before .before .before in
+    let gives = c .before .before .before .before .before .before in
+    let heads = gives .before .before .before .before .before in
+    let test = heads .before .before .before .before .before in
+    let third = test .before .before in
+    let second = third .before .before .before in
+    let first = second .before .before .before in
+    let S = first .before .before .before .before in
     let p = S .pre in
     let taken = p .10 in
     let red = p .11 in
-    let e-pairs = c .before .before .before .before .before .before .before .before .before .before .before .before .before .before .before .before .before .before .before .before .before .before .before .before .before .index .ensures ∙ c .before .before .before .before .before .before .before .before .before .before .before .before .before .before .before .before .before .before .before .before .before .before .before .before .before .before .word-at .ensures ∙ red .at .held .pairs in
-    let e-compounds = c .before .before .before .before .before .before .before .before .before .before .before .before .before .before .before .before .before .before .before .before .before .before .index2 .ensures ∙ c .before .before .before .before .before .before .before .before .before .before .before .before .before .before .before .before .before .before .before .before .before .before .before .word-at2 .ensures ∙ red .at .held .compounds in
-    let e-body = c .before .before .before .before .before .before .before .before .before .before .before .before .before .before .before .before .before .before .before .index3 .ensures ∙ c .before .before .before .before .before .before .before .before .before .before .before .before .before .before .before .before .before .before .before .before .word-at3 .ensures ∙ red .at .held .goals in
-    let fit = calls.fit-told taken (p .8) (p .9) _ _ _ e-pairs e-compounds e-body _ true (c .before .before .before .before .before .before .before .before .before .before .before .before .before .before .before .before .before .before .fits2 .ensures) (calls.not-false _ (c .before .before .before .before .before .before .before .before .before .before .before .before .before .before .before .before .before .if1 .left)) in
-    calls.asks-3 taken red fit (c .before .before .before .before .before .before .before .before .before .before .before .before .values .ensures) e-pairs (c .before .before .before .before .before .before .before .before .before .before .before .assign-head .ensures) (c .before .before .before .before .before .before .before .values2 .ensures) refl (c .before .before .before .before .before .before .assign-goal .ensures) (c .before .before .waiting .ensures) (c .before .waiters .ensures) (c .sets .ensures)
+    let e-pairs = first .index .ensures ∙ first .before .word-at .ensures ∙ red .at .held .pairs in
+    let e-compounds = second .index2 .ensures ∙ second .before .word-at2 .ensures ∙ red .at .held .compounds in
+    let e-body = third .index3 .ensures ∙ third .before .word-at3 .ensures ∙ red .at .held .goals in
+    let fit = calls.fit-told taken (p .8) (p .9) _ _ _ e-pairs e-compounds e-body _ true (test .before .fits2 .ensures) (calls.not-false _ (test .if1 .left)) in
+    calls.asks-3 taken red fit
+    (heads .before .values .ensures) e-pairs (heads .assign-head .ensures) (gives .before .values2 .ensures) (gives .assign-goal .ensures)
+    (c .before .before .waiting .ensures) (c .before .waiters .ensures) (c .sets .ensures)
 
 mul-add-goals : tie.Need-mul-add-goals
-mul-add-goals c = omega (arith, c .before .before .before .before .before .before .before .before .before .before .before .before .before .before .before .before .before .before .before .before .before .before .before .before .before .before .before .before .before .before .before .before .before .pre .11 .at .number)
+mul-add-goals c =
+    let wakes = c .before .before .before in
+    let gives = wakes .before .before .before .before .before .before .before in
+    let heads = gives .before .before .before .before .before in
+    let test = heads .before .before .before .before .before in
+    let third = test .before .before in
+    let second = third .before .before .before in
+    let first = second .before .before .before in
+    let S = first .before .before .before .before in
+    omega (arith, S .pre .11 .at .number)
 
 add-add-goals : tie.Need-add-add-goals
-add-add-goals c = omega (arith, c .before .before .before .before .before .before .before .before .before .before .before .before .before .before .before .before .before .before .before .before .before .before .before .before .before .before .before .before .before .before .before .before .before .pre .11 .at .number)
+add-add-goals c =
+    let wakes = c .before .before .before in
+    let gives = wakes .before .before .before .before .before .before .before in
+    let heads = gives .before .before .before .before .before in
+    let test = heads .before .before .before .before .before in
+    let third = test .before .before in
+    let second = third .before .before .before in
+    let first = second .before .before .before in
+    let S = first .before .before .before .before in
+    omega (arith, S .pre .11 .at .number)
 
 add-add-goals-2 : tie.Need-add-add-goals-2
-add-add-goals-2 c = omega (arith, c .before .before .before .before .before .before .before .before .before .before .before .before .before .before .before .before .before .before .before .before .before .before .before .before .before .before .before .before .before .before .before .before .before .pre .11 .at .number)
+add-add-goals-2 c =
+    let wakes = c .before .before .before in
+    let gives = wakes .before .before .before .before .before .before .before in
+    let heads = gives .before .before .before .before .before in
+    let test = heads .before .before .before .before .before in
+    let third = test .before .before in
+    let second = third .before .before .before in
+    let first = second .before .before .before in
+    let S = first .before .before .before .before in
+    omega (arith, S .pre .11 .at .number)
 
 queue-requires : tie.Need-queue-requires
-queue-requires c κs = c .before .before .before .before .before .before .before .before .before .before .before .before .before .before .before .before .before .before .before .before .before .before .before .before .before .before .before .before .before .before .before .before .before .pre .10 .running .in-range
+queue-requires c κs =
+    let wakes = c .before .before .before in
+    let gives = wakes .before .before .before .before .before .before .before in
+    let heads = gives .before .before .before .before .before in
+    let test = heads .before .before .before .before .before in
+    let third = test .before .before in
+    let second = third .before .before .before in
+    let first = second .before .before .before in
+    let S = first .before .before .before .before in
+    S .pre .10 .running .in-range
 
 add-goals-requires : tie.Need-add-goals-requires
 add-goals-requires c κs =
-    let S = c .before .before .before .before .before .before .before .before .before .before .before .before .before .before .before .before .before .before .before .before .before .before .before .before .before .before .before .before .before .before .before .before .before .before in
+    let wakes = c .before .before .before .before in
+    let gives = wakes .before .before .before .before .before .before .before in
+    let heads = gives .before .before .before .before .before in
+    let test = heads .before .before .before .before .before in
+    let third = test .before .before in
+    let second = third .before .before .before in
+    let first = second .before .before .before in
+    let S = first .before .before .before .before in
     let p = S .pre in
     let taken = p .10 in
     let red = p .11 in
-    let e-pairs = c .before .before .before .before .before .before .before .before .before .before .before .before .before .before .before .before .before .before .before .before .before .before .before .before .before .before .before .before .before .before .index .ensures ∙ c .before .before .before .before .before .before .before .before .before .before .before .before .before .before .before .before .before .before .before .before .before .before .before .before .before .before .before .before .before .before .before .word-at .ensures ∙ red .at .held .pairs in
-    let e-compounds = c .before .before .before .before .before .before .before .before .before .before .before .before .before .before .before .before .before .before .before .before .before .before .before .before .before .before .before .index2 .ensures ∙ c .before .before .before .before .before .before .before .before .before .before .before .before .before .before .before .before .before .before .before .before .before .before .before .before .before .before .before .before .word-at2 .ensures ∙ red .at .held .compounds in
-    let e-body = c .before .before .before .before .before .before .before .before .before .before .before .before .before .before .before .before .before .before .before .before .before .before .before .before .index3 .ensures ∙ c .before .before .before .before .before .before .before .before .before .before .before .before .before .before .before .before .before .before .before .before .before .before .before .before .before .word-at3 .ensures ∙ red .at .held .goals in
-    let fit = calls.fit-told taken (p .8) (p .9) _ _ _ e-pairs e-compounds e-body _ true (c .before .before .before .before .before .before .before .before .before .before .before .before .before .before .before .before .before .before .before .before .before .before .before .fits2 .ensures) (calls.not-false _ (c .before .before .before .before .before .before .before .before .before .before .before .before .before .before .before .before .before .before .before .before .before .before .if1 .left)) in
-    calls.asks-4 taken red fit (c .before .before .before .before .before .before .before .before .before .before .before .before .before .before .before .before .before .values .ensures) e-pairs (c .before .before .before .before .before .before .before .before .before .before .before .before .before .before .before .before .assign-head .ensures) (c .before .before .before .before .before .before .before .before .before .before .before .before .values2 .ensures) refl (c .before .before .before .before .before .before .before .before .before .before .before .assign-goal .ensures) (c .before .before .before .before .before .before .before .waiting .ensures) (c .before .before .before .before .before .before .waiters .ensures) (c .before .before .before .before .before .sets .ensures) (c .before .before .before .before .wake .ensures) (c .before .before .before .before .before .before .before .before .before .before .before .before .before .before .before .before .before .before .before .before .behind .ensures) refl e-body (c .queue .ensures)
+    let e-pairs = first .index .ensures ∙ first .before .word-at .ensures ∙ red .at .held .pairs in
+    let e-compounds = second .index2 .ensures ∙ second .before .word-at2 .ensures ∙ red .at .held .compounds in
+    let e-body = third .index3 .ensures ∙ third .before .word-at3 .ensures ∙ red .at .held .goals in
+    let fit = calls.fit-told taken (p .8) (p .9) _ _ _ e-pairs e-compounds e-body _ true (test .before .fits2 .ensures) (calls.not-false _ (test .if1 .left)) in
+    calls.asks-4 taken red fit
+    (heads .before .values .ensures) e-pairs (heads .assign-head .ensures) (gives .before .values2 .ensures) (gives .assign-goal .ensures)
+    (wakes .before .before .before .waiting .ensures) (wakes .before .before .waiters .ensures) (wakes .before .sets .ensures)
+    (wakes .wake .ensures) (heads .before .before .before .before .behind .ensures) refl e-body (c .queue .ensures)
 
 waiting-requires-2 : tie.Need-waiting-requires-2
-waiting-requires-2 c κs = c .before .before .before .before .before .before .before .before .before .before .before .before .before .before .before .before .before .before .before .before .before .before .before .before .before .before .before .before .before .before .before .before .before .before .before .before .before .before .pre .10 .running .in-range
+waiting-requires-2 c κs =
+    let goals = c .before .before .before in
+    let wakes = goals .before .before .before .before .before in
+    let gives = wakes .before .before .before .before .before .before .before in
+    let heads = gives .before .before .before .before .before in
+    let test = heads .before .before .before .before .before in
+    let third = test .before .before in
+    let second = third .before .before .before in
+    let first = second .before .before .before in
+    let S = first .before .before .before .before in
+    S .pre .10 .running .in-range
 
 queue-requires-2 : tie.Need-queue-requires-2
-queue-requires-2 c κs = c .before .before .before .before .before .before .before .before .before .before .before .before .before .before .before .before .before .before .before .before .before .before .before .before .before .before .before .before .before .before .before .before .before .before .before .before .before .before .before .pre .10 .running .in-range
+queue-requires-2 c κs =
+    let goals = c .before .before .before .before in
+    let wakes = goals .before .before .before .before .before in
+    let gives = wakes .before .before .before .before .before .before .before in
+    let heads = gives .before .before .before .before .before in
+    let test = heads .before .before .before .before .before in
+    let third = test .before .before in
+    let second = third .before .before .before in
+    let first = second .before .before .before in
+    let S = first .before .before .before .before in
+    S .pre .10 .running .in-range
 
 add-add-woken : tie.Need-add-add-woken
 add-add-woken c =
-    small (c .before .before .before .before .before .before .before .before .before .before .before .before .before .before .before .before .before .before .before .before .before .before .before .before .before .before .before .before .before .before .before .before .before .before .before .before .before .before .before .before .args .t .active - 1 + c .before .before .before .before .before .before .before .before .before .before .before .before .before .before .before .before .before .before .before .before .before .before .before .before .before .before .before .before .before .before .index3 .result)
-    (calls.small-active (c .before .before .before .before .before .before .before .before .before .before .before .before .before .before .before .before .before .before .before .before .before .before .before .before .before .before .before .before .before .before .before .before .before .before .before .before .before .before .before .before .args .t) (c .before .before .before .before .before .before .before .before .before .before .before .before .before .before .before .before .before .before .before .before .before .before .before .before .before .before .before .before .before .before .index3 .result) _ (calls.counted (c .before .before .before .before .before .before .before .before .before .before .before .before .before .before .before .before .before .before .before .before .before .before .before .before .before .before .before .before .before .before .before .before .before .before .before .before .before .before .before .before .pre .10)) (c .before .before .before .before .before .before .before .before .before .before .before .before .before .before .before .before .before .before .before .before .before .before .before .before .before .before .before .before .before .before .index3 .ensures ∙ c .before .before .before .before .before .before .before .before .before .before .before .before .before .before .before .before .before .before .before .before .before .before .before .before .before .before .before .before .before .before .before .word-at3 .ensures ∙ c .before .before .before .before .before .before .before .before .before .before .before .before .before .before .before .before .before .before .before .before .before .before .before .before .before .before .before .before .before .before .before .before .before .before .before .before .before .before .before .before .pre .11 .at .held .goals) (c .before .before .before .before .before .before .before .before .before .before .before .before .before .before .before .before .before .before .before .before .before .before .before .before .before .before .before .before .before .before .before .before .before .before .before .before .before .before .before .before .pre .11 .at .held .laid .few-goals))
+    let goals = c .before .before .before .before .before in
+    let wakes = goals .before .before .before .before .before in
+    let gives = wakes .before .before .before .before .before .before .before in
+    let heads = gives .before .before .before .before .before in
+    let test = heads .before .before .before .before .before in
+    let third = test .before .before in
+    let second = third .before .before .before in
+    let first = second .before .before .before in
+    let S = first .before .before .before .before in
+    let red = S .pre .11 in
+    let e = third .index3 .ensures ∙ third .before .word-at3 .ensures ∙ red .at .held .goals in
+    small (S .args .t .active - 1 + third .index3 .result)
+    (calls.small-active (S .args .t) (third .index3 .result) _ (calls.counted (S .pre .10)) e (red .at .held .laid .few-goals))
 
 add-woken-requires : tie.Need-add-woken-requires
 add-woken-requires c κs =
-    let S = c .before .before .before .before .before .before .before .before .before .before .before .before .before .before .before .before .before .before .before .before .before .before .before .before .before .before .before .before .before .before .before .before .before .before .before .before .before .before .before .before in
+    let goals = c .before .before .before .before .before in
+    let wakes = goals .before .before .before .before .before in
+    let gives = wakes .before .before .before .before .before .before .before in
+    let heads = gives .before .before .before .before .before in
+    let test = heads .before .before .before .before .before in
+    let third = test .before .before in
+    let second = third .before .before .before in
+    let first = second .before .before .before in
+    let S = first .before .before .before .before in
     let p = S .pre in
     let taken = p .10 in
     let red = p .11 in
-    let e-pairs = c .before .before .before .before .before .before .before .before .before .before .before .before .before .before .before .before .before .before .before .before .before .before .before .before .before .before .before .before .before .before .before .before .before .before .before .before .index .ensures ∙ c .before .before .before .before .before .before .before .before .before .before .before .before .before .before .before .before .before .before .before .before .before .before .before .before .before .before .before .before .before .before .before .before .before .before .before .before .before .word-at .ensures ∙ red .at .held .pairs in
-    let e-compounds = c .before .before .before .before .before .before .before .before .before .before .before .before .before .before .before .before .before .before .before .before .before .before .before .before .before .before .before .before .before .before .before .before .before .index2 .ensures ∙ c .before .before .before .before .before .before .before .before .before .before .before .before .before .before .before .before .before .before .before .before .before .before .before .before .before .before .before .before .before .before .before .before .before .before .word-at2 .ensures ∙ red .at .held .compounds in
-    let e-body = c .before .before .before .before .before .before .before .before .before .before .before .before .before .before .before .before .before .before .before .before .before .before .before .before .before .before .before .before .before .before .index3 .ensures ∙ c .before .before .before .before .before .before .before .before .before .before .before .before .before .before .before .before .before .before .before .before .before .before .before .before .before .before .before .before .before .before .before .word-at3 .ensures ∙ red .at .held .goals in
-    let fit = calls.fit-told taken (p .8) (p .9) _ _ _ e-pairs e-compounds e-body _ true (c .before .before .before .before .before .before .before .before .before .before .before .before .before .before .before .before .before .before .before .before .before .before .before .before .before .before .before .before .before .fits2 .ensures) (calls.not-false _ (c .before .before .before .before .before .before .before .before .before .before .before .before .before .before .before .before .before .before .before .before .before .before .before .before .before .before .before .before .if1 .left)) in
-    calls.asks-5 taken red fit (c .before .before .before .before .before .before .before .before .before .before .before .before .before .before .before .before .before .before .before .before .before .before .before .values .ensures) e-pairs (c .before .before .before .before .before .before .before .before .before .before .before .before .before .before .before .before .before .before .before .before .before .before .assign-head .ensures) (c .before .before .before .before .before .before .before .before .before .before .before .before .before .before .before .before .before .before .values2 .ensures) refl (c .before .before .before .before .before .before .before .before .before .before .before .before .before .before .before .before .before .assign-goal .ensures) (c .before .before .before .before .before .before .before .before .before .before .before .before .before .waiting .ensures) (c .before .before .before .before .before .before .before .before .before .before .before .before .waiters .ensures) (c .before .before .before .before .before .before .before .before .before .before .before .sets .ensures) (c .before .before .before .before .before .before .before .before .before .before .wake .ensures) (c .before .before .before .before .before .before .before .before .before .before .before .before .before .before .before .before .before .before .before .before .before .before .before .before .before .before .behind .ensures) refl e-body (c .before .before .before .before .before .before .queue .ensures) (c .before .before .before .before .before .add-goals .ensures) (c .before .waiting2 .ensures) (c .queue2 .ensures)
+    let e-pairs = first .index .ensures ∙ first .before .word-at .ensures ∙ red .at .held .pairs in
+    let e-compounds = second .index2 .ensures ∙ second .before .word-at2 .ensures ∙ red .at .held .compounds in
+    let e-body = third .index3 .ensures ∙ third .before .word-at3 .ensures ∙ red .at .held .goals in
+    let fit = calls.fit-told taken (p .8) (p .9) _ _ _ e-pairs e-compounds e-body _ true (test .before .fits2 .ensures) (calls.not-false _ (test .if1 .left)) in
+    calls.asks-5 taken red fit
+    (heads .before .values .ensures) e-pairs (heads .assign-head .ensures) (gives .before .values2 .ensures) (gives .assign-goal .ensures)
+    (wakes .before .before .before .waiting .ensures) (wakes .before .before .waiters .ensures) (wakes .before .sets .ensures)
+    (wakes .wake .ensures) (heads .before .before .before .before .behind .ensures) refl e-body (goals .before .queue .ensures)
+    (goals .add-goals .ensures) (c .before .waiting2 .ensures) (c .queue2 .ensures)
 
 count-try-requires : tie.Need-count-try-requires
 count-try-requires c κs =
-    let S = c .before .before .before .before .before .before .before .before .before .before .before .before .before .before .before .before .before .before .before .before .before .before .before .before .before .before .before .before .before .before .before .before .before .before .before .before .before .before .before .before .before .before .before .before in
+    let woken = c .before .before .before in
+    let goals = woken .before .before .before .before .before .before in
+    let wakes = goals .before .before .before .before .before in
+    let gives = wakes .before .before .before .before .before .before .before in
+    let heads = gives .before .before .before .before .before in
+    let test = heads .before .before .before .before .before in
+    let third = test .before .before in
+    let second = third .before .before .before in
+    let first = second .before .before .before in
+    let S = first .before .before .before .before in
     let p = S .pre in
     let taken = p .10 in
     let red = p .11 in
-    let e-pairs = c .before .before .before .before .before .before .before .before .before .before .before .before .before .before .before .before .before .before .before .before .before .before .before .before .before .before .before .before .before .before .before .before .before .before .before .before .before .before .before .before .index .ensures ∙ c .before .before .before .before .before .before .before .before .before .before .before .before .before .before .before .before .before .before .before .before .before .before .before .before .before .before .before .before .before .before .before .before .before .before .before .before .before .before .before .before .before .word-at .ensures ∙ red .at .held .pairs in
-    let e-compounds = c .before .before .before .before .before .before .before .before .before .before .before .before .before .before .before .before .before .before .before .before .before .before .before .before .before .before .before .before .before .before .before .before .before .before .before .before .before .index2 .ensures ∙ c .before .before .before .before .before .before .before .before .before .before .before .before .before .before .before .before .before .before .before .before .before .before .before .before .before .before .before .before .before .before .before .before .before .before .before .before .before .before .word-at2 .ensures ∙ red .at .held .compounds in
-    let e-body = c .before .before .before .before .before .before .before .before .before .before .before .before .before .before .before .before .before .before .before .before .before .before .before .before .before .before .before .before .before .before .before .before .before .before .index3 .ensures ∙ c .before .before .before .before .before .before .before .before .before .before .before .before .before .before .before .before .before .before .before .before .before .before .before .before .before .before .before .before .before .before .before .before .before .before .before .word-at3 .ensures ∙ red .at .held .goals in
-    let fit = calls.fit-told taken (p .8) (p .9) _ _ _ e-pairs e-compounds e-body _ true (c .before .before .before .before .before .before .before .before .before .before .before .before .before .before .before .before .before .before .before .before .before .before .before .before .before .before .before .before .before .before .before .before .before .fits2 .ensures) (calls.not-false _ (c .before .before .before .before .before .before .before .before .before .before .before .before .before .before .before .before .before .before .before .before .before .before .before .before .before .before .before .before .before .before .before .before .if1 .left)) in
-    calls.asks-6 taken red fit (c .before .before .before .before .before .before .before .before .before .before .before .before .before .before .before .before .before .before .before .before .before .before .before .before .before .before .before .values .ensures) e-pairs (c .before .before .before .before .before .before .before .before .before .before .before .before .before .before .before .before .before .before .before .before .before .before .before .before .before .before .assign-head .ensures) (c .before .before .before .before .before .before .before .before .before .before .before .before .before .before .before .before .before .before .before .before .before .before .values2 .ensures) refl (c .before .before .before .before .before .before .before .before .before .before .before .before .before .before .before .before .before .before .before .before .before .assign-goal .ensures) (c .before .before .before .before .before .before .before .before .before .before .before .before .before .before .before .before .before .waiting .ensures) (c .before .before .before .before .before .before .before .before .before .before .before .before .before .before .before .before .waiters .ensures) (c .before .before .before .before .before .before .before .before .before .before .before .before .before .before .before .sets .ensures) (c .before .before .before .before .before .before .before .before .before .before .before .before .before .before .wake .ensures) (c .before .before .before .before .before .before .before .before .before .before .before .before .before .before .before .before .before .before .before .before .before .before .before .before .before .before .before .before .before .before .behind .ensures) refl e-body (c .before .before .before .before .before .before .before .before .before .before .queue .ensures) (c .before .before .before .before .before .before .before .before .before .add-goals .ensures) (c .before .before .before .before .before .waiting2 .ensures) (c .before .before .before .before .queue2 .ensures) (c .before .before .before .add-woken .ensures)
-
-add-t32 : tie.Need-add-t32
-add-t32 c =
-    small (c .before .before .before .before .before .before .before .before .before .before .before .before .before .before .before .before .before .before .before .before .before .before .before .before .before .before .before .before .before .before .before .before .before .before .before .before .before .before .before .before .before .before .before .before .before .before .before .before .args .t .pairs + c .before .before .before .before .before .before .before .before .before .before .before .before .before .before .before .before .before .before .before .before .before .before .before .before .before .before .before .before .before .before .before .before .before .before .before .before .before .before .before .before .before .before .before .before .index .result)
-    (calls.small-pairs (c .before .before .before .before .before .before .before .before .before .before .before .before .before .before .before .before .before .before .before .before .before .before .before .before .before .before .before .before .before .before .before .before .before .before .before .before .before .before .before .before .before .before .before .before .before .before .before .before .args .t) (c .before .before .before .before .before .before .before .before .before .before .before .before .before .before .before .before .before .before .before .before .before .before .before .before .before .before .before .before .before .before .before .before .before .before .before .before .before .before .before .before .before .before .before .before .index .result) _ (calls.counted (c .before .before .before .before .before .before .before .before .before .before .before .before .before .before .before .before .before .before .before .before .before .before .before .before .before .before .before .before .before .before .before .before .before .before .before .before .before .before .before .before .before .before .before .before .before .before .before .before .pre .10)) (c .before .before .before .before .before .before .before .before .before .before .before .before .before .before .before .before .before .before .before .before .before .before .before .before .before .before .before .before .before .before .before .before .before .before .before .before .before .before .before .before .before .before .before .before .index .ensures ∙ c .before .before .before .before .before .before .before .before .before .before .before .before .before .before .before .before .before .before .before .before .before .before .before .before .before .before .before .before .before .before .before .before .before .before .before .before .before .before .before .before .before .before .before .before .before .word-at .ensures ∙ c .before .before .before .before .before .before .before .before .before .before .before .before .before .before .before .before .before .before .before .before .before .before .before .before .before .before .before .before .before .before .before .before .before .before .before .before .before .before .before .before .before .before .before .before .before .before .before .before .pre .11 .at .held .pairs) (c .before .before .before .before .before .before .before .before .before .before .before .before .before .before .before .before .before .before .before .before .before .before .before .before .before .before .before .before .before .before .before .before .before .before .before .before .before .before .before .before .before .before .before .before .before .before .before .before .pre .11 .at .held .laid .few-pairs))
+    let e-pairs = first .index .ensures ∙ first .before .word-at .ensures ∙ red .at .held .pairs in
+    let e-compounds = second .index2 .ensures ∙ second .before .word-at2 .ensures ∙ red .at .held .compounds in
+    let e-body = third .index3 .ensures ∙ third .before .word-at3 .ensures ∙ red .at .held .goals in
+    let fit = calls.fit-told taken (p .8) (p .9) _ _ _ e-pairs e-compounds e-body _ true (test .before .fits2 .ensures) (calls.not-false _ (test .if1 .left)) in
+    calls.asks-6 taken red fit
+    (heads .before .values .ensures) e-pairs (heads .assign-head .ensures) (gives .before .values2 .ensures) (gives .assign-goal .ensures)
+    (wakes .before .before .before .waiting .ensures) (wakes .before .before .waiters .ensures) (wakes .before .sets .ensures)
+    (wakes .wake .ensures) (heads .before .before .before .before .behind .ensures) refl e-body (goals .before .queue .ensures)
+    (goals .add-goals .ensures) (woken .before .before .waiting2 .ensures) (woken .before .queue2 .ensures) (woken .add-woken .ensures)
 
 add-t18 : tie.Need-add-t18
 add-t18 c =
-    small (c .before .before .before .before .before .before .before .before .before .before .before .before .before .before .before .before .before .before .before .before .before .before .before .before .before .before .before .before .before .before .before .before .before .before .before .before .before .before .before .before .before .before .before .before .before .before .before .before .before .args .t .compounds + c .before .before .before .before .before .before .before .before .before .before .before .before .before .before .before .before .before .before .before .before .before .before .before .before .before .before .before .before .before .before .before .before .before .before .before .before .before .before .before .before .before .before .index2 .result)
-    (calls.small-compounds (c .before .before .before .before .before .before .before .before .before .before .before .before .before .before .before .before .before .before .before .before .before .before .before .before .before .before .before .before .before .before .before .before .before .before .before .before .before .before .before .before .before .before .before .before .before .before .before .before .before .args .t) (c .before .before .before .before .before .before .before .before .before .before .before .before .before .before .before .before .before .before .before .before .before .before .before .before .before .before .before .before .before .before .before .before .before .before .before .before .before .before .before .before .before .before .index2 .result) _ (calls.counted (c .before .before .before .before .before .before .before .before .before .before .before .before .before .before .before .before .before .before .before .before .before .before .before .before .before .before .before .before .before .before .before .before .before .before .before .before .before .before .before .before .before .before .before .before .before .before .before .before .before .pre .10)) (c .before .before .before .before .before .before .before .before .before .before .before .before .before .before .before .before .before .before .before .before .before .before .before .before .before .before .before .before .before .before .before .before .before .before .before .before .before .before .before .before .before .before .index2 .ensures ∙ c .before .before .before .before .before .before .before .before .before .before .before .before .before .before .before .before .before .before .before .before .before .before .before .before .before .before .before .before .before .before .before .before .before .before .before .before .before .before .before .before .before .before .before .word-at2 .ensures ∙ c .before .before .before .before .before .before .before .before .before .before .before .before .before .before .before .before .before .before .before .before .before .before .before .before .before .before .before .before .before .before .before .before .before .before .before .before .before .before .before .before .before .before .before .before .before .before .before .before .before .pre .11 .at .held .compounds) (c .before .before .before .before .before .before .before .before .before .before .before .before .before .before .before .before .before .before .before .before .before .before .before .before .before .before .before .before .before .before .before .before .before .before .before .before .before .before .before .before .before .before .before .before .before .before .before .before .before .pre .11 .at .held .laid .few-compounds))
+    let tries = c .before .before .before in
+    let woken = tries .before .before .before .before in
+    let goals = woken .before .before .before .before .before .before in
+    let wakes = goals .before .before .before .before .before in
+    let gives = wakes .before .before .before .before .before .before .before in
+    let heads = gives .before .before .before .before .before in
+    let test = heads .before .before .before .before .before in
+    let third = test .before .before in
+    let second = third .before .before .before in
+    let first = second .before .before .before in
+    let S = first .before .before .before .before in
+    let red = S .pre .11 in
+    let e = first .index .ensures ∙ first .before .word-at .ensures ∙ red .at .held .pairs in
+    small (S .args .t .pairs + first .index .result)
+    (calls.small-pairs (S .args .t) (first .index .result) _ (calls.counted (S .pre .10)) e (red .at .held .laid .few-pairs))
 
-add-t17 : tie.Need-add-t17
-add-t17 c =
-    small (c .before .before .before .before .before .before .before .before .before .before .before .before .before .before .before .before .before .before .before .before .before .before .before .before .before .before .before .before .before .before .before .before .before .before .before .before .before .before .before .before .before .before .before .before .before .before .before .before .before .args .t .active - 1 + c .before .before .before .before .before .before .before .before .before .before .before .before .before .before .before .before .before .before .before .before .before .before .before .before .before .before .before .before .before .before .before .before .before .before .before .before .before .before .before .index3 .result)
-    (calls.small-active (c .before .before .before .before .before .before .before .before .before .before .before .before .before .before .before .before .before .before .before .before .before .before .before .before .before .before .before .before .before .before .before .before .before .before .before .before .before .before .before .before .before .before .before .before .before .before .before .before .before .args .t) (c .before .before .before .before .before .before .before .before .before .before .before .before .before .before .before .before .before .before .before .before .before .before .before .before .before .before .before .before .before .before .before .before .before .before .before .before .before .before .before .index3 .result) _ (calls.counted (c .before .before .before .before .before .before .before .before .before .before .before .before .before .before .before .before .before .before .before .before .before .before .before .before .before .before .before .before .before .before .before .before .before .before .before .before .before .before .before .before .before .before .before .before .before .before .before .before .before .pre .10)) (c .before .before .before .before .before .before .before .before .before .before .before .before .before .before .before .before .before .before .before .before .before .before .before .before .before .before .before .before .before .before .before .before .before .before .before .before .before .before .before .index3 .ensures ∙ c .before .before .before .before .before .before .before .before .before .before .before .before .before .before .before .before .before .before .before .before .before .before .before .before .before .before .before .before .before .before .before .before .before .before .before .before .before .before .before .before .word-at3 .ensures ∙ c .before .before .before .before .before .before .before .before .before .before .before .before .before .before .before .before .before .before .before .before .before .before .before .before .before .before .before .before .before .before .before .before .before .before .before .before .before .before .before .before .before .before .before .before .before .before .before .before .before .pre .11 .at .held .goals) (c .before .before .before .before .before .before .before .before .before .before .before .before .before .before .before .before .before .before .before .before .before .before .before .before .before .before .before .before .before .before .before .before .before .before .before .before .before .before .before .before .before .before .before .before .before .before .before .before .before .pre .11 .at .held .laid .few-goals))
+add-t33 : tie.Need-add-t33
+add-t33 c =
+    let tries = c .before .before .before .before in
+    let woken = tries .before .before .before .before in
+    let goals = woken .before .before .before .before .before .before in
+    let wakes = goals .before .before .before .before .before in
+    let gives = wakes .before .before .before .before .before .before .before in
+    let heads = gives .before .before .before .before .before in
+    let test = heads .before .before .before .before .before in
+    let third = test .before .before in
+    let second = third .before .before .before in
+    let first = second .before .before .before in
+    let S = first .before .before .before .before in
+    let red = S .pre .11 in
+    let e = second .index2 .ensures ∙ second .before .word-at2 .ensures ∙ red .at .held .compounds in
+    small (S .args .t .compounds + second .index2 .result)
+    (calls.small-compounds (S .args .t) (second .index2 .result) _ (calls.counted (S .pre .10)) e (red .at .held .laid .few-compounds))
 
-add-t35 : tie.Need-add-t35
-add-t35 c =
-    let S = c .before .before .before .before .before .before .before .before .before .before .before .before .before .before .before .before .before .before .before .before .before .before .before .before .before .before .before .before .before .before .before .before .before .before .before .before .before .before .before .before .before .before .before .before .before .before .before .before .before in
+add-t19 : tie.Need-add-t19
+add-t19 c =
+    let tries = c .before .before .before .before in
+    let woken = tries .before .before .before .before in
+    let goals = woken .before .before .before .before .before .before in
+    let wakes = goals .before .before .before .before .before in
+    let gives = wakes .before .before .before .before .before .before .before in
+    let heads = gives .before .before .before .before .before in
+    let test = heads .before .before .before .before .before in
+    let third = test .before .before in
+    let second = third .before .before .before in
+    let first = second .before .before .before in
+    let S = first .before .before .before .before in
+    let red = S .pre .11 in
+    let e = third .index3 .ensures ∙ third .before .word-at3 .ensures ∙ red .at .held .goals in
+    small (S .args .t .active - 1 + third .index3 .result)
+    (calls.small-active (S .args .t) (third .index3 .result) _ (calls.counted (S .pre .10)) e (red .at .held .laid .few-goals))
+
+add-t36 : tie.Need-add-t36
+add-t36 c =
+    let tries = c .before .before .before .before in
+    let woken = tries .before .before .before .before in
+    let goals = woken .before .before .before .before .before .before in
+    let wakes = goals .before .before .before .before .before in
+    let gives = wakes .before .before .before .before .before .before .before in
+    let heads = gives .before .before .before .before .before in
+    let test = heads .before .before .before .before .before in
+    let third = test .before .before in
+    let second = third .before .before .before in
+    let first = second .before .before .before in
+    let S = first .before .before .before .before in
     let p = S .pre in
     let taken = p .10 in
     let red = p .11 in
-    let e-pairs = c .before .before .before .before .before .before .before .before .before .before .before .before .before .before .before .before .before .before .before .before .before .before .before .before .before .before .before .before .before .before .before .before .before .before .before .before .before .before .before .before .before .before .before .before .before .index .ensures ∙ c .before .before .before .before .before .before .before .before .before .before .before .before .before .before .before .before .before .before .before .before .before .before .before .before .before .before .before .before .before .before .before .before .before .before .before .before .before .before .before .before .before .before .before .before .before .before .word-at .ensures ∙ red .at .held .pairs in
-    let e-compounds = c .before .before .before .before .before .before .before .before .before .before .before .before .before .before .before .before .before .before .before .before .before .before .before .before .before .before .before .before .before .before .before .before .before .before .before .before .before .before .before .before .before .before .index2 .ensures ∙ c .before .before .before .before .before .before .before .before .before .before .before .before .before .before .before .before .before .before .before .before .before .before .before .before .before .before .before .before .before .before .before .before .before .before .before .before .before .before .before .before .before .before .before .word-at2 .ensures ∙ red .at .held .compounds in
-    let e-body = c .before .before .before .before .before .before .before .before .before .before .before .before .before .before .before .before .before .before .before .before .before .before .before .before .before .before .before .before .before .before .before .before .before .before .before .before .before .before .before .index3 .ensures ∙ c .before .before .before .before .before .before .before .before .before .before .before .before .before .before .before .before .before .before .before .before .before .before .before .before .before .before .before .before .before .before .before .before .before .before .before .before .before .before .before .before .word-at3 .ensures ∙ red .at .held .goals in
-    let fit = calls.fit-told taken (p .8) (p .9) _ _ _ e-pairs e-compounds e-body _ true (c .before .before .before .before .before .before .before .before .before .before .before .before .before .before .before .before .before .before .before .before .before .before .before .before .before .before .before .before .before .before .before .before .before .before .before .before .before .before .fits2 .ensures) (calls.not-false _ (c .before .before .before .before .before .before .before .before .before .before .before .before .before .before .before .before .before .before .before .before .before .before .before .before .before .before .before .before .before .before .before .before .before .before .before .before .before .if1 .left)) in
-    small (c .before .before .before .before .before .before .before .before .before .before .before .before .before .before .before .before .before .before .before .before .before .before .before .before .before .before .before .before .before .before .before .before .before .before .before .before .before .before .before .before .before .before .before .before .before .before .before .before .before .args .t .active - 1 + c .before .before .before .before .before .before .before .before .before .before .before .before .before .before .before .before .before .before .before .before .before .before .before .before .before .before .before .before .before .before .before .before .before .before .before .before .before .before .before .index3 .result + c .before .before .before .before .before .before .before .before .before .before .before .before .before .before .before .before .before .before .before .wake .result)
-    (calls.small-goals _ _ (calls.woken-few taken red fit (c .before .before .before .before .before .before .before .before .before .before .before .before .before .before .before .before .before .before .before .before .before .before .before .before .before .before .before .before .before .before .before .before .values .ensures) e-pairs (c .before .before .before .before .before .before .before .before .before .before .before .before .before .before .before .before .before .before .before .before .before .before .before .before .before .before .before .before .before .before .before .assign-head .ensures) (c .before .before .before .before .before .before .before .before .before .before .before .before .before .before .before .before .before .before .before .before .before .before .before .before .before .before .before .values2 .ensures) refl (c .before .before .before .before .before .before .before .before .before .before .before .before .before .before .before .before .before .before .before .before .before .before .before .before .before .before .assign-goal .ensures) (c .before .before .before .before .before .before .before .before .before .before .before .before .before .before .before .before .before .before .before .before .before .before .waiting .ensures) (c .before .before .before .before .before .before .before .before .before .before .before .before .before .before .before .before .before .before .before .before .before .waiters .ensures) (c .before .before .before .before .before .before .before .before .before .before .before .before .before .before .before .before .before .before .before .before .sets .ensures) (c .before .before .before .before .before .before .before .before .before .before .before .before .before .before .before .before .before .before .before .wake .ensures) (c .before .before .before .before .before .before .before .before .before .before .before .before .before .before .before .before .before .before .before .before .before .before .before .before .before .before .before .before .before .before .before .before .before .before .before .behind .ensures) refl e-body (c .before .before .before .before .before .before .before .before .before .before .before .before .before .before .before .queue .ensures) (c .before .before .before .before .before .before .before .before .before .before .before .before .before .before .add-goals .ensures) (c .before .before .before .before .before .before .before .before .before .before .waiting2 .ensures) (c .before .before .before .before .before .before .before .before .before .queue2 .ensures) (c .before .before .before .before .before .before .before .before .add-woken .ensures) .0) (c .before .before .before .before .before .before .before .before .before .before .before .before .before .before .before .before .before .before .before .before .before .before .before .before .before .before .before .before .before .before .before .before .before .before .before .before .before .before .before .before .before .before .before .before .before .before .before .before .before .pre .10 .running .in-range .goals))
+    let e-pairs = first .index .ensures ∙ first .before .word-at .ensures ∙ red .at .held .pairs in
+    let e-compounds = second .index2 .ensures ∙ second .before .word-at2 .ensures ∙ red .at .held .compounds in
+    let e-body = third .index3 .ensures ∙ third .before .word-at3 .ensures ∙ red .at .held .goals in
+    let fit = calls.fit-told taken (p .8) (p .9) _ _ _ e-pairs e-compounds e-body _ true (test .before .fits2 .ensures) (calls.not-false _ (test .if1 .left)) in
+    let few =
+    calls.woken-few taken red fit
+    (heads .before .values .ensures) e-pairs (heads .assign-head .ensures) (gives .before .values2 .ensures) (gives .assign-goal .ensures)
+    (wakes .before .before .before .waiting .ensures) (wakes .before .before .waiters .ensures) (wakes .before .sets .ensures)
+    (wakes .wake .ensures) (heads .before .before .before .before .behind .ensures) refl e-body (goals .before .queue .ensures)
+    (goals .add-goals .ensures) (woken .before .before .waiting2 .ensures) (woken .before .queue2 .ensures) (woken .add-woken .ensures)
+    in
+    small (S .args .t .active - 1 + third .index3 .result + wakes .wake .result) (calls.small-goals _ _ (few .0) (taken .running .in-range .goals))
 
-sub-t40 : tie.Need-sub-t40
-sub-t40 c =
-    let S = c .before .before .before .before .before .before .before .before .before .before .before .before .before .before .before .before .before .before .before .before .before .before .before .before .before .before .before .before .before .before .before .before .before .before .before .before .before .before .before .before .before .before .before .before .before .before .before .before .before .before in
+sub-t41 : tie.Need-sub-t41
+sub-t41 c =
+    let tries = c .before .before .before .before .before in
+    let woken = tries .before .before .before .before in
+    let goals = woken .before .before .before .before .before .before in
+    let wakes = goals .before .before .before .before .before in
+    let gives = wakes .before .before .before .before .before .before .before in
+    let heads = gives .before .before .before .before .before in
+    let test = heads .before .before .before .before .before in
+    let third = test .before .before in
+    let second = third .before .before .before in
+    let first = second .before .before .before in
+    let S = first .before .before .before .before in
     let p = S .pre in
     let taken = p .10 in
     let red = p .11 in
-    let e-pairs = c .before .before .before .before .before .before .before .before .before .before .before .before .before .before .before .before .before .before .before .before .before .before .before .before .before .before .before .before .before .before .before .before .before .before .before .before .before .before .before .before .before .before .before .before .before .before .index .ensures ∙ c .before .before .before .before .before .before .before .before .before .before .before .before .before .before .before .before .before .before .before .before .before .before .before .before .before .before .before .before .before .before .before .before .before .before .before .before .before .before .before .before .before .before .before .before .before .before .before .word-at .ensures ∙ red .at .held .pairs in
-    let e-compounds = c .before .before .before .before .before .before .before .before .before .before .before .before .before .before .before .before .before .before .before .before .before .before .before .before .before .before .before .before .before .before .before .before .before .before .before .before .before .before .before .before .before .before .before .index2 .ensures ∙ c .before .before .before .before .before .before .before .before .before .before .before .before .before .before .before .before .before .before .before .before .before .before .before .before .before .before .before .before .before .before .before .before .before .before .before .before .before .before .before .before .before .before .before .before .word-at2 .ensures ∙ red .at .held .compounds in
-    let e-body = c .before .before .before .before .before .before .before .before .before .before .before .before .before .before .before .before .before .before .before .before .before .before .before .before .before .before .before .before .before .before .before .before .before .before .before .before .before .before .before .before .index3 .ensures ∙ c .before .before .before .before .before .before .before .before .before .before .before .before .before .before .before .before .before .before .before .before .before .before .before .before .before .before .before .before .before .before .before .before .before .before .before .before .before .before .before .before .before .word-at3 .ensures ∙ red .at .held .goals in
-    let fit = calls.fit-told taken (p .8) (p .9) _ _ _ e-pairs e-compounds e-body _ true (c .before .before .before .before .before .before .before .before .before .before .before .before .before .before .before .before .before .before .before .before .before .before .before .before .before .before .before .before .before .before .before .before .before .before .before .before .before .before .before .fits2 .ensures) (calls.not-false _ (c .before .before .before .before .before .before .before .before .before .before .before .before .before .before .before .before .before .before .before .before .before .before .before .before .before .before .before .before .before .before .before .before .before .before .before .before .before .before .if1 .left)) in
-    calls.woken-few taken red fit (c .before .before .before .before .before .before .before .before .before .before .before .before .before .before .before .before .before .before .before .before .before .before .before .before .before .before .before .before .before .before .before .before .before .values .ensures) e-pairs (c .before .before .before .before .before .before .before .before .before .before .before .before .before .before .before .before .before .before .before .before .before .before .before .before .before .before .before .before .before .before .before .before .assign-head .ensures) (c .before .before .before .before .before .before .before .before .before .before .before .before .before .before .before .before .before .before .before .before .before .before .before .before .before .before .before .before .values2 .ensures) refl (c .before .before .before .before .before .before .before .before .before .before .before .before .before .before .before .before .before .before .before .before .before .before .before .before .before .before .before .assign-goal .ensures) (c .before .before .before .before .before .before .before .before .before .before .before .before .before .before .before .before .before .before .before .before .before .before .before .waiting .ensures) (c .before .before .before .before .before .before .before .before .before .before .before .before .before .before .before .before .before .before .before .before .before .before .waiters .ensures) (c .before .before .before .before .before .before .before .before .before .before .before .before .before .before .before .before .before .before .before .before .before .sets .ensures) (c .before .before .before .before .before .before .before .before .before .before .before .before .before .before .before .before .before .before .before .before .wake .ensures) (c .before .before .before .before .before .before .before .before .before .before .before .before .before .before .before .before .before .before .before .before .before .before .before .before .before .before .before .before .before .before .before .before .before .before .before .before .behind .ensures) refl e-body (c .before .before .before .before .before .before .before .before .before .before .before .before .before .before .before .before .queue .ensures) (c .before .before .before .before .before .before .before .before .before .before .before .before .before .before .before .add-goals .ensures) (c .before .before .before .before .before .before .before .before .before .before .before .waiting2 .ensures) (c .before .before .before .before .before .before .before .before .before .before .queue2 .ensures) (c .before .before .before .before .before .before .before .before .before .add-woken .ensures) .1
+    let e-pairs = first .index .ensures ∙ first .before .word-at .ensures ∙ red .at .held .pairs in
+    let e-compounds = second .index2 .ensures ∙ second .before .word-at2 .ensures ∙ red .at .held .compounds in
+    let e-body = third .index3 .ensures ∙ third .before .word-at3 .ensures ∙ red .at .held .goals in
+    let fit = calls.fit-told taken (p .8) (p .9) _ _ _ e-pairs e-compounds e-body _ true (test .before .fits2 .ensures) (calls.not-false _ (test .if1 .left)) in
+    calls.woken-few taken red fit
+    (heads .before .values .ensures) e-pairs (heads .assign-head .ensures) (gives .before .values2 .ensures) (gives .assign-goal .ensures)
+    (wakes .before .before .before .waiting .ensures) (wakes .before .before .waiters .ensures) (wakes .before .sets .ensures)
+    (wakes .wake .ensures) (heads .before .before .before .before .behind .ensures) refl e-body (goals .before .queue .ensures)
+    (goals .add-goals .ensures) (woken .before .before .waiting2 .ensures) (woken .before .queue2 .ensures) (woken .add-woken .ensures) .1
 
-add-t41 : tie.Need-add-t41
-add-t41 c =
-    small (c .before .before .before .before .before .before .before .before .before .before .before .before .before .before .before .before .before .before .before .before .before .before .before .before .before .before .before .before .before .before .before .before .before .before .before .before .before .before .before .before .before .before .before .before .before .before .before .before .before .before .before .args .t .steps + 1) (calls.small-steps (c .before .before .before .before .before .before .before .before .before .before .before .before .before .before .before .before .before .before .before .before .before .before .before .before .before .before .before .before .before .before .before .before .before .before .before .before .before .before .before .before .before .before .before .before .before .before .before .before .before .before .before .args .t .steps) (c .before .before .before .before .before .before .before .before .before .before .before .before .before .before .before .before .before .before .before .before .before .before .before .before .before .before .before .before .before .before .before .before .before .before .before .before .before .before .before .before .before .before .before .before .before .before .before .before .before .before .before .pre .10 .more))
+add-t42 : tie.Need-add-t42
+add-t42 c =
+    let tries = c .before .before .before .before .before .before in
+    let woken = tries .before .before .before .before in
+    let goals = woken .before .before .before .before .before .before in
+    let wakes = goals .before .before .before .before .before in
+    let gives = wakes .before .before .before .before .before .before .before in
+    let heads = gives .before .before .before .before .before in
+    let test = heads .before .before .before .before .before in
+    let third = test .before .before in
+    let second = third .before .before .before in
+    let first = second .before .before .before in
+    let S = first .before .before .before .before in
+    small (S .args .t .steps + 1) (calls.small-steps (S .args .t .steps) (S .pre .10 .more))
 
 same-length-2 : tie.Need-same-length-2
 same-length-2 c =
-    let S = c .before .before .before .before .before .before .before .before .before .before .before .before .before .before .before .before .before .before .before .before .before .before .before .before .before .before .before .before .before .before .before .before .before .before .before .before .before .before .before .before .before .before .before .before .before .before .before .before .before .before .before in
+    let tries = c .before .before .before .before .before .before in
+    let woken = tries .before .before .before .before in
+    let goals = woken .before .before .before .before .before .before in
+    let wakes = goals .before .before .before .before .before in
+    let gives = wakes .before .before .before .before .before .before .before in
+    let heads = gives .before .before .before .before .before in
+    let test = heads .before .before .before .before .before in
+    let third = test .before .before in
+    let second = third .before .before .before in
+    let first = second .before .before .before in
+    let S = first .before .before .before .before in
     let p = S .pre in
     let taken = p .10 in
     let red = p .11 in
-    let e-pairs = c .before .before .before .before .before .before .before .before .before .before .before .before .before .before .before .before .before .before .before .before .before .before .before .before .before .before .before .before .before .before .before .before .before .before .before .before .before .before .before .before .before .before .before .before .before .before .before .index .ensures ∙ c .before .before .before .before .before .before .before .before .before .before .before .before .before .before .before .before .before .before .before .before .before .before .before .before .before .before .before .before .before .before .before .before .before .before .before .before .before .before .before .before .before .before .before .before .before .before .before .before .word-at .ensures ∙ red .at .held .pairs in
-    let e-compounds = c .before .before .before .before .before .before .before .before .before .before .before .before .before .before .before .before .before .before .before .before .before .before .before .before .before .before .before .before .before .before .before .before .before .before .before .before .before .before .before .before .before .before .before .before .index2 .ensures ∙ c .before .before .before .before .before .before .before .before .before .before .before .before .before .before .before .before .before .before .before .before .before .before .before .before .before .before .before .before .before .before .before .before .before .before .before .before .before .before .before .before .before .before .before .before .before .word-at2 .ensures ∙ red .at .held .compounds in
-    let e-body = c .before .before .before .before .before .before .before .before .before .before .before .before .before .before .before .before .before .before .before .before .before .before .before .before .before .before .before .before .before .before .before .before .before .before .before .before .before .before .before .before .before .index3 .ensures ∙ c .before .before .before .before .before .before .before .before .before .before .before .before .before .before .before .before .before .before .before .before .before .before .before .before .before .before .before .before .before .before .before .before .before .before .before .before .before .before .before .before .before .before .word-at3 .ensures ∙ red .at .held .goals in
-    let fit = calls.fit-told taken (p .8) (p .9) _ _ _ e-pairs e-compounds e-body _ true (c .before .before .before .before .before .before .before .before .before .before .before .before .before .before .before .before .before .before .before .before .before .before .before .before .before .before .before .before .before .before .before .before .before .before .before .before .before .before .before .before .fits2 .ensures) (calls.not-false _ (c .before .before .before .before .before .before .before .before .before .before .before .before .before .before .before .before .before .before .before .before .before .before .before .before .before .before .before .before .before .before .before .before .before .before .before .before .before .before .before .if1 .left)) in
-    calls.size-6 taken red fit (c .before .before .before .before .before .before .before .before .before .before .before .before .before .before .before .before .before .before .before .before .before .before .before .before .before .before .before .before .before .before .before .before .before .before .values .ensures) e-pairs (c .before .before .before .before .before .before .before .before .before .before .before .before .before .before .before .before .before .before .before .before .before .before .before .before .before .before .before .before .before .before .before .before .before .assign-head .ensures) (c .before .before .before .before .before .before .before .before .before .before .before .before .before .before .before .before .before .before .before .before .before .before .before .before .before .before .before .before .before .values2 .ensures) refl (c .before .before .before .before .before .before .before .before .before .before .before .before .before .before .before .before .before .before .before .before .before .before .before .before .before .before .before .before .assign-goal .ensures) (c .before .before .before .before .before .before .before .before .before .before .before .before .before .before .before .before .before .before .before .before .before .before .before .before .waiting .ensures) (c .before .before .before .before .before .before .before .before .before .before .before .before .before .before .before .before .before .before .before .before .before .before .before .waiters .ensures) (c .before .before .before .before .before .before .before .before .before .before .before .before .before .before .before .before .before .before .before .before .before .before .sets .ensures) (c .before .before .before .before .before .before .before .before .before .before .before .before .before .before .before .before .before .before .before .before .before .wake .ensures) (c .before .before .before .before .before .before .before .before .before .before .before .before .before .before .before .before .before .before .before .before .before .before .before .before .before .before .before .before .before .before .before .before .before .before .before .before .before .behind .ensures) refl e-body (c .before .before .before .before .before .before .before .before .before .before .before .before .before .before .before .before .before .queue .ensures) (c .before .before .before .before .before .before .before .before .before .before .before .before .before .before .before .before .add-goals .ensures) (c .before .before .before .before .before .before .before .before .before .before .before .before .waiting2 .ensures) (c .before .before .before .before .before .before .before .before .before .before .before .queue2 .ensures) (c .before .before .before .before .before .before .before .before .before .before .add-woken .ensures) _ (c .before .before .before .before .before .before .count-try .ensures)
+    let e-pairs = first .index .ensures ∙ first .before .word-at .ensures ∙ red .at .held .pairs in
+    let e-compounds = second .index2 .ensures ∙ second .before .word-at2 .ensures ∙ red .at .held .compounds in
+    let e-body = third .index3 .ensures ∙ third .before .word-at3 .ensures ∙ red .at .held .goals in
+    let fit = calls.fit-told taken (p .8) (p .9) _ _ _ e-pairs e-compounds e-body _ true (test .before .fits2 .ensures) (calls.not-false _ (test .if1 .left)) in
+    calls.size-6 taken red fit
+    (heads .before .values .ensures) e-pairs (heads .assign-head .ensures) (gives .before .values2 .ensures) (gives .assign-goal .ensures)
+    (wakes .before .before .before .waiting .ensures) (wakes .before .before .waiters .ensures) (wakes .before .sets .ensures)
+    (wakes .wake .ensures) (heads .before .before .before .before .behind .ensures) refl e-body (goals .before .queue .ensures)
+    (goals .add-goals .ensures) (woken .before .before .waiting2 .ensures) (woken .before .queue2 .ensures) (woken .add-woken .ensures) _ (tries .count-try .ensures)
 
 returns-2 : tie.Need-returns-2
 returns-2 c =
     λ text names j limit atlas slots g others clause given taken red.
-    let S = c .before .before .before .before .before .before .before .before .before .before .before .before .before .before .before .before .before .before .before .before .before .before .before .before .before .before .before .before .before .before .before .before .before .before .before .before .before .before .before .before .before .before .before .before .before .before .before .before .before .before .before in
-    let e-pairs = c .before .before .before .before .before .before .before .before .before .before .before .before .before .before .before .before .before .before .before .before .before .before .before .before .before .before .before .before .before .before .before .before .before .before .before .before .before .before .before .before .before .before .before .before .before .before .before .index .ensures ∙ c .before .before .before .before .before .before .before .before .before .before .before .before .before .before .before .before .before .before .before .before .before .before .before .before .before .before .before .before .before .before .before .before .before .before .before .before .before .before .before .before .before .before .before .before .before .before .before .before .word-at .ensures ∙ red .at .held .pairs in
-    let e-compounds = c .before .before .before .before .before .before .before .before .before .before .before .before .before .before .before .before .before .before .before .before .before .before .before .before .before .before .before .before .before .before .before .before .before .before .before .before .before .before .before .before .before .before .before .before .index2 .ensures ∙ c .before .before .before .before .before .before .before .before .before .before .before .before .before .before .before .before .before .before .before .before .before .before .before .before .before .before .before .before .before .before .before .before .before .before .before .before .before .before .before .before .before .before .before .before .before .word-at2 .ensures ∙ red .at .held .compounds in
-    let e-body = c .before .before .before .before .before .before .before .before .before .before .before .before .before .before .before .before .before .before .before .before .before .before .before .before .before .before .before .before .before .before .before .before .before .before .before .before .before .before .before .before .before .index3 .ensures ∙ c .before .before .before .before .before .before .before .before .before .before .before .before .before .before .before .before .before .before .before .before .before .before .before .before .before .before .before .before .before .before .before .before .before .before .before .before .before .before .before .before .before .before .word-at3 .ensures ∙ red .at .held .goals in
-    let fit = calls.fit-told taken (clause) (given) _ _ _ e-pairs e-compounds e-body _ true (c .before .before .before .before .before .before .before .before .before .before .before .before .before .before .before .before .before .before .before .before .before .before .before .before .before .before .before .before .before .before .before .before .before .before .before .before .before .before .before .before .fits2 .ensures) (calls.not-false _ (c .before .before .before .before .before .before .before .before .before .before .before .before .before .before .before .before .before .before .before .before .before .before .before .before .before .before .before .before .before .before .before .before .before .before .before .before .before .before .before .if1 .left)) in
-    calls.ends taken red fit (c .before .before .before .before .before .before .before .before .before .before .before .before .before .before .before .before .before .before .before .before .before .before .before .before .before .before .before .before .before .before .before .before .before .before .values .ensures) e-pairs (c .before .before .before .before .before .before .before .before .before .before .before .before .before .before .before .before .before .before .before .before .before .before .before .before .before .before .before .before .before .before .before .before .before .assign-head .ensures) (c .before .before .before .before .before .before .before .before .before .before .before .before .before .before .before .before .before .before .before .before .before .before .before .before .before .before .before .before .before .values2 .ensures) refl (c .before .before .before .before .before .before .before .before .before .before .before .before .before .before .before .before .before .before .before .before .before .before .before .before .before .before .before .before .assign-goal .ensures) (c .before .before .before .before .before .before .before .before .before .before .before .before .before .before .before .before .before .before .before .before .before .before .before .before .waiting .ensures) (c .before .before .before .before .before .before .before .before .before .before .before .before .before .before .before .before .before .before .before .before .before .before .before .waiters .ensures) (c .before .before .before .before .before .before .before .before .before .before .before .before .before .before .before .before .before .before .before .before .before .before .sets .ensures) (c .before .before .before .before .before .before .before .before .before .before .before .before .before .before .before .before .before .before .before .before .before .wake .ensures) (c .before .before .before .before .before .before .before .before .before .before .before .before .before .before .before .before .before .before .before .before .before .before .before .before .before .before .before .before .before .before .before .before .before .before .before .before .before .behind .ensures) refl e-body (c .before .before .before .before .before .before .before .before .before .before .before .before .before .before .before .before .before .queue .ensures) (c .before .before .before .before .before .before .before .before .before .before .before .before .before .before .before .before .add-goals .ensures) (c .before .before .before .before .before .before .before .before .before .before .before .before .waiting2 .ensures) (c .before .before .before .before .before .before .before .before .before .before .before .queue2 .ensures) (c .before .before .before .before .before .before .before .before .before .before .add-woken .ensures) _ (c .before .before .before .before .before .before .count-try .ensures) _
+    let tries = c .before .before .before .before .before .before in
+    let woken = tries .before .before .before .before in
+    let goals = woken .before .before .before .before .before .before in
+    let wakes = goals .before .before .before .before .before in
+    let gives = wakes .before .before .before .before .before .before .before in
+    let heads = gives .before .before .before .before .before in
+    let test = heads .before .before .before .before .before in
+    let third = test .before .before in
+    let second = third .before .before .before in
+    let first = second .before .before .before in
+    let S = first .before .before .before .before in
+    let e-pairs = first .index .ensures ∙ first .before .word-at .ensures ∙ red .at .held .pairs in
+    let e-compounds = second .index2 .ensures ∙ second .before .word-at2 .ensures ∙ red .at .held .compounds in
+    let e-body = third .index3 .ensures ∙ third .before .word-at3 .ensures ∙ red .at .held .goals in
+    let fit = calls.fit-told taken clause given _ _ _ e-pairs e-compounds e-body _ true (test .before .fits2 .ensures) (calls.not-false _ (test .if1 .left)) in
+    calls.ends taken red fit
+    (heads .before .values .ensures) e-pairs (heads .assign-head .ensures) (gives .before .values2 .ensures) (gives .assign-goal .ensures)
+    (wakes .before .before .before .waiting .ensures) (wakes .before .before .waiters .ensures) (wakes .before .sets .ensures)
+    (wakes .wake .ensures) (heads .before .before .before .before .behind .ensures) refl e-body (goals .before .queue .ensures)
+    (goals .add-goals .ensures) (woken .before .before .waiting2 .ensures) (woken .before .queue2 .ensures) (woken .add-woken .ensures) _ (tries .count-try .ensures) _
     (record {
       pairs = ap (λ m. S .args .t .pairs + m) e-pairs;
       compounds = ap (λ m. S .args .t .compounds + m) e-compounds;
+      cells-are = refl;
       front-is = refl;
-      active = ap (λ m. S .args .t .active - 1 + m + c .before .before .before .before .before .before .before .before .before .before .before .before .before .before .before .before .before .before .before .before .before .wake .result) e-body;
+      active = ap (λ m. S .args .t .active - 1 + m + wakes .wake .result) e-body;
       log = refl;
       waiting = refl;
       failed = refl;
@@ -293,9 +561,6 @@ reduce-spec =
     fits-requires
     same-length
     returns
-    add-shift
-    mul-shift
-    sub-shift
     behind-requires
     sub-active
     values-requires
@@ -316,11 +581,11 @@ reduce-spec =
     add-add-woken
     add-woken-requires
     count-try-requires
-    add-t32
     add-t18
-    add-t17
-    add-t35
-    sub-t40
-    add-t41
+    add-t33
+    add-t19
+    add-t36
+    sub-t41
+    add-t42
     same-length-2
     returns-2)

@@ -1,7 +1,7 @@
 -- `copy` and `copy_arguments` meet their contracts: what each asks of the other and tells is a lemma of CopyCalls.
 -- The measure is the depth of the term, as its word tells it.
 use Prim.Native.Nat.{ℕ, _+_, _*_, _-_, _<_}
-use mathlib.Core.Path.{_≡_, sym, _∙_}
+use mathlib.Core.Path.{sym, _∙_}
 use native.Mathlib.Omega.{arith}
 use lib.ListN.{length}
 use borrow.Fn.Kinds.{In}
