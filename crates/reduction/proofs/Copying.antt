@@ -39,14 +39,27 @@ use Rattle.term.specs.Frames.{Only}
 use Rattle.term.proofs.Frames.{only-set}
 use Rattle.compare.proofs.Seen.{seen-term, seen-writer, seen-reader}
 use Rattle.circle.proofs.Depth.{depth, depths, height, height-is, shallow}
-use Rattle.reduction.specs.Build.{Item, size, sizes, Copies, Spread, AllSpread, Original, Aside, Moved, Laid, Copied}
+use Rattle.reduction.specs.Build.{
+  Item,
+  size,
+  sizes,
+  Copies,
+  Spread,
+  AllSpread,
+  Original,
+  moved-word,
+  Aside,
+  Moved,
+  Laid,
+  Copied,
+}
 use Rattle.reduction.proofs.Copies.{count-renamed, same-constant-word, same-functor-word, item-term-on}
 use Rattle.reduction.proofs.Keeping.{only-apart}
 use Rattle.reduction.proofs.Spreading.{copy-stays}
 
--- A word that is neither a variable's nor a compound's, by its tag.
-abbrev pub Fixed : View → Type 0
-Fixed v = OneOf (0 ∷ 3 ∷ 4 ∷ 5 ∷ []) (tagOf the-type v)
+-- What is seen is no compound, by its tag.
+abbrev pub NoCompound : View → Type 0
+NoCompound v = OneOf (0 ∷ 1 ∷ 2 ∷ 3 ∷ 4 ∷ 5 ∷ []) (tagOf the-type v)
 
 module _ (s : List ℕ) (x : Item) (pair to h : ℕ) where
   -- A writer or a reader is one of the item's pairs.
@@ -81,37 +94,32 @@ module _ (s : List ℕ) (x : Item) (pair to h : ℕ) where
   unfolding Within
   variable-word g n o places y p c moved = moved .pair-at n (o .term .within) ∙ ap (λ m. pair + m) (sym (o .goes .own n))
 
-  pub writer-copied : (at : ℕ) (t : Term) → Original s x pair to h t → Aside s at to t → (m : ℕ) → view (h % 8) (h / 8) ≡ Writer m
-      → Copied s (set s at (1 + 8 * (pair + m))) x pair at to t to
+  constant-copied : (at : ℕ) (k : Constant) → Original s x pair to h (constant k) → Aside s at to (constant k)
+      → Copied s (set s at h) x pair at to (constant k) to
   unfolding size Holds renamed
-  writer-copied at t o a m e =
-      let (n, is, place) = seen-writer (x .places) t h m (o .word) e in
-      let o′ : Original s x pair to h (variable writer n) = rw is at o in
-      rw is
-      (leaf at (1 + 8 * (pair + m)) (variable writer n) refl (a .inside)
-      (λ places y p c moved. omega (arith, variable-word writer n o′ places y p c moved)) (λ places p c. tt))
-
-  pub reader-copied : (at : ℕ) (t : Term) → Original s x pair to h t → Aside s at to t → (m : ℕ) → view (h % 8) (h / 8) ≡ Reader m
-      → Copied s (set s at (2 + 8 * (pair + m))) x pair at to t to
-  unfolding size Holds renamed
-  reader-copied at t o a m e =
-      let (n, is, place) = seen-reader (x .places) t h m (o .word) e in
-      let o′ : Original s x pair to h (variable reader n) = rw is at o in
-      rw is
-      (leaf at (2 + 8 * (pair + m)) (variable reader n) refl (a .inside)
-      (λ places y p c moved. omega (arith, variable-word reader n o′ places y p c moved)) (λ places p c. tt))
-
-  pub constant-copied : (at : ℕ) (t : Term) → Original s x pair to h t → Aside s at to t → (v : View) → view (h % 8) (h / 8) ≡ v → Fixed v
-      → Copied s (set s at h) x pair at to t to
-  unfolding size Holds renamed
-  constant-copied at (constant k) o a v e f =
+  constant-copied at k o a =
       leaf at h (constant k) refl (a .inside) (λ places y p c moved. o .word ∙ same-constant-word (x .places) places k (moved .names)) (λ places p c. tt)
-  constant-copied at (variable writer n) o a v e f =
-      let is = sym e ∙ seen-term (x .places) (variable writer n) h (o .word) in absurd (miss (0 ∷ 3 ∷ 4 ∷ 5 ∷ []) 1 tt (rw is at f))
-  constant-copied at (variable reader n) o a v e f =
-      let is = sym e ∙ seen-term (x .places) (variable reader n) h (o .word) in absurd (miss (0 ∷ 3 ∷ 4 ∷ 5 ∷ []) 2 tt (rw is at f))
-  constant-copied at (compound n g ts) o a v e f =
-      let is = sym e ∙ seen-term (x .places) (compound n g ts) h (o .word) in absurd (miss (0 ∷ 3 ∷ 4 ∷ 5 ∷ []) 6 tt (rw is at f))
+
+  -- A variable or a constant is copied by its word moved.
+  pub moved-copied : (at : ℕ) (t : Term) → Original s x pair to h t → Aside s at to t → NoCompound (view (h % 8) (h / 8))
+      → Copied s (set s at (moved-word pair h (view (h % 8) (h / 8)))) x pair at to t to
+  unfolding size Holds renamed
+  moved-copied at (variable writer n) o a k =
+      rw (seen-term (x .places) (variable writer n) h (o .word))
+      (leaf at (1 + 8 * (pair + x .places .pair n)) (variable writer n) refl (a .inside)
+      (λ places y p c moved. omega (arith, variable-word writer n o places y p c moved)) (λ places p c. tt))
+  moved-copied at (variable reader n) o a k =
+      rw (seen-term (x .places) (variable reader n) h (o .word))
+      (leaf at (2 + 8 * (pair + x .places .pair n)) (variable reader n) refl (a .inside)
+      (λ places y p c moved. omega (arith, variable-word reader n o places y p c moved)) (λ places p c. tt))
+  moved-copied at (constant (Constant.integer i)) o a k =
+      rw (seen-term (x .places) (constant (Constant.integer i)) h (o .word)) (constant-copied at (Constant.integer i) o a)
+  moved-copied at (constant (Constant.name f)) o a k =
+      rw (seen-term (x .places) (constant (Constant.name f)) h (o .word)) (constant-copied at (Constant.name f) o a)
+  moved-copied at (constant Constant.empty) o a k =
+      rw (seen-term (x .places) (constant Constant.empty) h (o .word)) (constant-copied at Constant.empty o a)
+  moved-copied at (compound n f ts) o a k =
+      absurd (miss (0 ∷ 1 ∷ 2 ∷ 3 ∷ 4 ∷ 5 ∷ []) 6 tt (rw (seen-term (x .places) (compound n f ts) h (o .word)) at k))
 
   -- A compound at its place p.
   compound-seen : (t : Term) → Original s x pair to h t → (p : ℕ) → view (h % 8) (h / 8) ≡ Compound p
@@ -130,10 +138,9 @@ module _ (s : List ℕ) (x : Item) (pair to h : ℕ) where
   compound-seen (constant Constant.empty) o p e =
       let k = seen-term (x .places) (constant Constant.empty) h (o .word) in let z : _≡_ {A = ℕ} 0 1 = cc in absurd (omega arith)
 
-  -- Where a word behind the trial's region is put, it is still there.
-  pub compound-original : (at w : ℕ) (t : Term) → Original s x pair to h t → 40704 ≤ at → (p : ℕ) → view (h % 8) (h / 8) ≡ Compound p
-      → (n : ℕ) × (f : Functor) × (ts : Terms) × (t ≡ compound n f ts) × Original (set s at w) x pair to (6 + 8 * p) (compound n f ts)
-  compound-original at w t o far p e =
+  pub compound-original : (t : Term) → Original s x pair to h t → (p : ℕ) → view (h % 8) (h / 8) ≡ Compound p
+      → (n : ℕ) × (f : Functor) × (ts : Terms) × (t ≡ compound n f ts) × Original s x pair to (6 + 8 * p) (compound n f ts)
+  compound-original t o p e =
       let (n, f, ts, is, place) = compound-seen t o p e in
       let o′ : Original s x pair to h (compound n f ts) = rw is at o in (
         n,
@@ -141,18 +148,29 @@ module _ (s : List ℕ) (x : Item) (pair to h : ℕ) where
         ts,
         is,
         record {
-          goes = o .goes;
+          goes = o′ .goes;
           word = ap (λ m. 6 + 8 * m) place;
-          term =
-              item-term-on x pair (o .goes) s (set s at w) (omega (arith, length-set s at w)) (λ k l. getD-set-other s at k w 0 (λ z. omega arith))
-              (compound n f ts) (o′ .term);
-          behind = o .behind;
-          inside = omega (arith, o′ .inside, length-set s at w);
-          room = λ some. omega (arith, o′ .room some, length-set s at w);
+          term = o′ .term;
+          behind = o′ .behind;
+          inside = o′ .inside;
+          room = o′ .room;
         },
       )
 
-  laid-copied : (at : ℕ) (s₁ s₂ : List ℕ) (r n : ℕ) (f : Functor) (ts : Terms) → s₁ ≡ set s at (6 + 8 * to) → Aside s at to (compound n f ts)
+  -- Where a word behind the trial's region is put, the term is still there.
+  pub original-put : (at w : ℕ) (t : Term) → Original s x pair to h t → 40704 ≤ at → Original (set s at w) x pair to h t
+  original-put at w t o far = record {
+    goes = o .goes;
+    word = o .word;
+    term =
+        item-term-on x pair (o .goes) s (set s at w) (omega (arith, length-set s at w)) (λ k l. getD-set-other s at k w 0 (λ z. omega arith)) t (o .term);
+    behind = o .behind;
+    inside = omega (arith, o .inside, length-set s at w);
+    room = λ some. omega (arith, o .room some, length-set s at w);
+  }
+
+  -- A compound's word put and its compounds copied.
+  pub laid-copied : (at : ℕ) (s₁ s₂ : List ℕ) (r n : ℕ) (f : Functor) (ts : Terms) → s₁ ≡ set s at (6 + 8 * to) → Aside s at to (compound n f ts)
       → Within (x .pairs) (x .compounds) (compound n f ts) → Laid s₁ s₂ x pair to (compound n f ts) r → Copied s s₂ x pair at to (compound n f ts) r
   unfolding Within Spread renamed
   laid-copied at s₁ s₂ r n f ts put a within d =
@@ -171,26 +189,15 @@ module _ (s : List ℕ) (x : Item) (pair to h : ℕ) where
         held = d .held;
       }
 
-  pub compound-copied : (at : ℕ) (s₁ s₂ : List ℕ) (r : ℕ) (t : Term) → Original s x pair to h t → Aside s at to t → (p : ℕ)
-      → view (h % 8) (h / 8) ≡ Compound p → s₁ ≡ set s at (6 + 8 * to)
-      → ((x : Item) (n : ℕ) (f : Functor) (ts : Terms) → Original s₁ x pair to (6 + 8 * p) (compound n f ts) → Laid s₁ s₂ x pair to (compound n f ts) r)
-      → Copied s s₂ x pair at to t r
-  compound-copied at s₁ s₂ r t o a p e put told =
-      let (n, f, ts, is, found) = compound-original at (6 + 8 * to) t o (a .behind) p e in
-      let a′ : Aside s at to (compound n f ts) = rw is at a in
-      let there : Original s₁ x pair to (6 + 8 * p) (compound n f ts) = rw put found in
-      rw is (laid-copied at s₁ s₂ r n f ts put a′ (there .term .within) (told x n f ts there))
-
   -- The depth that the word tells.
   pub original-height : (t : Term) → Original s x pair to h t → height (length s) s h ≡ depth t
   original-height t o = rw (o .word) (height-is s (x .places) (length s) t (o .term .held) (shallow s (x .places) t (o .term .held)))
 
--- The measure is as great for a compound, in the scratch in which the copy's word is put.
-pub compound-height : (s : List ℕ) (x : Item) (pair to h at w : ℕ) (t : Term) → Original s x pair to h t → 40704 ≤ at → (p : ℕ)
-    → view (h % 8) (h / 8) ≡ Compound p → height (length (set s at w)) (set s at w) (6 + 8 * p) ≡ height (length s) s h
-compound-height s x pair to h at w t o far p e =
-    let (n, f, ts, is, found) = compound-original s x pair to h at w t o far p e in
-    original-height (set s at w) x pair to (6 + 8 * p) (compound n f ts) found ∙ sym (original-height s x pair to h t o ∙ ap depth is)
+-- It is the same in the scratch in which the copy's word is put.
+pub height-put : (s : List ℕ) (x : Item) (pair to h at w : ℕ) (t : Term) → Original s x pair to h t → 40704 ≤ at
+    → height (length (set s at w)) (set s at w) h ≡ height (length s) s h
+height-put s x pair to h at w t o far =
+    original-height (set s at w) x pair to h t (original-put s x pair to h at w t o far) ∙ sym (original-height s x pair to h t o)
 
 functor-count : (places : Places) (f : Functor) (k : ℕ) → k ≤ 6 → functor-word places f k % 8 ≡ k
 functor-count places cell k h = omega arith

@@ -5,6 +5,8 @@ use mathlib.Core.Logic.{_⊎_, _≢_}
 use mathlib.Core.List.{List, [], _∷_}
 use lib.ListN.{length, getD}
 use Rattle.meaning.specs.Terms.{Term, Terms, variable, constant, compound, end, more, count, renamed}
+use Rattle.term.specs.declared.word.View.{View}
+use Rattle.term.specs.declared.word.View.the-variants.{Nothing, Writer, Reader, Integer, Name, Empty, Compound}
 use Rattle.term.specs.Cells.{Places, Numbered, term-word}
 use Rattle.term.specs.Holds.{Holds}
 use Rattle.term.specs.Setting.{Within}
@@ -76,6 +78,20 @@ pub record Original (s : List ℕ) (x : Item) (pair to h : ℕ) (t : Term) : Typ
   pub behind : 40704 ≤ to
   pub inside : to + size t ≤ length s
   pub room : 1 ≤ size t → to + size t + 7 ≤ length s
+
+-- The word of the copy of a term that is no compound, by what its own word says: a variable's pair comes from a pair on, any other word stays.
+abbrev pub moved-word : ℕ → ℕ → View → ℕ
+moved-word pair h (Writer m) = 1 + 8 * (pair + m)
+moved-word pair h (Reader m) = 2 + 8 * (pair + m)
+moved-word pair h Nothing = h
+moved-word pair h (Integer bits) = h
+moved-word pair h (Name number) = h
+moved-word pair h Empty = h
+moved-word pair h (Compound place) = h
+
+-- Where a word is a variable's, its pair has a place from that pair on.
+abbrev pub PairFits : ℕ → View → Type 0
+PairFits pair v = ((m : ℕ) → v ≡ Writer m → pair + m < 4294967296) × ((m : ℕ) → v ≡ Reader m → pair + m < 4294967296)
 
 -- A word for the copy's word, none of those of its compounds.
 pub record Aside (s : List ℕ) (at to : ℕ) (t : Term) : Type 0 where
