@@ -8,7 +8,7 @@ use lib.ListN.{length, getD, set, length-set}
 use lib.Seq.{getD-set-other}
 use Rattle.meaning.specs.Bytes.{Bytes}
 use Rattle.meaning.specs.Terms.{Term, Clause, Job, as-term}
-use Rattle.meaning.specs.State.{Room, Goal, Values, value}
+use Rattle.meaning.specs.State.{Room, Goal, Values}
 use Rattle.term.specs.Cells.{Places}
 use Rattle.term.specs.Chains.{end-place, EndsStand}
 use Rattle.term.specs.Frames.{Only}

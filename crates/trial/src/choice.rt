@@ -76,14 +76,7 @@ fn begin(s: &mut [u64], pairs: usize)
 }
 
 // The trial of clause k on the goal whose arguments were followed.
-fn trial(
-    s: &mut [u64],
-    values: usize,
-    marks: usize,
-    links: usize,
-    k: usize,
-    stamp: u64,
-) -> Outcome
+fn trial(s: &mut [u64], values: usize, marks: usize, links: usize, k: usize, stamp: u64) -> Outcome
     requires { ⌜ ((text : Bytes) × (names : List Bytes) × (j : Job) × (limit : ℕ) × (figures : Room) × (at : Places) × (g : Goal) × (others : List Goal) × (goal : ℕ) × (c : Clause)
         × Trying (now s) text names j limit figures at g others values marks links goal
         × ArgumentsStand (now s) j limit figures at g links
