@@ -149,9 +149,8 @@ AllEntries s x y lo hi (e ∷ es) =
     (e .pair < length (x .values)) × (a : ℕ) × (b : ℕ) × (lo ≤ a) × HeadTerm s x y a b (e .term) × AllEntries s x y b hi es
 
 -- What a trial gave, read from its region: m entries in order, and a word for each of the clause's pairs. The head's terms that were given have
--- compounds numbered from low up to high. The values after the trial are those of
--- the entries assigned, in order, for the unit's own pairs, and those of the words for the clause's; of the unit's own pairs those of the
--- entries and no other are assigned.
+-- compounds numbered from low up to high. The values after the trial are those of the entries assigned, in order, for the unit's own pairs, and
+-- those of the words for the clause's; of the unit's own pairs those of the entries and no other are assigned.
 pub record Gave (s s′ : List ℕ) (x : Setting) (y : Template) (given : List Assignment) (m : ℕ) : Type 0 where
   pub gifts : List Gift
   pub given-are : given ≡ assignments (length (x .values)) (x .compounds) gifts

@@ -1,6 +1,6 @@
 -- What following a goal's term asks and gives: the word of a term of the unit, and that of the term followed. What following all arguments of a
 -- goal, and keeping their ends, asks and gives.
-use Prim.Native.Nat.{ℕ, _+_, _*_, _≤_, _<_}
+use Prim.Native.Nat.{ℕ, _+_, _≤_, _<_}
 use mathlib.Core.Path.{_≡_}
 use mathlib.Core.Logic.{_≢_}
 use mathlib.Core.List.{List}
