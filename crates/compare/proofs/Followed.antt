@@ -6,18 +6,25 @@ use mathlib.Core.List.{List}
 use native.Mathlib.Omega.{arith}
 use lib.ListN.{length, getD, set}
 use lib.Seq.{getD-set-same}
-use Rattle.meaning.specs.Terms.{Functor, Term, Terms, end, more, count}
+use Rattle.meaning.specs.Terms.{Functor, Terms, end, more, count}
 use Rattle.meaning.specs.Compare.{followed}
-use Rattle.term.specs.Cells.{Known, AllKnown}
-use Rattle.term.specs.Holds.{Holds, HoldsFrom}
 use Rattle.term.specs.Frames.{Only}
-use Rattle.term.specs.Setting.{Setting, Within, AllWithin, Ranged, AllRanged, UnitTerms}
+use Rattle.term.specs.Setting.{Setting, UnitTerms}
 use Rattle.term.proofs.Frames.{only-same, only-set, only-then, only-wider}
 use Rattle.term.proofs.Units.{unit-term-alike, unit-terms-alike}
-use Rattle.compare.specs.Follow.{Chained, Reads, FollowedTo, FollowedAt, Follows, ArgumentsFollowed}
+use Rattle.compare.specs.Follow.{Chained, FollowedTo, FollowedAt, Follows, ArgumentsFollowed}
 use Rattle.compare.specs.Compare.{Outside}
 use Rattle.compare.proofs.Kept.{words-kept, chained-alike}
-use Rattle.compare.proofs.Arguments.{first-count}
+use Rattle.compare.proofs.Compounds.{
+  compound-inside,
+  compound-number,
+  compound-few,
+  compound-wide,
+  compound-count,
+  compound-arguments,
+  Next,
+  next-argument,
+}
 
 module _ (s s′ : List ℕ) (x : Setting) (size : length s ≤ length s′)
     (alike : (n : ℕ) → n < x .compounds → (k : ℕ) → x .places .compound n ≤ k → k < x .places .compound n + x .places .width n → getD s′ k 0 ≡ getD s k 0)
@@ -52,40 +59,18 @@ pub record Midway (s₀ s : List ℕ) (x : Setting) (from links l : ℕ) (ts : T
   pub on : (s′ : List ℕ) → Only (40657 + j) 40663 s s′ → FollowedAt s′ x links j rest → FollowedAt s′ x links 0 ts
 
 module _ {s₀ : List ℕ} {x : Setting} {from links l : ℕ} {f : Functor} {ts : Terms} {goal : ℕ} (a : Follows s₀ x from links l f ts goal) where
-  number : l < x .compounds
-  unfolding Within
-  number = a .term .of .within .0
-
-  few : count ts ≤ 6
-  unfolding Holds
-  few = a .term .held .0 .few
-
-  wide : count ts < x .places .width l
-  unfolding Holds
-  wide = a .term .held .0 .wide
-
-  pub goal-inside : goal + 8 ≤ length s₀
-  unfolding Holds
-  goal-inside = omega (arith, a .term .held .0 .inside, a .place)
-
   large : 40712 ≤ length s₀
-  large = omega (arith, goal-inside, a .place, a .compounds-behind l number)
+  large = omega (arith, compound-inside (a .term) (a .place), a .place, a .compounds-behind l (compound-number (a .term) (a .place)))
 
   pub first-midway : (k : ℕ) → k ≡ getD s₀ goal 0 % 8 → Midway s₀ s₀ x from links l ts k 1
-  unfolding Holds Within Known Ranged
   first-midway k e = record {
-    whole = e ∙ rw (a .place, a .term .held .0 .functor) (first-count (x .places) f (count ts) few);
+    whole = compound-count (a .term) (a .place) e;
     only = only-same 40657 40663 s₀;
     chained = a .chained;
     j = 0;
     at = refl;
     rest = ts;
-    terms = record {
-      held = a .term .held .1;
-      within = a .term .of .within .1;
-      known = a .term .of .known .1;
-      ranged = a .term .of .ranged;
-    };
+    terms = compound-arguments (a .term) (a .place);
     left = omega arith;
     on = λ s′ o stand. stand;
   }
@@ -101,44 +86,21 @@ module _ {s₀ : List ℕ} {x : Setting} {from links l : ℕ} {f : Functor} {ts 
 
   module _ {s : List ℕ} {k i : ℕ} (P : Midway s₀ s x from links l ts k i) where
     pub count-small : k ≤ 6
-    count-small = omega (arith, P .whole, few)
+    count-small = omega (arith, P .whole, compound-few (a .term) (a .place))
 
     pub argument-inside : i ≤ k → goal + i < length s
-    argument-inside h = omega (arith, goal-inside, P .only .size, count-small)
+    argument-inside h = omega (arith, compound-inside (a .term) (a .place), P .only .size, count-small)
 
     pub word-inside : i ≤ k → 40656 + i < length s
     word-inside h = omega (arith, large, P .only .size, count-small)
 
-    -- The argument at hand, and what is left behind it.
-    pub record Now (w : ℕ) : Type 0 where
-      pub u : Term
-      pub us : Terms
-      pub rest-is : P .rest ≡ more u us
-      pub reads : Reads s x from links u w
-      pub behind : UnitTerms s x l (P .j + 1) us
-      pub fewer : P .j + 1 + count us ≡ count ts
+    -- The argument at hand.
+    abbrev pub Now : ℕ → Type 0
+    Now w = Next s x from links l (P .j) (P .rest) w
 
     pub now-at : {w : ℕ} → i ≤ k → w ≡ getD s (goal + i) 0 → Now w
-    unfolding HoldsFrom AllWithin AllKnown AllRanged count
-    now-at {w} h e = go (P .rest) refl (P .terms) (P .left)
-      where
-        same : goal + i ≡ x .places .compound l + 1 + P .j
-        same = omega (arith, a .place, P .at)
-
-        go : (us : Terms) → P .rest ≡ us → UnitTerms s x l (P .j) us → P .j + count us ≡ count ts → Now w
-        go end is t q = absurd (omega (arith, P .at, P .whole))
-        go (more u us) is t q = record {
-          u = u;
-          us = us;
-          rest-is = is;
-          reads = record {
-            chained = P .chained;
-            term = record { held = t .held .1; of = record { within = t .within .0; known = t .known .0; ranged = t .ranged .0 } };
-            word = e ∙ ap (λ c. getD s c 0) same ∙ t .held .0;
-          };
-          behind = record { held = t .held .2; within = t .within .1; known = t .known .1; ranged = t .ranged .1 };
-          fewer = omega arith;
-        }
+    now-at h e =
+        next-argument (P .chained) l (P .j) (P .rest) (P .terms) (omega (arith, P .at, P .whole, P .left)) (omega (arith, a .place, P .at)) e
 
     module _ {w v : ℕ} (N : Now w) (to : FollowedTo s x from links (N .u) v) (h : i ≤ k) where
       abbrev after : List ℕ
@@ -175,9 +137,9 @@ module _ {s₀ : List ℕ} {x : Setting} {from links l : ℕ} {f : Functor} {ts 
         j = P .j + 1;
         at = omega (arith, P .at);
         rest = N .us;
-        terms = unit-terms-alike s after x (omega (arith, one-wider .size)) (cells-stay s after one-wider) l (P .j + 1) (N .us) number
-            (omega (arith, N .fewer, wide)) (N .behind);
-        left = N .fewer;
+        terms = unit-terms-alike s after x (omega (arith, one-wider .size)) (cells-stay s after one-wider) l (P .j + 1) (N .us)
+            (compound-number (a .term) (a .place)) (omega (arith, N .fewer, P .left, compound-wide (a .term) (a .place))) (N .behind);
+        left = omega (arith, N .fewer, P .left);
         on = onward;
       }
 

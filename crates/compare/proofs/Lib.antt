@@ -1,4 +1,5 @@
 pub mod Arguments
+pub mod Compounds
 pub mod Descent
 pub mod Equal
 pub mod Followed

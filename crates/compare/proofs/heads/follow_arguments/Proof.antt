@@ -4,7 +4,8 @@ use native.Mathlib.Omega.{arith}
 use Rattle.meaning.specs.Terms.{Functor, Terms}
 use Rattle.term.specs.Setting.{Setting}
 use Rattle.compare.specs.Follow.{Follows}
-use Rattle.compare.proofs.Followed.{Midway, goal-inside, first-midway, argument-inside, word-inside, count-small, now-at, midway-more, all-followed}
+use Rattle.compare.proofs.Compounds.{compound-inside}
+use Rattle.compare.proofs.Followed.{Midway, first-midway, argument-inside, word-inside, count-small, now-at, midway-more, all-followed}
 use Rattle.compare.proofs.heads.follow_arguments.Statement.{statement}
 use Rattle.compare.proofs.heads.follow_arguments.Tie as tie
 
@@ -18,7 +19,7 @@ abbrev μ-loop : tie.MeasureT-loop
 count-requires : tie.Need-count-requires Inv-loop μ-loop
 count-requires c κs =
     let start = c .before .before in
-    omega (arith, goal-inside (start .pre .4))
+    omega (arith, compound-inside (start .pre .4 .term) (start .pre .4 .place))
 
 loop-holds : tie.Need-loop-holds Inv-loop μ-loop
 loop-holds c x l f ts a = first-midway a (c .count .result) (c .count .ensures)
