@@ -1,6 +1,7 @@
 -- Argument by argument: what was given so far, and what is left of both lists; the outcome of the whole is that of what is left, with what was given.
+-- How the goal's arguments stand in the scratch is left open: G says it of those that are left.
 use Prim.Native.Nat.{ℕ, _+_, _*_, _-_, _%_, _≤_, _<_}
-use mathlib.Core.Path.{_≡_, refl, sym, ap, _∙_}
+use mathlib.Core.Path.{_≡_, refl, sym, subst, ap, _∙_}
 use mathlib.Core.List.{List, [], _++_, append-nil}
 use native.Mathlib.Omega.{arith}
 use lib.ListN.{length, getD}
@@ -12,17 +13,17 @@ use Rattle.term.specs.Frames.{Only}
 use Rattle.term.proofs.Cells.{numbered-order, all-numbered-order}
 use Rattle.term.proofs.Frames.{only-same, only-then}
 use Rattle.compare.specs.declared.compare.Result.the-variants.{Agrees, Waits, Fails}
-use Rattle.term.specs.Setting.{Setting, AllWithin, AllRanged, UnitTerm, UnitTerms}
+use Rattle.term.specs.Setting.{Setting, AllWithin, AllRanged}
 use Rattle.compare.specs.Follow.{Reads}
 use Rattle.compare.specs.Gifts.{Gift, assignments, entries, recorded}
-use Rattle.compare.specs.Compare.{Template, item, HeadTerm, HeadTerms, TrialStands, Against, AllAgainst, AllGiven, Answers, place-outcome, places-outcome}
-use Rattle.compare.proofs.Kept.{only-back, trial-kept, unit-terms-kept, head-terms-kept, all-given-kept}
+use Rattle.compare.specs.Compare.{Template, item, HeadTerm, HeadTerms, TrialStands, Against, HeadArguments, AllGiven, Answers, place-outcome, places-outcome}
+use Rattle.compare.proofs.Kept.{only-back, trial-kept, head-terms-kept, all-given-kept}
 use Rattle.compare.proofs.Gifts.{assignments-append, entries-append, recorded-append, given-wider, given-append, with-none, with-both}
 use Rattle.compare.proofs.Descent.{depth, argument-depth}
 use Rattle.compare.proofs.Seen.{seen}
 
 -- The next argument of both, where one is left.
-pub record Facing (s : List ℕ) (x : Setting) (y : Template) (m l j lo hi : ℕ) (heads goals : Terms) : Type 0 where
+pub record Facing (s : List ℕ) (x : Setting) (y : Template) (m j lo hi : ℕ) (heads goals : Terms) : Type 0 where
   pub t : Term
   pub u : Term
   pub us : Terms
@@ -31,20 +32,17 @@ pub record Facing (s : List ℕ) (x : Setting) (y : Template) (m l j lo hi : ℕ
   pub heads-are : heads ≡ more t us
   pub goals-are : goals ≡ more u ts
   pub head-word : getD s (8 * (640 + 32 * y .number + m) + 1 + j) 0 ≡ term-word (item x y) t
-  pub goal-word : getD s (x .places .compound l + 1 + j) 0 ≡ term-word (x .places) u
   pub head : HeadTerm s x y lo mid t
-  pub goal : UnitTerm s x u
   pub heads-left : HeadTerms s x y m (j + 1) mid hi us
-  pub goals-left : UnitTerms s x l (j + 1) ts
   pub low : lo ≤ mid
   pub mid-high : mid ≤ hi
 
-facing : (s : List ℕ) (x : Setting) (y : Template) (m l j lo hi : ℕ) (heads goals : Terms) → HeadTerms s x y m j lo hi heads
-    → UnitTerms s x l j goals → count heads ≡ count goals → 0 < count heads → Facing s x y m l j lo hi heads goals
+facing : (s : List ℕ) (x : Setting) (y : Template) (m j lo hi : ℕ) (heads goals : Terms) → HeadTerms s x y m j lo hi heads
+    → count heads ≡ count goals → 0 < count heads → Facing s x y m j lo hi heads goals
 unfolding count HoldsFrom AllWithin AllRanged AllKnown AllNumbered
-facing s x y m l j lo hi end goals a b e p = absurd (omega arith)
-facing s x y m l j lo hi (more t us) end a b e p = absurd (omega arith)
-facing s x y m l j lo hi (more t us) (more u ts) a b e p =
+facing s x y m j lo hi end goals a e p = absurd (omega arith)
+facing s x y m j lo hi (more t us) end a e p = absurd (omega arith)
+facing s x y m j lo hi (more t us) (more u ts) a e p =
     let mid = a .numbered .0 in
     let low : lo ≤ mid = numbered-order lo mid t (a .numbered .1) in
     let high : mid ≤ hi = all-numbered-order mid hi us (a .numbered .2) in
@@ -57,7 +55,6 @@ facing s x y m l j lo hi (more t us) (more u ts) a b e p =
       heads-are = refl;
       goals-are = refl;
       head-word = a .held .0;
-      goal-word = b .held .0;
       head =
           record {
             held = a .held .1;
@@ -67,8 +64,6 @@ facing s x y m l j lo hi (more t us) (more u ts) a b e p =
             numbered = a .numbered .1;
             high = omega (arith, a .high);
           };
-      goal =
-          record { held = b .held .1; of = record { within = b .within .0; known = b .known .0; ranged = b .ranged .0 } };
       heads-left =
           record {
             held = a .held .2;
@@ -79,13 +74,13 @@ facing s x y m l j lo hi (more t us) (more u ts) a b e p =
             high = a .high;
             rising = omega (arith, a .rising);
           };
-      goals-left = record { held = b .held .2; within = b .within .1; known = b .known .1; ranged = b .ranged .1 };
       low = low;
       mid-high = high;
     }
 
 -- So far, before the i-th argument: s₀ was the scratch at first, given the entries made.
-pub record Partly (s₀ s : List ℕ) (x : Setting) (y : Template) (from links m : ℕ) (us : Terms) (lo hi l : ℕ) (ts : Terms) (n k given i : ℕ) : Type 0 where
+pub record Partly (G : List ℕ → ℕ → Terms → Type 0) (s₀ s : List ℕ) (x : Setting) (y : Template) (from links m : ℕ) (us : Terms) (lo hi : ℕ)
+    (ts : Terms) (n k given i : ℕ) : Type 0 where
   pub whole : k ≡ count us
   pub j : ℕ
   pub at : i ≡ j + 1
@@ -99,7 +94,7 @@ pub record Partly (s₀ s : List ℕ) (x : Setting) (y : Template) (from links m
   pub held : AllGiven s₀ x y lo low gifts
   pub trial : TrialStands s x y from links
   pub head : HeadTerms s x y m j low hi heads
-  pub goal : UnitTerms s x l j goals
+  pub goal : G s j goals
   pub counts : count heads ≡ count goals
   pub left : j + count heads ≡ count us
   pub fits : given + count heads + 6 * lo ≤ n + count us + 6 * low
@@ -110,18 +105,16 @@ pub first-count : (places : Places) (f : Functor) (k : ℕ) → k ≤ 6 → func
 first-count places cell k few = omega arith
 first-count places (named f) k few = omega arith
 
-module _ (links : ℕ) {s₀ : List ℕ} {x : Setting} {y : Template} {from m : ℕ} {g : Functor} {us : Terms} {lo hi l : ℕ} {f : Functor} {ts : Terms} {p q n : ℕ}
-    (a : AllAgainst s₀ x y from links m g us lo hi l f ts p q n) where
+module _ (links : ℕ) {s₀ : List ℕ} {x : Setting} {y : Template} {from m : ℕ} {g : Functor} {us : Terms} {lo hi p n : ℕ}
+    (a : HeadArguments s₀ x y from links m g us lo hi p n) where
   pub head-inside : p + 8 ≤ length s₀
-  head-inside = omega (arith, a .head-cell .inside, a .head-place)
+  head-inside = omega (arith, a .cell .inside, a .place)
 
-  pub goal-inside : q + 8 ≤ length s₀
-  goal-inside = omega (arith, a .goal-cell .inside, a .goal-place)
-
-  pub first-partly : (k : ℕ) → k ≡ getD s₀ p 0 % 8 → Partly s₀ s₀ x y from links m us lo hi l ts n k n 1
+  pub first-partly : (G : List ℕ → ℕ → Terms → Type 0) (ts : Terms) → G s₀ 0 ts → count us ≡ count ts → (k : ℕ) → k ≡ getD s₀ p 0 % 8
+      → Partly G s₀ s₀ x y from links m us lo hi ts n k n 1
   unfolding assignments entries recorded AllGiven
-  first-partly k e = record {
-    whole = e ∙ rw (a .head-place, a .head-cell .functor) (first-count (item x y) g (count us) (a .head-cell .few));
+  first-partly G ts goals counts k e = record {
+    whole = e ∙ rw (a .place, a .cell .functor) (first-count (item x y) g (count us) (a .cell .few));
     j = 0;
     at = refl;
     heads = us;
@@ -133,37 +126,35 @@ module _ (links : ℕ) {s₀ : List ℕ} {x : Setting} {y : Template} {from m : 
     counted = omega arith;
     held = omega arith;
     trial = a .trial;
-    head = a .head;
-    goal = a .goal;
-    counts = a .counts;
+    head = a .terms;
+    goal = goals;
+    counts = counts;
     left = omega arith;
     fits = omega arith;
     outcome = sym (with-none (places-outcome x links us ts));
   }
 
-  module _ {s : List ℕ} {k given i : ℕ} (P : Partly s₀ s x y from links m us lo hi l ts n k given i) where
-    -- Within the compounds' places, while an argument is left.
-    pub arguments-inside : i ≤ k → (p + i < length s) × (q + i < length s)
-    arguments-inside h = (
-      omega (arith, head-inside, P .only .size, P .whole, a .head-cell .few),
-      omega (arith, goal-inside, P .only .size, P .whole, a .head-cell .few),
-    )
+  module _ {G : List ℕ → ℕ → Terms → Type 0} {ts : Terms} {s : List ℕ} {k given i : ℕ} (P : Partly G s₀ s x y from links m us lo hi ts n k given i) where
+    pub count-small : k ≤ 6
+    count-small = omega (arith, P .whole, a .cell .few)
 
-    pub next : i ≤ k → Facing s x y m l (P .j) (P .low) hi (P .heads) (P .goals)
+    -- Within the compound's place, while an argument is left.
+    pub head-argument-inside : i ≤ k → p + i < length s
+    head-argument-inside h = omega (arith, head-inside, P .only .size, count-small)
+
+    pub next : i ≤ k → Facing s x y m (P .j) (P .low) hi (P .heads) (P .goals)
     next h =
-        facing s x y m l (P .j) (P .low) hi (P .heads) (P .goals) (P .head) (P .goal) (P .counts)
+        facing s x y m (P .j) (P .low) hi (P .heads) (P .goals) (P .head) (P .counts)
         (omega (arith, P .at, P .left, P .whole))
 
-    module _ (F : Facing s x y m l (P .j) (P .low) hi (P .heads) (P .goals)) where
+    module _ (F : Facing s x y m (P .j) (P .low) hi (P .heads) (P .goals)) where
       pub head-read : {h : ℕ} → h ≡ getD s (p + i) 0 → h ≡ term-word (item x y) (F .t)
       head-read e =
-          let same : p + i ≡ 8 * (640 + 32 * y .number + m) + 1 + P .j = omega (arith, a .head-place, P .at) in
+          let same : p + i ≡ 8 * (640 + 32 * y .number + m) + 1 + P .j = omega (arith, a .place, P .at) in
           e ∙ ap (λ c. getD s c 0) same ∙ F .head-word
 
-      pub goal-read : {w′ : ℕ} → w′ ≡ getD s (q + i) 0 → Reads s x from links (F .u) w′
-      goal-read e =
-          let same : q + i ≡ x .places .compound l + 1 + P .j = omega (arith, a .goal-place, P .at) in
-          record { chained = P .trial .unit; term = F .goal; word = e ∙ ap (λ c. getD s c 0) same ∙ F .goal-word }
+      pub goals-here : G s (P .j) (more (F .u) (F .ts))
+      goals-here = subst (λ goals. G s (P .j) goals) (F .goals-are) (P .goal)
 
       pub next-against : {h w : ℕ} → h ≡ getD s (p + i) 0 → Reads s x from links (followed links (x .values) (F .u)) w
           → Against s x y from links (P .low) (F .mid) (F .t) (followed links (x .values) (F .u)) h w given
@@ -191,9 +182,9 @@ module _ (links : ℕ) {s₀ : List ℕ} {x : Setting} {y : Template} {from m : 
       pub next-depth : {h : ℕ} → h ≡ getD s (p + i) 0 → depth (seen h) < 2 * (39936 - p)
       next-depth {h} e =
           argument-depth x y m (P .low) (F .mid) h p (F .t) (P .head .rising) (omega (arith, F .head .high, a .trial .compounds))
-          (a .trial .number) (F .head .numbered) (F .low) (head-read e) (a .head-place)
+          (a .trial .number) (F .head .numbered) (F .low) (head-read e) (a .place)
 
-    module _ (F : Facing s x y m l (P .j) (P .low) hi (P .heads) (P .goals)) where
+    module _ (F : Facing s x y m (P .j) (P .low) hi (P .heads) (P .goals)) where
       abbrev pub one : Outcome
       one = place-outcome x links (F .t) (followed links (x .values) (F .u))
 
@@ -211,9 +202,13 @@ module _ (links : ℕ) {s₀ : List ℕ} {x : Setting} {y : Template} {from m : 
       unfolding count
       counted-goals = rw (F .goals-are) (omega arith)
 
+      -- How many goal's arguments are left.
+      pub goals-few : P .j + 1 + count (F .ts) ≡ count us
+      goals-few = omega (arith, counted-heads, counted-goals, P .counts, P .left)
+
       -- One argument more agrees.
-      module _ {s′ : List ℕ} {m′ : ℕ} (r : Answers s s′ x y given (P .low) (F .mid) 1 one (Agrees m′)) where
-        pub one-more : Partly s₀ s′ x y from links m us lo hi l ts n k m′ (i + 1)
+      module _ {s′ : List ℕ} {m′ : ℕ} (r : Answers s s′ x y given (P .low) (F .mid) 1 one (Agrees m′)) (goals-on : G s′ (P .j + 1) (F .ts)) where
+        pub one-more : Partly G s₀ s′ x y from links m us lo hi ts n k m′ (i + 1)
         unfolding and-then
         one-more = record {
           whole = P .whole;
@@ -233,12 +228,9 @@ module _ (links : ℕ) {s₀ : List ℕ} {x : Setting} {y : Template} {from m : 
           head =
               head-terms-kept s s′ (r .only) x y (a .trial .number) (a .trial .compounds) m (P .j + 1) (F .mid) hi (F .us)
               (omega (arith, F .heads-left .rising, F .mid-high, F .heads-left .high))
-              (omega (arith, P .left, a .head-cell .few, counted-heads))
+              (omega (arith, P .left, a .cell .few, counted-heads))
               (F .heads-left);
-          goal =
-              unit-terms-kept s s′ (r .only) x (a .trial .outside) l (P .j + 1) (F .ts) (a .goal-number)
-              (omega (arith, P .left, a .goal-cell .wide, a .counts, counted-heads, counted-goals, P .counts))
-              (F .goals-left);
+          goal = goals-on;
           counts = omega (arith, counted-heads, counted-goals, P .counts);
           left = omega (arith, P .left, counted-heads);
           fits = omega (arith, P .fits, r .told .0, counted-heads);

@@ -127,16 +127,20 @@ module _ (s : List ℕ) (x : Setting) (y : Template) (from lo hi h w n links m :
       → AllAgainst s x y from links m g us (lo + 1) hi l f ts (8 * (640 + 32 * y .number + m)) (x .places .compound l) n
   unfolding Holds Within Known Ranged Numbered test
   deeper b e c = record {
-    trial = k .trial;
-    head-cell = k .head .held .0;
     head = record {
-      held = k .head .held .1;
-      within = k .head .within .1;
-      known = k .head .known .1;
-      ranged = k .head .ranged;
-      numbered = k .head .numbered .2;
-      high = k .head .high;
-      rising = omega (arith, k .head .numbered .0);
+      trial = k .trial;
+      cell = k .head .held .0;
+      terms = record {
+        held = k .head .held .1;
+        within = k .head .within .1;
+        known = k .head .known .1;
+        ranged = k .head .ranged;
+        numbered = k .head .numbered .2;
+        high = k .head .high;
+        rising = omega (arith, k .head .numbered .0);
+      };
+      place = refl;
+      room = omega (arith, k .room, k .head .held .0 .few);
     };
     goal-cell = k .goal .held .0;
     goal = record {
@@ -147,9 +151,7 @@ module _ (s : List ℕ) (x : Setting) (y : Template) (from lo hi h w n links m :
     };
     goal-number = k .goal .of .within .0;
     counts = eqb-true (count us) (count ts) (and-right (same-functor g f) (eqb (count us) (count ts)) (agreeing b e c));
-    head-place = refl;
     goal-place = refl;
-    room = omega (arith, k .room, k .head .held .0 .few);
   }
 
   pub deeper-answers : (b : Bool) → b ≡ not (eqb (getD s (8 * (640 + 32 * y .number + m)) 0) (getD s (x .places .compound l) 0)) → b ≡ false

@@ -21,7 +21,7 @@ use Rattle.term.specs.Holds.{value-word}
 use Rattle.compare.specs.declared.compare.Result.the-variants.{Agrees}
 use Rattle.term.specs.Setting.{Setting}
 use Rattle.compare.specs.Gifts.{Gift, to-head, to-goal, assignments, entries, head-written, goal-written, recorded, entries-of, EntriesAt, renamed-entries, head-gift}
-use Rattle.compare.specs.Compare.{Template, item, AllAgainst, AllGiven, AllEntries, Agreed, Answers, Gave, places-outcome}
+use Rattle.compare.specs.Compare.{Template, item, HeadArguments, AllGiven, AllEntries, Agreed, Answers, Gave, places-outcome}
 
 pub entries-length : (gs : List Gift) → length (entries-of gs) ≡ entries gs
 unfolding entries entries-of
@@ -221,9 +221,8 @@ gave s s′ x y lo hi given m k large room few cleared = (
     free a h = getD-append-add (x .values) (replicate (y .pairs) none) a none ∙ getD-replicate (y .pairs) a none none h
 
 -- The same of the answer to a whole head, whose entries are at most 192.
-pub answers-gave : {s s′ : List ℕ} {x : Setting} {y : Template} {from links h : ℕ} {g : Functor} {us : Terms} {lo hi l : ℕ} {f : Functor} {ts : Terms} {p q m : ℕ}
-    {o : Result}
-    → AllAgainst s x y from links h g us lo hi l f ts p q 0
+pub answers-gave : {s s′ : List ℕ} {x : Setting} {y : Template} {from links h : ℕ} {g : Functor} {us : Terms} {lo hi p m : ℕ} {o : Result}
+    → HeadArguments s x y from links h g us lo hi p 0
     → Answers s s′ x y 0 lo hi (count us) o (Agrees m)
     → ((a : ℕ) → a < y .pairs → getD s (39936 + a) 0 ≡ 0)
     → (given : List Assignment) × (o ≡ succeeds given) × (k : Gave s s′ x y given m) × (k .high ≡ hi)

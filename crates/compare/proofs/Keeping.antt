@@ -10,18 +10,26 @@ use lib.Dec.{eqb}
 use lib.ListN.{length, getD, set, length-set}
 use lib.Seq.{getD-set-same, getD-set-other}
 use borrow.Author.Tests.{eqb-true, eqb-false}
-use Rattle.meaning.specs.Terms.{Half, Functor, Term, Terms, end, more, count}
+use Rattle.meaning.specs.Terms.{Half, Functor, Term, Terms, count}
 use Rattle.meaning.specs.State.{value}
 use Rattle.meaning.specs.Compare.{followed}
-use Rattle.term.specs.Cells.{AllKnown, Known}
 use Rattle.term.specs.Chains.{EndOf, end-place}
-use Rattle.term.specs.Holds.{Holds, HoldsFrom, value-word}
-use Rattle.term.specs.Setting.{Setting, Within, AllWithin, Ranged, AllRanged, UnitTerms}
+use Rattle.term.specs.Holds.{value-word}
+use Rattle.term.specs.Setting.{Setting, UnitTerms}
 use Rattle.term.proofs.Chains.{value-leads}
 use Rattle.term.proofs.Units.{unit-terms-alike, unit-stands-alike, end-alike}
 use Rattle.compare.specs.Follow.{FollowedTo, PairAt, Keepable, KeepsOf, Keeps, Kept}
 use Rattle.compare.proofs.Following.{pair-inside}
-use Rattle.compare.proofs.Arguments.{first-count}
+use Rattle.compare.proofs.Compounds.{
+  compound-inside,
+  compound-number,
+  compound-few,
+  compound-wide,
+  compound-count,
+  compound-arguments,
+  Next,
+  next-argument,
+}
 
 module _ (x : Setting) (from links : ℕ) where
   pub kept-same : (s : List ℕ) → Keepable s x from links → Kept s s x from links
@@ -126,77 +134,35 @@ pub record Upto (s₀ s : List ℕ) (x : Setting) (from links l : ℕ) (f : Func
   pub left : j + count rest ≡ count ts
 
 module _ {s₀ : List ℕ} {x : Setting} {from links l : ℕ} {f : Functor} {ts : Terms} {goal : ℕ} (a : Keeps s₀ x from links l f ts goal) where
-  pub goal-inside : goal + 8 ≤ length s₀
-  unfolding Holds
-  goal-inside = omega (arith, a .term .held .0 .inside, a .place)
-
-  wide : count ts < x .places .width l
-  unfolding Holds
-  wide = a .term .held .0 .wide
-
-  few : count ts ≤ 6
-  unfolding Holds
-  few = a .term .held .0 .few
-
-  number : l < x .compounds
-  unfolding Within
-  number = a .term .of .within .0
-
   pub first-upto : (k : ℕ) → k ≡ getD s₀ goal 0 % 8 → Upto s₀ s₀ x from links l f ts k 1
-  unfolding Holds Within Known Ranged
   first-upto k e = record {
-    whole = e ∙ rw (a .place, a .term .held .0 .functor) (first-count (x .places) f (count ts) few);
+    whole = compound-count (a .term) (a .place) e;
     kept = kept-same x from links s₀ (a .keepable);
     j = 0;
     at = refl;
     rest = ts;
-    terms = record {
-      held = a .term .held .1;
-      within = a .term .of .within .1;
-      known = a .term .of .known .1;
-      ranged = a .term .of .ranged;
-    };
+    terms = compound-arguments (a .term) (a .place);
     left = omega arith;
   }
 
   module _ {s : List ℕ} {k i : ℕ} (P : Upto s₀ s x from links l f ts k i) where
-    pub argument-inside : i ≤ k → goal + i < length s
-    argument-inside h = omega (arith, goal-inside, P .kept .size, P .whole, few)
-
     pub count-small : k ≤ 6
-    count-small = omega (arith, P .whole, few)
+    count-small = omega (arith, P .whole, compound-few (a .term) (a .place))
 
-    -- The argument at hand, and what is left behind it.
-    pub record Now (w : ℕ) : Type 0 where
-      pub u : Term
-      pub us : Terms
-      pub of : KeepsOf s x from links u w
-      pub behind : UnitTerms s x l (P .j + 1) us
-      pub fewer : P .j + 1 + count us ≡ count ts
+    pub argument-inside : i ≤ k → goal + i < length s
+    argument-inside h = omega (arith, compound-inside (a .term) (a .place), P .kept .size, count-small)
+
+    -- The argument at hand.
+    abbrev pub Now : ℕ → Type 0
+    Now w = Next s x from links l (P .j) (P .rest) w
 
     pub now-at : {w : ℕ} → i ≤ k → w ≡ getD s (goal + i) 0 → Now w
-    unfolding HoldsFrom AllWithin AllKnown AllRanged count
-    now-at {w} h e = go (P .rest) (P .terms) (P .left)
-      where
-        same : goal + i ≡ x .places .compound l + 1 + P .j
-        same = omega (arith, a .place, P .at)
+    now-at h e =
+        next-argument (P .kept .keepable .chained) l (P .j) (P .rest) (P .terms) (omega (arith, P .at, P .whole, P .left))
+        (omega (arith, a .place, P .at)) e
 
-        go : (us : Terms) → UnitTerms s x l (P .j) us → P .j + count us ≡ count ts → Now w
-        go end t q = absurd (omega (arith, P .at, P .whole))
-        go (more u us) t q = record {
-          u = u;
-          us = us;
-          of = record {
-            keepable = P .kept .keepable;
-            reads = record {
-              chained = P .kept .keepable .chained;
-              term = record { held = t .held .1; of = record { within = t .within .0; known = t .known .0; ranged = t .ranged .0 } };
-              word = e ∙ ap (λ c. getD s c 0) same ∙ t .held .0;
-            };
-          };
-          behind = record { held = t .held .2; within = t .within .1; known = t .known .1; ranged = t .ranged .1 };
-          fewer = omega arith;
-        }
+    pub keeps-of : {w : ℕ} (N : Now w) → KeepsOf s x from links (N .u) w
+    keeps-of N = record { keepable = P .kept .keepable; reads = N .reads }
 
     pub upto-more : {w : ℕ} {s′ : List ℕ} (N : Now w) → Kept s s′ x from links → Upto s₀ s′ x from links l f ts k (i + 1)
     upto-more {s′ = s′} N q = record {
@@ -207,6 +173,6 @@ module _ {s₀ : List ℕ} {x : Setting} {from links l : ℕ} {f : Functor} {ts 
       rest = N .us;
       terms = unit-terms-alike s s′ x (omega (arith, q .size))
           (λ m b c lo hi. q .others c (λ n g z. omega (arith, q .keepable .before m b)))
-          l (P .j + 1) (N .us) number (omega (arith, N .fewer, wide)) (N .behind);
-      left = N .fewer;
+          l (P .j + 1) (N .us) (compound-number (a .term) (a .place)) (omega (arith, N .fewer, P .left, compound-wide (a .term) (a .place))) (N .behind);
+      left = omega (arith, N .fewer, P .left);
     }

@@ -4,7 +4,7 @@ use mathlib.Core.Path.{_≡_, sym, _∙_}
 use mathlib.Core.Logic.{inl, inr}
 use mathlib.Core.List.{List, [], _∷_}
 use native.Mathlib.Omega.{arith}
-use lib.ListN.{getD}
+use lib.ListN.{length, getD}
 use Rattle.meaning.specs.Terms.{Functor, Term, Terms, end, more, count}
 use Rattle.term.specs.Cells.{Places}
 use Rattle.term.specs.Chains.{end-place}
@@ -19,6 +19,16 @@ use Rattle.compare.specs.Compare.{Template, item, HeadTerm, HeadTerms, O
 -- The other way round.
 pub only-back : (lo hi : ℕ) (s s′ : List ℕ) → Only lo hi s s′ → Only lo hi s′ s
 only-back lo hi s s′ o = record { size = sym (o .size); below = λ k h. sym (o .below k h); above = λ k h. sym (o .above k h) }
+
+-- The unit's values and ends, where its compounds and what stands from the values on stay.
+pub chained-alike : (s s′ : List ℕ) (x : Setting) → length s ≤ length s′
+    → ((n : ℕ) → n < x .compounds → (k : ℕ) → x .places .compound n ≤ k → k < x .places .compound n + x .places .width n → getD s′ k 0 ≡ getD s k 0)
+    → (from links : ℕ) → ((k : ℕ) → from ≤ k → getD s′ k 0 ≡ getD s k 0) → Chained s x from links → Chained s′ x from links
+chained-alike s s′ x size alike from links own c = record {
+  stands = unit-stands-alike s s′ x size alike from (λ k l h. own k l) (c .stands);
+  links-are = c .links-are;
+  ends = ends-stand-alike s s′ x size alike from (λ n h. own (end-place x from n) (omega arith)) (c .ends);
+}
 
 module _ (s s′ : List ℕ) (o : Only 39936 40336 s s′) where
   cell-kept : (places : Places) (n k : ℕ) → Outside places n → places .compound n ≤ k → k < places .compound n + places .width n
@@ -54,7 +64,7 @@ module _ (s s′ : List ℕ) (o : Only 39936 40336 s s′) where
       )
 
   module _ (x : Setting) (outside : (n : ℕ) → n < x .compounds → Outside (x .places) n) where
-    words-kept : (n : ℕ) → n < x .compounds → (k : ℕ) → x .places .compound n ≤ k → k < x .places .compound n + x .places .width n → getD s′ k 0 ≡ getD s k 0
+    pub words-kept : (n : ℕ) → n < x .compounds → (k : ℕ) → x .places .compound n ≤ k → k < x .places .compound n + x .places .width n → getD s′ k 0 ≡ getD s k 0
     words-kept n h k = cell-kept (x .places) n k (outside n h)
 
     pub unit-term-kept : (t : Term) → UnitTerm s x t → UnitTerm s′ x t
@@ -64,11 +74,7 @@ module _ (s s′ : List ℕ) (o : Only 39936 40336 s s′) where
     unit-terms-kept = unit-terms-alike s s′ x (omega (arith, o .size)) words-kept
 
     chained-kept : (from links : ℕ) → 40336 ≤ from → Chained s x from links → Chained s′ x from links
-    chained-kept from links b c = record {
-      stands = unit-stands-alike s s′ x (omega (arith, o .size)) words-kept from (λ k l h. o .above k (omega arith)) (c .stands);
-      links-are = c .links-are;
-      ends = ends-stand-alike s s′ x (omega (arith, o .size)) words-kept from (λ n h. o .above (end-place x from n) (omega arith)) (c .ends);
-    }
+    chained-kept from links b = chained-alike s s′ x (omega (arith, o .size)) words-kept from links (λ k l. o .above k (omega arith))
 
   module _ (x : Setting) (y : Template) (small : y .number < 128) (few : y .compounds ≤ 32) where
     item-outside : (n : ℕ) → n < y .compounds → Outside (item x y) n

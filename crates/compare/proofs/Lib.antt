@@ -1,9 +1,12 @@
 pub mod Arguments
+pub mod Compounds
 pub mod Descent
 pub mod Equal
+pub mod Followed
 pub mod Following
 pub mod Gifts
 pub mod Given
+pub mod Goals
 pub mod Keeping
 pub mod Kept
 pub mod Place

@@ -18,7 +18,7 @@ use Rattle.compare.specs.declared.compare.Result.{Result}
 use Rattle.compare.specs.declared.compare.Result.the-variants.{Agrees, Waits, Fails}
 use Rattle.compare.specs.Gifts.{Gift, to-head, to-goal, assignments, entries, recorded, Entry, entries-of, EntriesAt, renamed-entries}
 use Rattle.term.specs.Setting.{Setting, Within, AllWithin, Ranged, AllRanged, UnitTerm, UnitTerms}
-use Rattle.compare.specs.Follow.{Chained}
+use Rattle.compare.specs.Follow.{Chained, FollowedAt}
 
 -- Where the terms of clause k lie: pairs by their own numbers, compounds 32 a clause, each with eight words.
 abbrev pub item-places : List Bytes → ℕ → Places
@@ -75,19 +75,31 @@ pub record Against (s : List ℕ) (x : Setting) (y : Template) (from links lo hi
   pub goal-word : w ≡ term-word (x .places) u
   pub room : n + 6 * hi + 1 ≤ 192 + 6 * lo
 
+-- The arguments of the head's compound m at p; n entries are made, and there is room for as many more as they can need.
+pub record HeadArguments (s : List ℕ) (x : Setting) (y : Template) (from links m : ℕ) (g : Functor) (us : Terms) (lo hi p n : ℕ) : Type 0 where
+  pub trial : TrialStands s x y from links
+  pub cell : CellAt s (item x y) m g (count us)
+  pub terms : HeadTerms s x y m 0 lo hi us
+  pub place : p ≡ 8 * (640 + 32 * y .number + m)
+  pub room : n + 6 * hi + count us ≤ 192 + 6 * lo
+
 -- The arguments of two compounds, m of the head at p and l of the goal at q, of the same number.
 pub record AllAgainst (s : List ℕ) (x : Setting) (y : Template) (from links m : ℕ) (g : Functor) (us : Terms) (lo hi l : ℕ) (f : Functor) (ts : Terms)
     (p q n : ℕ) : Type 0 where
-  pub trial : TrialStands s x y from links
-  pub head-cell : CellAt s (item x y) m g (count us)
-  pub head : HeadTerms s x y m 0 lo hi us
+  pub head : HeadArguments s x y from links m g us lo hi p n
   pub goal-cell : CellAt s (x .places) l f (count ts)
   pub goal : UnitTerms s x l 0 ts
   pub goal-number : l < x .compounds
   pub counts : count us ≡ count ts
-  pub head-place : p ≡ 8 * (640 + 32 * y .number + m)
   pub goal-place : q ≡ x .places .compound l
-  pub room : n + 6 * hi + count us ≤ 192 + 6 * lo
+
+-- The arguments of the head's compound m at p, and as many of a goal, which stand followed; no entry is made.
+pub record HeadAgainst (s : List ℕ) (x : Setting) (y : Template) (from links m : ℕ) (g : Functor) (us : Terms) (lo hi : ℕ) (ts : Terms) (p : ℕ)
+    : Type 0 where
+  pub large : 40663 ≤ length s
+  pub head : HeadArguments s x y from links m g us lo hi p 0
+  pub goal : FollowedAt s x links 0 ts
+  pub counts : count us ≡ count ts
 
 -- What is given is held, in the order of the head: the head's terms that are given have compounds numbered from lo up to hi, each behind those
 -- before it.

@@ -1,14 +1,15 @@
--- What following a goal's term asks and gives: the word of a term of the unit, and that of the term followed. What keeping the ends of a goal's
--- arguments asks and gives.
+-- What following a goal's term asks and gives: the word of a term of the unit, and that of the term followed. What following all arguments of a
+-- goal, and keeping their ends, asks and gives.
 use Prim.Native.Nat.{ℕ, _+_, _≤_, _<_}
 use mathlib.Core.Path.{_≡_}
 use mathlib.Core.Logic.{_≢_}
 use mathlib.Core.List.{List}
 use mathlib.Core.Option.{none}
 use lib.ListN.{length, getD}
-use Rattle.meaning.specs.Terms.{Functor, Term, Terms}
+use Rattle.meaning.specs.Terms.{Functor, Term, Terms, end, more}
 use Rattle.meaning.specs.Compare.{followed}
 use Rattle.term.specs.Cells.{term-word}
+use Rattle.term.specs.Frames.{Only}
 use Rattle.term.specs.Chains.{value-of, Leads, end-place, EndsStand}
 use Rattle.term.specs.Setting.{Setting, UnitTerm, UnitStands}
 
@@ -27,6 +28,26 @@ pub record Reads (s : List ℕ) (x : Setting) (from links : ℕ) (t : Term) (w :
 -- r is the word of t followed, which the scratch holds too.
 abbrev pub FollowedTo : List ℕ → Setting → ℕ → ℕ → Term → ℕ → Type 0
 FollowedTo s x from links t r = Reads s x from links (followed links (x .values) t) r
+
+-- The arguments of a goal, followed, stand one behind the other from word 40657 + i on.
+unfoldable pub FollowedAt : List ℕ → Setting → ℕ → ℕ → Terms → Type 0
+FollowedAt s x links i end = Unit {0}
+FollowedAt s x links i (more t ts) =
+    (getD s (40657 + i) 0 ≡ term-word (x .places) (followed links (x .values) t)) × UnitTerm s x (followed links (x .values) t)
+    × FollowedAt s x links (i + 1) ts
+
+-- The arguments of the compound l, a goal at a place, can be followed: the unit's compounds and values stand behind the trial's region.
+pub record Follows (s : List ℕ) (x : Setting) (from links l : ℕ) (f : Functor) (ts : Terms) (goal : ℕ) : Type 0 where
+  pub chained : Chained s x from links
+  pub term : UnitTerm s x (Term.compound l f ts)
+  pub place : goal ≡ x .places .compound l
+  pub compounds-behind : (n : ℕ) → n < x .compounds → 40704 ≤ x .places .compound n
+  pub values-behind : 40704 ≤ from
+
+-- They are followed: only the words for them have changed.
+pub record ArgumentsFollowed (s s′ : List ℕ) (x : Setting) (links : ℕ) (ts : Terms) : Type 0 where
+  pub only : Only 40657 40663 s s′
+  pub stand : FollowedAt s′ x links 0 ts
 
 -- A term leads on to the word r: that of its value, or of a term further on; 0 if it is no assigned variable.
 pub record Onward (s : List ℕ) (x : Setting) (from links : ℕ) (t : Term) (r : ℕ) : Type 0 where

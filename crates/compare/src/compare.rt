@@ -111,7 +111,7 @@ fn against_compound(s: &mut [u64], p: usize, h: u64, w: u64, n: usize) -> Met
 }
 
 // One place of the table.
-fn table(s: &mut [u64], h: u64, w: u64, n: usize) -> Met
+pub fn table(s: &mut [u64], h: u64, w: u64, n: usize) -> Met
     requires { ⌜ (40336 ≤ length (now s)) × (n < 192) × ((x : ℕ) → view (h % 8) (h / 8) ≡ Writer x → x < 16) ⌝ }
     ensures { λ r. ⌜ Done (now (s .entry)) (now (s .exit)) n h w (row (eqb h w) (view (h % 8) (h / 8)) (view (w % 8) (w / 8))) r ⌝ }
 {
@@ -124,7 +124,7 @@ fn table(s: &mut [u64], h: u64, w: u64, n: usize) -> Met
 }
 
 // Two compounds of different functors or numbers of arguments.
-fn differ(s: &[u64], p: usize, q: usize) -> bool
+pub fn differ(s: &[u64], p: usize, q: usize) -> bool
     requires { ⌜ (p < length (now s)) × (q < length (now s)) ⌝ }
     ensures { λ r. ⌜ r ≡ not (eqb (getD (now (s .entry)) p 0) (getD (now (s .entry)) q 0)) ⌝ }
 {

@@ -13,7 +13,7 @@ use term::word::View;
 use term::word::look;
 
 // A word at so many words from a place, set.
-fn set_at(s: &mut [u64], from: usize, i: usize, w: u64)
+pub fn set_at(s: &mut [u64], from: usize, i: usize, w: u64)
     requires { ⌜ from + i < length (now s) ⌝ }
     ensures { λ r. ⌜ now (s .exit) ≡ set (now (s .entry)) (from + i) w ⌝ }
 {

@@ -28,8 +28,9 @@ use Rattle.circle.proofs.Grounds.{new-none, new-then, new-same}
 use Rattle.trial.specs.declared.choice.Outcome.{Outcome}
 use Rattle.trial.specs.declared.choice.Outcome.the-variants.{Succeeds, Waits, Fails}
 use Rattle.trial.specs.declared.choice.Fate.the-variants.{Reduces, Waits as WaitsOn, Fails as FailsAll}
-use Rattle.trial.specs.Choosing.{unit-of, Trying, MarksBelow, TrialOnly, Candidate, TrialIs, AllBelow, ChoiceIs}
+use Rattle.trial.specs.Choosing.{unit-of, Trying, ArgumentsStand, MarksBelow, TrialOnly, Candidate, TrialIs, AllBelow, ChoiceIs}
 use Rattle.trial.proofs.choice.Outcome.{the-type}
+use Rattle.trial.proofs.Following.{Ready}
 use Rattle.trial.proofs.Staying.{
   trial-only-same,
   trial-only-then,
@@ -39,6 +40,7 @@ use Rattle.trial.proofs.Staying.{
   clause-stays,
   linked-stays,
   trying-stays,
+  arguments-stay,
   listed-stays,
 }
 
@@ -117,6 +119,7 @@ abbrev pub Walking : List ℕ → ℕ → ℕ → ℕ → ℕ → ℕ → List �
 Walking s₀ values marks links goal first s readers stamp next =
     (text : Bytes) (names : List Bytes) (j : Job) (limit : ℕ) (figures : Room) (at : Places) (g : Goal) (others : List Goal)
     → Trying s₀ text names j limit figures at g others values marks links goal
+    → ArgumentsStand s₀ j limit figures at g links
     → MarksBelow s₀ marks (figures .pairs) first
     → Walk s₀ s names j limit figures at g marks first readers stamp next
 
@@ -186,6 +189,9 @@ module _ {s₀ s : List ℕ} {text : Bytes} {names : List Bytes} {j : Job} {limi
   pub walk-trying : Trying s text names j limit figures at g others values marks links goal
   walk-trying = trying-stays walked (w .grounds) t
 
+  pub walk-stand : ArgumentsStand s₀ j limit figures at g links → ArgumentsStand s j limit figures at g links
+  walk-stand = arguments-stay t (w .only)
+
   -- A clause is left.
   module _ (left : next ≢ 0) where
     abbrev pub Turn : Type 0
@@ -235,7 +241,7 @@ module _ {s₀ s : List ℕ} {text : Bytes} {names : List Bytes} {j : Job} {limi
           go : TrialIs s s₃ j limit figures at g marks stamp (next - 1) (turn .0) (Succeeds n)
               → ChoiceIs s₀ s₃ names j limit figures at g marks first (Reduces (next - 1) n)
           go is = record {
-            only = tried-frame;
+            only = trial-only-wider 40704 (omega arith) tried-frame;
             marks-now = marks-tried;
             told = (
               turn .0,
@@ -350,7 +356,7 @@ module _ {s₀ s : List ℕ} {text : Bytes} {names : List Bytes} {j : Job} {limi
 
     pub all-fail : readers ≡ 0 → ChoiceIs s₀ s names j limit figures at g marks first FailsAll
     unfolding none-succeeds
-    all-fail e = record { only = w .only; marks-now = marks-passed; told = go (w .waiting) as-many all-passed; grounds = w .grounds }
+    all-fail e = record { only = walked; marks-now = marks-passed; told = go (w .waiting) as-many all-passed; grounds = w .grounds }
       where
         go : (l : List ℕ) → length l ≡ readers → none-succeeds l ≡ choice (j .clauses) (unit-of j limit figures g) (g .goal)
             → choice (j .clauses) (unit-of j limit figures g) (g .goal) ≡ joins-failed
@@ -360,7 +366,7 @@ module _ {s₀ s : List ℕ} {text : Bytes} {names : List Bytes} {j : Job} {limi
     pub some-wait : readers ≢ 0 → ChoiceIs s₀ s names j limit figures at g marks first (WaitsOn readers)
     unfolding none-succeeds
     some-wait e = record {
-      only = w .only;
+      only = walked;
       marks-now = marks-passed;
       told = (w .waiting, go (w .waiting) as-many all-passed, omega (arith, w .few, few-clauses), w .words, w .below);
       grounds = w .grounds;
@@ -371,13 +377,7 @@ module _ {s₀ s : List ℕ} {text : Bytes} {names : List Bytes} {j : Job} {limi
         go [] q is = absurd (e (sym q))
         go (p ∷ l) q is = sym is
 
--- What the choice asks, and the numbers of a turn.
-abbrev pub Asked : List ℕ → ℕ → ℕ → ℕ → ℕ → ℕ → Type 0
-Asked s values marks links goal first =
-    (text : Bytes) × (names : List Bytes) × (j : Job) × (limit : ℕ) × (figures : Room) × (at : Places) × (g : Goal) × (others : List Goal)
-    × Trying s text names j limit figures at g others values marks links goal
-    × MarksBelow s marks (figures .pairs) first × ((1 < first) × (first + 32768 < 2 ^ 64))
-
+-- The numbers of a turn.
 pub record Turning (s₀ s : List ℕ) (first readers stamp next : ℕ) : Type 0 where
   pub large : 40704 ≤ length s
   pub size : length s ≡ length s₀
@@ -387,10 +387,10 @@ pub record Turning (s₀ s : List ℕ) (first readers stamp next : ℕ) : Type 0
   pub stamps-fit : first + 32768 < 2 ^ 64
 
 pub turning : {s₀ s : List ℕ} {values marks links goal first readers stamp next : ℕ}
-    → Walking s₀ values marks links goal first s readers stamp next → Asked s₀ values marks links goal first → next ≢ 0
+    → Walking s₀ values marks links goal first s readers stamp next → Ready s₀ values marks links goal first → next ≢ 0
     → Turning s₀ s first readers stamp next
-turning inv (text, names, j, limit, figures, at, g, others, t, new, fit) left =
-    let w = inv text names j limit figures at g others t new in
+turning inv (text, names, j, limit, figures, at, g, others, t, stand, new, fit) left =
+    let w = inv text names j limit figures at g others t stand new in
     record {
       large = walk-trying t w .held .inside;
       size = w .only .size;

@@ -27,8 +27,8 @@ use Rattle.term.specs.Setting.{Within, AllWithin, Ranged, AllRanged, RangedCons
 use Rattle.term.specs.States.{setting}
 use Rattle.term.proofs.Held.{head-first}
 use Rattle.term.proofs.Jobs.{goals-numbered-order}
-use Rattle.compare.specs.Compare.{AllAgainst, TrialStands, places-outcome}
-use Rattle.trial.specs.Choosing.{unit-of, Trying, Candidate, template}
+use Rattle.compare.specs.Compare.{HeadAgainst, TrialStands, places-outcome}
+use Rattle.trial.specs.Choosing.{unit-of, Trying, ArgumentsStand, Candidate, template}
 use Rattle.compare.proofs.Given.{compared-outcome}
 
 -- What fits is within the clause's pairs and compounds, and its integers are in range.
@@ -116,11 +116,11 @@ module _ {s : List ℕ} {text : Bytes} {names : List Bytes} {j : Job} {limit : �
   unfolding GoalsNumbered head-end
   body-numbered = m .at .held .laid .numbered .2
 
-  pub against : AllAgainst s (setting figures at (unit-of j limit figures g)) (template k c) values links
-      (c .head .number) (named (c .head .name)) (c .head .arguments) 1 head-end
-      (g .goal .number) (named (g .goal .name)) (g .goal .arguments) (5120 + 256 * k) goal 0
-  unfolding GoalsNumbered GoalsKnown Numbered Known Holds Within Ranged as-term head-end
-  against =
+  pub against : ArgumentsStand s j limit figures at g links
+      → HeadAgainst s (setting figures at (unit-of j limit figures g)) (template k c) values links
+      (c .head .number) (named (c .head .name)) (c .head .arguments) 1 head-end (g .goal .arguments) (5120 + 256 * k)
+  unfolding GoalsNumbered GoalsKnown Numbered Known Holds as-term head-end
+  against stand =
       let laid = clause-held .held .laid in
       let first : c .head .number ≡ 0 = head-first (at .names) c laid in
       let end : head-end ≤ c .compounds = goals-numbered-order head-end (c .compounds) (c .body) (m .at .held .laid .numbered .2) in
@@ -128,29 +128,24 @@ module _ {s : List ℕ} {text : Bytes} {names : List Bytes} {j : Job} {limit : �
       let bounds : Bounds = record { pairs = c .pairs; compounds = c .compounds; names = names-of text } in
       let size : count (c .head .arguments) ≤ 6 = m .at .held .laid .numbered .1 .1 in
       record {
-        trial = stands;
-        head-cell = clause-held .held .head .0;
+        large = omega (arith, t .held .inside);
         head = record {
-          held = clause-held .held .head .1;
-          within = all-fit-within bounds (c .head .arguments) (fits .head .arguments);
-          known = laid .known .0 .1;
-          ranged = all-fit-ranged bounds (c .head .arguments) (fits .head .arguments);
-          numbered = m .at .held .laid .numbered .1 .2;
-          high = end;
-          rising = omega arith;
+          trial = stands;
+          cell = clause-held .held .head .0;
+          terms = record {
+            held = clause-held .held .head .1;
+            within = all-fit-within bounds (c .head .arguments) (fits .head .arguments);
+            known = laid .known .0 .1;
+            ranged = all-fit-ranged bounds (c .head .arguments) (fits .head .arguments);
+            numbered = m .at .held .laid .numbered .1 .2;
+            high = end;
+            rising = omega arith;
+          };
+          place = omega arith;
+          room = omega arith;
         };
-        goal-cell = t .goal-held .held .0;
-        goal = record {
-          held = t .goal-held .held .1;
-          within = t .goal-held .of .within .1;
-          known = t .goal-held .of .known .1;
-          ranged = t .goal-held .of .ranged;
-        };
-        goal-number = t .goal-held .of .within .0;
+        goal = stand;
         counts = as-many-arguments m;
-        head-place = omega arith;
-        goal-place = t .goal-place;
-        room = omega arith;
       }
 
   -- "Compares the arguments, reading the values as they were before the step", over so many links or more.

@@ -1,4 +1,5 @@
 pub mod Clauses
+pub mod Following
 pub mod Heads
 pub mod Once
 pub mod Staying

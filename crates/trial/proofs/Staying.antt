@@ -7,8 +7,8 @@ use native.Mathlib.Omega.{arith}
 use lib.ListN.{length, getD, set, length-set}
 use lib.Seq.{getD-set-other}
 use Rattle.meaning.specs.Bytes.{Bytes}
-use Rattle.meaning.specs.Terms.{Term, Clause, Job, as-term, Terms, end, more}
-use Rattle.meaning.specs.State.{Room, Goal, Values, value}
+use Rattle.meaning.specs.Terms.{Term, Clause, Job, as-term}
+use Rattle.meaning.specs.State.{Room, Goal, Values}
 use Rattle.term.specs.Cells.{Places}
 use Rattle.term.specs.Chains.{end-place, EndsStand}
 use Rattle.term.specs.Frames.{Only}
@@ -23,7 +23,8 @@ use Rattle.circle.specs.Ground.{NewGrounds}
 use Rattle.circle.proofs.Grounds.{new-same, grounds-on}
 use Rattle.compare.specs.Gifts.{Gift, to-head, to-goal, Entry, EntriesAt}
 use Rattle.compare.specs.Compare.{Template, item, HeadTerm, AllEntries, AllGiven}
-use Rattle.trial.specs.Choosing.{unit-of, Trying, TrialOnly, MarksBelow}
+use Rattle.compare.proofs.Followed.{followed-alike}
+use Rattle.trial.specs.Choosing.{unit-of, Trying, ArgumentsStand, TrialOnly, MarksBelow}
 
 -- Frames: nothing changed, one change after another, a wider region, a change of the trial's region, of marks, of one word.
 pub trial-only-same : (top marks pairs : ℕ) (s : List ℕ) → TrialOnly top marks pairs s s
@@ -190,6 +191,19 @@ trying-stays {s} {s′} {names = names} {j} {limit} {figures} {at} {g} {values =
       ends = ends-stay marks (figures .pairs) s s′ o behind x (compounds-apart t) values (t .ends-behind) (t .ends);
       grounds = grounds-on at (unit-of j limit figures g .values) marks (t .apart) s s′ new (t .grounds);
     }
+
+-- The goal's arguments, followed, which stand behind the waiting readers.
+pub arguments-stay : {s s′ : List ℕ} {text : Bytes} {names : List Bytes} {j : Job} {limit : ℕ} {figures : Room} {at : Places}
+    {g : Goal} {others : List Goal} {values marks links goal : ℕ}
+    → Trying s text names j limit figures at g others values marks links goal
+    → TrialOnly 40464 marks (figures .pairs) s s′
+    → ArgumentsStand s j limit figures at g links → ArgumentsStand s′ j limit figures at g links
+unfolding Holds as-term
+arguments-stay {s} {s′} {j = j} {limit} {figures} {at} {g} {marks = marks} {links} t o =
+    let behind : 40704 ≤ marks = omega (arith, t .values-behind, t .marks-behind) in
+    followed-alike s s′ (setting figures at (unit-of j limit figures g)) (omega (arith, o .size))
+    (words-stay marks (figures .pairs) s s′ (trial-only-wider 40704 (omega arith) o) behind (setting figures at (unit-of j limit figures g)) (compounds-apart t))
+    links 0 (g .goal .arguments) (λ k l h. o .same k (inr (omega arith)) (inl (omega (arith, t .goal-held .held .0 .few))))
 
 -- The marks, where only the trial's region has changed.
 pub grounds-stay : {hi : ℕ} {s s′ : List ℕ} (places : Places) (values : Values) (marks : ℕ) → hi ≤ marks → Only 39936 hi s s′

@@ -37,8 +37,8 @@ use Rattle.compare.specs.Gifts.{Gift, assignments, Entry as GiftEntry, entries-
 use Rattle.circle.specs.Circle.{Trial, Entry, Tried, Tested, entry-pair}
 use Rattle.circle.specs.Ground.{NewGrounds}
 use Rattle.circle.proofs.Grounds.{new-then}
-use Rattle.compare.specs.Compare.{Template, item, AllAgainst, AllEntries, Agreed, Answers, Gave, places-outcome}
-use Rattle.trial.specs.Choosing.{unit-of, Trying, TrialOnly, MarksBelow, template, Candidate, TrialIs}
+use Rattle.compare.specs.Compare.{Template, item, HeadAgainst, AllEntries, Agreed, Answers, Gave, places-outcome}
+use Rattle.trial.specs.Choosing.{unit-of, Trying, ArgumentsStand, TrialOnly, MarksBelow, template, Candidate, TrialIs}
 use Rattle.compare.proofs.Given.{entries-length, entries-at, entries-held, gave}
 use Rattle.trial.proofs.Heads.{rules-kept, one-of-the-job, head-end, body-numbered, against, compared-is}
 use Rattle.trial.proofs.Once.{once-apart, assigned-is, no-entry, entry-assigned, entries-differ, to-clause, to-unit, entry-words, entry-held}
@@ -50,6 +50,7 @@ use Rattle.trial.proofs.Staying.{
   compounds-apart,
   grounds-stay,
   trying-stays,
+  arguments-stay,
   clause-stays,
   unit-term-stays,
   head-term-stays,
@@ -61,8 +62,8 @@ use Rattle.trial.proofs.Staying.{
 
 module _ {s s₁ : List ℕ} {text : Bytes} {names : List Bytes} {j : Job} {limit : ℕ} {figures : Room} {at : Places} {g : Goal} {others : List Goal}
     {values marks links goal k : ℕ} {c : Clause}
-    (t : Trying s text names j limit figures at g others values marks links goal) (m : Candidate s names j g k c)
-    (begun : Only 39936 39952 s s₁) where
+    (t : Trying s text names j limit figures at g others values marks links goal) (f : ArgumentsStand s j limit figures at g links)
+    (m : Candidate s names j g k c) (begun : Only 39936 39952 s s₁) where
   pub begun-frame : TrialOnly 40704 marks (figures .pairs) s s₁
   begun-frame = trial-only-region 40704 marks (figures .pairs) (omega arith) begun
 
@@ -87,10 +88,11 @@ module _ {s s₁ : List ℕ} {text : Bytes} {names : List Bytes} {j : Job} {limi
   abbrev pub to : ℕ
   to = head-end begun-trying begun-candidate
 
-  pub comparing : AllAgainst s₁ (setting figures at (unit-of j limit figures g)) (template k c) values links
-      (c .head .number) (named (c .head .name)) (c .head .arguments) 1 to
-      (g .goal .number) (named (g .goal .name)) (g .goal .arguments) (5120 + 256 * k) goal 0
-  comparing = against begun-trying begun-candidate
+  pub comparing : HeadAgainst s₁ (setting figures at (unit-of j limit figures g)) (template k c) values links
+      (c .head .number) (named (c .head .name)) (c .head .arguments) 1 to (g .goal .arguments) (5120 + 256 * k)
+  comparing =
+      against begun-trying begun-candidate
+      (arguments-stay t (trial-only-region 40464 marks (figures .pairs) (omega arith) begun) f)
 
   -- What comparing tells.
   abbrev pub Comparison : List ℕ → Result′ → Type 0
@@ -99,14 +101,14 @@ module _ {s s₁ : List ℕ} {text : Bytes} {names : List Bytes} {j : Job} {limi
       (places-outcome (setting figures at (unit-of j limit figures g)) links (c .head .arguments) (g .goal .arguments)) r
 
   pub comparison : (s₂ : List ℕ) (r r′ : Result′)
-      → ((x : Setting) (y : Template) (h : ℕ) (f : Functor) (us : Terms) (lo hi l : ℕ) (e : Functor) (ts : Terms)
-      → AllAgainst s₁ x y values links h f us lo hi l e ts (5120 + 256 * k) goal 0
+      → ((x : Setting) (y : Template) (h : ℕ) (f : Functor) (us : Terms) (lo hi : ℕ) (ts : Terms)
+      → HeadAgainst s₁ x y values links h f us lo hi ts (5120 + 256 * k)
       → Answers s₁ s₂ x y 0 lo hi (count us) (places-outcome x links us ts) r)
       → r ≡ r′ → Comparison s₂ r′
   comparison s₂ r r′ tells e =
       subst (λ o. Comparison s₂ o) e
       (tells (setting figures at (unit-of j limit figures g)) (template k c) (c .head .number) (named (c .head .name)) (c .head .arguments) 1 to
-      (g .goal .number) (named (g .goal .name)) (g .goal .arguments) comparing)
+      (g .goal .arguments) comparing)
 
   -- The head's writers are given nothing before it.
   pub cleared-all : (w : ℕ) → w ≡ getD s (2560 + 16 * k + 1) 0 → ((a : ℕ) → a < w → getD s₁ (39936 + a) 0 ≡ 0)
@@ -139,10 +141,10 @@ module _ {s s₁ : List ℕ} {text : Bytes} {names : List Bytes} {j : Job} {limi
     once = trial-assigns-once j (rules-kept t m) limit figures g others (t .front) c (one-of-the-job m) given agrees
 
     pub few-entries : n ≤ 192
-    few-entries = omega (arith, told .told .0, comparing .room)
+    few-entries = omega (arith, told .told .0, comparing .head .room)
 
     large : 40336 ≤ length s₁
-    large = comparing .trial .large
+    large = comparing .head .trial .large
 
     few : c .pairs ≤ 16
     few = m .at .held .laid .few-pairs

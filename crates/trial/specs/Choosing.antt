@@ -17,6 +17,7 @@ use Rattle.term.specs.Chains.{EndsStand}
 use Rattle.term.specs.Jobs.{GoalsNumbered, HoldsJob, ClauseAt}
 use Rattle.term.specs.Setting.{Setting, UnitTerm, UnitStands}
 use Rattle.term.specs.States.{setting, listed}
+use Rattle.compare.specs.Follow.{FollowedAt}
 use Rattle.compare.specs.Compare.{Template, Gave}
 use Rattle.circle.specs.Ground.{Grounds, NewGrounds}
 use Rattle.trial.specs.declared.choice.Outcome.{Outcome}
@@ -50,6 +51,11 @@ pub record Trying (s : List ℕ) (text : Bytes) (names : List Bytes) (j : Job) (
   pub ends-behind : marks + figures .pairs ≤ values + 4 * figures .pairs
   pub ends : EndsStand s (setting figures places (unit-of j limit figures g)) values
   pub grounds : Grounds places (unit-of j limit figures g .values) marks s
+
+-- The goal's arguments stand followed in the trial's region.
+abbrev pub ArgumentsStand : List ℕ → Job → ℕ → Room → Places → Goal → ℕ → Type 0
+ArgumentsStand s j limit figures places g links =
+    FollowedAt s (setting figures places (unit-of j limit figures g)) links 0 (g .goal .arguments)
 
 -- Stamps from this one on are unused.
 abbrev pub MarksBelow : List ℕ → ℕ → ℕ → ℕ → Type 0
@@ -105,7 +111,7 @@ ChoiceTold s names x o FailsAll = o ≡ joins-failed
 -- The answer of the choice.
 pub record ChoiceIs (s s′ : List ℕ) (names : List Bytes) (j : Job) (limit : ℕ) (figures : Room) (places : Places) (g : Goal) (marks stamp : ℕ) (r : Fate)
     : Type 0 where
-  pub only : TrialOnly 40464 marks (figures .pairs) s s′
+  pub only : TrialOnly 40704 marks (figures .pairs) s s′
   pub marks-now : MarksBelow s′ marks (figures .pairs) (stamp + 32768)
   pub told : ChoiceTold s′ names (setting figures places (unit-of j limit figures g)) (choice (j .clauses) (unit-of j limit figures g) (g .goal)) r
   pub grounds : NewGrounds places (unit-of j limit figures g .values) marks s s′

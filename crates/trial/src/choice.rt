@@ -1,7 +1,8 @@
 // The trial of a clause, and the choice of a clause among those of a procedure.
 use circle::circle::circle;
 use compare::compare::Result;
-use compare::compare::places;
+use compare::heads::follow_arguments;
+use compare::heads::head;
 use term::layout::CLAUSES;
 use term::layout::PROCEDURES;
 use term::layout::TRIAL;
@@ -14,7 +15,7 @@ ghost use Rattle.meaning.specs.Terms.{Clause, Job};
 ghost use Rattle.meaning.specs.State.{Room, Goal};
 ghost use Rattle.term.specs.Cells.{Places};
 ghost use Rattle.term.specs.Frames.{Only};
-ghost use Rattle.trial.specs.Choosing.{Trying, MarksBelow, Candidate, TrialIs, ChoiceIs};
+ghost use Rattle.trial.specs.Choosing.{Trying, ArgumentsStand, MarksBelow, Candidate, TrialIs, ChoiceIs};
 
 // Where the pairs of the waiting readers stand, in the trial's region behind what a trial has given.
 pub const READERS: usize = 40336;
@@ -74,29 +75,23 @@ fn begin(s: &mut [u64], pairs: usize)
     }
 }
 
-// The trial of clause k on the goal at a place.
-pub fn trial(
-    s: &mut [u64],
-    values: usize,
-    marks: usize,
-    links: usize,
-    k: usize,
-    goal: usize,
-    stamp: u64,
-) -> Outcome
-    requires { ⌜ ((text : Bytes) × (names : List Bytes) × (j : Job) × (limit : ℕ) × (figures : Room) × (at : Places) × (g : Goal) × (others : List Goal) × (c : Clause)
+// The trial of clause k on the goal whose arguments were followed.
+fn trial(s: &mut [u64], values: usize, marks: usize, links: usize, k: usize, stamp: u64) -> Outcome
+    requires { ⌜ ((text : Bytes) × (names : List Bytes) × (j : Job) × (limit : ℕ) × (figures : Room) × (at : Places) × (g : Goal) × (others : List Goal) × (goal : ℕ) × (c : Clause)
         × Trying (now s) text names j limit figures at g others values marks links goal
+        × ArgumentsStand (now s) j limit figures at g links
         × Candidate (now s) names j g k c
         × MarksBelow (now s) marks (figures .pairs) stamp × ((1 < stamp) × (stamp + 256 < 2 ^ 64))) ⌝ }
-    ensures { λ r. ⌜ ((text : Bytes) (names : List Bytes) (j : Job) (limit : ℕ) (figures : Room) (at : Places) (g : Goal) (others : List Goal) (c : Clause)
+    ensures { λ r. ⌜ ((text : Bytes) (names : List Bytes) (j : Job) (limit : ℕ) (figures : Room) (at : Places) (g : Goal) (others : List Goal) (goal : ℕ) (c : Clause)
         → Trying (now (s .entry)) text names j limit figures at g others values marks links goal
+        → ArgumentsStand (now (s .entry)) j limit figures at g links
         → Candidate (now (s .entry)) names j g k c
         → MarksBelow (now (s .entry)) marks (figures .pairs) stamp
         → TrialIs (now (s .entry)) (now (s .exit)) j limit figures at g marks stamp k c r) ⌝ }
 {
     let pairs = index(word_at(s, CLAUSES + 16 * k, 1));
     begin(s, pairs);
-    match places(s, values, links, 5120 + 256 * k, goal, 0) {
+    match head(s, values, links, 5120 + 256 * k) {
         Result::Agrees(n) => {
             if circle(s, values, marks, n, stamp) {
                 return Outcome::Fails;
@@ -144,10 +139,11 @@ pub fn choice(
 {
     let mut readers = 0;
     let mut stamp = first;
+    follow_arguments(s, values, links, goal);
     let mut next = first_clause(s, goal);
     'clauses: while next != 0 {
         let k = next - 1;
-        let t = trial(s, values, marks, links, k, goal, stamp);
+        let t = trial(s, values, marks, links, k, stamp);
         let Outcome::Succeeds(n) = t else {
             if let Outcome::Waits(p) = t {
                 set_at(s, READERS, readers, word(p));

@@ -14,9 +14,9 @@ use Rattle.compare.proofs.Arguments.{
   Partly,
   head-inside,
   first-partly,
-  arguments-inside,
+  count-small,
+  head-argument-inside,
   next,
-  goal-read,
   next-against,
   next-depth,
   one-more,
@@ -24,6 +24,7 @@ use Rattle.compare.proofs.Arguments.{
   fails-here,
   all-agree,
 }
+use Rattle.compare.proofs.Goals.{InCompound, goal-argument-inside, goal-read, goals-left}
 use Rattle.compare.proofs.Descent.{depth}
 use borrow.Fn.Kinds.{In}
 use borrow.Fn.PlainCycle.{Measures, is, falls, and}
@@ -65,7 +66,7 @@ places-below t = and 1 places-kinds.ps (falls 1 places-kinds.ps _<_ μ-places t)
 abbrev places-Inv-loop : places-lts.InvT-loop
 places-Inv-loop s₀ values links p q n k given₀ i₀ s given i =
     (x : Setting) (y : Template) (m : ℕ) (g : Functor) (us : Terms) (lo hi l : ℕ) (f : Functor) (ts : Terms)
-    → AllAgainst s₀ x y values links m g us lo hi l f ts p q n → Partly s₀ s x y values links m us lo hi l ts n k given i
+    → AllAgainst s₀ x y values links m g us lo hi l f ts p q n → Partly (InCompound x l) s₀ s x y values links m us lo hi ts n k given i
 
 abbrev places-μ-loop : places-lts.MeasureT-loop
 places-μ-loop s₀ values links p q n k given₀ i₀ s given i = k + 1 - i
@@ -195,13 +196,13 @@ pub +place+places-spec : {M : Type 1} → statement M
     let start = c .before .before in
     let a = start .args in
     let pre = start .pre .1 in
-    omega (arith, head-inside (a .links) (pre .10)))
+    omega (arith, head-inside (a .links) (pre .10 .head)))
     -- places-loop-holds
     (λ c x y m g us lo hi l f ts A.
     let start = c .before .before .before in
     let a = start .args in
     let count-told = c .count in
-    first-partly (a .links) A (count-told .result) (count-told .ensures))
+    first-partly (a .links) (A .head) (InCompound x l) ts (A .goal) (A .counts) (count-told .result) (count-told .ensures))
     -- places-argument-requires
     (λ c κs.
     let start = c .before .before .before .before .before .before in
@@ -209,7 +210,7 @@ pub +place+places-spec : {M : Type 1} → statement M
     let pre = start .pre .1 in
     let at = c .before .before .loop in
     let P = at .inv (pre .0) (pre .1) (pre .2) (pre .3) (pre .4) (pre .5) (pre .6) (pre .7) (pre .8) (pre .9) (pre .10) in
-    arguments-inside (a .links) (pre .10) P (c .before .loop-test .taken) .0)
+    head-argument-inside (a .links) (pre .10 .head) P (c .before .loop-test .taken))
     -- places-argument-requires-2
     (λ c κs.
     let start = c .before .before .before .before .before .before .before .before in
@@ -217,7 +218,7 @@ pub +place+places-spec : {M : Type 1} → statement M
     let pre = start .pre .1 in
     let at = c .before .before .before .before .loop in
     let P = at .inv (pre .0) (pre .1) (pre .2) (pre .3) (pre .4) (pre .5) (pre .6) (pre .7) (pre .8) (pre .9) (pre .10) in
-    arguments-inside (a .links) (pre .10) P (c .before .before .before .loop-test .taken) .1)
+    goal-argument-inside (a .links) (pre .10) P (c .before .before .before .loop-test .taken))
     -- places-follow-requires
     (λ c κs.
     let start = c .before .before .before .before .before .before .before .before .before .before in
@@ -226,7 +227,7 @@ pub +place+places-spec : {M : Type 1} → statement M
     let goal-argument = c .before .argument2 in
     let at = c .before .before .before .before .before .before .loop in
     let P = at .inv (pre .0) (pre .1) (pre .2) (pre .3) (pre .4) (pre .5) (pre .6) (pre .7) (pre .8) (pre .9) (pre .10) in
-    let F = next (a .links) (pre .10) P (c .before .before .before .before .before .loop-test .taken) in
+    let F = next (a .links) (pre .10 .head) P (c .before .before .before .before .before .loop-test .taken) in
     (pre .0, F .u, goal-read (a .links) (pre .10) P F (goal-argument .ensures)))
     -- places-place-requires
     (λ c κs.
@@ -238,10 +239,10 @@ pub +place+places-spec : {M : Type 1} → statement M
     let goal-argument = c .before .before .before .argument2 in
     let at = c .before .before .before .before .before .before .before .before .loop in
     let P = at .inv (pre .0) (pre .1) (pre .2) (pre .3) (pre .4) (pre .5) (pre .6) (pre .7) (pre .8) (pre .9) (pre .10) in
-    let F = next (a .links) (pre .10) P (c .before .before .before .before .before .before .before .loop-test .taken) in
+    let F = next (a .links) (pre .10 .head) P (c .before .before .before .before .before .before .before .loop-test .taken) in
     let r = follow-told .ensures (pre .0) (F .u) (goal-read (a .links) (pre .10) P F (goal-argument .ensures)) in (
       fall (depth (seen (head-argument .result))) (2 * (39936 - a .p)) t (start .pre .0)
-          (next-depth (a .links) (pre .10) P F (head-argument .ensures)),
+          (next-depth (a .links) (pre .10 .head) P F (head-argument .ensures)),
       (
         pre .0,
         pre .1,
@@ -249,7 +250,7 @@ pub +place+places-spec : {M : Type 1} → statement M
         F .mid,
         F .t,
         followed (a .links) (pre .0 .values) (F .u),
-        next-against (a .links) (pre .10) P F (head-argument .ensures) r,
+        next-against (a .links) (pre .10 .head) P F (head-argument .ensures) r,
       ),
     ))
     -- places-enum-known-m
@@ -277,10 +278,10 @@ pub +place+places-spec : {M : Type 1} → statement M
     let waits = c .before .z in
     let at = c .before .before .before .before .before .before .before .before .before .before .before .before .before .before .loop in
     let P = at .inv x y m g us lo hi l f ts A in
-    let F = next (a .links) A P (c .before .before .before .before .before .before .before .before .before .before .before .before .before .loop-test .taken) in
+    let F = next (a .links) (A .head) P (c .before .before .before .before .before .before .before .before .before .before .before .before .before .loop-test .taken) in
     let r = follow-told .ensures x (F .u) (goal-read (a .links) A P F (goal-argument .ensures)) in
-    let told = place-told .ensures x y (P .low) (F .mid) (F .t) (followed (a .links) (x .values) (F .u)) (next-against (a .links) A P F (head-argument .ensures) r) in
-    waits-here (a .links) A P F (rw (waits .given .1) at told))
+    let told = place-told .ensures x y (P .low) (F .mid) (F .t) (followed (a .links) (x .values) (F .u)) (next-against (a .links) (A .head) P F (head-argument .ensures) r) in
+    waits-here (a .links) (A .head) P F (rw (waits .given .1) at told))
     -- places-enum-told
     (λ c.
     c .match .keys3)
@@ -302,17 +303,17 @@ pub +place+places-spec : {M : Type 1} → statement M
     let place-told = c .before .before .before .before .place in
     let at = c .before .before .before .before .before .before .before .before .before .before .before .before .before .loop in
     let P = at .inv x y m g us lo hi l f ts A in
-    let F = next (a .links) A P (c .before .before .before .before .before .before .before .before .before .before .before .before .loop-test .taken) in
+    let F = next (a .links) (A .head) P (c .before .before .before .before .before .before .before .before .before .before .before .before .loop-test .taken) in
     let r = follow-told .ensures x (F .u) (goal-read (a .links) A P F (goal-argument .ensures)) in
-    let told = place-told .ensures x y (P .low) (F .mid) (F .t) (followed (a .links) (x .values) (F .u)) (next-against (a .links) A P F (head-argument .ensures) r) in
-    fails-here (a .links) A P F (rw (c .enum-told .given .1) at told))
+    let told = place-told .ensures x y (P .low) (F .mid) (F .t) (followed (a .links) (x .values) (F .u)) (next-against (a .links) (A .head) P F (head-argument .ensures) r) in
+    fails-here (a .links) (A .head) P F (rw (c .enum-told .given .1) at told))
     -- places-add-i
     (λ c.
     let start = c .before .before .before .before .before .before .before .before .before .before .before .before .before .before .before .before .before .before in
     let pre = start .pre .1 in
     let at = c .before .before .before .before .before .before .before .before .before .before .before .before .before .before .loop in
     let P = at .inv (pre .0) (pre .1) (pre .2) (pre .3) (pre .4) (pre .5) (pre .6) (pre .7) (pre .8) (pre .9) (pre .10) in
-    omega (arith, P .whole, pre .10 .head-cell .few))
+    omega (arith, count-small (start .args .links) (pre .10 .head) P))
     -- places-loop-less
     (λ c.
     omega arith)
@@ -327,10 +328,10 @@ pub +place+places-spec : {M : Type 1} → statement M
     let agrees = c .before .m in
     let at = c .before .before .before .before .before .before .before .before .before .before .before .before .before .before .loop in
     let P = at .inv x y m g us lo hi l f ts A in
-    let F = next (a .links) A P (c .before .before .before .before .before .before .before .before .before .before .before .before .before .loop-test .taken) in
+    let F = next (a .links) (A .head) P (c .before .before .before .before .before .before .before .before .before .before .before .before .before .loop-test .taken) in
     let r = follow-told .ensures x (F .u) (goal-read (a .links) A P F (goal-argument .ensures)) in
-    let told = place-told .ensures x y (P .low) (F .mid) (F .t) (followed (a .links) (x .values) (F .u)) (next-against (a .links) A P F (head-argument .ensures) r) in
-    one-more (a .links) A P F (rw (agrees .given .1) at told))
+    let told = place-told .ensures x y (P .low) (F .mid) (F .t) (followed (a .links) (x .values) (F .u)) (next-against (a .links) (A .head) P F (head-argument .ensures) r) in
+    one-more (a .links) (A .head) P F (rw (agrees .given .1) at told) (goals-left (a .links) A P F (told .only)))
     -- places-same-length-3
     (λ c.
     let start = c .before .before .before .before .before in
@@ -344,4 +345,4 @@ pub +place+places-spec : {M : Type 1} → statement M
     let a = start .args in
     let at = c .before .loop in
     let P = at .inv x y m g us lo hi l f ts A in
-    all-agree (a .links) A P (c .loop-test .left))
+    all-agree (a .links) (A .head) P (c .loop-test .left))

@@ -4,7 +4,8 @@ use native.Mathlib.Omega.{arith}
 use Rattle.meaning.specs.Terms.{Functor, Terms}
 use Rattle.term.specs.Setting.{Setting}
 use Rattle.compare.specs.Follow.{Keeps}
-use Rattle.compare.proofs.Keeping.{Upto, goal-inside, first-upto, argument-inside, count-small, now-at, upto-more}
+use Rattle.compare.proofs.Compounds.{compound-inside}
+use Rattle.compare.proofs.Keeping.{Upto, first-upto, argument-inside, count-small, now-at, keeps-of, upto-more}
 use Rattle.compare.proofs.ends.keep_ends.Statement.{statement}
 use Rattle.compare.proofs.ends.keep_ends.Tie as tie
 
@@ -18,7 +19,7 @@ abbrev μ-loop : tie.MeasureT-loop
 count-requires : tie.Need-count-requires Inv-loop μ-loop
 count-requires c κs =
     let start = c .before .before in
-    omega (arith, goal-inside (start .pre .4))
+    omega (arith, compound-inside (start .pre .4 .term) (start .pre .4 .place))
 
 loop-holds : tie.Need-loop-holds Inv-loop μ-loop
 loop-holds c x l f ts a = first-upto a (c .count .result) (c .count .ensures)
@@ -30,9 +31,10 @@ argument-requires c κs =
 
 keep-end-requires : tie.Need-keep-end-requires Inv-loop μ-loop
 keep-end-requires c κs =
-    let start = c .before .before .before .before .before .before .before .before in
-    let N = now-at (start .pre .4) (c .before .before .before .before .loop .inv (start .pre .0) (start .pre .1) (start .pre .2) (start .pre .3) (start .pre .4)) (c .before .before .before .loop-test .taken) (c .before .argument .ensures) in
-    (start .pre .0, N .u, N .of)
+    let pre = c .before .before .before .before .before .before .before .before .pre in
+    let P = c .before .before .before .before .loop .inv (pre .0) (pre .1) (pre .2) (pre .3) (pre .4) in
+    let N = now-at (pre .4) P (c .before .before .before .loop-test .taken) (c .before .argument .ensures) in
+    (pre .0, N .u, keeps-of (pre .4) P N)
 
 add-i : tie.Need-add-i Inv-loop μ-loop
 add-i c =
@@ -46,7 +48,7 @@ loop-again : tie.Need-loop-again Inv-loop μ-loop
 loop-again c x l f ts a =
     let P = c .before .before .before .before .before .before .before .loop .inv x l f ts a in
     let N = now-at a P (c .before .before .before .before .before .before .loop-test .taken) (c .before .before .before .before .argument .ensures) in
-    upto-more a P N (c .before .before .keep-end .ensures x (N .u) (N .of))
+    upto-more a P N (c .before .before .keep-end .ensures x (N .u) (keeps-of a P N))
 
 same-length : tie.Need-same-length Inv-loop μ-loop
 same-length c =

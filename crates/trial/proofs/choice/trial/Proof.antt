@@ -24,17 +24,17 @@ index-requires c κs = search needs
 begin-requires : tie.Need-begin-requires
 begin-requires c κs = search needs
 
-mul-places : tie.Need-mul-places
-mul-places c = search needs
+mul-head : tie.Need-mul-head
+mul-head c = search needs
 
-add-places : tie.Need-add-places
-add-places c = search needs
+add-head : tie.Need-add-head
+add-head c = search needs
 
-places-requires : tie.Need-places-requires
-places-requires c κs =
+head-requires : tie.Need-head-requires
+head-requires c κs =
     let B = c .before .before .before in
     let S = B .before .before .before .before .before .before in
-    let (text, names, j, limit, figures, at, g, others, k, trying, candidate, new, fit) = S .pre in
+    let (text, names, j, limit, figures, at, g, others, goal, k, trying, stand, candidate, new, fit) = S .pre in
     let begun = B .begin .ensures .0 in (
       setting figures at (unit-of j limit figures g),
       template (S .args .k) k,
@@ -42,11 +42,9 @@ places-requires c κs =
       named (k .head .name),
       k .head .arguments,
       1,
-      trials.to trying candidate begun,
-      g .goal .number,
-      named (g .goal .name),
+      trials.to trying stand candidate begun,
       g .goal .arguments,
-      trials.comparing trying candidate begun,
+      trials.comparing trying stand candidate begun,
     )
 
 enum-known-n : tie.Need-enum-known-n
@@ -58,11 +56,11 @@ circle-requires c κs =
     let P = N .before .before .before .before in
     let B = P .before .before .before .before in
     let I = B .before .before in
-    let (text, names, j, limit, figures, at, g, others, k, t, m, new, fit) = I .before .before .before .before .pre in
+    let (text, names, j, limit, figures, at, g, others, goal, k, t, f, m, new, fit) = I .before .before .before .before .pre in
     let begun = B .begin .ensures .0 in
-    let cleared = trials.cleared-all t m begun (I .index .result) (I .index .ensures ∙ I .before .word-at .ensures) (B .begin .ensures .1) in
-    let told = trials.comparison t m begun (P .places .last .0) (P .places .result) (Agrees (N .n .given .0 .0)) (P .places .ensures) (N .n .given .1) in
-    (trials.tried-as t m begun new fit cleared told, trials.tried t m begun new fit cleared told)
+    let cleared = trials.cleared-all t f m begun (I .index .result) (I .index .ensures ∙ I .before .word-at .ensures) (B .begin .ensures .1) in
+    let told = trials.comparison t f m begun (P .head .last .0) (P .head .result) (Agrees (N .n .given .0 .0)) (P .head .ensures) (N .n .given .1) in
+    (trials.tried-as t f m begun new fit cleared told, trials.tried t f m begun new fit cleared told)
 
 same-length : tie.Need-same-length
 same-length c = search needs
@@ -74,13 +72,13 @@ returns c =
     let P = N .before .before .before .before in
     let B = P .before .before .before .before in
     let I = B .before .before in
-    let fit = I .before .before .before .before .pre .12 in
-    λ text names j limit figures at g others k t m new.
+    let fit = I .before .before .before .before .pre .14 in
+    λ text names j limit figures at g others goal k t f m new.
     let begun = B .begin .ensures .0 in
-    let cleared = trials.cleared-all t m begun (I .index .result) (I .index .ensures ∙ I .before .word-at .ensures) (B .begin .ensures .1) in
-    let told = trials.comparison t m begun (P .places .last .0) (P .places .result) (Agrees (N .n .given .0 .0)) (P .places .ensures) (N .n .given .1) in
-    trials.circle-fails t m begun new fit cleared told
-    (C .circle .ensures (trials.tried-as t m begun new fit cleared told) (trials.tried t m begun new fit cleared told)) (c .if1 .taken)
+    let cleared = trials.cleared-all t f m begun (I .index .result) (I .index .ensures ∙ I .before .word-at .ensures) (B .begin .ensures .1) in
+    let told = trials.comparison t f m begun (P .head .last .0) (P .head .result) (Agrees (N .n .given .0 .0)) (P .head .ensures) (N .n .given .1) in
+    trials.circle-fails t f m begun new fit cleared told
+    (C .circle .ensures (trials.tried-as t f m begun new fit cleared told) (trials.tried t f m begun new fit cleared told)) (c .if1 .taken)
 
 enum-known-p : tie.Need-enum-known-p
 enum-known-p c = search needs
@@ -98,13 +96,13 @@ returns-2 c =
     let P = N .before .before .before .before in
     let B = P .before .before .before .before in
     let I = B .before .before in
-    let fit = I .before .before .before .before .pre .12 in
-    λ text names j limit figures at g others k t m new.
+    let fit = I .before .before .before .before .pre .14 in
+    λ text names j limit figures at g others goal k t f m new.
     let begun = B .begin .ensures .0 in
-    let cleared = trials.cleared-all t m begun (I .index .result) (I .index .ensures ∙ I .before .word-at .ensures) (B .begin .ensures .1) in
-    let told = trials.comparison t m begun (P .places .last .0) (P .places .result) (Agrees (N .n .given .0 .0)) (P .places .ensures) (N .n .given .1) in
-    trials.no-circle-succeeds t m begun new fit cleared told
-    (C .circle .ensures (trials.tried-as t m begun new fit cleared told) (trials.tried t m begun new fit cleared told)) (c .if1 .left)
+    let cleared = trials.cleared-all t f m begun (I .index .result) (I .index .ensures ∙ I .before .word-at .ensures) (B .begin .ensures .1) in
+    let told = trials.comparison t f m begun (P .head .last .0) (P .head .result) (Agrees (N .n .given .0 .0)) (P .head .ensures) (N .n .given .1) in
+    trials.no-circle-succeeds t f m begun new fit cleared told
+    (C .circle .ensures (trials.tried-as t f m begun new fit cleared told) (trials.tried t f m begun new fit cleared told)) (c .if1 .left)
 
 same-length-3 : tie.Need-same-length-3
 same-length-3 c = search needs
@@ -115,9 +113,9 @@ returns-3 c =
     let P = W .before .before .before .before in
     let begun = P .before .before .before .before .begin .ensures .0 in
     let z = W .p .given .0 .0 in
-    λ text names j limit figures at g others k t m new.
-    trials.place-waits t m begun new z
-    (trials.comparison t m begun (P .places .last .0) (P .places .result) (Waits z) (P .places .ensures) (W .p .given .1))
+    λ text names j limit figures at g others goal k t f m new.
+    trials.place-waits t f m begun new z
+    (trials.comparison t f m begun (P .head .last .0) (P .head .result) (Waits z) (P .head .ensures) (W .p .given .1))
 
 same-length-4 : tie.Need-same-length-4
 same-length-4 c = search needs
@@ -126,9 +124,9 @@ returns-4 : tie.Need-returns-4
 returns-4 c =
     let P = c .before .before .before .before in
     let begun = P .before .before .before .before .begin .ensures .0 in
-    λ text names j limit figures at g others k t m new.
-    trials.place-fails t m begun new
-    (trials.comparison t m begun (P .places .last .0) (P .places .result) Fails (P .places .ensures) (c .enum-told .given .1))
+    λ text names j limit figures at g others goal k t f m new.
+    trials.place-fails t f m begun new
+    (trials.comparison t f m begun (P .head .last .0) (P .head .result) Fails (P .head .ensures) (c .enum-told .given .1))
 
 pub trial-spec : {M : Type 1} → statement M
 trial-spec =
@@ -139,9 +137,9 @@ trial-spec =
     word-at-requires
     index-requires
     begin-requires
-    mul-places
-    add-places
-    places-requires
+    mul-head
+    add-head
+    head-requires
     enum-known-n
     circle-requires
     same-length
