@@ -130,7 +130,7 @@ module _ (s : List ℕ) (text : Bytes) (names : List Bytes) (j : Job) (figures :
   }
 
 -- What the choice changes: the trial's region and the marks.
-module _ (figures : Room) (s s′ : List ℕ) (only : TrialOnly 40464 (marks-region figures) (figures .pairs) s s′) where
+module _ (figures : Room) (s s′ : List ℕ) (only : TrialOnly 40704 (marks-region figures) (figures .pairs) s s′) where
   pub trial-state-kept : StateKept figures s s′
   trial-state-kept = record {
     size = only .size;
@@ -167,7 +167,7 @@ run-only-then figures s t u a b = record {
 }
 
 pub running-tried : (s s′ : List ℕ) (text : Bytes) (names : List Bytes) (j : Job) (figures : Room) (limit : ℕ) (atlas : Atlas) (slots : List Slot) (t : Standing)
-    (stamp stamp′ : ℕ) → Running s text names j figures limit atlas slots t stamp → TrialOnly 40464 (marks-region figures) (figures .pairs) s s′
+    (stamp stamp′ : ℕ) → Running s text names j figures limit atlas slots t stamp → TrialOnly 40704 (marks-region figures) (figures .pairs) s s′
     → MarksBelow s′ (marks-region figures) (figures .pairs) stamp′ → GroundMarks s′ figures atlas (run j limit figures .state .units)
     → Running s′ text names j figures limit atlas slots t stamp′
 running-tried s s′ text names j figures limit atlas slots t stamp stamp′ r only marks grounds =
