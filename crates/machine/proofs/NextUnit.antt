@@ -1,27 +1,27 @@
 -- The goal's unit after a reduction: of each pair its value is what it was, an entry's term renamed apart, or what the head's writer was given.
-use Prim.Native.Nat.{ℕ, _+_, _-_, _*_, _≤_, _<_}
+use Prim.Native.Nat.{ℕ, _+_, _-_, _≤_, _<_}
 use mathlib.Core.Path.{_≡_, refl, sym, ap, _∙_}
 use mathlib.Core.Logic.{_⊎_, inl, inr}
-use mathlib.Core.List.{List, [], _∷_}
+use mathlib.Core.List.{List}
 use mathlib.Core.Option.{Option, none, some}
 use native.Mathlib.Decide.{decLt}
 use native.Mathlib.Omega.{arith}
 use lib.ListN.{length, getD}
 use Rattle.meaning.specs.Terms.{Term, Clause, renamed}
-use Rattle.meaning.specs.State.{Room, Values, value, QueryUnit}
+use Rattle.meaning.specs.State.{Room, value, QueryUnit}
 use Rattle.meaning.specs.Compare.{Assignment}
-use Rattle.meaning.specs.Trial.{with-pairs, assigned, values-after}
-use Rattle.meaning.proofs.Lists.Among.{In, in-same}
+use Rattle.meaning.specs.Trial.{with-pairs, values-after}
+use Rattle.meaning.proofs.Lists.Among.{In}
 use Rattle.meaning.proofs.Lists.EachOf.{each-in}
 use Rattle.meaning.proofs.Single.{AssignedOnce}
 use Rattle.meaning.proofs.Trial.Values.{value-with-pairs, length-with-pairs, length-values-after, value-after-cases, assigned-below}
-use Rattle.term.specs.Cells.{Places, term-word}
-use Rattle.term.specs.Holds.{Holds, HoldsValue, value-word}
+use Rattle.term.specs.Cells.{Places}
+use Rattle.term.specs.Holds.{Holds, HoldsValue}
 use Rattle.term.specs.Setting.{Setting, OfUnit, UnitTerm, UnitStands}
 use Rattle.term.specs.States.{setting}
-use Rattle.compare.specs.Gifts.{Entry, assignments, entries-of}
+use Rattle.compare.specs.Gifts.{Entry, assignments}
 use Rattle.compare.specs.Compare.{Gave, HeadTerm}
-use Rattle.trial.proofs.Once.{AllApart, once-apart, assigned-is, to-clause}
+use Rattle.trial.proofs.Once.{once-apart, assigned-is, to-clause}
 use Rattle.trial.specs.Choosing.{template}
 use Rattle.machine.specs.Extended.{extended}
 use Rattle.reduction.specs.Build.{Copies}

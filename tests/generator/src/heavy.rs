@@ -105,6 +105,9 @@ fn deepest() -> Vec<Heavy> {
         deepest("report, one argument", deep(|inner| format!("f({inner})"))),
         deepest("report, lists", deep(|inner| format!("[{inner}]"))),
         run("comparison and copy", deep_compared()),
+        run("reading, compounds", brackets(|inner| format!("f({inner})"))),
+        run("reading, lists", brackets(|inner| format!("[{inner}]"))),
+        run("reading, tails", brackets(|inner| format!("[a|{inner}]"))),
         run("a job of one goal", "?- p(a).\n".to_string()),
     ]
 }
@@ -186,6 +189,11 @@ fn short_chains() -> String {
 
 pub(crate) fn nested(depth: usize, innermost: &str, wrap: impl Fn(String) -> String) -> String {
     (0..depth).fold(innermost.to_string(), |inner, _| wrap(inner))
+}
+
+/// As many brackets as document 01 allows, one in the other.
+fn brackets(wrap: fn(String) -> String) -> String {
+    format!("?- p({}).\n", nested(15, "a", wrap))
 }
 
 /// A value that is 15 compounds deeper at each step.

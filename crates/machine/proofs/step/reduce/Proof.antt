@@ -59,8 +59,7 @@ fits-requires c κs =
     let red = p .11 in
     let e-pairs = first .index .ensures ∙ first .before .word-at .ensures ∙ red .at .held .pairs in
     let e-compounds = second .index2 .ensures ∙ second .before .word-at2 .ensures ∙ red .at .held .compounds in
-    let e-body = c .index3 .ensures ∙ c .before .word-at3 .ensures ∙ red .at .held .goals in
-    (
+    let e-body = c .index3 .ensures ∙ c .before .word-at3 .ensures ∙ red .at .held .goals in (
       calls.counted taken,
       omega (arith, e-pairs, red .at .held .laid .few-pairs),
       omega (arith, e-compounds, red .at .held .laid .few-compounds),
