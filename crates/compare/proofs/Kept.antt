@@ -4,7 +4,7 @@ use mathlib.Core.Path.{_≡_, sym, _∙_}
 use mathlib.Core.Logic.{inl, inr}
 use mathlib.Core.List.{List, [], _∷_}
 use native.Mathlib.Omega.{arith}
-use lib.ListN.{length, getD}
+use lib.ListN.{getD}
 use Rattle.meaning.specs.Terms.{Functor, Term, Terms, end, more, count}
 use Rattle.term.specs.Cells.{Places}
 use Rattle.term.specs.Holds.{CellAt, Holds, HoldsFrom}
