@@ -5,22 +5,23 @@ use mathlib.Core.Path.{_≡_, refl, sym, subst, ap, _∙_}
 use mathlib.Core.List.{List, [], _++_, append-nil}
 use native.Mathlib.Omega.{arith}
 use lib.ListN.{length, getD}
-use Rattle.meaning.specs.Terms.{Functor, cell, named, Term, Terms, end, more, count, all-renamed}
+use Rattle.meaning.specs.Terms.{Functor, Term, Terms, end, more, count, all-renamed}
 use Rattle.meaning.specs.Compare.{Result as Outcome, succeeds, waits-on, followed, with-assignments, and-then, place, places}
-use Rattle.term.specs.Cells.{Places, term-word, functor-word, AllKnown, AllNumbered}
+use Rattle.term.specs.Cells.{term-word, AllKnown, AllNumbered}
 use Rattle.term.specs.Holds.{HoldsFrom}
 use Rattle.term.specs.Frames.{Only}
 use Rattle.term.proofs.Cells.{numbered-order, all-numbered-order}
 use Rattle.term.proofs.Frames.{only-same, only-then}
 use Rattle.compare.specs.declared.compare.Result.the-variants.{Agrees, Waits, Fails}
 use Rattle.term.specs.Setting.{Setting, AllWithin, AllRanged}
-use Rattle.compare.specs.Follow.{Reads}
+use Rattle.chains.specs.Follow.{Reads}
+use Rattle.chains.proofs.Compounds.{first-count}
 use Rattle.compare.specs.Gifts.{Gift, assignments, entries, recorded}
 use Rattle.compare.specs.Compare.{Template, item, HeadTerm, HeadTerms, TrialStands, Against, HeadArguments, AllGiven, Answers, place-outcome, places-outcome}
 use Rattle.compare.proofs.Kept.{only-back, trial-kept, head-terms-kept, all-given-kept}
 use Rattle.compare.proofs.Gifts.{assignments-append, entries-append, recorded-append, given-wider, given-append, with-none, with-both}
 use Rattle.compare.proofs.Descent.{depth, argument-depth}
-use Rattle.compare.proofs.Seen.{seen}
+use Rattle.rows.proofs.Seen.{seen}
 
 -- The next argument of both, where one is left.
 pub record Facing (s : List ℕ) (x : Setting) (y : Template) (m j lo hi : ℕ) (heads goals : Terms) : Type 0 where
@@ -100,10 +101,6 @@ pub record Partly (G : List ℕ → ℕ → Terms → Type 0) (s₀ s : List ℕ
   pub fits : given + count heads + 6 * lo ≤ n + count us + 6 * low
   pub outcome : places-outcome x links us ts
       ≡ with-assignments (assignments (length (x .values)) (x .compounds) gifts) (places-outcome x links heads goals)
-
-pub first-count : (places : Places) (f : Functor) (k : ℕ) → k ≤ 6 → functor-word places f k % 8 ≡ k
-first-count places cell k few = omega arith
-first-count places (named f) k few = omega arith
 
 module _ (links : ℕ) {s₀ : List ℕ} {x : Setting} {y : Template} {from m : ℕ} {g : Functor} {us : Terms} {lo hi p n : ℕ}
     (a : HeadArguments s₀ x y from links m g us lo hi p n) where

@@ -21,7 +21,7 @@ use Rattle.compare.specs.declared.compare.Result.{Result}
 use Rattle.compare.specs.declared.compare.Result.the-variants.{Agrees, Waits, Fails}
 use Rattle.term.specs.Setting.{Setting, Within, Ranged}
 use Rattle.compare.specs.Compare.{Template, item, Against, AllAgainst, Answers, place-outcome, places-outcome}
-use Rattle.compare.proofs.Seen.{seen, seen-term}
+use Rattle.rows.proofs.Seen.{seen, seen-term}
 use Rattle.compare.proofs.Gifts.{given-wider}
 use Rattle.compare.proofs.Equal.{functors-equal}
 

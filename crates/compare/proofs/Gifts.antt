@@ -6,7 +6,8 @@ use native.Mathlib.Omega.{arith}
 use Rattle.meaning.specs.Compare.{Assignment, Result, succeeds, waits, fails, with-assignments}
 use Rattle.term.specs.Cells.{Places, term-word}
 use Rattle.term.specs.Setting.{Setting}
-use Rattle.compare.specs.Gifts.{Gift, to-head, to-goal, assignment, assignments, entries, head-written, goal-written, recorded}
+use Rattle.rows.specs.Rows.{head-written, goal-written}
+use Rattle.compare.specs.Gifts.{Gift, to-head, to-goal, assignment, assignments, entries, recorded}
 use Rattle.compare.specs.Compare.{Template, AllGiven}
 
 pub assignments-append : (p c : ℕ) (a b : List Gift) → assignments p c (a ++ b) ≡ assignments p c a ++ assignments p c b

@@ -20,7 +20,8 @@ use Rattle.term.specs.Cells.{Places, term-word}
 use Rattle.term.specs.Holds.{value-word}
 use Rattle.compare.specs.declared.compare.Result.the-variants.{Agrees}
 use Rattle.term.specs.Setting.{Setting}
-use Rattle.compare.specs.Gifts.{Gift, to-head, to-goal, assignments, entries, head-written, goal-written, recorded, entries-of, EntriesAt, renamed-entries, head-gift}
+use Rattle.rows.specs.Rows.{head-written, goal-written}
+use Rattle.compare.specs.Gifts.{Gift, to-head, to-goal, assignments, entries, recorded, entries-of, EntriesAt, renamed-entries, head-gift}
 use Rattle.compare.specs.Compare.{Template, item, HeadArguments, AllGiven, AllEntries, Agreed, Answers, Gave, places-outcome}
 
 pub entries-length : (gs : List Gift) → length (entries-of gs) ≡ entries gs

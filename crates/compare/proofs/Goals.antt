@@ -11,10 +11,9 @@ use Rattle.term.specs.Cells.{AllKnown}
 use Rattle.term.specs.Holds.{HoldsFrom}
 use Rattle.term.specs.Frames.{Only}
 use Rattle.term.specs.Setting.{Setting, AllWithin, AllRanged, UnitTerms}
-use Rattle.compare.specs.Follow.{Reads, FollowedAt}
+use Rattle.chains.specs.Follow.{Reads, FollowedAt}
 use Rattle.compare.specs.Compare.{Template, AllAgainst, HeadAgainst}
-use Rattle.compare.proofs.Kept.{unit-terms-kept}
-use Rattle.compare.proofs.Followed.{followed-kept}
+use Rattle.compare.proofs.Kept.{unit-terms-kept, followed-kept}
 use Rattle.compare.proofs.Arguments.{Facing, Partly, count-small, goals-here, goals-few}
 
 -- As the compound l has them.

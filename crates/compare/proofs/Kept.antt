@@ -4,31 +4,21 @@ use mathlib.Core.Path.{_≡_, sym, _∙_}
 use mathlib.Core.Logic.{inl, inr}
 use mathlib.Core.List.{List, [], _∷_}
 use native.Mathlib.Omega.{arith}
-use lib.ListN.{length, getD}
+use lib.ListN.{getD}
 use Rattle.meaning.specs.Terms.{Functor, Term, Terms, end, more, count}
 use Rattle.term.specs.Cells.{Places}
-use Rattle.term.specs.Chains.{end-place}
 use Rattle.term.specs.Holds.{CellAt, Holds, HoldsFrom}
 use Rattle.term.specs.Frames.{Only}
 use Rattle.term.specs.Setting.{Setting, Within, AllWithin, UnitTerm, UnitTerms}
-use Rattle.term.proofs.Units.{unit-term-alike, unit-terms-alike, unit-stands-alike, ends-stand-alike}
-use Rattle.compare.specs.Follow.{Chained}
+use Rattle.term.proofs.Units.{unit-term-alike, unit-terms-alike}
+use Rattle.chains.specs.Follow.{Chained, FollowedAt}
+use Rattle.chains.proofs.Followed.{chained-alike, followed-alike}
 use Rattle.compare.specs.Gifts.{Gift, to-head, to-goal}
 use Rattle.compare.specs.Compare.{Template, item, HeadTerm, HeadTerms, Outside, TrialStands, AllGiven}
 
 -- The other way round.
 pub only-back : (lo hi : ℕ) (s s′ : List ℕ) → Only lo hi s s′ → Only lo hi s′ s
 only-back lo hi s s′ o = record { size = sym (o .size); below = λ k h. sym (o .below k h); above = λ k h. sym (o .above k h) }
-
--- The unit's values and ends, where its compounds and what stands from the values on stay.
-pub chained-alike : (s s′ : List ℕ) (x : Setting) → length s ≤ length s′
-    → ((n : ℕ) → n < x .compounds → (k : ℕ) → x .places .compound n ≤ k → k < x .places .compound n + x .places .width n → getD s′ k 0 ≡ getD s k 0)
-    → (from links : ℕ) → ((k : ℕ) → from ≤ k → getD s′ k 0 ≡ getD s k 0) → Chained s x from links → Chained s′ x from links
-chained-alike s s′ x size alike from links own c = record {
-  stands = unit-stands-alike s s′ x size alike from (λ k l h. own k l) (c .stands);
-  links-are = c .links-are;
-  ends = ends-stand-alike s s′ x size alike from (λ n h. own (end-place x from n) (omega arith)) (c .ends);
-}
 
 module _ (s s′ : List ℕ) (o : Only 39936 40336 s s′) where
   cell-kept : (places : Places) (n k : ℕ) → Outside places n → places .compound n ≤ k → k < places .compound n + places .width n
@@ -72,6 +62,10 @@ module _ (s s′ : List ℕ) (o : Only 39936 40336 s s′) where
 
     pub unit-terms-kept : (n i : ℕ) (ts : Terms) → n < x .compounds → i + count ts < x .places .width n → UnitTerms s x n i ts → UnitTerms s′ x n i ts
     unit-terms-kept = unit-terms-alike s s′ x (omega (arith, o .size)) words-kept
+
+    -- A goal's arguments, followed, stand in the trial's region behind what a trial changes.
+    pub followed-kept : (links i : ℕ) (ts : Terms) → FollowedAt s x links i ts → FollowedAt s′ x links i ts
+    followed-kept links i ts = followed-alike s s′ x (omega (arith, o .size)) words-kept links i ts (λ k l h. o .above k (omega arith))
 
     chained-kept : (from links : ℕ) → 40336 ≤ from → Chained s x from links → Chained s′ x from links
     chained-kept from links b = chained-alike s s′ x (omega (arith, o .size)) words-kept from links (λ k l. o .above k (omega arith))

@@ -1,15 +1,9 @@
 pub mod Arguments
-pub mod Compounds
 pub mod Descent
 pub mod Equal
-pub mod Followed
-pub mod Following
 pub mod Gifts
 pub mod Given
 pub mod Goals
-pub mod Keeping
 pub mod Kept
 pub mod Place
-pub mod Rows
-pub mod Seen
 pub mod Table

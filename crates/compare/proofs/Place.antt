@@ -9,14 +9,14 @@ use lib.ListN.{length, getD}
 use Rattle.meaning.specs.Terms.{Functor, Term, Terms, count}
 use Rattle.meaning.specs.Compare.{followed, fails}
 use Rattle.term.proofs.Cells.{numbered-order}
-use Rattle.compare.specs.declared.compare.Met.{Met}
-use Rattle.compare.specs.declared.compare.Met.the-variants as met
+use Rattle.rows.specs.declared.table.Met.{Met}
+use Rattle.rows.specs.declared.table.Met.the-variants as met
 use Rattle.compare.specs.declared.compare.Result.{Result}
 use Rattle.compare.specs.declared.compare.Result.the-variants.{Agrees, Waits, Fails}
 use Rattle.term.specs.Setting.{Setting}
-use Rattle.compare.specs.Rows.{row, Done}
+use Rattle.rows.specs.Rows.{row, Done}
 use Rattle.compare.specs.Compare.{Template, item, Against, AllAgainst, Answers, place-outcome, places-outcome}
-use Rattle.compare.proofs.Seen.{seen, seen-term}
+use Rattle.rows.proofs.Seen.{seen, seen-term}
 use Rattle.compare.proofs.Table.{Descends, Found, table-found}
 use Rattle.compare.proofs.Descent.{depth, cells-inside, differing, deeper, deeper-answers}
 

@@ -16,11 +16,13 @@ use Rattle.term.specs.declared.word.View.{View}
 use Rattle.term.specs.declared.word.View.the-variants.{Writer}
 use Rattle.term.proofs.Cells.{numbered-order}
 use Rattle.term.proofs.Frames.{only-same, only-set, only-then}
-use Rattle.compare.specs.declared.compare.Met.{Met}
-use Rattle.compare.specs.declared.compare.Met.the-variants.{Agrees, Waits, Fails, Below}
+use Rattle.rows.specs.declared.table.Met.{Met}
+use Rattle.rows.specs.declared.table.Met.the-variants.{Agrees, Waits, Fails, Below}
 use Rattle.term.specs.Setting.{Setting, Within, Ranged, UnitTerm}
-use Rattle.compare.specs.Gifts.{to-head, to-goal, assignments, entries, head-written, goal-written, recorded}
-use Rattle.compare.specs.Rows.{
+use Rattle.compare.specs.Gifts.{to-head, to-goal, assignments, entries, recorded}
+use Rattle.rows.specs.Rows.{
+  head-written,
+  goal-written,
   Row,
   agrees,
   gives-head,
@@ -39,7 +41,7 @@ use Rattle.compare.specs.Rows.{
   Done,
 }
 use Rattle.compare.specs.Compare.{Template, item, HeadTerm, Against, AllGiven, Agreed, Waited}
-use Rattle.compare.proofs.Seen.{seen, seen-term, seen-writer}
+use Rattle.rows.proofs.Seen.{seen, seen-term, seen-writer}
 use Rattle.compare.proofs.Equal.{constants-equal, constant-no-compound}
 
 -- Two compounds, whose functors and arguments decide.

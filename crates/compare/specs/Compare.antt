@@ -18,7 +18,7 @@ use Rattle.compare.specs.declared.compare.Result.{Result}
 use Rattle.compare.specs.declared.compare.Result.the-variants.{Agrees, Waits, Fails}
 use Rattle.compare.specs.Gifts.{Gift, to-head, to-goal, assignments, entries, recorded, Entry, entries-of, EntriesAt, renamed-entries}
 use Rattle.term.specs.Setting.{Setting, Within, AllWithin, Ranged, AllRanged, UnitTerm, UnitTerms}
-use Rattle.compare.specs.Follow.{Chained, FollowedAt}
+use Rattle.chains.specs.Follow.{Chained, FollowedAt}
 
 -- Where the terms of clause k lie: pairs by their own numbers, compounds 32 a clause, each with eight words.
 abbrev pub item-places : List Bytes → ℕ → Places

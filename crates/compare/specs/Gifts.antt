@@ -5,11 +5,12 @@ use mathlib.Core.Path.{_≡_}
 use mathlib.Core.List.{List, [], _∷_}
 use mathlib.Core.Option.{Option, some}
 use lib.Dec.{eqb}
-use lib.ListN.{getD, set}
+use lib.ListN.{getD}
 use Rattle.meaning.specs.Bytes.{if_then_else_}
 use Rattle.meaning.specs.Terms.{Term, renamed}
 use Rattle.meaning.specs.Compare.{Assignment}
 use Rattle.term.specs.Cells.{Places, term-word}
+use Rattle.rows.specs.Rows.{head-written, goal-written}
 
 -- A head's writer is given a goal's term; a goal's pair is given a head's term, as the clause has it.
 pub data Gift : Type 0 where
@@ -30,13 +31,6 @@ unfoldable pub entries : List Gift → ℕ
 entries [] = 0
 entries (to-head n u ∷ gs) = entries gs
 entries (to-goal z t ∷ gs) = entries gs + 1
-
--- One gift written into the region: a word of a head's writer; or the n-th entry.
-abbrev pub head-written : ℕ → ℕ → List ℕ → List ℕ
-head-written n w s = set s (39936 + n) w
-
-abbrev pub goal-written : ℕ → ℕ → ℕ → List ℕ → List ℕ
-goal-written n z h s = set (set s (39952 + 2 * n) z) (39953 + 2 * n) h
 
 -- The scratch with the gifts written, the next entry being the n-th.
 unfoldable pub recorded : Places → Places → ℕ → List Gift → List ℕ → List ℕ

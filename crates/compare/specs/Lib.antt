@@ -1,4 +1,2 @@
 pub mod Compare
-pub mod Follow
 pub mod Gifts
-pub mod Rows

@@ -1,38 +1,17 @@
-// A head against a goal whose arguments were followed: they are followed once for all trials of the goal.
+// A head against a goal whose arguments were followed.
 ghost use Prim.Native.Nat.{ℕ};
 ghost use Rattle.meaning.specs.Terms.{Functor, Terms, count as size};
 ghost use Rattle.term.specs.Setting.{Setting};
-ghost use Rattle.compare.specs.Follow.{Follows, ArgumentsFollowed};
 ghost use Rattle.compare.specs.Compare.{Template, HeadAgainst, Answers, places-outcome};
-use crate::compare::Met;
 use crate::compare::Result;
-use crate::compare::argument;
-use crate::compare::count;
-use crate::compare::differ;
 use crate::compare::places;
-use crate::compare::table;
-use crate::ends::set_at;
-use crate::follow::follow;
-use crate::follow::word_at;
-
-// Where the goal's arguments stand, followed, from the next word on: in the trial's region behind the woken goals' places.
-pub const FOLLOWED: usize = 40656;
-
-// The arguments of the goal at a place, followed.
-pub fn follow_arguments(s: &mut [u64], values: usize, links: usize, goal: usize)
-    requires { ⌜ ((x : Setting) × (l : ℕ) × (f : Functor) × (ts : Terms) × Follows (now s) x values links l f ts goal) ⌝ }
-    ensures { λ r. ⌜ ((x : Setting) (l : ℕ) (f : Functor) (ts : Terms) → Follows (now (s .entry)) x values links l f ts goal
-        → ArgumentsFollowed (now (s .entry)) (now (s .exit)) x links ts) ⌝ }
-{
-    let k = count(s, goal);
-    let mut i = 1;
-    while i <= k {
-        let a = argument(s, goal, i);
-        let w = follow(s, values, links, a);
-        set_at(s, FOLLOWED, i, w);
-        i += 1;
-    }
-}
+use chains::arguments::FOLLOWED;
+use chains::follow::word_at;
+use rows::table::Met;
+use rows::table::argument;
+use rows::table::count;
+use rows::table::differ;
+use rows::table::table;
 
 // The arguments of the head at p against the goal's, "from left to right and depth first", up to "the first place that fails or waits".
 pub fn head(s: &mut [u64], values: usize, links: usize, p: usize) -> Result

@@ -1,7 +1,4 @@
-// A head compared with a goal: following a goal's term, and the table of document 01. What is given is recorded in the trial's region of the scratch.
-// A goal's arguments are followed once for all its trials, and the ends to which they lead are kept for the next time.
-// Read specs/Follow, specs/Compare and specs/Gifts for what each promises.
+// A head compared with a goal whose arguments were followed: the outcome of document 01's table, with what is given recorded in the trial's region of the
+// scratch. Read specs/Compare and specs/Gifts for what each promises; crates `rows` and `chains` have the table of two words and following.
 pub mod compare;
-pub mod ends;
-pub mod follow;
 pub mod heads;

@@ -14,7 +14,7 @@ use Rattle.term.specs.Layout.{values-region, ends-region, queue-region}
 use Rattle.term.specs.Setting.{Setting}
 use Rattle.term.specs.States.{Atlas, setting-at}
 use Rattle.term.specs.declared.state.Standing.{Standing}
-use Rattle.compare.specs.Follow.{Keeps, Kept}
+use Rattle.chains.specs.Follow.{Keeps, Kept}
 use Rattle.queues.specs.Log.{Slot}
 use Rattle.queues.proofs.Listed.{listed-kept}
 use Rattle.machine.specs.Running.{RunOnly, EndAt, AllEnds, StepIs}

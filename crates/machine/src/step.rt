@@ -1,5 +1,5 @@
 // One step: the goal at the front is reduced, waits or fails.
-use compare::ends::keep_ends;
+use chains::ends::keep_ends;
 use queues::goals::behind;
 use queues::goals::close_up;
 use queues::goals::fail;

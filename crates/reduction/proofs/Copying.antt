@@ -37,7 +37,7 @@ use Rattle.term.specs.Holds.{Holds, HoldsFrom}
 use Rattle.term.specs.Setting.{Within, AllWithin}
 use Rattle.term.specs.Frames.{Only}
 use Rattle.term.proofs.Frames.{only-set}
-use Rattle.compare.proofs.Seen.{seen-term, seen-writer, seen-reader}
+use Rattle.rows.proofs.Seen.{seen-term, seen-writer, seen-reader}
 use Rattle.circle.proofs.Depth.{depth, depths, height, height-is, shallow}
 use Rattle.reduction.specs.Build.{
   Item,

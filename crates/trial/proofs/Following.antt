@@ -12,7 +12,7 @@ use Rattle.term.specs.States.{setting}
 use Rattle.term.proofs.Frames.{only-wider}
 use Rattle.circle.specs.Ground.{NewGrounds}
 use Rattle.circle.proofs.Grounds.{new-then}
-use Rattle.compare.specs.Follow.{Follows, ArgumentsFollowed}
+use Rattle.chains.specs.Follow.{Follows, ArgumentsFollowed}
 use Rattle.trial.specs.declared.choice.Fate.{Fate}
 use Rattle.trial.specs.Choosing.{unit-of, Trying, ArgumentsStand, MarksBelow, TrialOnly, ChoiceIs}
 use Rattle.trial.proofs.Staying.{trial-only-then, trial-only-region, trying-stays, grounds-stay, marks-stay}

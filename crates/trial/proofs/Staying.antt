@@ -23,7 +23,7 @@ use Rattle.circle.specs.Ground.{NewGrounds}
 use Rattle.circle.proofs.Grounds.{new-same, grounds-on}
 use Rattle.compare.specs.Gifts.{Gift, to-head, to-goal, Entry, EntriesAt}
 use Rattle.compare.specs.Compare.{Template, item, HeadTerm, AllEntries, AllGiven}
-use Rattle.compare.proofs.Followed.{followed-alike}
+use Rattle.chains.proofs.Followed.{followed-alike}
 use Rattle.trial.specs.Choosing.{unit-of, Trying, ArgumentsStand, TrialOnly, MarksBelow}
 
 -- Frames: nothing changed, one change after another, a wider region, a change of the trial's region, of marks, of one word.

@@ -17,7 +17,7 @@ use Rattle.term.specs.Chains.{EndsStand}
 use Rattle.term.specs.Jobs.{GoalsNumbered, HoldsJob, ClauseAt}
 use Rattle.term.specs.Setting.{Setting, UnitTerm, UnitStands}
 use Rattle.term.specs.States.{setting, listed}
-use Rattle.compare.specs.Follow.{FollowedAt}
+use Rattle.chains.specs.Follow.{FollowedAt}
 use Rattle.compare.specs.Compare.{Template, Gave}
 use Rattle.circle.specs.Ground.{Grounds, NewGrounds}
 use Rattle.trial.specs.declared.choice.Outcome.{Outcome}

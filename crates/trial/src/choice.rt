@@ -1,7 +1,7 @@
 // The trial of a clause, and the choice of a clause among those of a procedure.
+use chains::arguments::follow_arguments;
 use circle::circle::circle;
 use compare::compare::Result;
-use compare::heads::follow_arguments;
 use compare::heads::head;
 use term::layout::CLAUSES;
 use term::layout::PROCEDURES;

@@ -1,4 +1,4 @@
--- `machine::compare::place` and `places` meet their contracts. The places of the head's compounds rise, which is the measure; the loop's
+-- `compare::compare::place` and `places` meet their contracts. The places of the head's compounds rise, which is the measure; the loop's
 -- invariant says what was given so far and what is left of both lists of arguments.
 use Prim.Native.Nat.{ℕ, _+_, _*_, _-_, _<_}
 use mathlib.Core.Path.{_≡_, _∙_}
@@ -7,7 +7,7 @@ use Rattle.meaning.specs.Terms.{Functor, Terms}
 use Rattle.meaning.specs.Compare.{followed}
 use Rattle.term.specs.Setting.{Setting}
 use Rattle.compare.specs.Compare.{Template, AllAgainst}
-use Rattle.compare.proofs.Seen.{seen}
+use Rattle.rows.proofs.Seen.{seen}
 use Rattle.compare.proofs.Table.{table-asks}
 use Rattle.compare.proofs.Place.{place-agrees, place-waits, place-fails, place-cells, place-depth, place-differs, place-deeper}
 use Rattle.compare.proofs.Arguments.{
@@ -34,11 +34,11 @@ use Rattle.compare.proofs.compare.+place+places.Lts-place as place-lts
 use Rattle.compare.proofs.compare.places.Reads as places
 use Rattle.compare.proofs.compare.places.Kinds as places-kinds
 use Rattle.compare.proofs.compare.+place+places.Lts-places as places-lts
-use Rattle.compare.proofs.compare.argument.Reads as argument-reads
-use Rattle.compare.proofs.compare.count.Reads as count-reads
-use Rattle.compare.proofs.compare.differ.Reads as differ-reads
-use Rattle.compare.proofs.compare.table.Reads as table-reads
-use Rattle.compare.proofs.follow.follow.Reads as follow-reads
+use Rattle.rows.proofs.table.argument.Reads as argument-reads
+use Rattle.rows.proofs.table.count.Reads as count-reads
+use Rattle.rows.proofs.table.differ.Reads as differ-reads
+use Rattle.rows.proofs.table.table.Reads as table-reads
+use Rattle.chains.proofs.follow.follow.Reads as follow-reads
 use Rattle.compare.proofs.compare.+place+places.{statement}
 use Rattle.compare.proofs.compare.+place+places.Tie.{close}
 

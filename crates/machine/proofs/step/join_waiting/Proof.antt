@@ -7,7 +7,7 @@ use Rattle.meaning.specs.Terms.{Job, named}
 use Rattle.meaning.specs.State.{Goal}
 use Rattle.term.specs.Layout.{figures, values-region}
 use Rattle.term.specs.States.{Atlas}
-use Rattle.compare.specs.Follow.{Kept}
+use Rattle.chains.specs.Follow.{Kept}
 use Rattle.queues.specs.Log.{Slot}
 use Rattle.machine.specs.Taking.{Taken, JoiningWaiting}
 use Rattle.machine.proofs.KeepingEnds as keeping

@@ -8,7 +8,7 @@ use types.Run.{miss}
 use Rattle.term.specs.Words.{view}
 use Rattle.term.specs.declared.word.View.{View}
 use Rattle.term.specs.declared.word.View.the-variants.{Nothing, Writer, Reader, Integer, Name, Empty, Compound}
-use Rattle.compare.proofs.Seen.{NoVariable}
+use Rattle.rows.proofs.Seen.{NoVariable}
 use Rattle.reduction.specs.Build.{moved-word}
 use Rattle.reduction.proofs.build.moved.Statement.{statement}
 use Rattle.reduction.proofs.build.moved.Tie as tie

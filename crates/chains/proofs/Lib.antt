@@ -1,0 +1,4 @@
+pub mod Compounds
+pub mod Followed
+pub mod Following
+pub mod Keeping

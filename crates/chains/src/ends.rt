@@ -1,0 +1,65 @@
+// The ends to which the arguments of a goal lead, kept of their pairs for the next time that the goal is taken.
+ghost use mathlib.Core.Path.{_≡_};
+ghost use Prim.Native.Nat.{ℕ, _+_, _<_};
+ghost use lib.ListN.{length, set};
+ghost use Rattle.meaning.specs.Terms.{Half, Functor, Term, Terms, variable};
+ghost use Rattle.term.specs.Setting.{Setting};
+ghost use Rattle.chains.specs.Follow.{PairAt, KeepsOf, Keeps, Kept};
+use crate::follow::follow;
+use crate::follow::word_at;
+use rows::table::argument;
+use rows::table::count;
+use term::word::View;
+use term::word::look;
+
+// A word at so many words from a place, set.
+pub fn set_at(s: &mut [u64], from: usize, i: usize, w: u64)
+    requires { ⌜ from + i < length (now s) ⌝ }
+    ensures { λ r. ⌜ now (s .exit) ≡ set (now (s .entry)) (from + i) w ⌝ }
+{
+    s[from + i] = w;
+}
+
+// The end to which a variable with the word w leads, kept of its pair where the value is a reader.
+fn keep(s: &mut [u64], values: usize, links: usize, w: u64, p: usize)
+    requires { ⌜ ((x : Setting) × (h : Half) × (n : ℕ) × KeepsOf (now s) x values links (variable h n) w × PairAt (now s) x values links n p) ⌝ }
+    ensures { λ r. ⌜ ((x : Setting) (h : Half) (n : ℕ) → KeepsOf (now (s .entry)) x values links (variable h n) w → PairAt (now (s .entry)) x values links n p
+        → Kept (now (s .entry)) (now (s .exit)) x values links) ⌝ }
+{
+    let v = word_at(s, values, p);
+    if v % 8 != 2 {
+        return;
+    }
+    let e = follow(s, values, links, w);
+    if e == v {
+        return;
+    }
+    set_at(s, values + 4 * links, p, e);
+}
+
+// The same of any term.
+fn keep_end(s: &mut [u64], values: usize, links: usize, w: u64)
+    requires { ⌜ ((x : Setting) × (t : Term) × KeepsOf (now s) x values links t w) ⌝ }
+    ensures { λ r. ⌜ ((x : Setting) (t : Term) → KeepsOf (now (s .entry)) x values links t w → Kept (now (s .entry)) (now (s .exit)) x values links) ⌝ }
+{
+    match look(w) {
+        View::Writer(p) => keep(s, values, links, w, p),
+        View::Reader(p) => keep(s, values, links, w, p),
+        _ => {}
+    }
+}
+
+// Of each argument of the compound at a place.
+pub fn keep_ends(s: &mut [u64], values: usize, links: usize, goal: usize)
+    requires { ⌜ ((x : Setting) × (l : ℕ) × (f : Functor) × (ts : Terms) × Keeps (now s) x values links l f ts goal) ⌝ }
+    ensures { λ r. ⌜ ((x : Setting) (l : ℕ) (f : Functor) (ts : Terms) → Keeps (now (s .entry)) x values links l f ts goal
+        → Kept (now (s .entry)) (now (s .exit)) x values links) ⌝ }
+{
+    let k = count(s, goal);
+    let mut i = 1;
+    while i <= k {
+        let w = argument(s, goal, i);
+        keep_end(s, values, links, w);
+        i += 1;
+    }
+}
