@@ -1,5 +1,5 @@
 -- What a step counts, small enough to be added up.
-use Prim.Native.Nat.{ℕ, _+_, _≤_}
+use Prim.Native.Nat.{_+_, _≤_}
 use Rattle.term.specs.declared.state.Standing.{Standing}
 
 -- A goal is in front, and what is charged and how many goals there are is within a room of the greatest figures.
