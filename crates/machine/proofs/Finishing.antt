@@ -18,8 +18,9 @@ use Rattle.term.specs.declared.state.Standing.{Standing}
 use Rattle.term.specs.declared.state.Verdict.{Verdict}
 use Rattle.term.proofs.Jobs.{holds-job-kept}
 use Rattle.queues.specs.Log.{Slot, present, LogOk}
-use Rattle.machine.specs.Entering.{EnterOnly, Entered}
-use Rattle.machine.specs.Running.{RunOnly, Running, Behind, GoneOn, RanIs}
+use Rattle.entering.specs.Entering.{EnterOnly, Entered}
+use Rattle.running.specs.Running.{RunOnly, Running}
+use Rattle.machine.specs.Ending.{Behind, GoneOn, RanIs}
 use Rattle.machine.specs.declared.run.Ran.{Ran}
 use Rattle.machine.specs.declared.run.Ran.the-variants.{Ended, QueriesPassRoom}
 use Rattle.machine.proofs.Going.{run-starts}

@@ -15,13 +15,13 @@ use Rattle.term.specs.States.{Atlas, goal-word, setting, GoalStands}
 use Rattle.term.specs.declared.state.Standing.{Standing}
 use Rattle.trial.specs.Choosing.{unit-of, Trying, MarksBelow, ChoiceTold, ChoiceIs}
 use Rattle.queues.specs.Log.{Slot}
-use Rattle.machine.specs.Running.{RunOnly, Running, StepIs}
-use Rattle.machine.specs.Taking.{Taken, Reducing, JoiningWaiting, JoiningFailed}
-use Rattle.machine.specs.declared.step.Stepped.{Stepped}
+use Rattle.running.specs.Running.{RunOnly, Running, StepIs}
+use Rattle.running.specs.Taking.{Taken, Reducing, JoiningWaiting, JoiningFailed}
+use Rattle.running.specs.declared.stepped.Stepped.{Stepped}
 use Rattle.trial.specs.declared.choice.Fate.{Fate}
 use Rattle.trial.specs.declared.choice.Fate.the-variants.{Reduces, Waits, Fails}
-use Rattle.machine.proofs.GroundMarks.{grounds-tried}
-use Rattle.machine.proofs.FramesRunning.{few-units, front-word, front-stands, trying, trial-run-only, run-only-then, running-tried}
+use Rattle.running.proofs.GroundMarks.{grounds-tried}
+use Rattle.running.proofs.FramesRunning.{few-units, word-query, word-place, front-word, front-stands, trying, trial-run-only, run-only-then, running-tried}
 
 -- What the step has read.
 pub record Fetched (s : List ℕ) (figures : Room) (t : Standing) (goal query place values marks steps : ℕ) : Type 0 where
@@ -35,13 +35,6 @@ pub record Fetched (s : List ℕ) (figures : Room) (t : Standing) (goal query pl
 pub front-inside : (s : List ℕ) (text : Bytes) (names : List Bytes) (j : Job) (figures : Room) (limit : ℕ) (atlas : Atlas) (slots : List Slot) (t : Standing)
     (stamp : ℕ) → Running s text names j figures limit atlas slots t stamp → queue-region figures + t .front < length s
 front-inside s text names j figures limit atlas slots t stamp r = omega (arith, r .inside, r .state .queue .front-inside)
-
--- A goal's word taken apart.
-word-query : (q n : ℕ) → q < 8 → (q + 8 * n) % 8 ≡ q
-word-query q n h = omega arith
-
-pub word-place : (q n : ℕ) → q < 8 → (q + 8 * n) / 8 ≡ n
-word-place q n h = omega arith
 
 module _ (s : List ℕ) (text : Bytes) (names : List Bytes) (j : Job) (figures : Room) (limit : ℕ) (atlas : Atlas) (slots : List Slot)
     (g : Goal) (others : List Goal) (t : Standing) (goal query place values marks steps : ℕ)

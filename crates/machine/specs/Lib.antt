@@ -1,4 +1,1 @@
-pub mod Entering
-pub mod Extended
-pub mod Running
-pub mod Taking
+pub mod Ending

@@ -13,9 +13,9 @@ use Rattle.term.specs.Layout.{figures}
 use Rattle.term.specs.States.{Atlas}
 use Rattle.trial.specs.Choosing.{Trying, MarksBelow, ChoiceIs}
 use Rattle.queues.specs.Log.{Slot}
-use Rattle.machine.specs.Running.{Running, StepIs}
-use Rattle.machine.specs.Taking.{Taken, Reducing, JoiningWaiting, JoiningFailed}
-use Rattle.machine.specs.declared.step.Stepped.{Stepped}
+use Rattle.running.specs.Running.{Running, StepIs}
+use Rattle.running.specs.Taking.{Taken, Reducing, JoiningWaiting, JoiningFailed}
+use Rattle.running.specs.declared.stepped.Stepped.{Stepped}
 use Rattle.trial.specs.declared.choice.Fate.the-variants.{Reduces, Waits, Fails}
 use Rattle.machine.proofs.FrontGoal.{
   Fetched,

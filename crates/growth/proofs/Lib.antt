@@ -1,0 +1,13 @@
+pub mod BodyGoals
+pub mod ClauseEntries
+pub mod Enlarging
+pub mod EntryByEntry
+pub mod Fresh
+pub mod NextState
+pub mod NextUnit
+pub mod NextUnits
+pub mod OwnPairs
+pub mod ReduceParts
+pub mod Renaming
+pub mod WaitingPairs
+pub mod Woken

@@ -1,0 +1,6 @@
+pub mod Failing
+pub mod FreePlaces
+pub mod Joining
+pub mod KeepingEnds
+pub mod Unclaimed
+pub mod WaitingStep

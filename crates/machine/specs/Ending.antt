@@ -1,0 +1,30 @@
+-- How a run ends: the verdict and the state, or the queries alone pass a room figure.
+use Prim.Native.Nat.{ℕ, _≤_}
+use mathlib.Core.Path.{_≡_}
+use mathlib.Core.Bool.{false}
+use mathlib.Core.List.{List}
+use lib.ListN.{length, getD}
+use Rattle.meaning.specs.Bytes.{Bytes}
+use Rattle.meaning.specs.Terms.{Job}
+use Rattle.meaning.specs.State.{Room}
+use Rattle.meaning.specs.Run.{queries-fit, run}
+use Rattle.term.specs.Layout.{need-of}
+use Rattle.term.specs.States.{Atlas, HoldsState, Finished, verdict-of}
+use Rattle.machine.specs.declared.run.Ran.{Ran}
+use Rattle.machine.specs.declared.run.Ran.the-variants.{Ended, QueriesPassRoom}
+
+-- The run has ended: by which verdict, and in which state.
+abbrev pub GoneOn : List ℕ → List Bytes → Job → Room → ℕ → Ran → Type 0
+GoneOn s names j figures limit (Ended v t) =
+    (verdict-of v ≡ run j limit figures .verdict)
+    × (atlas : Atlas) × HoldsState s names figures (j .queries) atlas (run j limit figures .state) t
+GoneOn s names j figures limit QueriesPassRoom = ⊥
+
+-- The run's contract: number 7, and nothing has changed; or the run is finished, and nothing behind the needed part has changed.
+pub record Behind (figures : Room) (s s′ : List ℕ) : Type 0 where
+  pub size : length s′ ≡ length s
+  pub behind : (k : ℕ) → need-of figures ≤ k → getD s′ k 0 ≡ getD s k 0
+
+abbrev pub RanIs : List ℕ → List ℕ → Bytes → List Bytes → Job → Room → ℕ → Ran → Type 0
+RanIs s s′ text names j figures limit (Ended v t) = Behind figures s s′ × Finished s′ text names figures j limit v t
+RanIs s s′ text names j figures limit QueriesPassRoom = (queries-fit figures (j .queries) ≡ false) × (s′ ≡ s)
