@@ -41,9 +41,9 @@ use term::layout::QUERIES;
 use term::layout::Room;
 use term::layout::TRIAL;
 use term::state::Standing;
-use writing::put::put;
-use writing::put::spelling;
-use writing::put::words;
+use putting::put::put;
+use putting::put::spelling;
+use putting::put::words;
 use writing::terms::write_term;
 
 // A line: so many bytes, a term and an LF.

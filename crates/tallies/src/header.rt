@@ -18,9 +18,9 @@ use term::layout::QUERIES;
 use term::layout::Room;
 use term::state::Standing;
 use term::state::Verdict;
-use writing::put::decimal;
-use writing::put::put;
-use writing::put::words;
+use putting::put::decimal;
+use putting::put::put;
+use putting::put::words;
 
 // The counts of a query's goals.
 pub struct Tallies {

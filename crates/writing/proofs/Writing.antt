@@ -32,7 +32,7 @@ use Rattle.facts.proofs.Wholes.{whole-is, some-argument, stands-opens}
 use Rattle.facts.proofs.Walking.{functor-parts, position-first, position-inside, position-shows}
 use Rattle.facts.proofs.Leaves.{Unassigned, leaf-writer, leaf-reader, writer-bytes, reader-bytes, length-more, name-spelled, opening-length}
 use Rattle.facts.proofs.Laid.{puts-none}
-use Rattle.writing.proofs.Putting.{puts-two, puts-is, puts-length}
+use Rattle.putting.proofs.Putting.{puts-two, puts-is, puts-length}
 
 -- A compound of the unit: its opening, and what stands behind it.
 pub opened : (s : List ℕ) (x : Setting) (facts : ℕ) (order : List ℕ) (n : ℕ) (f : Functor) (ts : Terms) (p : ℕ)

@@ -1,5 +1,5 @@
 // What stands behind an argument, and behind the compounds that end with it.
-use crate::put::put;
+use putting::put::put;
 use facts::cells::Next;
 use facts::cells::behind;
 ghost use mathlib.Core.Path.{_≡_};

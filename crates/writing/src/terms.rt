@@ -1,9 +1,9 @@
 // "Values are written out with every assignment applied": a term is put into the buffer, which has the room for it. Its unassigned pairs have their
 // numbers.
-use crate::put::decimal;
-use crate::put::put;
-use crate::put::spelling;
-use crate::put::words;
+use putting::put::decimal;
+use putting::put::put;
+use putting::put::spelling;
+use putting::put::words;
 use crate::rising::Risen;
 use crate::rising::rise;
 use facts::cells::functor;

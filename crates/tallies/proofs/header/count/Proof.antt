@@ -5,8 +5,8 @@ use Rattle.tallies.proofs.header.count.Statement.{statement}
 use Rattle.tallies.proofs.header.count.Tie as tie
 use Rattle.tallies.proofs.header.count.Reads as reads
 use Rattle.tallies.proofs.header.count.Lts as lts
-use Rattle.writing.proofs.put.decimal.Reads as decimal-reads
-use Rattle.writing.proofs.put.words.Reads as words-reads
+use Rattle.putting.proofs.put.decimal.Reads as decimal-reads
+use Rattle.putting.proofs.put.words.Reads as words-reads
 
 -- src/header.rt:64:9
 words-requires : tie.Need-words-requires

@@ -9,7 +9,7 @@ use Rattle.tallies.proofs.header.header.Tie as tie
 use Rattle.tallies.proofs.header.header.Reads as reads
 use Rattle.tallies.proofs.header.header.Lts as lts
 use Rattle.tallies.proofs.header.count.Reads as count-reads
-use Rattle.writing.proofs.put.put.Reads as put-reads
+use Rattle.putting.proofs.put.put.Reads as put-reads
 
 -- src/header.rt:72:36
 slice-aggregate-count : tie.Need-slice-aggregate-count

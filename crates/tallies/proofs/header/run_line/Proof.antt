@@ -8,8 +8,8 @@ use Rattle.tallies.proofs.header.run_line.Tie as tie
 use Rattle.tallies.proofs.header.run_line.Reads as reads
 use Rattle.tallies.proofs.header.run_line.Lts as lts
 use Rattle.tallies.proofs.header.run_words.Reads as run-words-reads
-use Rattle.writing.proofs.put.decimal.Reads as decimal-reads
-use Rattle.writing.proofs.put.put.Reads as put-reads
+use Rattle.putting.proofs.put.decimal.Reads as decimal-reads
+use Rattle.putting.proofs.put.put.Reads as put-reads
 
 -- src/header.rt:100:9
 run-words-requires : tie.Need-run-words-requires

@@ -10,7 +10,7 @@ use Rattle.tallies.proofs.header.run_words.Statement.{statement}
 use Rattle.tallies.proofs.header.run_words.Tie as tie
 use Rattle.tallies.proofs.header.run_words.Reads as reads
 use Rattle.tallies.proofs.header.run_words.Lts as lts
-use Rattle.writing.proofs.put.words.Reads as words-reads
+use Rattle.putting.proofs.put.words.Reads as words-reads
 
 -- src/header.rt:90:32
 enum-told : tie.Need-enum-told

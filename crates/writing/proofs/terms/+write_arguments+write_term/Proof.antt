@@ -13,7 +13,7 @@ use Rattle.facts.specs.Laid.{Puts}
 use Rattle.facts.specs.Facts.{Readable}
 use Rattle.facts.proofs.Told.{seen, no-compound-seen}
 use Rattle.writing.specs.Frames.{Before, Nothing}
-use Rattle.writing.proofs.Putting.{puts-length}
+use Rattle.putting.proofs.Putting.{puts-length}
 use Rattle.writing.proofs.Writing.{
   Going,
   going-first,

@@ -6,7 +6,7 @@ use native.Mathlib.Omega.{arith}
 use borrow.Author.Needs.{needs}
 use lib.ListN.{length, getD}
 use Rattle.meaning.specs.Bytes.{Bytes, decimal}
-use Rattle.writing.proofs.Putting.{puts-two, puts-is, puts-length, puts-one-place}
+use Rattle.putting.proofs.Putting.{puts-two, puts-is, puts-length, puts-one-place}
 use Rattle.facts.proofs.Leaves.{plus-bits, minus-bits, minus-length}
 use Rattle.writing.proofs.terms.integer.Statement.{statement}
 use Rattle.writing.proofs.terms.integer.Tie as tie

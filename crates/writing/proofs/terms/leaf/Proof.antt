@@ -8,7 +8,7 @@ use lib.ListN.{length, getD}
 use Rattle.meaning.specs.Report.{alone, written}
 use Rattle.term.specs.declared.word.View.the-variants.{Writer, Reader, Integer, Name, Empty}
 use Rattle.facts.specs.Threaded.{full}
-use Rattle.writing.proofs.Putting.{puts-two, puts-is, puts-length, puts-one-place}
+use Rattle.putting.proofs.Putting.{puts-two, puts-is, puts-length, puts-one-place}
 use Rattle.facts.proofs.Told.{seen, other-leaf}
 use Rattle.facts.proofs.Leaves.{leaf-integer, leaf-name, leaf-empty, leaf-nothing, integer-written, name-written, empty-written}
 use Rattle.writing.proofs.Writing.{write-writer, write-reader, writer-fits, reader-fits}

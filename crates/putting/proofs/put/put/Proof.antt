@@ -1,10 +1,10 @@
 -- `writing::put::put` meets its contract: one place is set.
 use Rattle.facts.proofs.Laid.{puts-one}
 use borrow.Author.Needs.{needs}
-use Rattle.writing.proofs.put.put.Statement.{statement}
-use Rattle.writing.proofs.put.put.Tie as tie
-use Rattle.writing.proofs.put.put.Reads as reads
-use Rattle.writing.proofs.put.put.Lts as lts
+use Rattle.putting.proofs.put.put.Statement.{statement}
+use Rattle.putting.proofs.put.put.Tie as tie
+use Rattle.putting.proofs.put.put.Reads as reads
+use Rattle.putting.proofs.put.put.Lts as lts
 
 -- src/put.rt:16:5
 slice-write-buffer : tie.Need-slice-write-buffer

@@ -8,11 +8,11 @@ use lib.ListN.{length, getD, take, length-take}
 use lib.Seq.{take-suc, take-all}
 use Rattle.facts.specs.Laid.{Puts}
 use Rattle.facts.proofs.Laid.{puts-none, puts-behind, puts-as}
-use Rattle.writing.proofs.put.words.Statement.{statement}
-use Rattle.writing.proofs.put.words.Tie as tie
-use Rattle.writing.proofs.put.words.Reads as reads
-use Rattle.writing.proofs.put.words.Lts as lts
-use Rattle.writing.proofs.put.put.Reads as put-reads
+use Rattle.putting.proofs.put.words.Statement.{statement}
+use Rattle.putting.proofs.put.words.Tie as tie
+use Rattle.putting.proofs.put.words.Reads as reads
+use Rattle.putting.proofs.put.words.Lts as lts
+use Rattle.putting.proofs.put.put.Reads as put-reads
 
 one-more : (l : List ℕ) (i : ℕ) → suc i ≤ length l → take i l ++ (getD l i 0 ∷ []) ≡ take (i + 1) l
 one-more l i h = sym (take-suc l i 0 h) ∙ ap (λ (n : ℕ). take n l) (sym (add-one i))

@@ -7,11 +7,11 @@ use lib.ListN.{length, take, drop, length-take}
 use lib.Seq.{slice, take-add, drop-at}
 use Rattle.facts.proofs.Laid.{puts-as}
 use borrow.Author.Needs.{needs}
-use Rattle.writing.proofs.put.spelling.Statement.{statement}
-use Rattle.writing.proofs.put.spelling.Tie as tie
-use Rattle.writing.proofs.put.spelling.Reads as reads
-use Rattle.writing.proofs.put.spelling.Lts as lts
-use Rattle.writing.proofs.put.words.Reads as words-reads
+use Rattle.putting.proofs.put.spelling.Statement.{statement}
+use Rattle.putting.proofs.put.spelling.Tie as tie
+use Rattle.putting.proofs.put.spelling.Reads as reads
+use Rattle.putting.proofs.put.spelling.Lts as lts
+use Rattle.putting.proofs.put.words.Reads as words-reads
 
 part : (f n : ℕ) (l : List ℕ) → f + n ≤ length l → take (f + n - f) (drop f l) ≡ slice f (f + n) l
 part f n l h =

@@ -10,8 +10,8 @@ use Rattle.facts.specs.Laid.{laid}
 use Rattle.facts.proofs.Laid.{laid-append}
 use Rattle.facts.proofs.Nodes.{decimal-positive}
 use Rattle.facts.proofs.Decimals.{decimal-digit, decimal-step, decimal-length}
-use Rattle.writing.proofs.put.decimal.Statement.{statement}
-use Rattle.writing.proofs.put.decimal.Tie as tie
+use Rattle.putting.proofs.put.decimal.Statement.{statement}
+use Rattle.putting.proofs.put.decimal.Tie as tie
 
 -- A byte behind others may be put before them.
 behind-first : (xs : Bytes) (b : List ℕ) (at i c : ℕ) → at + length xs ≤ i → laid (set b i c) at xs ≡ set (laid b at xs) i c
