@@ -1,1 +1,2 @@
+pub mod LeafWrites
 pub mod Putting

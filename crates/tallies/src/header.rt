@@ -14,13 +14,13 @@ use crate::groups::waiting;
 use facts::cells::index;
 use facts::cells::word_at;
 use facts::length::digits;
+use putting::put::decimal;
+use putting::put::put;
+use putting::put::words;
 use term::layout::QUERIES;
 use term::layout::Room;
 use term::state::Standing;
 use term::state::Verdict;
-use putting::put::decimal;
-use putting::put::put;
-use putting::put::words;
 
 // The counts of a query's goals.
 pub struct Tallies {

@@ -1,4 +1,4 @@
--- `writing::put::put` meets its contract: one place is set.
+-- `putting::put::put` meets its contract: one place is set.
 use Rattle.facts.proofs.Laid.{puts-one}
 use borrow.Author.Needs.{needs}
 use Rattle.putting.proofs.put.put.Statement.{statement}

@@ -1,4 +1,4 @@
--- `sections::groups::own` meets its contract.
+-- `tallies::groups::own` meets its contract.
 use mathlib.Core.Path.{sym, ap, _∙_}
 use lib.Dec.{eqb}
 use native.Mathlib.Omega.{arith}

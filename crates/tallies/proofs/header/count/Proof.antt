@@ -1,4 +1,4 @@
--- `sections::header::count` meets its contract: a word and a number behind it.
+-- `tallies::header::count` meets its contract: a word and a number behind it.
 use Rattle.facts.proofs.Laid.{puts-behind}
 use borrow.Author.Needs.{needs}
 use Rattle.tallies.proofs.header.count.Statement.{statement}

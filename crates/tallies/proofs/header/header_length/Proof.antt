@@ -1,4 +1,4 @@
--- `sections::header::header_length` meets its contract.
+-- `tallies::header::header_length` meets its contract.
 use native.Mathlib.Omega.{arith}
 use Rattle.tallies.proofs.FirstLines.{header-size}
 use borrow.Author.Needs.{needs}

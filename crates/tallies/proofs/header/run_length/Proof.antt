@@ -1,4 +1,4 @@
--- `sections::header::run_length` meets its contract.
+-- `tallies::header::run_length` meets its contract.
 use native.Mathlib.Omega.{arith}
 use Rattle.tallies.proofs.FirstLines.{run-rest-size, run-budget-size, run-room-size}
 use borrow.Author.Needs.{needs}

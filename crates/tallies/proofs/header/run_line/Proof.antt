@@ -1,4 +1,4 @@
--- `sections::header::run_line` meets its contract: three pieces.
+-- `tallies::header::run_line` meets its contract: three pieces.
 use native.Mathlib.Omega.{arith}
 use Rattle.meaning.specs.Bytes.{bytes}
 use Rattle.tallies.proofs.FirstLines.{run-line-size, puts-run}

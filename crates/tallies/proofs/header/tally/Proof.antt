@@ -1,4 +1,4 @@
--- `sections::header::tally` meets its contract: each list is counted.
+-- `tallies::header::tally` meets its contract: each list is counted.
 use Prim.Native.Nat.{ℕ}
 use mathlib.Core.Path.{_≡_, _∙_}
 use Rattle.tallies.specs.declared.header.Tallies.{Tallies}
