@@ -1,2 +1,1 @@
-pub mod LeafWrites
 pub mod Putting

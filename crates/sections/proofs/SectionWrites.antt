@@ -18,7 +18,7 @@ use Rattle.facts.specs.Threaded.{full, seen-after, shown, shown-values, seen-af
 use Rattle.facts.specs.Laid.{Puts}
 use Rattle.tallies.specs.Header.{header-of, tallies-of}
 use Rattle.facts.specs.Facts.{Readable}
-use Rattle.putting.specs.Writes.{Numbered}
+use Rattle.leaves.specs.Writes.{Numbered}
 use Rattle.tallies.specs.declared.groups.Group.{Group}
 use Rattle.sections.specs.Sections.{Listed}
 use Rattle.sections.specs.Whole.{AllIn, Numbers, SectionStands, lines-shown, section-bytes}

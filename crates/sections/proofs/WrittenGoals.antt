@@ -15,7 +15,7 @@ use Rattle.facts.specs.Threaded.{full, written-goals}
 use Rattle.facts.specs.Sound.{Sound}
 use Rattle.facts.specs.Laid.{Puts}
 use Rattle.facts.specs.Facts.{Readable, Shows}
-use Rattle.putting.specs.Writes.{Numbered, Writes}
+use Rattle.leaves.specs.Writes.{Numbered, Writes}
 use Rattle.tallies.specs.Groups.{goal-in, own, own-from}
 use Rattle.tallies.specs.declared.groups.Group.{Group}
 use Rattle.sections.specs.Sections.{GoalsHeld, Listed}

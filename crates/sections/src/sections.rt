@@ -13,7 +13,7 @@ ghost use Rattle.facts.specs.Threaded.{full, seen-after, shown, shown-values, s
 ghost use Rattle.facts.specs.Laid.{Puts};
 ghost use Rattle.facts.specs.Facts.{Readable, Shows};
 ghost use Rattle.counting.specs.Counts.{Counts, Counted};
-ghost use Rattle.putting.specs.Writes.{Numbered, Writes};
+ghost use Rattle.leaves.specs.Writes.{Numbered, Writes};
 ghost use Rattle.tallies.specs.Groups.{goal-in, GroupInside, own as own-word};
 ghost use Rattle.term.specs.Layout.{figures};
 ghost use Rattle.tallies.specs.Header.{header-of, tallies-of};

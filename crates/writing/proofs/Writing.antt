@@ -17,7 +17,7 @@ use Rattle.facts.specs.Threaded.{full, all-full}
 use Rattle.facts.specs.Laid.{Puts}
 use Rattle.facts.specs.Facts.{Readable, Shows, Led}
 use Rattle.facts.specs.Walk.{opening-bytes, Opens, StandsAt, after, rest}
-use Rattle.putting.specs.Writes.{Numbered, Writes}
+use Rattle.leaves.specs.Writes.{Numbered, Writes}
 use Rattle.writing.specs.Frames.{Behind, Before, Nothing, Frames, Rose}
 use Rattle.writing.specs.declared.rising.Risen.the-variants.{Goes as Onward, Ends as Done}
 use Rattle.facts.proofs.Full.{full-compound}

@@ -4,8 +4,8 @@ use crate::rising::Risen;
 use crate::rising::rise;
 use facts::cells::word_at;
 use facts::ends::end;
-use putting::leaves::leaf;
-use putting::leaves::opening;
+use leaves::leaf::leaf;
+use leaves::leaf::opening;
 use term::word::View;
 use term::word::look;
 ghost use mathlib.Core.List.{List};
@@ -18,7 +18,7 @@ ghost use Rattle.term.specs.Setting.{Setting};
 ghost use Rattle.facts.specs.Threaded.{full};
 ghost use Rattle.facts.specs.Laid.{Puts};
 ghost use Rattle.facts.specs.Facts.{Readable, Shows};
-ghost use Rattle.putting.specs.Writes.{Writes};
+ghost use Rattle.leaves.specs.Writes.{Writes};
 ghost use Rattle.writing.specs.Frames.{Before, Nothing};
 
 // What stands behind a compound's opening; "lists as `[a,b]` or `[a|T]`": a list goes on with the cell that is its tail. A term and its argument list

@@ -12,7 +12,7 @@ use Rattle.term.specs.Setting.{Setting}
 use Rattle.term.specs.declared.word.View.the-variants.{Writer, Reader}
 use Rattle.facts.specs.Threaded.{full}
 use Rattle.facts.specs.Facts.{fact-place, Led}
-use Rattle.putting.specs.Writes.{Writes}
+use Rattle.leaves.specs.Writes.{Writes}
 use Rattle.facts.proofs.Told.{seen}
 use Rattle.facts.proofs.Chains.{fact-inside}
 use Rattle.facts.proofs.Leaves.{Unassigned, leaf-writer, leaf-reader, writer-bytes, reader-bytes, length-more}

@@ -1,4 +1,4 @@
--- `putting::leaves::integer` meets its contract: its digits, or a minus sign and those of what is missing to 2^32.
+-- `leaves::leaf::integer` meets its contract: its digits, or a minus sign and those of what is missing to 2^32.
 use Prim.Native.Nat.{ℕ, _+_, _-_, _*_, _≤_}
 use mathlib.Core.Path.{_≡_, _∙_, sym, ap}
 use mathlib.Core.List.{[], _∷_, _++_}
@@ -6,10 +6,10 @@ use native.Mathlib.Omega.{arith}
 use borrow.Author.Needs.{needs}
 use lib.ListN.{length, getD}
 use Rattle.meaning.specs.Bytes.{Bytes, decimal}
 use Rattle.putting.proofs.Putting.{puts-two, puts-is, puts-length, puts-one-place}
 use Rattle.facts.proofs.Leaves.{plus-bits, minus-bits, minus-length}
-use Rattle.putting.proofs.leaves.integer.Statement.{statement}
-use Rattle.putting.proofs.leaves.integer.Tie as tie
+use Rattle.leaves.proofs.leaf.integer.Statement.{statement}
+use Rattle.leaves.proofs.leaf.integer.Tie as tie
 
 decimal-requires : tie.Need-decimal-requires
 decimal-requires c κs =

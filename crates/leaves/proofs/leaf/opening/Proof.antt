@@ -1,4 +1,4 @@
--- `putting::leaves::opening` meets its contract: a bracket, or the name and a parenthesis.
+-- `leaves::leaf::opening` meets its contract: a bracket, or the name and a parenthesis.
 use Prim.Native.Nat.{ℕ, _+_, _-_, _*_, _≤_}
 use mathlib.Core.Path.{_≡_, _∙_, sym, ap}
 use mathlib.Core.List.{[], _∷_, _++_}
@@ -6,12 +6,12 @@ use native.Mathlib.Omega.{arith}
 use borrow.Author.Needs.{needs}
 use lib.ListN.{length, getD}
 use Rattle.meaning.specs.Bytes.{Bytes, decimal}
 use Rattle.putting.proofs.Putting.{puts-two, puts-is, puts-length, puts-one-place}
 use lib.ListN.{length-append}
 use Rattle.facts.specs.Walk.{opening-bytes}
 use Rattle.facts.proofs.Leaves.{opens-cell, opens-named, opening-length}
-use Rattle.putting.proofs.leaves.opening.Statement.{statement}
-use Rattle.putting.proofs.leaves.opening.Tie as tie
+use Rattle.leaves.proofs.leaf.opening.Statement.{statement}
+use Rattle.leaves.proofs.leaf.opening.Tie as tie
 
 functor-requires : tie.Need-functor-requires
 functor-requires c κs =

@@ -1,4 +1,4 @@
--- `putting::leaves::name` meets its contract: the bytes of the text where it is spelled.
+-- `leaves::leaf::name` meets its contract: the bytes of the text where it is spelled.
 use Prim.Native.Nat.{ℕ, _+_, _-_, _*_, _≤_}
 use mathlib.Core.Path.{_≡_, _∙_, sym, ap}
 use mathlib.Core.List.{[], _∷_, _++_}
@@ -6,10 +6,10 @@ use native.Mathlib.Omega.{arith}
 use borrow.Author.Needs.{needs}
 use lib.ListN.{length, getD}
 use Rattle.meaning.specs.Bytes.{Bytes, decimal}
 use Rattle.putting.proofs.Putting.{puts-two, puts-is, puts-length, puts-one-place}
 use Rattle.facts.proofs.Leaves.{spelled-is}
-use Rattle.putting.proofs.leaves.name.Statement.{statement}
-use Rattle.putting.proofs.leaves.name.Tie as tie
+use Rattle.leaves.proofs.leaf.name.Statement.{statement}
+use Rattle.leaves.proofs.leaf.name.Tie as tie
 
 mul-word-at : tie.Need-mul-word-at
 mul-word-at c =

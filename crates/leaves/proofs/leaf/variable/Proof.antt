@@ -1,4 +1,4 @@
--- `putting::leaves::variable` meets its contract: an underscore, and the number.
+-- `leaves::leaf::variable` meets its contract: an underscore, and the number.
 use Prim.Native.Nat.{ℕ, _+_, _-_, _*_, _≤_}
 use mathlib.Core.Path.{_≡_, _∙_, sym, ap}
 use mathlib.Core.List.{[], _∷_, _++_}
@@ -6,9 +6,9 @@ use native.Mathlib.Omega.{arith}
 use borrow.Author.Needs.{needs}
 use lib.ListN.{length, getD}
 use Rattle.meaning.specs.Bytes.{Bytes, decimal}
 use Rattle.putting.proofs.Putting.{puts-two, puts-is, puts-length, puts-one-place}
-use Rattle.putting.proofs.leaves.variable.Statement.{statement}
-use Rattle.putting.proofs.leaves.variable.Tie as tie
+use Rattle.leaves.proofs.leaf.variable.Statement.{statement}
+use Rattle.leaves.proofs.leaf.variable.Tie as tie
 
 put-requires : tie.Need-put-requires
 put-requires c κs =

@@ -1,12 +1,12 @@
 // The parts of a term that need no walk: a variable, an integer, a name, and what stands before a compound's first argument.
-use crate::put::decimal;
-use crate::put::put;
-use crate::put::spelling;
-use crate::put::words;
 use facts::cells::functor;
 use facts::cells::index;
 use facts::cells::word_at;
 use facts::ends::fact;
+use putting::put::decimal;
+use putting::put::put;
+use putting::put::spelling;
+use putting::put::words;
 use term::word::View;
 use term::word::look;
 ghost use mathlib.Core.Path.{_≡_};
@@ -25,7 +25,7 @@ ghost use Rattle.facts.specs.Laid.{Puts};
 ghost use Rattle.facts.specs.Facts.{Led};
 ghost use Rattle.facts.specs.Walk.{opening-bytes, Opens};
 ghost use Rattle.facts.specs.Pairs.{NoCompound};
-ghost use Rattle.putting.specs.Writes.{Writes};
+ghost use Rattle.leaves.specs.Writes.{Writes};
 
 // "An unassigned pair is `_1`, `_2`, .."
 fn variable(s: &[u64], facts: usize, buffer: &mut [u8], at: usize, p: usize) -> usize

@@ -1,4 +1,4 @@
--- `putting::leaves::leaf` meets its contract: by what the word shows.
+-- `leaves::leaf::leaf` meets its contract: by what the word shows.
 use Prim.Native.Nat.{ℕ, _+_, _-_, _*_, _≤_}
 use mathlib.Core.Path.{_≡_, _∙_, sym, ap}
 use mathlib.Core.List.{[], _∷_, _++_}
@@ -8,12 +8,12 @@ use lib.ListN.{length, getD}
 use Rattle.meaning.specs.Report.{alone, written}
 use Rattle.term.specs.declared.word.View.the-variants.{Writer, Reader, Integer, Name, Empty}
 use Rattle.facts.specs.Threaded.{full}
 use Rattle.putting.proofs.Putting.{puts-two, puts-is, puts-length, puts-one-place}
 use Rattle.facts.proofs.Told.{seen, other-leaf}
 use Rattle.facts.proofs.Leaves.{leaf-integer, leaf-name, leaf-empty, leaf-nothing, integer-written, name-written, empty-written}
-use Rattle.putting.proofs.LeafWrites.{write-writer, write-reader, writer-fits, reader-fits}
-use Rattle.putting.proofs.leaves.leaf.Statement.{statement}
-use Rattle.putting.proofs.leaves.leaf.Tie as tie
+use Rattle.leaves.proofs.LeafWrites.{write-writer, write-reader, writer-fits, reader-fits}
+use Rattle.leaves.proofs.leaf.leaf.Statement.{statement}
+use Rattle.leaves.proofs.leaf.leaf.Tie as tie
 
 look-requires : tie.Need-look-requires
 look-requires c κs = search needs
