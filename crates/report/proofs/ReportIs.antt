@@ -18,8 +18,8 @@ use Rattle.term.specs.declared.state.Standing.{Standing}
 use Rattle.term.specs.declared.state.Verdict.{Verdict as Told}
 use Rattle.facts.specs.Facts.{Cleared}
 use Rattle.facts.specs.Threaded.{shown-groups}
-use Rattle.sections.specs.Header.{tallies-of, header-of, run-words-of, run-line-of}
-use Rattle.sections.specs.declared.header.Tallies.{Tallies}
+use Rattle.tallies.specs.Header.{tallies-of, header-of, run-words-of, run-line-of}
+use Rattle.tallies.specs.declared.header.Tallies.{Tallies}
 use Rattle.sections.specs.Whole.{lines-shown, section-bytes}
 use Rattle.report.specs.All.{Made, Stands, Sections, bytes-of, sections-bytes, report-bytes, no-query, made-of}
 use Rattle.sections.proofs.Lines.{section-shown}

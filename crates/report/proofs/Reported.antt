@@ -23,7 +23,7 @@ use Rattle.facts.specs.Laid.{capped, laid, Puts}
 use Rattle.facts.specs.Facts.{Cleared}
 use Rattle.sections.specs.Whole.{Uncounted, Numbers}
 use Rattle.report.specs.All.{Made, Sections, AllCounted, report-bytes, order-of, made-of}
-use Rattle.sections.specs.Header.{run-line-of}
+use Rattle.tallies.specs.Header.{run-line-of}
 use Rattle.report.specs.Promise.{with-report, ReportIs}
 use Rattle.facts.proofs.Laid.{laid-whole}
 use Rattle.report.proofs.Sectioning.{finished-sections}

@@ -31,8 +31,8 @@ use Rattle.term.proofs.Holds.{holds-alike, holds-values-alike, EveryValue}
 use Rattle.term.proofs.Jobs.{each-at}
 use Rattle.term.proofs.Spellings.{holds-spellings-kept}
 use Rattle.facts.specs.Facts.{fact-place, EndAt, Readable, Cleared}
-use Rattle.sections.specs.Groups.{goal-place, own, own-from, active-group, waiting-group, failed-group}
-use Rattle.sections.specs.declared.groups.Group.{Group}
+use Rattle.tallies.specs.Groups.{goal-place, own, own-from, active-group, waiting-group, failed-group}
+use Rattle.tallies.specs.declared.groups.Group.{Group}
 use Rattle.sections.specs.Sections.{Variables, GoalsHeld, Listed}
 use Rattle.sections.specs.Whole.{Uncounted}
 use Rattle.report.specs.All.{Sections, Stands, no-query, made-of}

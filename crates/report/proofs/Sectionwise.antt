@@ -14,11 +14,11 @@ use Rattle.term.specs.declared.state.Verdict.{Verdict as Told}
 use Rattle.term.specs.declared.state.Verdict.the-variants.{Rest, Budget, Room as NoRoom}
 use Rattle.facts.specs.Laid.{capped, Puts}
 use Rattle.facts.specs.Facts.{fact-place}
-use Rattle.sections.specs.Header.{run-line-of}
+use Rattle.tallies.specs.Header.{run-line-of}
 use Rattle.sections.specs.Whole.{Numbers, Uncounted, SectionCounted}
 use Rattle.report.specs.All.{Made, Stands, bytes-of, order-of, Sections, sections-bytes, FactsOnly, AllCounted}
 use Rattle.facts.proofs.Decimals.{decimal-few}
-use Rattle.sections.proofs.FirstLines.{run-rest-size, run-budget-size, run-room-size}
+use Rattle.tallies.proofs.FirstLines.{run-rest-size, run-budget-size, run-room-size}
 use Rattle.report.proofs.FactsKept.{facts-none, facts-then, changed-facts, facts-apart, bytes-same, sections-same, readable-still, section-still}
 use Rattle.facts.proofs.Laid.{puts-none, puts-behind, puts-as}
 

@@ -13,7 +13,7 @@ use Rattle.term.specs.declared.state.Standing.{Standing}
 use Rattle.term.specs.declared.state.Verdict.{Verdict as Told}
 use Rattle.facts.specs.Threaded.{lines-seen}
 use Rattle.facts.specs.Laid.{capped}
-use Rattle.sections.specs.Header.{run-line-of}
+use Rattle.tallies.specs.Header.{run-line-of}
 use Rattle.sections.specs.Whole.{section-bytes, SectionStands, Numbers, Uncounted}
 
 -- What a section is made of: its query's unit, variables and goals.

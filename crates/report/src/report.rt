@@ -1,10 +1,10 @@
 // The report: counted, then written if it fits.
 use facts::ends::forget;
 use facts::length::CEILING;
-use sections::header::run_length;
-use sections::header::run_line;
 use sections::sections::count_section;
 use sections::sections::write_section;
+use tallies::header::run_length;
+use tallies::header::run_line;
 use term::layout;
 use term::layout::Room;
 use term::layout::TRIAL;

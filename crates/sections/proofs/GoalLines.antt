@@ -20,12 +20,12 @@ use Rattle.facts.specs.Threaded.{full, seen-after, shown, shown-goals, seen-aft
 use Rattle.facts.specs.Sound.{Sound}
 use Rattle.facts.specs.Facts.{Readable, Shows, Changed}
 use Rattle.counting.specs.Counts.{Counts, Counted}
-use Rattle.sections.specs.Groups.{goal-place, goal-in, GroupInside, own, own-from}
-use Rattle.sections.specs.declared.groups.Group.{Group}
+use Rattle.tallies.specs.Groups.{goal-place, goal-in, GroupInside, own, own-from}
+use Rattle.tallies.specs.declared.groups.Group.{Group}
 use Rattle.sections.specs.Sections.{GoalsHeld, Listed}
 use Rattle.sections.proofs.Lines.{shown-goals-append, seen-after-goals-append}
 use Rattle.counting.proofs.Lengths.{changed-below, changed-behind, counts-on, counted-none, counted-then, counted-as}
-use Rattle.sections.proofs.GoalPlaces.{own-in, own-out, own-end}
+use Rattle.tallies.proofs.GoalPlaces.{own-in, own-out, own-end}
 
 -- A goal's word.
 abbrev pub word-of : Setting → ℕ → Goal → ℕ

@@ -1,8 +1,5 @@
-pub mod FirstLines
 pub mod GoalLines
-pub mod GoalPlaces
 pub mod Lines
-pub mod OwnGoals
 pub mod Restarting
 pub mod SectionCounts
 pub mod SectionWrites

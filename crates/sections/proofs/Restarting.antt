@@ -17,8 +17,8 @@ use Rattle.facts.specs.Threaded.{lines-length, lines-seen}
 use Rattle.facts.specs.Laid.{capped}
 use Rattle.facts.specs.Facts.{fact-place, LengthAt, Readable, Counting, Changed}
 use Rattle.counting.specs.Counts.{Counts, Counted}
-use Rattle.sections.specs.Groups.{own-from, active-group, waiting-group, failed-group}
-use Rattle.sections.specs.Header.{tallies-of, header-of}
+use Rattle.tallies.specs.Groups.{own-from, active-group, waiting-group, failed-group}
+use Rattle.tallies.specs.Header.{tallies-of, header-of}
 use Rattle.sections.specs.Sections.{SectionAt}
 use Rattle.sections.specs.Whole.{lines-shown, section-bytes, SectionStands, Numbers, Uncounted, SectionCounted}
 use Rattle.facts.proofs.Keeping.{changed-then, readable-kept, ends-kept}

@@ -13,8 +13,8 @@ use Rattle.facts.specs.Threaded.{shown-values, seen-after-values, shown-goals, 
 use Rattle.facts.specs.Laid.{capped}
 use Rattle.facts.specs.Facts.{Readable, Changed}
 use Rattle.counting.specs.Counts.{Counts, Counted}
-use Rattle.sections.specs.Groups.{goal-in, own, own-from}
-use Rattle.sections.specs.declared.groups.Group.{Group}
+use Rattle.tallies.specs.Groups.{goal-in, own, own-from}
+use Rattle.tallies.specs.declared.groups.Group.{Group}
 use Rattle.sections.specs.Sections.{GoalsHeld, Listed}
 use Rattle.counting.proofs.Lengths.{counts-on, counted-bytes, counted-then, counted-as}
 use Rattle.sections.proofs.GoalLines.{term-kept, goal-kept, inside-kept}

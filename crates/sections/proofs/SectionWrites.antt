@@ -16,10 +16,10 @@ use Rattle.term.specs.Setting.{Setting}
 use Rattle.term.specs.declared.state.Standing.{Standing}
 use Rattle.facts.specs.Threaded.{full, seen-after, shown, shown-values, seen-after-values, shown-goals, seen-after-goals, lines-seen, written-values, written-goals}
 use Rattle.facts.specs.Laid.{Puts}
-use Rattle.sections.specs.Header.{header-of, tallies-of}
+use Rattle.tallies.specs.Header.{header-of, tallies-of}
 use Rattle.facts.specs.Facts.{Readable}
-use Rattle.writing.specs.Writes.{Numbered}
-use Rattle.sections.specs.declared.groups.Group.{Group}
+use Rattle.leaves.specs.Writes.{Numbered}
+use Rattle.tallies.specs.declared.groups.Group.{Group}
 use Rattle.sections.specs.Sections.{Listed}
 use Rattle.sections.specs.Whole.{AllIn, Numbers, SectionStands, lines-shown, section-bytes}
 use Rattle.facts.proofs.Laid.{puts-behind, puts-as}

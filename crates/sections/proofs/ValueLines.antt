@@ -21,7 +21,7 @@ use Rattle.facts.specs.Sound.{Sound}
 use Rattle.facts.specs.Facts.{Readable, Shows, Changed}
 use Rattle.counting.specs.Counts.{Counts, Counted}
 use Rattle.facts.specs.Laid.{Puts}
-use Rattle.writing.specs.Writes.{Writes}
+use Rattle.leaves.specs.Writes.{Writes}
 use Rattle.sections.specs.Sections.{Variables}
 use Rattle.facts.proofs.Laid.{puts-as}
 use Rattle.sections.proofs.Lines.{shown-values-append, seen-after-values-append}

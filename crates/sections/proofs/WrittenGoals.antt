@@ -15,13 +15,13 @@ use Rattle.facts.specs.Threaded.{full, written-goals}
 use Rattle.facts.specs.Sound.{Sound}
 use Rattle.facts.specs.Laid.{Puts}
 use Rattle.facts.specs.Facts.{Readable, Shows}
-use Rattle.writing.specs.Writes.{Numbered, Writes}
-use Rattle.sections.specs.Groups.{goal-in, own, own-from}
-use Rattle.sections.specs.declared.groups.Group.{Group}
+use Rattle.leaves.specs.Writes.{Numbered, Writes}
+use Rattle.tallies.specs.Groups.{goal-in, own, own-from}
+use Rattle.tallies.specs.declared.groups.Group.{Group}
 use Rattle.sections.specs.Sections.{GoalsHeld, Listed}
 use Rattle.sections.specs.Whole.{Numbers, AllIn}
 use Rattle.facts.proofs.Laid.{puts-none, puts-behind, puts-as}
-use Rattle.sections.proofs.GoalPlaces.{own-in, own-out, own-end}
+use Rattle.tallies.proofs.GoalPlaces.{own-in, own-out, own-end}
 use Rattle.sections.proofs.GoalLines.{word-of}
 
 pub written-goals-append : (values : Values) (order : List ℕ) (word : Bytes) (gs hs : List Goal)

@@ -1,4 +1,2 @@
-pub mod Groups
-pub mod Header
 pub mod Sections
 pub mod Whole

@@ -12,8 +12,8 @@ use Rattle.term.specs.declared.state.Standing.{Standing}
 use Rattle.term.specs.Setting.{Setting, UnitTerm}
 use Rattle.term.specs.Spellings.{HoldsSpellings}
 use Rattle.facts.specs.Sound.{Sound}
-use Rattle.sections.specs.Groups.{GroupInside, own-from, active-group, waiting-group, failed-group}
-use Rattle.sections.specs.declared.groups.Group.{Group}
+use Rattle.tallies.specs.Groups.{GroupInside, own-from, active-group, waiting-group, failed-group}
+use Rattle.tallies.specs.declared.groups.Group.{Group}
 
 -- The query q has these variables: how many, where each is spelled, and its pair.
 pub record Variables (s : List ℕ) (text : Bytes) (x : Setting) (q : ℕ) (xs : List Bytes) : Type 0 where

@@ -14,7 +14,7 @@ use Rattle.term.specs.declared.state.Standing.{Standing}
 use Rattle.facts.specs.Threaded.{full, shown-values, seen-after-values, shown-goals, seen-after-goals, lines-seen}
 use Rattle.facts.specs.Laid.{capped}
 use Rattle.facts.specs.Facts.{fact-place, number-seen, Readable, Changed}
-use Rattle.sections.specs.Header.{tallies-of, header-of}
+use Rattle.tallies.specs.Header.{tallies-of, header-of}
 use Rattle.sections.specs.Sections.{SectionAt}
 
 -- The lines of a section behind its header.

@@ -1,3 +1,2 @@
 pub mod Upward
-pub mod Putting
 pub mod Writing

@@ -14,7 +14,7 @@ use Rattle.writing.specs.Frames.{Behind, Frames, Rose}
 use Rattle.writing.specs.declared.rising.Risen.the-variants.{Goes as Onward, Ends as Done}
 use Rattle.facts.proofs.Leaves.{length-more}
 use Rattle.facts.proofs.Laid.{puts-none}
-use Rattle.writing.proofs.Putting.{puts-two, puts-is, puts-length}
+use Rattle.putting.proofs.Putting.{puts-two, puts-is, puts-length}
 
 -- The compound around the innermost.
 outermost : (frames s : List ℕ) (x : Setting) (facts : ℕ) (order : List ℕ) (d : ℕ) (bs : Bytes) → d ≡ 0 → Frames frames s x facts order d bs → bs ≡ []

@@ -1,38 +1,32 @@
--- Writing a term: where the bytes of a variable come from, a compound's opening, and the walk over its arguments.
-use Prim.Native.Nat.{ℕ, zero, suc, _+_, _-_, _*_, _/_, _%_, _≤_, _<_}
+-- Writing a term: a compound's opening, and the walk over its arguments.
+use Prim.Native.Nat.{ℕ, zero, suc, _+_, _*_, _/_, _%_, _≤_, _<_}
 use mathlib.Core.Path.{_≡_, refl, _∙_, sym, ap}
-use mathlib.Core.Logic.{_≢_, inl, inr}
-use mathlib.Core.List.{List, [], _∷_, _++_, append-assoc, append-nil}
+use mathlib.Core.Logic.{inl, inr}
+use mathlib.Core.List.{List, [], _++_, append-assoc, append-nil}
 use native.Mathlib.Omega.{arith}
 use native.Mathlib.Numerals.{add-one}
 use lib.ListN.{length, length-append, length-set, getD, set}
 use lib.Seq.{getD-set-same, getD-set-other}
-use Rattle.meaning.specs.Bytes.{Bytes, bytes, decimal}
-use Rattle.meaning.specs.Terms.{Half, writer, reader, Functor, cell, named, Term, Terms, end, more, count}
-use Rattle.meaning.specs.State.{Values}
-use Rattle.meaning.specs.Report.{alone, written, number-in, element-and-tail, first-argument, other-arguments, tail-bytes, behind-bar, before-element}
+use Rattle.meaning.specs.Bytes.{Bytes}
+use Rattle.meaning.specs.Terms.{Functor, Term, Terms, more, count}
+use Rattle.meaning.specs.Report.{alone, written}
 use Rattle.meaning.proofs.Terms.Standing.{Stands, StandsIn}
-use Rattle.term.specs.Words.{view-of}
-use Rattle.term.specs.Cells.{content, number-of, functor-number, KnownName, KnownFunctor, Known}
-use Rattle.term.specs.Holds.{Holds}
 use Rattle.term.specs.Setting.{Setting}
-use Rattle.term.specs.declared.word.View.the-variants.{Writer, Reader, Compound}
+use Rattle.term.specs.declared.word.View.the-variants.{Compound}
 use Rattle.facts.specs.Threaded.{full, all-full}
-use Rattle.facts.specs.Sound.{Sound, AllSound}
 use Rattle.facts.specs.Laid.{Puts}
-use Rattle.facts.specs.Facts.{fact-place, Readable, Shows, Led}
+use Rattle.facts.specs.Facts.{Readable, Shows, Led}
 use Rattle.facts.specs.Walk.{opening-bytes, Opens, StandsAt, after, rest}
-use Rattle.writing.specs.Writes.{Numbered, Writes}
+use Rattle.leaves.specs.Writes.{Numbered, Writes}
 use Rattle.writing.specs.Frames.{Behind, Before, Nothing, Frames, Rose}
 use Rattle.writing.specs.declared.rising.Risen.the-variants.{Goes as Onward, Ends as Done}
 use Rattle.facts.proofs.Full.{full-compound}
 use Rattle.facts.proofs.Told.{seen, seen-term, compound-told}
-use Rattle.facts.proofs.Chains.{fact-inside}
 use Rattle.facts.proofs.Wholes.{whole-is, some-argument, stands-opens}
-use Rattle.facts.proofs.Walking.{functor-parts, position-first, position-inside, position-shows}
-use Rattle.facts.proofs.Leaves.{Unassigned, leaf-writer, leaf-reader, writer-bytes, reader-bytes, length-more, name-spelled, opening-length}
+use Rattle.facts.proofs.Walking.{position-first, position-inside, position-shows}
+use Rattle.facts.proofs.Leaves.{opening-length}
 use Rattle.facts.proofs.Laid.{puts-none}
-use Rattle.writing.proofs.Putting.{puts-two, puts-is, puts-length}
+use Rattle.putting.proofs.Putting.{puts-two, puts-is, puts-length}
 
 -- A compound of the unit: its opening, and what stands behind it.
 pub opened : (s : List ℕ) (x : Setting) (facts : ℕ) (order : List ℕ) (n : ℕ) (f : Functor) (ts : Terms) (p : ℕ)
@@ -62,44 +56,9 @@ opened s x facts order n f ts p N a = go (some-argument n f ts (a .sound))
         stands-compound : (m n : ℕ) (f : Functor) (ts : Terms) → StandsIn m ts → Stands m (Term.compound n f ts)
         stands-compound m n f ts k = k
 
--- Leaves.
+-- A compound at the end of the chain: its opening, and what stands behind it.
 module _ (s : List ℕ) (text : Bytes) (x : Setting) (facts : ℕ) (order : List ℕ) (t : Term) (at size w : ℕ)
     (W : Writes s text x facts order t at size) (l : Led s x t w) where
-  number-is : (h : Half) (p : ℕ) (U : Unassigned s text x facts (W .readable) t w l h p) → getD s (facts + 4 * p + 2) 0 ≡ number-in (U .number) order
-  unfolding Stands
-  number-is h p U =
-      let place : facts + 4 * p + 2 ≡ fact-place x facts (U .number) + 2 = omega (arith, U .place) in
-      ap (λ (m : ℕ). getD s m 0) place ∙ W .numbered (U .number) (U .below) (rw (U .is) refl)
-
-  fact-in : (h : Half) (p : ℕ) (U : Unassigned s text x facts (W .readable) t w l h p) → facts + 4 * p + 2 < length s
-  fact-in h p U = omega (arith, U .place, fact-inside s text x facts (W .readable) (U .number) (U .below))
-
-  pub write-writer : (p : ℕ) → seen w ≡ Writer p
-      → (facts + 4 * p + 2 < length s) × (written order alone (full (x .values) t) ≡ 95 ∷ decimal (getD s (facts + 4 * p + 2) 0))
-  write-writer p e =
-      let U = leaf-writer s text x facts (W .readable) t w l p e in (
-        fact-in writer p U,
-        ap (written order alone) (U .is) ∙ writer-bytes order (U .number) ∙ ap (λ (m : ℕ). 95 ∷ decimal m) (sym (number-is writer p U)),
-      )
-
-  pub write-reader : (p : ℕ) → seen w ≡ Reader p
-      → (facts + 4 * p + 2 < length s) × (written order alone (full (x .values) t) ≡ (95 ∷ decimal (getD s (facts + 4 * p + 2) 0)) ++ (63 ∷ []))
-  write-reader p e =
-      let U = leaf-reader s text x facts (W .readable) t w l p e in (
-        fact-in reader p U,
-        ap (written order alone) (U .is) ∙ reader-bytes order (U .number) ∙ ap (λ (m : ℕ). (95 ∷ decimal m) ++ (63 ∷ [])) (sym (number-is reader p U)),
-      )
-
-  pub writer-fits : (p : ℕ) (e : seen w ≡ Writer p) → at + 1 + length (decimal (getD s (facts + 4 * p + 2) 0)) ≤ size
-  writer-fits p e =
-      omega (arith, W .fits, ap length (write-writer p e .1), length-more 95 (decimal (getD s (facts + 4 * p + 2) 0)))
-
-  pub reader-fits : (p : ℕ) (e : seen w ≡ Reader p) → at + 2 + length (decimal (getD s (facts + 4 * p + 2) 0)) ≤ size
-  reader-fits p e =
-      let d = decimal (getD s (facts + 4 * p + 2) 0) in
-      omega (arith, W .fits, ap length (write-reader p e .1), length-append (95 ∷ d) (63 ∷ []), length-more 95 d)
-
-  -- A compound at the end of the chain: its opening, and what stands behind it.
   pub record Within-it (q : ℕ) : Type 0 where
     pub functor : Functor
     pub later : Bytes

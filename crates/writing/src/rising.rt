@@ -1,7 +1,7 @@
 // What stands behind an argument, and behind the compounds that end with it.
-use crate::put::put;
 use facts::cells::Next;
 use facts::cells::behind;
+use putting::put::put;
 ghost use mathlib.Core.Path.{_≡_};
 ghost use mathlib.Core.List.{List};
 ghost use Prim.Native.Nat.{ℕ, _+_, _≤_};

@@ -13,7 +13,7 @@ use Rattle.report.proofs.report.count_report.Statement.{statement}
 use Rattle.report.proofs.report.count_report.Tie as tie
 use Rattle.report.proofs.report.count_report.Reads as reads
 use Rattle.report.proofs.report.count_report.Lts as lts
-use Rattle.sections.proofs.header.run_length.Reads as run-length-reads
+use Rattle.tallies.proofs.header.run_length.Reads as run-length-reads
 use Rattle.sections.proofs.sections.count_section.Reads as count-section-reads
 
 abbrev Inv-loop : tie.InvT-loop

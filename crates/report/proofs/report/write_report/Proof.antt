@@ -5,7 +5,7 @@ use native.Mathlib.Omega.{arith}
 use lib.ListN.{length, length-append}
 use Rattle.term.specs.Layout.{figures, waiters-region}
 use Rattle.facts.specs.Laid.{Puts}
-use Rattle.sections.specs.Header.{run-line-of}
+use Rattle.tallies.specs.Header.{run-line-of}
 use Rattle.sections.specs.Whole.{Numbers}
 use Rattle.report.specs.All.{Made, Sections, order-of, sections-bytes}
 use Rattle.facts.proofs.Laid.{puts-behind, puts-as}
@@ -14,7 +14,7 @@ use Rattle.report.proofs.report.write_report.Statement.{statement}
 use Rattle.report.proofs.report.write_report.Tie as tie
 use Rattle.report.proofs.report.write_report.Reads as reads
 use Rattle.report.proofs.report.write_report.Lts as lts
-use Rattle.sections.proofs.header.run_line.Reads as run-line-reads
+use Rattle.tallies.proofs.header.run_line.Reads as run-line-reads
 use Rattle.sections.proofs.sections.write_section.Reads as write-section-reads
 
 abbrev Inv-loop : tie.InvT-loop

@@ -3,14 +3,14 @@ use Prim.Native.Nat.{ℕ, _+_, _*_, _/_}
 use mathlib.Core.Path.{_≡_, refl, sym, ap, _∙_}
 use mathlib.Core.Bool.{Bool, true, false}
 use Rattle.meaning.proofs.Lists.Tests.{false-not-true}
-use Rattle.sections.specs.Groups.{goal-in, own}
+use Rattle.tallies.specs.Groups.{goal-in, own}
 use borrow.Author.Needs.{needs}
 use Rattle.sections.proofs.sections.count_goal.Statement.{statement}
 use Rattle.sections.proofs.sections.count_goal.Tie as tie
 use Rattle.sections.proofs.sections.count_goal.Reads as reads
 use Rattle.sections.proofs.sections.count_goal.Lts as lts
-use Rattle.sections.proofs.groups.goal_at.Reads as goal-at-reads
-use Rattle.sections.proofs.groups.own.Reads as own-reads
+use Rattle.tallies.proofs.groups.goal_at.Reads as goal-at-reads
+use Rattle.tallies.proofs.groups.own.Reads as own-reads
 use Rattle.sections.proofs.sections.count_line.Reads as count-line-reads
 use Rattle.sections.proofs.sections.goal_term.Reads as goal-term-reads
 

@@ -9,7 +9,7 @@ use Rattle.meaning.specs.Bytes.{Bytes}
 use Rattle.meaning.specs.State.{Goal}
 use Rattle.term.specs.Setting.{Setting}
 use Rattle.counting.specs.Counts.{Counts, Counted}
-use Rattle.sections.specs.Groups.{goal-in, own}
+use Rattle.tallies.specs.Groups.{goal-in, own}
 use Rattle.sections.specs.Sections.{Listed}
 use Rattle.sections.proofs.GoalLines.{Progress, progress-start, progress-end, goal-asks, goal-told}
 use Rattle.sections.proofs.sections.count_goals.Statement.{statement}

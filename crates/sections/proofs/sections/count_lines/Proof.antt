@@ -6,7 +6,7 @@ use native.Mathlib.Omega.{arith}
 use lib.ListN.{length}
 use Rattle.meaning.specs.Bytes.{bytes}
 use Rattle.facts.specs.Laid.{capped}
-use Rattle.sections.specs.Header.{header-of, tallies-of}
+use Rattle.tallies.specs.Header.{header-of, tallies-of}
 use Rattle.counting.proofs.Lengths.{counts-further, counts-on, changed-then}
 use Rattle.sections.proofs.SectionCounts.{listed-kept, listed-as, section-counted}
 use borrow.Author.Needs.{needs}
@@ -14,11 +14,11 @@ use Rattle.sections.proofs.sections.count_lines.Statement.{statement}
 use Rattle.sections.proofs.sections.count_lines.Tie as tie
 use Rattle.sections.proofs.sections.count_lines.Reads as reads
 use Rattle.sections.proofs.sections.count_lines.Lts as lts
-use Rattle.sections.proofs.groups.active.Reads as active-reads
-use Rattle.sections.proofs.groups.failed.Reads as failed-reads
-use Rattle.sections.proofs.groups.waiting.Reads as waiting-reads
-use Rattle.sections.proofs.header.header_length.Reads as header-length-reads
-use Rattle.sections.proofs.header.tally.Reads as tally-reads
+use Rattle.tallies.proofs.groups.active.Reads as active-reads
+use Rattle.tallies.proofs.groups.failed.Reads as failed-reads
+use Rattle.tallies.proofs.groups.waiting.Reads as waiting-reads
+use Rattle.tallies.proofs.header.header_length.Reads as header-length-reads
+use Rattle.tallies.proofs.header.tally.Reads as tally-reads
 use Rattle.facts.proofs.length.further.Reads as further-reads
 use Rattle.sections.proofs.sections.count_goals.Reads as count-goals-reads
 use Rattle.sections.proofs.sections.count_values.Reads as count-values-reads

@@ -9,7 +9,7 @@ use Rattle.sections.proofs.sections.write_goal.Statement.{statement}
 use Rattle.sections.proofs.sections.write_goal.Tie as tie
 use Rattle.sections.proofs.sections.write_goal.Reads as reads
 use Rattle.sections.proofs.sections.write_goal.Lts as lts
-use Rattle.writing.proofs.put.words.Reads as words-reads
+use Rattle.putting.proofs.put.words.Reads as words-reads
 use Rattle.sections.proofs.sections.goal_term.Reads as goal-term-reads
 use Rattle.sections.proofs.sections.write_line.Reads as write-line-reads
 

@@ -10,7 +10,7 @@ use Rattle.meaning.specs.State.{Goal}
 use Rattle.term.specs.Setting.{Setting}
 use Rattle.facts.specs.Threaded.{written-goals}
 use Rattle.facts.specs.Facts.{Readable}
-use Rattle.sections.specs.Groups.{goal-in, own}
+use Rattle.tallies.specs.Groups.{goal-in, own}
 use Rattle.sections.specs.Sections.{Listed}
 use Rattle.sections.specs.Whole.{Numbers, AllIn}
 use Rattle.sections.proofs.WrittenGoals.{Wrote, wrote-none, wrote-skip, wrote-as, wrote-all, next-line}
@@ -18,8 +18,8 @@ use Rattle.sections.proofs.sections.write_goals.Statement.{statement}
 use Rattle.sections.proofs.sections.write_goals.Tie as tie
 use Rattle.sections.proofs.sections.write_goals.Reads as reads
 use Rattle.sections.proofs.sections.write_goals.Lts as lts
-use Rattle.sections.proofs.groups.goal_at.Reads as goal-at-reads
-use Rattle.sections.proofs.groups.own.Reads as own-reads
+use Rattle.tallies.proofs.groups.goal_at.Reads as goal-at-reads
+use Rattle.tallies.proofs.groups.own.Reads as own-reads
 use Rattle.sections.proofs.sections.write_goal.Reads as write-goal-reads
 
 abbrev Inv-loop : tie.InvT-loop

@@ -6,7 +6,7 @@ use Rattle.sections.proofs.sections.write_line.Statement.{statement}
 use Rattle.sections.proofs.sections.write_line.Tie as tie
 use Rattle.sections.proofs.sections.write_line.Reads as reads
 use Rattle.sections.proofs.sections.write_line.Lts as lts
-use Rattle.writing.proofs.put.put.Reads as put-reads
+use Rattle.putting.proofs.put.put.Reads as put-reads
 use Rattle.writing.proofs.terms.write_term.Reads as write-term-reads
 
 -- src/sections.rt:51:9

@@ -6,9 +6,9 @@ use native.Mathlib.Omega.{arith}
 use lib.ListN.{length}
 use Rattle.meaning.specs.Bytes.{bytes}
 use Rattle.term.specs.Layout.{figures, waiters-region}
-use Rattle.sections.specs.Groups.{active-group, waiting-group, failed-group}
+use Rattle.tallies.specs.Groups.{active-group, waiting-group, failed-group}
 use Rattle.facts.specs.Threaded.{lines-seen}
-use Rattle.sections.specs.Header.{header-of, tallies-of}
+use Rattle.tallies.specs.Header.{header-of, tallies-of}
 use Rattle.facts.proofs.Laid.{puts-as}
 use Rattle.sections.proofs.SectionWrites.{section-actives-in, section-waits-in, section-fails-in, section-size, section-puts, values-ready, goals-ready}
 use borrow.Author.Needs.{needs}
@@ -16,11 +16,11 @@ use Rattle.sections.proofs.sections.write_section.Statement.{statement}
 use Rattle.sections.proofs.sections.write_section.Tie as tie
 use Rattle.sections.proofs.sections.write_section.Reads as reads
 use Rattle.sections.proofs.sections.write_section.Lts as lts
-use Rattle.sections.proofs.groups.active.Reads as active-reads
-use Rattle.sections.proofs.groups.failed.Reads as failed-reads
-use Rattle.sections.proofs.groups.waiting.Reads as waiting-reads
-use Rattle.sections.proofs.header.header.Reads as header-reads
-use Rattle.sections.proofs.header.tally.Reads as tally-reads
+use Rattle.tallies.proofs.groups.active.Reads as active-reads
+use Rattle.tallies.proofs.groups.failed.Reads as failed-reads
+use Rattle.tallies.proofs.groups.waiting.Reads as waiting-reads
+use Rattle.tallies.proofs.header.header.Reads as header-reads
+use Rattle.tallies.proofs.header.tally.Reads as tally-reads
 use Rattle.sections.proofs.sections.write_goals.Reads as write-goals-reads
 use Rattle.sections.proofs.sections.write_values.Reads as write-values-reads
 use Rattle.term.proofs.layout.waiters.Reads as waiters-reads

@@ -12,8 +12,8 @@ use Rattle.sections.proofs.sections.write_value.Statement.{statement}
 use Rattle.sections.proofs.sections.write_value.Tie as tie
 use Rattle.sections.proofs.sections.write_value.Reads as reads
 use Rattle.sections.proofs.sections.write_value.Lts as lts
-use Rattle.writing.proofs.put.spelling.Reads as spelling-reads
-use Rattle.writing.proofs.put.words.Reads as words-reads
+use Rattle.putting.proofs.put.spelling.Reads as spelling-reads
+use Rattle.putting.proofs.put.words.Reads as words-reads
 use Rattle.sections.proofs.sections.spelled.Reads as spelled-reads
 use Rattle.sections.proofs.sections.variable.Reads as variable-reads
 use Rattle.sections.proofs.sections.write_line.Reads as write-line-reads

@@ -11,7 +11,7 @@ use Rattle.term.specs.Setting.{Setting}
 use Rattle.facts.specs.Threaded.{full, written-values}
 use Rattle.facts.specs.Laid.{Puts}
 use Rattle.facts.specs.Facts.{Readable}
-use Rattle.writing.specs.Writes.{Numbered, Writes}
+use Rattle.leaves.specs.Writes.{Numbered, Writes}
 use Rattle.sections.specs.Sections.{Variables}
 use Rattle.facts.proofs.Laid.{puts-none, puts-behind, puts-as}
 use Rattle.sections.proofs.WrittenLines.{values-more, values-fit, value-line-size, no-values-written}

@@ -7,14 +7,14 @@ use Rattle.meaning.specs.Bytes.{Bytes}
 use Rattle.term.specs.Setting.{Setting}
 use Rattle.facts.specs.Facts.{Readable}
 use Rattle.writing.specs.Frames.{Behind, Frames}
-use Rattle.writing.proofs.Putting.{puts-length}
+use Rattle.putting.proofs.Putting.{puts-length}
 use Rattle.writing.proofs.Upward.{Rising, rising-first, rising-room, rising-goes, rising-ends, rising-on}
 use Rattle.writing.proofs.rising.rise.Statement.{statement}
 use Rattle.writing.proofs.rising.rise.Tie as tie
 use Rattle.writing.proofs.rising.rise.Reads as reads
 use Rattle.writing.proofs.rising.rise.Lts as lts
 use Rattle.facts.proofs.cells.behind.Reads as behind-reads
-use Rattle.writing.proofs.put.put.Reads as put-reads
+use Rattle.putting.proofs.put.put.Reads as put-reads
 
 abbrev Inv-loop : tie.InvT-loop
 Inv-loop s facts buffer₀ frames at place number deep to₀ p₀ i₀ depth₀ buffer to p i depth =

@@ -13,7 +13,7 @@ use Rattle.facts.specs.Laid.{Puts}
 use Rattle.facts.specs.Facts.{Readable}
 use Rattle.facts.proofs.Told.{seen, no-compound-seen}
 use Rattle.writing.specs.Frames.{Before, Nothing}
-use Rattle.writing.proofs.Putting.{puts-length}
+use Rattle.putting.proofs.Putting.{puts-length}
 use Rattle.writing.proofs.Writing.{
   Going,
   going-first,
@@ -48,8 +48,8 @@ use Rattle.facts.proofs.cells.word_at.Reads as word-at-reads
 use Rattle.facts.proofs.ends.end.Reads as end-reads
 use Rattle.term.proofs.word.look.Reads as look-reads
 use Rattle.writing.proofs.rising.rise.Reads as rise-reads
-use Rattle.writing.proofs.terms.leaf.Reads as leaf-reads
-use Rattle.writing.proofs.terms.opening.Reads as opening-reads
+use Rattle.leaves.proofs.leaf.leaf.Reads as leaf-reads
+use Rattle.leaves.proofs.leaf.opening.Reads as opening-reads
 use Rattle.writing.proofs.terms.+write_arguments+write_term.{statement}
 use Rattle.writing.proofs.terms.+write_arguments+write_term.Tie.{close}
 

@@ -1,0 +1,3 @@
+pub mod FirstLines
+pub mod GoalPlaces
+pub mod OwnGoals
