@@ -1,6 +1,6 @@
 // The goal at the front waits or fails.
-use charges::charges::count_try;
 use chains::ends::keep_ends;
+use charges::charges::count_try;
 use queues::goals::behind;
 use queues::goals::close_up;
 use queues::goals::fail;
