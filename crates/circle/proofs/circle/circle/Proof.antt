@@ -1,4 +1,4 @@
--- `machine::circle::circle` meets its contract: the entries' pairs are held, searched from, and set back.
+-- `circle::circle::circle` meets its contract: the entries' pairs are held, searched from, and set back.
 use borrow.Author.Needs.{needs}
 use Rattle.circle.proofs.SetBack.{entries-of, entries-still, tested}
 use Rattle.circle.proofs.circle.circle.Statement.{statement}

@@ -1,4 +1,4 @@
--- `machine::circle::held` meets its contract, on each side of its test.
+-- `circle::circle::held` meets its contract, on each side of its test.
 use borrow.Author.Needs.{needs}
 use Rattle.circle.proofs.circle.held.Statement.{statement}
 use Rattle.circle.proofs.circle.held.Tie as tie
