@@ -1,57 +1,60 @@
+-- `counting::counting::count_term` meets its contract: at the ceiling nothing is counted; below it the term is led to its end, a compound or a leaf.
+use mathlib.Core.Path.{_∙_, sym}
+use native.Mathlib.Omega.{arith}
 use borrow.Author.Needs.{needs}
+use Rattle.facts.proofs.Told.{seen as look, no-compound-seen}
+use Rattle.counting.proofs.CountingWalk.{count-ceiling, compound-asks, compound-tells, leaf-asks, leaf-tells}
 use Rattle.counting.proofs.counting.count_term.Statement.{statement}
 use Rattle.counting.proofs.counting.count_term.Tie as tie
-use Rattle.counting.proofs.counting.count_term.Reads as reads
-use Rattle.counting.proofs.counting.count_term.Lts as lts
-use Rattle.counting.proofs.counting.count_compound.Reads as count-compound-reads
-use Rattle.counting.proofs.counting.leaf.Reads as leaf-reads
-use Rattle.facts.proofs.ends.lead.Reads as lead-reads
-use Rattle.facts.proofs.length.further.Reads as further-reads
-use Rattle.term.proofs.word.look.Reads as look-reads
 
--- src/counting.rt:128:9
 returns : tie.Need-returns
-returns c = ?
+returns c text x seen t C k =
+    let a = c .before .before .args in
+    count-ceiling (a .s .now) text x (a .facts) seen t (a .at) C (c .if1 .taken)
 
--- src/counting.rt:130:9
 lead-requires : tie.Need-lead-requires
 lead-requires c κs = search needs
 
--- src/counting.rt:131:11
 look-requires : tie.Need-look-requires
 look-requires c κs = search needs
 
--- src/counting.rt:132:24
 enum-known-q : tie.Need-enum-known-q
 enum-known-q c = search needs
 
--- src/counting.rt:132:30
 count-compound-requires : tie.Need-count-compound-requires
-count-compound-requires c κs = ?
+count-compound-requires c κs =
+    let S = c .before .before .before .before .before .before .before .before .before .before .before in let a = S .args in let (text, x, seen, t, C, k) = S .pre in
+    let led = c .before .before .before .before .before .before .before .lead in let said = sym (c .before .before .before .before .look .ensures) ∙ c .before .before .q .given .1 in
+    compound-asks (a .s .now) (led .last .0) text x (a .facts) seen t (a .at) (a .w) (led .result) C (omega (arith, C .low, c .before .before .before .before .before .before .before .before .before .if1 .left)) k (led .ensures text x t (C .readable) k) _ said
 
--- src/counting.rt:133:26
 leaf-requires : tie.Need-leaf-requires
-leaf-requires c κs = ?
+leaf-requires c κs =
+    let S = c .before .before .before .before .before .before .before .before .before in let a = S .args in let (text, x, seen, t, C, k) = S .pre in
+    let led = c .before .before .before .before .before .lead in
+    leaf-asks (a .s .now) (led .last .0) text x (a .facts) seen t (a .at) (a .w) (led .result) C (omega (arith, C .low, c .before .before .before .before .before .before .before .if1 .left)) k (led .ensures text x t (C .readable) k)
 
--- src/counting.rt:133:14
 further-requires : tie.Need-further-requires
 further-requires c κs = search needs
 
--- src/counting.rt:122:1
 same-length : tie.Need-same-length
 same-length c = search needs
 
--- src/counting.rt:122:1
 returns-2 : tie.Need-returns-2
-returns-2 c = ?
+returns-2 c text x seen t C k =
+    let a = c .before .before .before .before .before .before .before .before .before .before .before .before .before .before .args in
+    let led = c .before .before .before .before .before .before .before .before .before .before .lead in let said = sym (c .before .before .before .before .before .before .before .look .ensures) ∙ c .before .before .before .before .before .q .given .1 in
+    let called = c .before .before .count-compound in
+    compound-tells (a .s .now) (led .last .0) text x (a .facts) seen t (a .at) (a .w) (led .result) C (omega (arith, C .low, c .before .before .before .before .before .before .before .before .before .before .before .before .if1 .left)) k (led .ensures text x t (C .readable) k) _ said (called .last .0) (called .result) (called .ensures text x seen t)
 
--- src/counting.rt:122:1
 same-length-2 : tie.Need-same-length-2
 same-length-2 c = search needs
 
--- src/counting.rt:122:1
 returns-3 : tie.Need-returns-3
-returns-3 c = ?
+returns-3 c text x seen t C k =
+    let a = c .before .before .before .before .before .before .before .before .before .before .before .before .before .args in
+    let led = c .before .before .before .before .before .before .before .before .before .lead in let called = c .before .before .before .leaf in
+    let other = no-compound-seen (look (led .result)) (rw (c .before .before .before .before .before .before .look .ensures) at (c .before .before .before .before .before .match .keys2)) in
+    leaf-tells (a .s .now) (led .last .0) text x (a .facts) seen t (a .at) (a .w) (led .result) C (omega (arith, C .low, c .before .before .before .before .before .before .before .before .before .before .before .if1 .left)) k (led .ensures text x t (C .readable) k) other (called .last .0) (called .result) (c .further .result) (called .ensures text x seen t) (c .further .ensures)
 
 pub count-term-spec : {M : Type 1} → statement M
 count-term-spec =
