@@ -4,7 +4,6 @@ use mathlib.Core.Path.{_≡_, refl, _∙_, sym, ap}
 use mathlib.Core.Logic.{_≢_}
 use mathlib.Core.List.{List, [], _∷_, _++_}
 use mathlib.Core.Option.{Option, none, some}
-use native.Mathlib.Decide.{decLt}
 use native.Mathlib.Omega.{arith}
 use lib.ListN.{length, length-append, getD}
 use Rattle.meaning.specs.Bytes.{Bytes}
@@ -16,8 +15,9 @@ use Rattle.term.specs.declared.word.View.the-variants.{Compound}
 use Rattle.term.proofs.Holds.{holds-from-alike}
 use Rattle.facts.specs.Threaded.{full, all-full, seen-after, seen-after-all, shown}
 use Rattle.facts.specs.Laid.{capped}
-use Rattle.facts.specs.Facts.{Readable, Shows, Changed, Counting, Leads}
-use Rattle.counting.specs.Counts.{Counts, Counted, CountedTerm, LeafCounted, LengthKnown, Known-now}
+use Rattle.facts.specs.Facts.{Readable, Shows, Led, Changed, Counting, Leads}
+use Rattle.counting.specs.Counts.{Counts, Counted, CountedTerm, LeadsTo, LeafCounted, LengthKnown, Known-now}
+use Rattle.facts.specs.Pairs.{NoCompound}
 use Rattle.facts.specs.Walk.{opening-bytes, StandsAt, after, rest, Position, Found}
 use Rattle.facts.specs.declared.cells.Next.the-variants.{Goes, Ends}
 use Rattle.facts.proofs.Full.{full-compound, full-unassigned}
@@ -60,7 +60,14 @@ position-kept s s′ text x facts r c p i j f u us a =
       sound = a .sound;
     }
 
--- The walk: so far it is counted up to a place; in the order of the whole what is left leads to the whole's end.
+-- The order of a compound.
+abbrev pub order-of : Setting → List ℕ → Term → List ℕ
+order-of x seen t = seen-after seen (full (x .values) t)
+
+abbrev pub whole-of : Setting → List ℕ → Term → ℕ
+whole-of x seen t = length (shown seen alone (full (x .values) t))
+
+-- The walk: so far it is counted up to a place below the ceiling; in the order of the whole what is left leads to the whole's end.
 pub record Walked (s₀ s : List ℕ) (text : Bytes) (x : Setting) (facts : ℕ) (order : List ℕ) (whole at p i to : ℕ) : Type 0 where
   pub g : Functor
   pub j : ℕ
@@ -70,44 +77,73 @@ pub record Walked (s₀ s : List ℕ) (text : Bytes) (x : Setting) (facts : ℕ)
   pub changed : Changed s₀ s x facts
   pub now : List ℕ
   pub counts : Counts s text x facts now to
+  pub low : to < 16777217
   pub above : at < to
   pub place : capped (to + length (rest (x .values) order g j u us)) ≡ capped (at + whole)
-  pub exact : to < 16777217 → seen-after-all now (all-full (x .values) (more u us)) ≡ order
+  pub exact : seen-after-all now (all-full (x .values) (more u us)) ≡ order
 
--- The order of a compound.
-abbrev pub order-of : Setting → List ℕ → Term → List ℕ
-order-of x seen t = seen-after seen (full (x .values) t)
+-- The same behind the argument where it stood at another place.
+pub record Turned (s₀ s : List ℕ) (text : Bytes) (x : Setting) (facts : ℕ) (order : List ℕ) (whole at p i to r : ℕ) : Type 0 where
+  pub g : Functor
+  pub j : ℕ
+  pub u : Term
+  pub us : Terms
+  pub position : Position s x p i j g u us
+  pub changed : Changed s₀ s x facts
+  pub now : List ℕ
+  pub counts : Counts s text x facts now r
+  pub above : (at < r) × (to ≤ r)
+  pub place : capped (r + length (after (x .values) order g j us)) ≡ capped (at + whole)
+  pub exact : r < 16777217 → seen-after-all now (all-full (x .values) us) ≡ order
 
-abbrev pub whole-of : Setting → List ℕ → Term → ℕ
-whole-of x seen t = length (shown seen alone (full (x .values) t))
-
-pub walk-first : (s : List ℕ) (text : Bytes) (x : Setting) (facts : ℕ) (seen : List ℕ) (n : ℕ) (f : Functor) (ts : Terms) (at p to : ℕ)
-    → Counts s text x facts seen at → at < 16777217 → StandsAt s x n f ts p → to ≡ capped (at + length (opening-bytes f))
-    → Walked s s text x facts (order-of x seen (Term.compound n f ts)) (whole-of x seen (Term.compound n f ts)) at p 1 to
+-- A compound's length is that of what stands before its first argument, and of the rest.
+opened : (x : Setting) (seen : List ℕ) (n : ℕ) (f : Functor) (u : Term) (us : Terms)
+    → whole-of x seen (Term.compound n f (more u us))
+    ≡ length (opening-bytes f) + length (rest (x .values) (order-of x seen (Term.compound n f (more u us))) f 0 u us)
 unfolding shown
-walk-first s text x facts seen n f ts at p to C low a e = go (some-argument n f ts (a .sound))
-  where
-    go : (u : Term) × (us : Terms) × (ts ≡ more u us)
-        → Walked s s text x facts (order-of x seen (Term.compound n f ts)) (whole-of x seen (Term.compound n f ts)) at p 1 to
-    go (u, us, z) =
-        let order = order-of x seen (Term.compound n f ts) in
-        let is : written order alone (full (x .values) (Term.compound n f ts)) ≡ opening-bytes f ++ rest (x .values) order f 0 u us =
-        ap (λ (l : Terms). written order alone (full (x .values) (Term.compound n f l))) z ∙ whole-is x order n f u us in
-        let sizes : length (written order alone (full (x .values) (Term.compound n f ts))) ≡ length (opening-bytes f) + length (rest (x .values) order f 0 u us) =
-        ap length is ∙ length-append (opening-bytes f) (rest (x .values) order f 0 u us) in record {
-          g = f;
-          j = 0;
-          u = u;
-          us = us;
-          position = position-first s x n f u us p (rw z at a);
-          changed = changed-none s x facts;
-          now = seen;
-          counts = record { readable = C .readable; counting = C .counting; low = omega arith; few = omega (arith, C .few, C .low) };
-          above = omega (arith, opening-length f);
-          place = omega (arith, sizes);
-          exact = λ h. sym (ap (λ (l : Terms). order-of x seen (Term.compound n f l)) z ∙ ap (seen-after seen) (full-compound (x .values) n f (more u us))
-              ∙ seen-after-compound seen n f (all-full (x .values) (more u us)));
-        }
+opened x seen n f u us =
+    let order = order-of x seen (Term.compound n f (more u us)) in
+    ap length (whole-is x order n f u us) ∙ length-append (opening-bytes f) (rest (x .values) order f 0 u us)
+
+module _ (s : List ℕ) (text : Bytes) (x : Setting) (facts : ℕ) (seen : List ℕ) (n : ℕ) (f : Functor) (ts : Terms) (at p to : ℕ)
+    (C : Counts s text x facts seen at) (low : at < 16777217) (a : StandsAt s x n f ts p) (e : to ≡ capped (at + length (opening-bytes f))) where
+  pub walk-first : to ≢ 16777217
+      → Walked s s text x facts (order-of x seen (Term.compound n f ts)) (whole-of x seen (Term.compound n f ts)) at p 1 to
+  walk-first d = go (some-argument n f ts (a .sound))
+    where
+      go : (u : Term) × (us : Terms) × (ts ≡ more u us)
+          → Walked s s text x facts (order-of x seen (Term.compound n f ts)) (whole-of x seen (Term.compound n f ts)) at p 1 to
+      go (u, us, z) =
+          let start : Walked s s text x facts (order-of x seen (Term.compound n f (more u us))) (whole-of x seen (Term.compound n f (more u us))) at p 1 to = record {
+            g = f;
+            j = 0;
+            u = u;
+            us = us;
+            position = position-first s x n f u us p (rw z at a);
+            changed = changed-none s x facts;
+            now = seen;
+            counts = record { readable = C .readable; counting = C .counting; low = omega arith; few = omega (arith, C .few, C .low) };
+            low = omega arith;
+            above = omega (arith, opening-length f);
+            place = omega (arith, opened x seen n f u us);
+            exact = sym (ap (seen-after seen) (full-compound (x .values) n f (more u us)) ∙ seen-after-compound seen n f (all-full (x .values) (more u us)));
+          } in
+          rw z start
+
+  -- What stands before the first argument reaches the ceiling.
+  pub walk-none : to ≡ 16777217 → CountedTerm s s text x facts seen (Term.compound n f ts) at to
+  walk-none c = record {
+    changed = changed-none s x facts;
+    readable = C .readable;
+    after = seen;
+    counting = C .counting;
+    few = omega (arith, C .few, C .low);
+    place = go (some-argument n f ts (a .sound));
+    exact = λ h. absurd (omega arith);
+  }
+    where
+      go : (u : Term) × (us : Terms) × (ts ≡ more u us) → to ≡ capped (at + whole-of x seen (Term.compound n f ts))
+      go (u, us, z) = let there : to ≡ capped (at + whole-of x seen (Term.compound n f (more u us))) = omega (arith, opened x seen n f u us) in rw z there
 
 -- An argument in the order of the whole.
 argument-is : (x : Setting) (now order : List ℕ) (u : Term) (us : Terms) → seen-after-all now (all-full (x .values) (more u us)) ≡ order
@@ -122,86 +158,82 @@ argument-seen : (x : Setting) (now order : List ℕ) (u : Term) (us : Terms) →
 unfolding all-full
 argument-seen x now order u us e = sym (seen-after-more now (full (x .values) u) (all-full (x .values) us)) ∙ e
 
-module _ (s₀ s : List ℕ) (text : Bytes) (x : Setting) (facts : ℕ) (order : List ℕ) (whole at p i to : ℕ)
-    (W : Walked s₀ s text x facts order whole at p i to) (s′ : List ℕ) (r : ℕ)
-    (C : CountedTerm s s′ text x facts (W .now) (W .u) to r) where
-  abbrev here : ℕ
-  here = length (shown (W .now) alone (full (x .values) (W .u)))
-
-  abbrev behind-size : ℕ
-  behind-size = length (after (x .values) order (W .g) (W .j) (W .us))
-
-  walk-place : Dec (to < 16777217) → capped (r + behind-size) ≡ capped (at + whole)
-  walk-place (yes h) =
-      let is = ap length (argument-is x (W .now) order (W .u) (W .us) (W .exact h)) in
+-- The argument where the walk stands is counted.
+pub walk-turn : (s₀ s : List ℕ) (text : Bytes) (x : Setting) (facts : ℕ) (order : List ℕ) (whole at p i to : ℕ)
+    (W : Walked s₀ s text x facts order whole at p i to) (s′ : List ℕ) (r : ℕ) → CountedTerm s s′ text x facts (W .now) (W .u) to r
+    → Turned s₀ s′ text x facts order whole at p i to r
+walk-turn s₀ s text x facts order whole at p i to W s′ r C = record {
+  g = W .g;
+  j = W .j;
+  u = W .u;
+  us = W .us;
+  position = position-kept s s′ text x facts (W .counts .readable) (C .changed) p i (W .j) (W .g) (W .u) (W .us) (W .position);
+  changed = changed-then s₀ s s′ x facts (W .changed) (C .changed);
+  now = C .after;
+  counts = record { readable = C .readable; counting = C .counting; low = omega (arith, C .place); few = C .few };
+  above = (omega (arith, C .place, W .above, W .low), omega (arith, C .place, W .low));
+  place =
+      let is = ap length (argument-is x (W .now) order (W .u) (W .us) (W .exact)) in
       omega (
         arith,
         W .place,
         C .place,
         is,
         length-append (written order alone (full (x .values) (W .u))) (after (x .values) order (W .g) (W .j) (W .us)),
-      )
-  walk-place (no h) = omega (arith, W .place, C .place)
-
-  pub walk-position : Position s′ x p i (W .j) (W .g) (W .u) (W .us)
-  walk-position = position-kept s s′ text x facts (W .counts .readable) (C .changed) p i (W .j) (W .g) (W .u) (W .us) (W .position)
-
-  pub walk-changed : Changed s₀ s′ x facts
-  walk-changed = changed-then s₀ s s′ x facts (W .changed) (C .changed)
-
-  pub walk-low : (r ≤ 16777217) × (to ≤ r)
-  walk-low = (omega (arith, C .place), omega (arith, C .place, W .counts .low))
-
-  walk-seen : r < 16777217 → seen-after-all (C .after) (all-full (x .values) (W .us)) ≡ order
-  walk-seen h =
+      );
+  exact = λ h.
       ap (λ (l : List ℕ). seen-after-all l (all-full (x .values) (W .us))) (C .exact h)
-      ∙ argument-seen x (W .now) order (W .u) (W .us) (W .exact (omega (arith, walk-low)))
+      ∙ argument-seen x (W .now) order (W .u) (W .us) (W .exact);
+}
 
-  -- At the ceiling the rest does not matter.
-  pub walk-stops : r ≡ 16777217 → Counted s₀ s′ text x facts at whole order r
-  walk-stops e = record {
-    changed = walk-changed;
-    readable = C .readable;
-    after = C .after;
-    counting = C .counting;
-    few = C .few;
-    place = omega (arith, walk-place (decLt to 16777217));
-    exact = λ h. absurd (omega arith);
-  }
+module _ (s₀ s : List ℕ) (text : Bytes) (x : Setting) (facts : ℕ) (order : List ℕ) (whole at p i to r : ℕ)
+    (T : Turned s₀ s text x facts order whole at p i to r) where
+  -- The next byte reaches the ceiling: the rest does not matter.
+  pub walk-stops : (b q k : ℕ) → Found s x (T .g) (T .j) (T .us) (Goes b q k) → 16777216 ≤ r → Counted s₀ s text x facts at whole order 16777217
+  walk-stops b q k (j′, g′, v, vs, position, bytes-are, seen-are, stands-are) d =
+      let size = ap length (bytes-are order) ∙ length-more b (rest (x .values) order g′ j′ v vs) in record {
+        changed = T .changed;
+        readable = T .counts .readable;
+        after = T .now;
+        counting = T .counts .counting;
+        few = omega (arith, T .counts .few, T .counts .low);
+        place = omega (arith, T .place, size);
+        exact = λ h. absurd (omega arith);
+      }
 
-  pub walk-ends : (b r′ : ℕ) → Found s′ x (W .g) (W .j) (W .us) (Ends b) → r′ ≡ capped (r + 1) → Counted s₀ s′ text x facts at whole order r′
+  pub walk-ends : (b r′ : ℕ) → Found s x (T .g) (T .j) (T .us) (Ends b) → r′ ≡ capped (r + 1) → Counted s₀ s text x facts at whole order r′
   walk-ends b r′ F e = record {
-    changed = walk-changed;
-    readable = C .readable;
-    after = C .after;
-    counting = C .counting;
-    few = omega (arith, C .few, walk-low .0);
+    changed = T .changed;
+    readable = T .counts .readable;
+    after = T .now;
+    counting = T .counts .counting;
+    few = omega (arith, T .counts .few, T .counts .low);
     place =
         let one = ap length (F .0 order) ∙ length-more b [] in
         let none : length {A = ℕ} [] ≡ 0 = refl in
-        omega (arith, walk-place (decLt to 16777217), one, none);
-    exact = λ h. sym (F .1 (C .after)) ∙ walk-seen (omega arith);
+        omega (arith, T .place, one, none);
+    exact = λ h. sym (F .1 (T .now)) ∙ T .exact (omega arith);
   }
 
-  pub walk-on : (b q k : ℕ) → Found s′ x (W .g) (W .j) (W .us) (Goes b q k) → r ≢ 16777217
-      → Walked s₀ s′ text x facts order whole at q k (r + 1)
-  walk-on b q k (j′, g′, v, vs, position, bytes-are, seen-are, stands-are) d =
-      let low : r < 16777217 = omega (arith, walk-low .0, d) in
+  pub walk-on : (b q k : ℕ) → Found s x (T .g) (T .j) (T .us) (Goes b q k) → r < 16777216
+      → Walked s₀ s text x facts order whole at q k (r + 1)
+  walk-on b q k (j′, g′, v, vs, position, bytes-are, seen-are, stands-are) low =
       let size = ap length (bytes-are order) ∙ length-more b (rest (x .values) order g′ j′ v vs) in record {
         g = g′;
         j = j′;
         u = v;
         us = vs;
         position = position;
-        changed = walk-changed;
-        now = C .after;
-        counts = record { readable = C .readable; counting = C .counting; low = omega arith; few = omega (arith, C .few) };
-        above = omega (arith, W .above, walk-low .1);
-        place = omega (arith, walk-place (decLt to 16777217), size);
-        exact = λ h. sym (seen-are (C .after)) ∙ walk-seen low;
+        changed = T .changed;
+        now = T .now;
+        counts = record { readable = T .counts .readable; counting = T .counts .counting; low = omega arith; few = omega (arith, T .counts .few) };
+        low = omega arith;
+        above = omega (arith, T .above .0);
+        place = omega (arith, T .place, size);
+        exact = sym (seen-are (T .now)) ∙ T .exact (omega arith);
       }
 
--- A term: at the ceiling; with its length known; by a compound's arguments; a leaf.
+-- A term at the ceiling.
 pub count-ceiling : (s : List ℕ) (text : Bytes) (x : Setting) (facts : ℕ) (seen : List ℕ) (t : Term) (at : ℕ) → Counts s text x facts seen at
     → at ≡ 16777217 → CountedTerm s s text x facts seen t at at
 count-ceiling s text x facts seen t at C e = record {
@@ -214,50 +246,19 @@ count-ceiling s text x facts seen t at C e = record {
   exact = λ h. absurd (omega arith);
 }
 
+-- A term below the ceiling, led to its end: what is asked of a call for a compound or a leaf there, and what the call tells of the term.
 module _ (s s₁ : List ℕ) (text : Bytes) (x : Setting) (facts : ℕ) (seen : List ℕ) (t : Term) (at w e : ℕ) (C : Counts s text x facts seen at)
-    (k : Shows s x t w) (L : Leads s s₁ text x facts t e) where
-  pub led-counts : Counts s₁ text x facts seen at
+    (low : at < 16777217) (k : Shows s x t w) (L : Leads s s₁ text x facts t e) where
+  led-counts : Counts s₁ text x facts seen at
   led-counts = record { readable = L .readable; counting = L .counting seen (C .counting); low = C .low; few = C .few }
 
-  pub led-shows : Shows s₁ x t w
+  led-shows : Shows s₁ x t w
   led-shows = shows-kept s s₁ text x facts (C .readable) (L .changed) t w k
 
-  pub count-known : (n r : ℕ) → LengthKnown x seen t n → n ≢ 0 → r ≡ capped (at + n) → CountedTerm s s₁ text x facts seen t at r
-  count-known n r K d q =
-      let known = K d in record {
-        changed = L .changed;
-        readable = L .readable;
-        after = seen;
-        counting = L .counting seen (C .counting);
-        few = omega (arith, C .few, C .low);
-        place = q ∙ ap (λ (m : ℕ). capped (at + m)) (known .1);
-        exact = λ h. sym (known .0);
-      }
-
-  pub count-leaf : at < 16777217 → (s₂ : List ℕ) (n r : ℕ) → LeafCounted s₁ s₂ text x facts seen t n → r ≡ capped (at + n)
-      → CountedTerm s s₂ text x facts seen t at r
-  count-leaf low s₂ n r F q = record {
-    changed = changed-then s s₁ s₂ x facts (L .changed) (F .changed);
-    readable = F .readable;
-    after = order-of x seen t;
-    counting = F .counting;
-    few = omega (arith, F .few, C .few);
-    place = q ∙ ap (λ (m : ℕ). capped (at + m)) (F .size);
-    exact = λ h. refl;
-  }
-
-  -- A compound at the end of the chain.
-  pub record Within-it (q : ℕ) : Type 0 where
-    pub number : ℕ
-    pub functor : Functor
-    pub terms : Terms
-    pub stands : StandsAt s₁ x number functor terms q
-    pub same : full (x .values) t ≡ full (x .values) (Term.compound number functor terms)
-
-  pub within-it : (q : ℕ) → look e ≡ Compound q → Within-it q
-  within-it q z = go (compound-told (x .places) (L .led .last) q (sym (seen-term (x .places) (L .led .last) e (L .led .word)) ∙ z))
+  leads-to : (q : ℕ) → look e ≡ Compound q → LeadsTo s₁ x t q
+  leads-to q z = go (compound-told (x .places) (L .led .last) q (sym (seen-term (x .places) (L .led .last) e (L .led .word)) ∙ z))
     where
-      go : (n : ℕ) × (f : Functor) × (ts : Terms) × (L .led .last ≡ Term.compound n f ts) × (q ≡ x .places .compound n) → Within-it q
+      go : (n : ℕ) × (f : Functor) × (ts : Terms) × (L .led .last ≡ Term.compound n f ts) × (q ≡ x .places .compound n) → LeadsTo s₁ x t q
       go (n, f, ts, y, b) = record {
         number = n;
         functor = f;
@@ -266,16 +267,66 @@ module _ (s s₁ : List ℕ) (text : Bytes) (x : Setting) (facts : ℕ) (seen : 
         same = L .led .same ∙ ap (full (x .values)) y;
       }
 
-  module _ (q : ℕ) (D : Within-it q) (s₂ : List ℕ) (to : ℕ)
-      (R : CountedTerm s₁ s₂ text x facts seen (Term.compound (D .number) (D .functor) (D .terms)) at to) where
+  pub compound-asks : (q : ℕ) → look e ≡ Compound q
+      → (text : Bytes) × (x : Setting) × (seen : List ℕ) × (t : Term) × Counts s₁ text x facts seen at × (at < 16777217) × Shows s₁ x t w × LeadsTo s₁ x t q
+  compound-asks q z = (text, x, seen, t, led-counts, low, led-shows, leads-to q z)
+
+  pub compound-tells : (q : ℕ) → look e ≡ Compound q → (s₂ : List ℕ) (r : ℕ)
+      → (Counts s₁ text x facts seen at → at < 16777217 → Shows s₁ x t w → LeadsTo s₁ x t q → CountedTerm s₁ s₂ text x facts seen t at r)
+      → CountedTerm s s₂ text x facts seen t at r
+  compound-tells q z s₂ r told =
+      let R = told led-counts low led-shows (leads-to q z) in record {
+        changed = changed-then s s₁ s₂ x facts (L .changed) (R .changed);
+        readable = R .readable;
+        after = R .after;
+        counting = R .counting;
+        few = R .few;
+        place = R .place;
+        exact = R .exact;
+      }
+
+  pub leaf-asks : (text : Bytes) × (x : Setting) × (seen : List ℕ) × (t : Term) × Readable s₁ text x facts × Counting s₁ x facts seen
+      × (length seen ≤ 16777216) × Led s₁ x t e
+  leaf-asks = (text, x, seen, t, L .readable, L .counting seen (C .counting), omega (arith, C .few), L .led)
+
+  pub leaf-tells : NoCompound (look e) → (s₂ : List ℕ) (n r : ℕ)
+      → (Readable s₁ text x facts → Counting s₁ x facts seen → Led s₁ x t e → NoCompound (look e) → LeafCounted s₁ s₂ text x facts seen t n)
+      → r ≡ capped (at + n) → CountedTerm s s₂ text x facts seen t at r
+  leaf-tells other s₂ n r told q =
+      let F = told (L .readable) (L .counting seen (C .counting)) (L .led) other in record {
+        changed = changed-then s s₁ s₂ x facts (L .changed) (F .changed);
+        readable = F .readable;
+        after = order-of x seen t;
+        counting = F .counting;
+        few = omega (arith, F .few, C .few);
+        place = q ∙ ap (λ (m : ℕ). capped (at + m)) (F .size);
+        exact = λ h. refl;
+      }
+
+-- A compound to which a term leads: its length is known, or it is counted by its arguments and kept.
+module _ (s : List ℕ) (text : Bytes) (x : Setting) (facts : ℕ) (seen : List ℕ) (t : Term) (at w q : ℕ) (C : Counts s text x facts seen at)
+    (k : Shows s x t w) (D : LeadsTo s x t q) where
+  pub count-known : (n r : ℕ) → LengthKnown x seen t n → n ≢ 0 → r ≡ capped (at + n) → CountedTerm s s text x facts seen t at r
+  count-known n r K d e =
+      let known = K d in record {
+        changed = changed-none s x facts;
+        readable = C .readable;
+        after = seen;
+        counting = C .counting;
+        few = omega (arith, C .few, C .low);
+        place = e ∙ ap (λ (m : ℕ). capped (at + m)) (known .1);
+        exact = λ h. sym (known .0);
+      }
+
+  module _ (s₁ : List ℕ) (to : ℕ) (R : CountedTerm s s₁ text x facts seen (Term.compound (D .number) (D .functor) (D .terms)) at to) where
     told-place : to ≡ capped (at + length (shown seen alone (full (x .values) t)))
     told-place = rw (D .same) (R .place)
 
     told-exact : to < 16777217 → R .after ≡ seen-after seen (full (x .values) t)
     told-exact = rw (D .same) (R .exact)
 
-    pub told-shows : Shows s₂ x t w
-    told-shows = shows-kept s₁ s₂ text x facts (L .readable) (R .changed) t w led-shows
+    pub told-shows : Shows s₁ x t w
+    told-shows = shows-kept s s₁ text x facts (C .readable) (R .changed) t w k
 
     pub told-low : at ≤ to
     told-low = omega (arith, R .place, C .low)
@@ -298,10 +349,10 @@ module _ (s s₁ : List ℕ) (text : Bytes) (x : Setting) (facts : ℕ) (seen : 
           rw z (omega (arith, told-place, size, d));
     }
 
-    pub count-kept : (s₃ : List ℕ) → Changed s₂ s₃ x facts × Readable s₃ text x facts × Counting s₃ x facts (R .after)
-        → CountedTerm s s₃ text x facts seen t at to
-    count-kept s₃ (c, r, o) = record {
-      changed = changed-then s s₁ s₃ x facts (L .changed) (changed-then s₁ s₂ s₃ x facts (R .changed) c);
+    pub count-kept : (s₂ : List ℕ) → Changed s₁ s₂ x facts × Readable s₂ text x facts × Counting s₂ x facts (R .after)
+        → CountedTerm s s₂ text x facts seen t at to
+    count-kept s₂ (c, r, o) = record {
+      changed = changed-then s s₁ s₂ x facts (R .changed) c;
       readable = r;
       after = R .after;
       counting = o;

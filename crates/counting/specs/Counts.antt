@@ -6,13 +6,14 @@ use mathlib.Core.List.{List}
 use lib.ListN.{length, getD}
 use Rattle.meaning.specs.Bytes.{Bytes}
 use mathlib.Core.Option.{some}
-use Rattle.meaning.specs.Terms.{Half, Term}
+use Rattle.meaning.specs.Terms.{Half, Functor, Term, Terms}
 use Rattle.meaning.specs.State.{value}
 use Rattle.meaning.specs.Report.{alone}
 use Rattle.term.specs.Setting.{Setting}
 use Rattle.facts.specs.Threaded.{full, seen-after, shown}
 use Rattle.facts.specs.Laid.{capped}
 use Rattle.facts.specs.Facts.{Readable, Counting, Changed}
+use Rattle.facts.specs.Walk.{StandsAt}
 
 -- The scratch where a section is counted, so many bytes behind.
 pub record Counts (s : List ℕ) (text : Bytes) (x : Setting) (facts : ℕ) (seen : List ℕ) (at : ℕ) : Type 0 where
@@ -35,6 +36,14 @@ pub record Counted (s s′ : List ℕ) (text : Bytes) (x : Setting) (facts at si
 abbrev pub CountedTerm : List ℕ → List ℕ → Bytes → Setting → ℕ → List ℕ → Term → ℕ → ℕ → Type 0
 CountedTerm s s′ text x facts seen t at r =
     Counted s s′ text x facts at (length (shown seen alone (full (x .values) t))) (seen-after seen (full (x .values) t)) r
+
+-- A term leads to a compound at this place, with the same values applied.
+pub record LeadsTo (s : List ℕ) (x : Setting) (t : Term) (place : ℕ) : Type 0 where
+  pub number : ℕ
+  pub functor : Functor
+  pub terms : Terms
+  pub stands : StandsAt s x number functor terms place
+  pub same : full (x .values) t ≡ full (x .values) (Term.compound number functor terms)
 
 -- A term that is no compound and no assigned variable, counted: so many bytes.
 pub record LeafCounted (s s′ : List ℕ) (text : Bytes) (x : Setting) (facts : ℕ) (seen : List ℕ) (t : Term) (r : ℕ) : Type 0 where

@@ -29,7 +29,7 @@ ghost use Rattle.term.specs.Words.{view};
 ghost use Rattle.term.specs.Setting.{Setting, RangedInteger};
 ghost use Rattle.facts.specs.Threaded.{full, seen-after, shown};
 ghost use Rattle.facts.specs.Facts.{Readable, Shows, Led, Counting, Changed};
-ghost use Rattle.counting.specs.Counts.{Counts, CountedTerm, LeafCounted, LengthKnown, Known-now};
+ghost use Rattle.counting.specs.Counts.{Counts, CountedTerm, LeadsTo, LeafCounted, LengthKnown, Known-now};
 ghost use Rattle.facts.specs.Laid.{capped};
 ghost use Rattle.facts.specs.Walk.{opening-bytes, Opens, StandsAt};
 ghost use Rattle.facts.specs.Pairs.{NoCompound};
@@ -129,17 +129,25 @@ pub fn count_term(s: &mut [u64], facts: usize, at: usize, w: u64) -> usize
     }
     let e = lead(s, facts, w);
     match look(e) {
-        View::Compound(q) => {
-            let n = counted(s, facts, w);
-            if n != 0 {
-                return further(at, n);
-            }
-            let to = count_arguments(s, facts, at, q);
-            keep(s, facts, w, at, to);
-            to
-        }
+        View::Compound(q) => count_compound(s, facts, at, w, q),
         _ => further(at, leaf(s, facts, e)),
     }
+}
+
+// A compound to which a term leads: its length if it is known, else it is counted, and kept.
+fn count_compound(s: &mut [u64], facts: usize, at: usize, w: u64, q: usize) -> usize
+    requires { ⌜ ((text : Bytes) × (x : Setting) × (seen : List ℕ) × (t : Term) × Counts (now s) text x facts seen at × (at < 16777217)
+        × Shows (now s) x t w × LeadsTo (now s) x t q) ⌝ }
+    ensures { λ r. ⌜ ((text : Bytes) (x : Setting) (seen : List ℕ) (t : Term) → Counts (now (s .entry)) text x facts seen at → at < 16777217
+        → Shows (now (s .entry)) x t w → LeadsTo (now (s .entry)) x t q → CountedTerm (now (s .entry)) (now (s .exit)) text x facts seen t at r) ⌝ }
+{
+    let n = counted(s, facts, w);
+    if n != 0 {
+        return further(at, n);
+    }
+    let to = count_arguments(s, facts, at, q);
+    keep(s, facts, w, at, to);
+    to
 }
 
 // What stands before a compound's first argument.
@@ -164,15 +172,26 @@ pub fn count_arguments(s: &mut [u64], facts: usize, at: usize, first: usize) -> 
         → CountedTerm (now (s .entry)) (now (s .exit)) text x facts seen (Term.compound n f ts) at r) ⌝ }
 {
     let mut to = opening(s, at, first);
+    if to == CEILING {
+        return to;
+    }
     let mut p = first;
     let mut i = 1;
     loop {
         let a = word_at(s, p, i);
-        to = count_term(s, facts, to, a);
+        let e = lead(s, facts, a);
+        match look(e) {
+            View::Compound(q) => {
+                to = count_compound(s, facts, to, a, q);
+            }
+            _ => {
+                to = further(to, leaf(s, facts, e));
+            }
+        }
         match behind(s, facts, p, i) {
             Next::Goes(_, q, j) => {
-                if to == CEILING {
-                    return to;
+                if CEILING - 1 <= to {
+                    return CEILING;
                 }
                 to += 1;
                 p = q;
