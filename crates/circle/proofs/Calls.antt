@@ -2,10 +2,10 @@
 -- to the one is an answer to the other, and the weight falls.
 use Prim.Native.Nat.{ℕ, _+_, _*_, _/_, _%_, _≤_, _<_}
 use mathlib.Core.Path.{_≡_, refl, sym, ap, subst, _∙_}
-use mathlib.Core.Logic.{_⊎_, ⊎-elim}
+use mathlib.Core.Logic.{inl, ⊎-elim}
 use mathlib.Core.Bool.{Bool, true, false, true≢false}
 use mathlib.Core.List.{List}
-use mathlib.Core.Option.{Option, some}
+use mathlib.Core.Option.{Option}
 use native.Mathlib.Decide.{decLt}
 use native.Mathlib.Omega.{arith}
 use lib.Dec.{eqb}
@@ -20,7 +20,6 @@ use Rattle.circle.specs.Search.{
   Told,
   StandsAt,
   LeadsIs,
-  LastLeads,
   Searching,
   visited,
   Visited,
@@ -56,7 +55,22 @@ use Rattle.circle.proofs.Visit.{
   variable-of,
   ground-of,
 }
-use Rattle.circle.proofs.Walk.{Walked, Turn, enter, turn, leave, leave-firm, no-pairs, none-stands, idle-firm}
+use Rattle.circle.proofs.Walk.{
+  Walked,
+  none-at,
+  grounds,
+  enter,
+  no-pairs,
+  idle-firm,
+  walk-first,
+  walk-over,
+  walk-next,
+  walk-found,
+  walk-last,
+  walk-firm,
+  walk-idle,
+  idle-found,
+}
 
 -- What a search from a term asks, and what it tells: whether the pair is found, whether the term is firm.
 module _ (s : List ℕ) (values marks place stamp : ℕ) where
@@ -190,102 +204,111 @@ going-on s values marks place stamp b w state s′ b′ w′ state′ first s″
 
 -- At a compound: its arguments from left to right.
 module _ (s₀ : List ℕ) (values marks place stamp : ℕ) (b : Bool) (w first : ℕ) where
-  abbrev pub Walking : List ℕ → ℕ → ℕ → ℕ → ℕ → Type 0
-  Walking s q k i state = (x : Scene) (z : ℕ) (v : Option Term) → Searching s₀ x values marks place stamp z → Told x b w v
-      → Walked s₀ s x marks stamp z b q k i v first state
+  abbrev pub Walking : List ℕ → ℕ → ℕ → ℕ → ℕ → ℕ → Type 0
+  Walking s q k i later state = (x : Scene) (z : ℕ) (v : Option Term) → Searching s₀ x values marks place stamp z → Told x b w v
+      → Walked s₀ s x marks stamp z b q k i later v first state
 
-  pub last-at : (q : ℕ) → q ≡ w / 8 → w % 8 ≡ 6 → TermAsks s₀ values marks place stamp b w → q + 7 < length s₀
-  last-at q at six (x, z, v, h, told) =
-      let all : LastLeads s₀ q (getD s₀ q 0 % 8) = record { among = omega arith; idle = λ i l m. absurd (omega arith) } in
-      let c = enter x values marks place stamp z b s₀ w v h told six q (getD s₀ q 0 % 8) at all 0 in
-      omega (arith, c .inside, whole-length s₀ x values marks place stamp z h)
+  module _ (q : ℕ) (at : q ≡ w / 8) (six : w % 8 ≡ 6) where
+    pub count-at : TermAsks s₀ values marks place stamp b w → q < length s₀
+    count-at (x, z, v, h, told) =
+        let (c, all) = enter x values marks place stamp z b s₀ w v h told six q (getD s₀ q 0 % 8) at refl in
+        omega (arith, c .inside, whole-length s₀ x values marks place stamp z h)
 
-  module _ (q k : ℕ) (at : q ≡ w / 8) (last : LastLeads s₀ q k) (six : w % 8 ≡ 6) where
-    pub walking-first : Walking s₀ q k 1 first
-    walking-first x z v h told = enter x values marks place stamp z b s₀ w v h told six q k at last first
+    pub walking-first : (k : ℕ) → k ≡ getD s₀ q 0 % 8 → Walking s₀ q k 1 0 first
+    walking-first k counted x z v h told = walk-first x values marks place stamp z b s₀ w v h told six q k at counted first
 
-    -- No argument leads on.
-    pub idle-finds : k ≡ 0 → TermFinds s₀ values marks place stamp b w s₀ false
-    idle-finds e x z v h told = leave x values marks place stamp z b s₀ s₀ q k 1 v first first (walking-first x z v h told) (omega arith)
-
-    pub idle-is-firm : k ≡ 0 → TermFirm s₀ values marks place stamp b w
-    idle-is-firm e x z v h told =
-        let c = enter x values marks place stamp z b s₀ w v h told six q k at last 0 in
-        ⊎-elim (λ f. absurd (omega arith)) (λ (same, all). all) (leave-firm x values marks place stamp z b s₀ s₀ q k 1 v 0 0 c (omega arith))
-
-  module _ (s : List ℕ) (q k i state : ℕ) (walking : Walking s q k i state) where
+  module _ (s : List ℕ) (q k i later state : ℕ) (walking : Walking s q k i later state) where
     pub few-of : TermAsks s₀ values marks place stamp b w → k ≤ 6
-    few-of (x, z, v, h, told) = omega (arith, walking x z v h told .few, walking x z v h told .among)
+    few-of (x, z, v, h, told) = walking x z v h told .rest .few
 
     pub argument-at : i ≤ k → TermAsks s₀ values marks place stamp b w → q + i < length s
     argument-at le (x, z, v, h, told) =
         let c = walking x z v h told in
-        omega (arith, c .inside, c .few, c .among, whole-length s₀ x values marks place stamp z h, c .stamped .size)
+        omega (arith, c .rest .inside, c .rest .few, whole-length s₀ x values marks place stamp z h, c .stamped .size)
 
-    turn-of : i ≤ k → (x : Scene) (z : ℕ) (v : Option Term) → Searching s₀ x values marks place stamp z → Told x b w v
-        → Turn s₀ s x marks stamp z b q k i v first state
-    turn-of le x z v h told = turn x values marks place stamp z b s₀ s q k i w v first state h told (walking x z v h told) le
+    -- The argument that is searched later.
+    pub later-asks : TermAsks s₀ values marks place stamp b w → TermAsks s values marks place stamp b later
+    later-asks (x, z, v, h, told) =
+        let c = walking x z v h told in
+        (x, z, c .argument .value, searching-on x marks stamp z s₀ s (c .stamped) values place h, c .argument .told)
+
+    pub later-lighter : TermAsks s₀ values marks place stamp b w
+        → term-weight s marks (visited stamp) b later < term-weight s₀ marks (visited stamp) b w
+    later-lighter (x, z, v, h, told) =
+        let c = walking x z v h told in
+        falls-to-argument x values marks place stamp z s₀ s h (c .stamped) (visited stamp) (fewer-unseen x marks stamp s₀ s (c .stamped)) b w later v
+        (c .argument .value) told (c .argument .told) (c .argument .lower)
+
+    later-tells : (s′ : List ℕ) (r : ℕ) → TermTells s values marks place stamp b later s′ r
+        → (x : Scene) (z : ℕ) (v : Option Term) (h : Searching s₀ x values marks place stamp z) (told : Told x b w v)
+        → SearchedFrom s s′ x marks stamp z (walking x z v h told .argument .value) r
+    later-tells s′ r tell x z v h told =
+        let c = walking x z v h told in
+        tell x z (c .argument .value) (searching-on x marks stamp z s₀ s (c .stamped) values place h) (c .argument .told)
+
+    pub later-found : (s′ : List ℕ) → TermTells s values marks place stamp b later s′ 2 → TermFinds s₀ values marks place stamp b w s′ true
+    later-found s′ tell x z v h told =
+        walk-found x values marks place stamp z b s₀ s w v h told q k i later first state (walking x z v h told) s′
+        (later-tells s′ 2 tell x z v h told .searched)
 
     module _ (a : ℕ) (reads : a ≡ getD s (q + i) 0) (le : i ≤ k) where
-      pub argument-asks : TermAsks s₀ values marks place stamp b w → TermAsks s values marks place stamp b a
-      argument-asks (x, z, v, h, told) =
-          let u = turn-of le x z v h told in
-          (x, z, some (u .term), searching-on x marks stamp z s₀ s (walking x z v h told .stamped) values place h, rw reads (u .told))
-
-      pub argument-lighter : TermAsks s₀ values marks place stamp b w
-          → term-weight s marks (visited stamp) b a < term-weight s₀ marks (visited stamp) b w
-      argument-lighter (x, z, v, h, told) =
-          let u = turn-of le x z v h told in
-          let st = walking x z v h told .stamped in
-          falls-to-argument x values marks place stamp z s₀ s h st (visited stamp) (fewer-unseen x marks stamp s₀ s st) b w a v (some (u .term)) told
-          (rw reads (u .told)) (u .lower)
-
-      argument-tells : (s′ : List ℕ) (r : ℕ) → TermTells s values marks place stamp b a s′ r
-          → (x : Scene) (z : ℕ) (v : Option Term) (h : Searching s₀ x values marks place stamp z) (told : Told x b w v)
-          → SearchedFrom s s′ x marks stamp z (some (turn-of le x z v h told .term)) r
-      argument-tells s′ r tell x z v h told =
-          let u = turn-of le x z v h told in
-          tell x z (some (u .term)) (searching-on x marks stamp z s₀ s (walking x z v h told .stamped) values place h) (rw reads (u .told))
-
-      pub argument-found : (s′ : List ℕ) → TermTells s values marks place stamp b a s′ 2 → TermFinds s₀ values marks place stamp b w s′ true
-      argument-found s′ tell x z v h told = turn-of le x z v h told .found s′ (argument-tells s′ 2 tell x z v h told .searched)
-
-      pub walking-next : (s′ : List ℕ) (r out : ℕ) → TermTells s values marks place stamp b a s′ r → (r ≡ 2 → ⊥) → JoinedIs state r out
-          → Walking s′ q k (i + 1) out
-      walking-next s′ r out tell found joined x z v h told =
-          turn-of le x z v h told .next s′ r out (argument-tells s′ r tell x z v h told) found joined
-
       -- An argument that does not lead on is passed over.
-      pub walking-over : LeadsIs a false → Walking s q k (i + 1) state
+      pub walking-over : LeadsIs a false → Walking s q k (i + 1) later state
       walking-over idle x z v h told =
-          let u = turn-of le x z v h told in
-          u .next s 0 state
-          (record {
-            searched = no-pairs x values marks place stamp z b s a (some (u .term)) (rw reads (u .told)) idle;
-            firm = λ e j r. absurd (none-stands (side x b) (u .term) a (reads ∙ u .told .word) idle j r);
-          })
-          (λ e. absurd (omega arith)) (record { kept = λ e. refl; new = λ d. absurd (d refl) })
+          walk-over x values marks place stamp z b s₀ s w v h told q k i later first state (walking x z v h told) a reads le idle
 
-      -- To the last argument the search goes on.
-      pub last-going : k ≤ i → Going s₀ values marks place stamp b w first s b a state
-      last-going last x z v h told =
-          let u = turn-of le x z v h told in
+      -- One that does is searched later: the first, or one behind another that was searched now.
+      pub walking-on : LeadsIs a true → later ≡ 0 → Walking s q k (i + 1) a state
+      walking-on leads e x z v h told =
+          let c = walking x z v h told in
+          let searched = no-pairs x values marks place stamp z b s later (c .argument .value) (c .argument .told) ((λ f. omega arith), inl (omega arith)) in
+          walk-next x values marks place stamp z b s₀ s w v h told q k i later first state c a reads le leads s 0 state searched
+          (λ f j r. absurd (none-at (side x b) (c .argument .value) later (c .argument .told .word) ((λ f. omega arith), inl (omega arith)) j r))
+          (record { kept = λ e. refl; new = λ d. absurd (d refl) })
+
+      pub walking-next : LeadsIs a true → (s′ : List ℕ) (r out : ℕ) → TermTells s values marks place stamp b later s′ r → (r ≡ 2 → ⊥)
+          → JoinedIs state r out → Walking s′ q k (i + 1) a out
+      walking-next leads s′ r out tell found joined x z v h told =
+          let c = walking x z v h told in
+          let t = later-tells s′ r tell x z v h told in
+          walk-next x values marks place stamp z b s₀ s w v h told q k i later first state c a reads le leads s′ r out
+          (rw (ne-eqb r 2 found) at (t .searched)) (λ e. grounds x (c .argument .value) (t .firm e)) joined
+
+    -- Behind all arguments the search goes on to that one.
+    module _ (done : k < i) where
+      pub later-going : Going s₀ values marks place stamp b w first s b later state
+      later-going x z v h told =
+          let c = walking x z v h told in
+          let now = c .argument .value in
           record {
-            now = some (u .term);
-            told = rw reads (u .told);
-            stamped = walking x z v h told .stamped;
-            answer = λ s″ r. both s″ r;
-            keeps = λ o k. ⊎-elim (keeps-open x state b o (some (u .term))) (λ (same, all). keeps-on x first state b o v (some (u .term)) same all k)
-                (u .last last);
+            now = now;
+            told = c .argument .told;
+            stamped = c .stamped;
+            answer = walk-last x values marks place stamp z b s₀ s w v h told q k i later first state c done;
+            keeps = λ o k′. ⊎-elim (keeps-open x state b o now) (λ (same, all). keeps-on x first state b o v now same all k′)
+                (walk-firm x values marks place stamp z b s₀ s w v h told q k i later first state c done);
           }
-        where
-          both : (s″ : List ℕ) (r : Bool) → Searched s s″ x marks stamp z (λ j. StandsAt j (some (turn-of le x z v h told .term))) r
-              → Searched s₀ s″ x marks stamp z (λ j. StandsAt j v) r
-          both s″ true a = turn-of le x z v h told .found s″ a
-          both s″ false a =
-              leave x values marks place stamp z b s₀ s″ q k (i + 1) v first 1
-              (turn-of le x z v h told .next s″ 1 1 (record { searched = a; firm = λ e. absurd (omega arith) }) (λ e. absurd (omega arith))
-              (record { kept = λ e. absurd (omega arith); new = λ d. refl })) (omega arith)
+
+      -- Or none leads on, and nothing was searched.
+      module _ (e : later ≡ 0) (asks : TermAsks s₀ values marks place stamp b w) where
+        idle-same : (s ≡ s₀) × (state ≡ first)
+        idle-same =
+            let (x, z, v, h, told) = asks in
+            let (scratch, same, all) = walking x z v h told .idle e in
+            (scratch, same)
+
+        pub idle-going : Going s₀ values marks place stamp b w first s b w state
+        idle-going = rw (idle-same .0, idle-same .1) (going-first s₀ values marks place stamp b w first)
+
+        pub idle-finds : TermFinds s values marks place stamp b w s false
+        idle-finds = rw (idle-same .0) (λ x z v h told.
+            idle-found x values marks place stamp z b s₀ s w v h told q k i later first state (walking x z v h told) done e)
+
+        pub idle-is-firm : TermFirm s values marks place stamp b w
+        idle-is-firm = rw (idle-same .0) (λ x z v h told.
+            let c = walking x z v h told in
+            c .rest .firm-of
+            (λ j r. absurd (walk-idle x values marks place stamp z b s₀ s w v h told q k i later first state c done e j r)))
 
   pub nothing-finds : LeadsIs w false → TermFinds s₀ values marks place stamp b w s₀ false
   nothing-finds idle x z v h told = no-pairs x values marks place stamp z b s₀ w v told idle

@@ -31,7 +31,7 @@ use Rattle.circle.proofs.Stamps.{
   whole-length,
 }
 use Rattle.circle.proofs.Visit.{Variable, variable-of, mark-inside, value-inside, leans-of}
-use Rattle.circle.proofs.Walk.{Argument, argument-of, enter}
+use Rattle.circle.proofs.Walk.{Argument, Rest, enter, argument-of}
 
 module _ (x : Scene) (marks stamp : ℕ) where
   pub settled-same : (s : List ℕ) → Settled x marks stamp s s
@@ -115,24 +115,28 @@ module _ (s₀ : List ℕ) (values marks stamp pair : ℕ) where
 
     -- At a compound: on to the last argument that leads on.
     module _ (six : t % 8 ≡ 6) (q : ℕ) (at : q ≡ t / 8) where
+      settle-rest : (x : Scene) (place goal : ℕ) (h : Searching s₀ x values marks place stamp goal) (g : GroundAt (x .unit) (x .before) pair)
+          → Rest x false q (getD s q 0 % 8) 1 (settling x place goal h g .now)
+      settle-rest x place goal h g =
+          enter x values marks place stamp goal false s t (settling x place goal h g .now) (here x place goal h g) (settling x place goal h g .told) six q
+          (getD s q 0 % 8) at refl .0
+
       pub settle-count : SettleAsks → q + 7 < length s
       settle-count (x, place, goal, h, g) =
-          let c = enter x values marks place stamp goal false s t (settling x place goal h g .now) (here x place goal h g)
-          (settling x place goal h g .told) six q (getD s q 0 % 8) at (record { among = omega arith; idle = λ i l m. absurd (omega arith) }) 0 in
-          omega (arith, c .inside, whole-length s x values marks place stamp goal (here x place goal h g))
+          omega (arith, settle-rest x place goal h g .inside, whole-length s x values marks place stamp goal (here x place goal h g))
 
       module _ (k : ℕ) (last : LastLeads s q k) (some-left : k ≡ 0 → ⊥) (a : ℕ) (reads : a ≡ getD s (q + k) 0) where
         settle-argument : (x : Scene) (place goal : ℕ) (h : Searching s₀ x values marks place stamp goal) (g : GroundAt (x .unit) (x .before) pair)
             → Argument x false a (settling x place goal h g .now)
         settle-argument x place goal h g =
-            argument-of x values marks place stamp goal false s t (settling x place goal h g .now) (here x place goal h g)
-            (settling x place goal h g .told) six q k a at last some-left reads
+            argument-of x values marks place stamp goal false t (settling x place goal h g .now) (settling x place goal h g .told) q (getD s q 0 % 8) 1
+            (settle-rest x place goal h g) s (here x place goal h g) k a (omega arith) (last .among) reads
 
         pub settling-argument : Settling s a
         settling-argument x place goal h g =
             let u = settle-argument x place goal h g in
             record {
-              now = some (u .term);
+              now = u .value;
               told = u .told;
               all = λ j r. settling x place goal h g .all j (u .within j r);
               settled = settling x place goal h g .settled;
@@ -142,7 +146,7 @@ module _ (s₀ : List ℕ) (values marks stamp pair : ℕ) where
         argument-lighter (x, place, goal, h, g) =
             let u = settle-argument x place goal h g in
             falls-to-argument x values marks place stamp goal s s (here x place goal h g) (stamped-same x marks stamp s) is-one (omega arith) false t a
-            (settling x place goal h g .now) (some (u .term)) (settling x place goal h g .told) (u .told) (u .lower)
+            (settling x place goal h g .now) (u .value) (settling x place goal h g .told) (u .told) (u .lower)
 
     -- At a variable: its pair is marked as ground, and on to its value.
     module _ (six : t % 8 ≡ 6 → ⊥) (leads : LeadsIs t true) (p : ℕ) (at : p ≡ t / 8) where

@@ -166,7 +166,7 @@ fn since(state: usize, p: usize) -> usize
 // Whether pair z is reached from a term: the head's, whose variables stand for what they are given, or the goal's. 2: it is; 0: it is not, and no
 // unassigned pair is; 1: else it is not. A pair with this search's stamp was visited.
 // Of the words' tags 6 is a compound's, and 1 and 2 are a pair's. The search goes on to a compound's last argument that leads on and to a pair's value in
-// its loop, and descends into the other arguments.
+// its loop, and descends into the other arguments: `later` is the last one so far that leads on, or 0, and is searched when the next one is met.
 fn from_term(
     s: &mut [u64],
     values: usize,
@@ -187,25 +187,27 @@ fn from_term(
         let tag = t % 8;
         let p = index(t / 8);
         if tag == 6 {
-            let k = last(s, p);
-            if k == 0 {
-                return ended(s, values, marks, stamp, state);
-            }
+            let k = count(s, p);
+            let mut later = 0;
             let mut i = 1;
-            while i < k {
+            while i <= k {
                 let a = argument(s, p, i);
                 if leads(a) {
-                    let r = from_term(s, values, marks, z, stamp, side, a);
-                    if r == 2 {
-                        return 2;
+                    if later != 0 {
+                        let r = from_term(s, values, marks, z, stamp, side, later);
+                        if r == 2 {
+                            return 2;
+                        }
+                        state = joined(state, r);
                     }
-                    state = joined(state, r);
-                    i += 1;
-                    continue;
+                    later = a;
                 }
                 i += 1;
             }
-            t = argument(s, p, k);
+            if later == 0 {
+                return ended(s, values, marks, stamp, state);
+            }
+            t = later;
             continue;
         }
         if tag == 0 {
