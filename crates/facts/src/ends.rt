@@ -29,17 +29,15 @@ pub fn set_fact(s: &mut [u64], facts: usize, p: usize, i: usize, w: u64)
     s[facts + 4 * p + i] = w;
 }
 
-// No pair has an end, a length or a number.
+// No pair has an end, a length or a number. All four words are set, which the compiler does as one block.
 pub fn forget(s: &mut [u64], facts: usize, pairs: usize)
     requires { ⌜ facts + 4 * pairs ≤ length (now s) ⌝ }
     ensures { λ r. ⌜ Cleared (now (s .entry)) (now (s .exit)) facts pairs ⌝ }
 {
-    let mut p = 0;
-    while p < pairs {
-        set_fact(s, facts, p, 0, 0);
-        set_fact(s, facts, p, 1, 0);
-        set_fact(s, facts, p, 2, 0);
-        p += 1;
+    let mut i = 0;
+    while i < 4 * pairs {
+        s[facts + i] = 0;
+        i += 1;
     }
 }
 

@@ -111,9 +111,8 @@ module _ {s s₁ : List ℕ} {text : Bytes} {names : List Bytes} {j : Job} {limi
       (g .goal .arguments) comparing)
 
   -- The head's writers are given nothing before it.
-  pub cleared-all : (w : ℕ) → w ≡ getD s (2560 + 16 * k + 1) 0 → ((a : ℕ) → a < w → getD s₁ (39936 + a) 0 ≡ 0)
-      → (a : ℕ) → a < c .pairs → getD s₁ (39936 + a) 0 ≡ 0
-  cleared-all w e cleared a h = cleared a (omega (arith, m .at .held .pairs))
+  pub cleared-all : ((a : ℕ) → a < 16 → getD s₁ (39936 + a) 0 ≡ 0) → (a : ℕ) → a < c .pairs → getD s₁ (39936 + a) 0 ≡ 0
+  cleared-all cleared a h = cleared a (omega (arith, m .at .held .laid .few-pairs))
 
   -- Before the circle test, where all places agree.
   module _ {s₂ : List ℕ} {n stamp : ℕ} (new : MarksBelow s marks (figures .pairs) stamp) (fit : (1 < stamp) × (stamp + 256 < 2 ^ 64))

@@ -62,14 +62,14 @@ fn set_at(s: &mut [u64], from: usize, i: usize, w: u64)
     s[from + i] = w;
 }
 
-// The head's writers are given nothing yet.
-fn begin(s: &mut [u64], pairs: usize)
-    requires { ⌜ (pairs ≤ 16) × (40704 ≤ length (now s)) ⌝ }
+// The head's writers are given nothing yet. There are 16 at the most, and so many words are set without a loop.
+fn begin(s: &mut [u64])
+    requires { ⌜ 40704 ≤ length (now s) ⌝ }
     ensures only { λ r. ⌜ Only 39936 39952 (now (s .entry)) (now (s .exit)) ⌝ }
-    ensures nothing { λ r. ⌜ ((x : ℕ) → x < pairs → getD (now (s .exit)) (39936 + x) 0 ≡ 0) ⌝ }
+    ensures nothing { λ r. ⌜ ((x : ℕ) → x < 16 → getD (now (s .exit)) (39936 + x) 0 ≡ 0) ⌝ }
 {
     let mut x = 0;
-    while x < pairs {
+    while x < 16 {
         set_at(s, TRIAL, x, 0);
         x += 1;
     }
@@ -89,8 +89,7 @@ fn trial(s: &mut [u64], values: usize, marks: usize, links: usize, k: usize, sta
         → MarksBelow (now (s .entry)) marks (figures .pairs) stamp
         → TrialIs (now (s .entry)) (now (s .exit)) j limit figures at g marks stamp k c r) ⌝ }
 {
-    let pairs = index(word_at(s, CLAUSES + 16 * k, 1));
-    begin(s, pairs);
+    begin(s);
     match head(s, values, links, 5120 + 256 * k) {
         Result::Agrees(n) => {
             if circle(s, values, marks, n, stamp) {

@@ -1,67 +1,69 @@
--- `facts::ends::forget` meets its contract: so many pairs as were passed have nothing kept.
+-- `facts::ends::forget` meets its contract: the words passed are 0.
 use Prim.Native.Nat.{ℕ, _+_, _*_, _-_, _≤_, _<_}
-use mathlib.Core.Path.{_≡_, refl, sym, ap, _∙_}
-use mathlib.Core.List.{List}
+use mathlib.Core.Path.{_≡_}
 use native.Mathlib.Omega.{arith}
-use lib.ListN.{length, getD, set, length-set}
-use Rattle.facts.specs.Facts.{Cleared}
-use Rattle.facts.proofs.Forgetting.{cleared-none, cleared-more}
+use lib.ListN.{length}
+use borrow.Author.Needs.{needs}
+use Rattle.facts.proofs.Forgetting.{Zeroed, zeroed-none, zeroed-more, zeroed-all}
 use Rattle.facts.proofs.ends.forget.Statement.{statement}
 use Rattle.facts.proofs.ends.forget.Tie as tie
-use Rattle.facts.proofs.ends.forget.Reads as reads
-use Rattle.facts.proofs.ends.forget.Lts as lts
-use Rattle.facts.proofs.ends.set_fact.Reads as set-fact-reads
 
 abbrev Inv-loop : tie.InvT-loop
-Inv-loop s₀ facts pairs p₀ s p = (p ≤ pairs) × (facts + 4 * pairs ≤ length s₀) × (length s ≡ length s₀) × Cleared s₀ s facts p
+Inv-loop s₀ facts pairs i₀ s i = (i ≤ 4 * pairs) × (facts + 4 * pairs ≤ length s₀) × Zeroed s₀ s facts (facts + 4 * pairs) i
 
 abbrev μ-loop : tie.MeasureT-loop
-μ-loop s₀ facts pairs p₀ s p = pairs - p
+μ-loop s₀ facts pairs i₀ s i = 4 * pairs - i
 
--- src/ends.rt:28:5
+-- src/ends.rt:38:5
 loop-holds : tie.Need-loop-holds Inv-loop μ-loop
-loop-holds c = (omega arith, omega arith, refl, cleared-none (c .before .args .s .now) (c .before .args .facts))
+loop-holds c = (omega arith, omega arith, zeroed-none (c .args .s .now) (c .args .facts) (c .args .facts + 4 * c .args .pairs))
 
--- src/ends.rt:29:9
-set-fact-requires : tie.Need-set-fact-requires Inv-loop μ-loop
-set-fact-requires c κs = omega arith
+-- src/ends.rt:38:15
+mul-loop : tie.Need-mul-loop Inv-loop μ-loop
+mul-loop c = search needs
 
--- src/ends.rt:30:9
-set-fact-requires-2 : tie.Need-set-fact-requires-2 Inv-loop μ-loop
-set-fact-requires-2 c κs = omega (arith, c .before .before .before .set-fact .kept .0)
+-- src/ends.rt:39:11
+add-s : tie.Need-add-s Inv-loop μ-loop
+add-s c = search needs
 
--- src/ends.rt:31:9
-set-fact-requires-3 : tie.Need-set-fact-requires-3 Inv-loop μ-loop
-set-fact-requires-3 c κs = omega (arith, c .before .before .before .set-fact2 .kept .0, c .before .before .before .before .before .before .before .set-fact .kept .0)
+-- src/ends.rt:39:9
+mul-s : tie.Need-mul-s Inv-loop μ-loop
+mul-s c = search needs
 
--- src/ends.rt:32:9
-add-p : tie.Need-add-p Inv-loop μ-loop
-add-p c = omega arith
+-- src/ends.rt:39:9
+slice-write-s : tie.Need-slice-write-s Inv-loop μ-loop
+slice-write-s c = search needs
 
--- src/ends.rt:28:5
+-- src/ends.rt:40:9
+add-i : tie.Need-add-i Inv-loop μ-loop
+add-i c = search needs
+
+-- src/ends.rt:38:5
 loop-less : tie.Need-loop-less Inv-loop μ-loop
-loop-less c = omega arith
+loop-less c = search needs
 
--- src/ends.rt:28:5
+-- src/ends.rt:38:5
 loop-again : tie.Need-loop-again Inv-loop μ-loop
 loop-again c =
-    let a = c .before .before .before .before .before .before .before .before .before .before .before .before .before .before .before .args in
-    let l = c .before .before .before .before .before .before .before .before .before .before .before .before .before .loop in
-    let f₁ = c .before .before .before .before .before .before .before .before .before .before .set-fact in
-    let f₂ = c .before .before .before .before .before .before .set-fact2 in
-    let f₃ = c .before .before .set-fact3 in
-    (omega arith, omega arith, f₃ .kept .0 ∙ f₂ .kept .0 ∙ f₁ .kept .0 ∙ l .inv .2, cleared-more (a .s .now) (l .s) (f₁ .last .0) (f₂ .last .0) (f₃ .last .0) (a .facts) (l .p) (omega arith) (l .inv .3) (f₁ .ensures) (f₂ .ensures) (f₃ .ensures))
+    let L = c .before in
+    let a = L .before .args in (
+      omega arith,
+      omega arith,
+      zeroed-more (a .s .now) (L .loop .s) (a .facts) (a .facts + 4 * a .pairs) (L .loop .i) (omega arith) (omega (arith, L .loop .inv .2 .only .size))
+          (L .loop .inv .2),
+    )
 
--- src/ends.rt:23:1
+-- src/ends.rt:33:1
 same-length : tie.Need-same-length Inv-loop μ-loop
-same-length c = c .before .loop .inv .2
+same-length c = c .before .loop .inv .2 .only .size
 
--- src/ends.rt:23:1
+-- src/ends.rt:33:1
 returns : tie.Need-returns Inv-loop μ-loop
 returns c =
-    let a = c .before .before .before .args in
-    let all : c .before .loop .p ≡ a .pairs = omega arith in
-    rw (← all) (c .before .loop .inv .3)
+    let L = c .before in
+    let a = L .before .args in
+    let all : L .loop .i ≡ 4 * a .pairs = omega arith in
+    zeroed-all (a .s .now) (L .loop .s) (a .facts) (a .pairs) (rw all at (L .loop .inv .2))
 
 pub forget-spec : {M : Type 1} → statement M
 forget-spec =
@@ -70,10 +72,11 @@ forget-spec =
     Inv-loop
     μ-loop
     loop-holds
-    set-fact-requires
-    set-fact-requires-2
-    set-fact-requires-3
-    add-p
+    mul-loop
+    add-s
+    mul-s
+    slice-write-s
+    add-i
     loop-less
     loop-again
     same-length

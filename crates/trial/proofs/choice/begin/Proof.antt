@@ -12,10 +12,10 @@ use Rattle.trial.proofs.choice.begin.Statement.{statement}
 use Rattle.trial.proofs.choice.begin.Tie as tie
 
 abbrev Inv-loop : tie.InvT-loop
-Inv-loop s₀ pairs x₀ s x = Only 39936 39952 s₀ s × (x ≤ pairs) × ((a : ℕ) → a < x → getD s (39936 + a) 0 ≡ 0)
+Inv-loop s₀ x₀ s x = Only 39936 39952 s₀ s × (x ≤ 16) × ((a : ℕ) → a < x → getD s (39936 + a) 0 ≡ 0)
 
 abbrev μ-loop : tie.MeasureT-loop
-μ-loop s₀ pairs x₀ s x = pairs - x
+μ-loop s₀ x₀ s x = 16 - x
 
 zero-next : (s : List ℕ) (x : ℕ) → 39936 + x < length s → ((a : ℕ) → a < x → getD s (39936 + a) 0 ≡ 0)
     → (a : ℕ) → a < x + 1 → getD (set s (39936 + x) 0) (39936 + a) 0 ≡ 0
@@ -34,12 +34,12 @@ set-at-requires : tie.Need-set-at-requires Inv-loop μ-loop
 set-at-requires c κs =
     let L = c .before .before in
     let S = L .before .before in
-    omega (arith, S .pre .0, S .pre .1, L .loop .inv .0 .size, c .before .loop-test .taken)
+    omega (arith, S .pre, L .loop .inv .0 .size, c .before .loop-test .taken)
 
 add-x : tie.Need-add-x Inv-loop μ-loop
 add-x c =
     let L = c .before .before .before .before .before in
-    omega (arith, L .before .before .pre .0, c .before .before .before .before .loop-test .taken)
+    omega (arith, c .before .before .before .before .loop-test .taken)
 
 loop-less : tie.Need-loop-less Inv-loop μ-loop
 loop-less c = omega (arith, c .before .before .before .before .loop-test .taken)
@@ -56,9 +56,9 @@ loop-again c =
     let i = L .loop .inv in (
       rw (W .set-at .ensures)
           (only-then 39936 39952 s₀ s (set s (39936 + x) 0) (i .0)
-          (only-set 39936 39952 s (39936 + x) 0 (omega arith) (omega (arith, S .pre .0)))),
+          (only-set 39936 39952 s (39936 + x) 0 (omega arith) (omega arith))),
       omega arith,
-      rw (W .set-at .ensures) (zero-next s x (omega (arith, S .pre .0, S .pre .1, i .0 .size)) (i .2)),
+      rw (W .set-at .ensures) (zero-next s x (omega (arith, S .pre, i .0 .size)) (i .2)),
     )
 
 same-length : tie.Need-same-length Inv-loop μ-loop

@@ -1,5 +1,4 @@
 -- `trial::choice::trial` meets its contract: the head is compared with the goal, and where all places agree the circle test follows.
-use mathlib.Core.Path.{_∙_}
 use borrow.Author.Needs.{needs}
 use Rattle.meaning.specs.Terms.{named}
 use Rattle.term.specs.States.{setting}
@@ -8,18 +7,6 @@ use Rattle.trial.specs.Choosing.{unit-of, template}
 use Rattle.trial.proofs.Trials as trials
 use Rattle.trial.proofs.choice.trial.Statement.{statement}
 use Rattle.trial.proofs.choice.trial.Tie as tie
-
-mul-word-at : tie.Need-mul-word-at
-mul-word-at c = search needs
-
-add-word-at : tie.Need-add-word-at
-add-word-at c = search needs
-
-word-at-requires : tie.Need-word-at-requires
-word-at-requires c κs = search needs
-
-index-requires : tie.Need-index-requires
-index-requires c κs = search needs
 
 begin-requires : tie.Need-begin-requires
 begin-requires c κs = search needs
@@ -33,7 +20,7 @@ add-head c = search needs
 head-requires : tie.Need-head-requires
 head-requires c κs =
     let B = c .before .before .before in
-    let S = B .before .before .before .before .before .before in
+    let S = B .before .before .before in
     let (text, names, j, limit, figures, at, g, others, goal, k, trying, stand, candidate, new, fit) = S .pre in
     let begun = B .begin .ensures .0 in (
       setting figures at (unit-of j limit figures g),
@@ -55,10 +42,10 @@ circle-requires c κs =
     let N = c .before .before in
     let P = N .before .before .before .before in
     let B = P .before .before .before .before in
-    let I = B .before .before in
-    let (text, names, j, limit, figures, at, g, others, goal, k, t, f, m, new, fit) = I .before .before .before .before .pre in
+    let S = B .before .before .before in
+    let (text, names, j, limit, figures, at, g, others, goal, k, t, f, m, new, fit) = S .pre in
     let begun = B .begin .ensures .0 in
-    let cleared = trials.cleared-all t f m begun (I .index .result) (I .index .ensures ∙ I .before .word-at .ensures) (B .begin .ensures .1) in
+    let cleared = trials.cleared-all t f m begun (B .begin .ensures .1) in
     let told = trials.comparison t f m begun (P .head .last .0) (P .head .result) (Agrees (N .n .given .0 .0)) (P .head .ensures) (N .n .given .1) in
     (trials.tried-as t f m begun new fit cleared told, trials.tried t f m begun new fit cleared told)
 
@@ -71,11 +58,11 @@ returns c =
     let N = C .before .before .before in
     let P = N .before .before .before .before in
     let B = P .before .before .before .before in
-    let I = B .before .before in
-    let fit = I .before .before .before .before .pre .14 in
+    let S = B .before .before .before in
+    let fit = S .pre .14 in
     λ text names j limit figures at g others goal k t f m new.
     let begun = B .begin .ensures .0 in
-    let cleared = trials.cleared-all t f m begun (I .index .result) (I .index .ensures ∙ I .before .word-at .ensures) (B .begin .ensures .1) in
+    let cleared = trials.cleared-all t f m begun (B .begin .ensures .1) in
     let told = trials.comparison t f m begun (P .head .last .0) (P .head .result) (Agrees (N .n .given .0 .0)) (P .head .ensures) (N .n .given .1) in
     trials.circle-fails t f m begun new fit cleared told
     (C .circle .ensures (trials.tried-as t f m begun new fit cleared told) (trials.tried t f m begun new fit cleared told)) (c .if1 .taken)
@@ -95,11 +82,11 @@ returns-2 c =
     let N = C .before .before .before in
     let P = N .before .before .before .before in
     let B = P .before .before .before .before in
-    let I = B .before .before in
-    let fit = I .before .before .before .before .pre .14 in
+    let S = B .before .before .before in
+    let fit = S .pre .14 in
     λ text names j limit figures at g others goal k t f m new.
     let begun = B .begin .ensures .0 in
-    let cleared = trials.cleared-all t f m begun (I .index .result) (I .index .ensures ∙ I .before .word-at .ensures) (B .begin .ensures .1) in
+    let cleared = trials.cleared-all t f m begun (B .begin .ensures .1) in
     let told = trials.comparison t f m begun (P .head .last .0) (P .head .result) (Agrees (N .n .given .0 .0)) (P .head .ensures) (N .n .given .1) in
     trials.no-circle-succeeds t f m begun new fit cleared told
     (C .circle .ensures (trials.tried-as t f m begun new fit cleared told) (trials.tried t f m begun new fit cleared told)) (c .if1 .left)
@@ -132,10 +119,6 @@ pub trial-spec : {M : Type 1} → statement M
 trial-spec =
     tie.close
     (tie.spec
-    mul-word-at
-    add-word-at
-    word-at-requires
-    index-requires
     begin-requires
     mul-head
     add-head
