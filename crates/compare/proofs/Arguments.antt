@@ -1,6 +1,6 @@
 -- Argument by argument: what was given so far, and what is left of both lists; the outcome of the whole is that of what is left, with what was given.
 -- How the goal's arguments stand in the scratch is left open: G says it of those that are left.
-use Prim.Native.Nat.{ℕ, _+_, _*_, _-_, _%_, _≤_, _<_}
+use Prim.Native.Nat.{ℕ, _+_, _*_, _%_, _≤_, _<_}
 use mathlib.Core.Path.{_≡_, refl, sym, subst, ap, _∙_}
 use mathlib.Core.List.{List, [], _++_, append-nil}
 use native.Mathlib.Omega.{arith}
@@ -20,8 +20,6 @@ use Rattle.compare.specs.Gifts.{Gift, assignments, entries, recorded}
 use Rattle.compare.specs.Compare.{Template, item, HeadTerm, HeadTerms, TrialStands, Against, HeadArguments, AllGiven, Answers, place-outcome, places-outcome}
 use Rattle.compare.proofs.Kept.{only-back, trial-kept, head-terms-kept, all-given-kept}
 use Rattle.compare.proofs.Gifts.{assignments-append, entries-append, recorded-append, given-wider, given-append, with-none, with-both}
-use Rattle.compare.proofs.Descent.{depth, argument-depth}
-use Rattle.rows.proofs.Seen.{seen}
 
 -- The next argument of both, where one is left.
 pub record Facing (s : List ℕ) (x : Setting) (y : Template) (m j lo hi : ℕ) (heads goals : Terms) : Type 0 where
@@ -107,11 +105,14 @@ module _ (links : ℕ) {s₀ : List ℕ} {x : Setting} {y : Template} {from m : 
   pub head-inside : p + 8 ≤ length s₀
   head-inside = omega (arith, a .cell .inside, a .place)
 
+  pub head-count : getD s₀ p 0 % 8 ≡ count us
+  head-count = rw (a .place, a .cell .functor) (first-count (item x y) g (count us) (a .cell .few))
+
   pub first-partly : (G : List ℕ → ℕ → Terms → Type 0) (ts : Terms) → G s₀ 0 ts → count us ≡ count ts → (k : ℕ) → k ≡ getD s₀ p 0 % 8
       → Partly G s₀ s₀ x y from links m us lo hi ts n k n 1
   unfolding assignments entries recorded AllGiven
   first-partly G ts goals counts k e = record {
-    whole = e ∙ rw (a .place, a .cell .functor) (first-count (item x y) g (count us) (a .cell .few));
+    whole = e ∙ head-count;
     j = 0;
     at = refl;
     heads = us;
@@ -175,11 +176,6 @@ module _ (links : ℕ) {s₀ : List ℕ} {x : Setting} {y : Template} {from m : 
         where
           counted-left : 1 ≤ count (P .heads)
           counted-left = rw (F .heads-are) (omega arith)
-
-      pub next-depth : {h : ℕ} → h ≡ getD s (p + i) 0 → depth (seen h) < 2 * (39936 - p)
-      next-depth {h} e =
-          argument-depth x y m (P .low) (F .mid) h p (F .t) (P .head .rising) (omega (arith, F .head .high, a .trial .compounds))
-          (a .trial .number) (F .head .numbered) (F .low) (head-read e) (a .place)
 
     module _ (F : Facing s x y m (P .j) (P .low) hi (P .heads) (P .goals)) where
       abbrev pub one : Outcome
@@ -281,19 +277,14 @@ module _ (links : ℕ) {s₀ : List ℕ} {x : Setting} {y : Template} {from m : 
         told = rw (r .told) at split;
       }
 
-    -- No argument is left.
-    none-left : (heads goals : Terms) → count heads ≡ count goals → count heads ≡ 0 → places-outcome x links heads goals ≡ succeeds []
-    unfolding places all-renamed count
-    none-left end end e z = refl
-    none-left end (more u ts′) e z = absurd (omega arith)
-    none-left (more t us′) goals e z = absurd (omega arith)
-
-    pub all-agree : k < i → Answers s₀ s x y n lo hi (count us) (places-outcome x links us ts) (Agrees given)
+    -- What is left agrees and gives nothing.
+    pub rest-agrees : places-outcome x links (P .heads) (P .goals) ≡ succeeds []
+        → Answers s₀ s x y n lo hi (count us) (places-outcome x links us ts) (Agrees given)
     unfolding with-assignments
-    all-agree h = record {
+    rest-agrees rest = record {
       only = P .only;
       told = (
-        omega (arith, P .fits, empty, all-numbered-order (P .low) hi (P .heads) (P .head .numbered)),
+        omega (arith, P .fits, all-numbered-order (P .low) hi (P .heads) (P .head .numbered)),
         record {
           gifts = P .gifts;
           outcome = outcome-end;
@@ -304,11 +295,18 @@ module _ (links : ℕ) {s₀ : List ℕ} {x : Setting} {y : Template} {from m : 
       );
     }
       where
-        empty : count (P .heads) ≡ 0
-        empty = omega (arith, P .at, P .left, P .whole)
-
         outcome-end : places-outcome x links us ts ≡ succeeds (assignments (length (x .values)) (x .compounds) (P .gifts))
         outcome-end =
             let g = assignments (length (x .values)) (x .compounds) (P .gifts) in
-            let whole = rw (none-left (P .heads) (P .goals) (P .counts) empty) at (P .outcome) in
+            let whole = rw rest at (P .outcome) in
             whole ∙ ap succeeds (append-nil g)
+
+    -- No argument is left.
+    none-left : (heads goals : Terms) → count heads ≡ count goals → count heads ≡ 0 → places-outcome x links heads goals ≡ succeeds []
+    unfolding places all-renamed count
+    none-left end end e z = refl
+    none-left end (more u ts′) e z = absurd (omega arith)
+    none-left (more t us′) goals e z = absurd (omega arith)
+
+    pub all-agree : k < i → Answers s₀ s x y n lo hi (count us) (places-outcome x links us ts) (Agrees given)
+    all-agree h = rest-agrees (none-left (P .heads) (P .goals) (P .counts) (omega (arith, P .at, P .left, P .whole)))

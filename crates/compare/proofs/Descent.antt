@@ -1,5 +1,5 @@
 -- Two compounds: their first words decide whether they differ; if not, their arguments are compared, deeper in the head.
-use Prim.Native.Nat.{ℕ, suc, _+_, _*_, _-_, _≤_, _<_}
+use Prim.Native.Nat.{ℕ, suc, _+_, _*_, _≤_}
 use mathlib.Core.Path.{_≡_, refl, ap}
 use mathlib.Core.Bool.{Bool, true, false, _&&_, not}
 use mathlib.Core.List.{List}
@@ -8,48 +8,17 @@ use lib.Dec.{eqb}
 use lib.ListN.{length, getD}
 use borrow.Author.Tests.{eqb-true}
 use Rattle.meaning.specs.Bytes.{if_then_else_}
-use Rattle.meaning.specs.Terms.{writer, reader, Constant, Functor, Term, Terms, end, more, count, renamed, all-renamed, same-functor}
+use Rattle.meaning.specs.Terms.{Functor, Term, Terms, end, more, count, renamed, all-renamed, same-functor}
 use Rattle.meaning.specs.Compare.{Result as Outcome, fails, place}
 use Rattle.meaning.proofs.Lists.Tests.{and-right}
-use Rattle.term.specs.Words.{view-of}
-use Rattle.term.specs.Cells.{content, term-word, Known, Numbered}
+use Rattle.term.specs.Cells.{Known, Numbered}
 use Rattle.term.specs.Holds.{Holds}
-use Rattle.term.specs.declared.word.View.{View}
-use Rattle.term.specs.declared.word.View.the-variants.{Nothing, Writer, Reader, Integer, Name, Empty, Compound}
-use Rattle.term.proofs.Cells.{all-numbered-order}
 use Rattle.compare.specs.declared.compare.Result.{Result}
 use Rattle.compare.specs.declared.compare.Result.the-variants.{Agrees, Waits, Fails}
 use Rattle.term.specs.Setting.{Setting, Within, Ranged}
 use Rattle.compare.specs.Compare.{Template, item, Against, AllAgainst, Answers, place-outcome, places-outcome}
-use Rattle.rows.proofs.Seen.{seen, seen-term}
 use Rattle.compare.proofs.Gifts.{given-wider}
 use Rattle.compare.proofs.Equal.{functors-equal}
-
--- How deep a head's term can lead: the places of its compounds rise.
-unfoldable pub depth : View → ℕ
-depth Nothing = 0
-depth (Writer p) = 0
-depth (Reader p) = 0
-depth (Integer n) = 0
-depth (Name n) = 0
-depth Empty = 0
-depth (Compound p) = 2 * (39936 - p) + 1
-
-depth-below : (x : Setting) (y : Template) (m lo hi : ℕ) (t : Term) → m < lo → hi ≤ 32 → y .number < 128 → Numbered lo hi t
-    → depth (view-of (content (item x y) t)) < 2 * (39936 - 8 * (640 + 32 * y .number + m))
-unfolding depth Numbered
-depth-below x y m lo hi (Term.variable writer n) a b e k = omega arith
-depth-below x y m lo hi (Term.variable reader n) a b e k = omega arith
-depth-below x y m lo hi (Term.constant (Constant.integer i)) a b e k = omega arith
-depth-below x y m lo hi (Term.constant (Constant.name f)) a b e k = omega arith
-depth-below x y m lo hi (Term.constant Constant.empty) a b e k = omega arith
-depth-below x y m lo hi (Term.compound n f ts) a b e k = omega (arith, k .0, all-numbered-order (lo + 1) hi ts (k .2))
-
--- An argument of a compound leads less deep than the compound.
-pub argument-depth : (x : Setting) (y : Template) (m lo hi h p : ℕ) (t : Term) → m < lo → hi ≤ 32 → y .number < 128 → Numbered lo hi t
-    → lo ≤ hi → h ≡ term-word (item x y) t → p ≡ 8 * (640 + 32 * y .number + m) → depth (seen h) < 2 * (39936 - p)
-argument-depth x y m lo hi h p t a b e k order word at =
-    rw (seen-term (item x y) t h word, at) (depth-below x y m lo hi t a b e k)
 
 count-renamed : (p c : ℕ) (ts : Terms) → count (all-renamed p c ts) ≡ count ts
 unfolding count all-renamed

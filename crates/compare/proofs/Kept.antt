@@ -74,9 +74,6 @@ module _ (s s′ : List ℕ) (o : Only 39936 40336 s s′) where
     item-outside : (n : ℕ) → n < y .compounds → Outside (item x y) n
     item-outside n h = inl (omega arith)
 
-    pub head-cell-kept : (n : ℕ) (f : Functor) (k : ℕ) → n < y .compounds → CellAt s (item x y) n f k → CellAt s′ (item x y) n f k
-    head-cell-kept = cell-at-kept (item x y) (y .pairs) (y .compounds) item-outside
-
     pub head-term-kept : (lo hi : ℕ) (t : Term) → HeadTerm s x y lo hi t → HeadTerm s′ x y lo hi t
     head-term-kept lo hi t k = record {
       held = holds-kept (item x y) (y .pairs) (y .compounds) item-outside t (k .within) (k .held);

@@ -4,6 +4,8 @@ pub mod Equal
 pub mod Gifts
 pub mod Given
 pub mod Goals
+pub mod Going
 pub mod Kept
 pub mod Place
+pub mod Same
 pub mod Table

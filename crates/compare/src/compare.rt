@@ -1,14 +1,20 @@
 // A head's term against a goal's, and the arguments of two compounds against each other: the table of document 01 (crate `rows`) at each place.
-ghost use Prim.Native.Nat.{ℕ};
-ghost use Rattle.meaning.specs.Terms.{Functor, Term, Terms, count as size};
+ghost use mathlib.Core.Path.{_≡_};
+ghost use mathlib.Core.Bool.{true};
+ghost use Prim.Native.Nat.{ℕ, _+_, _*_, _%_, _≤_};
+ghost use lib.ListN.{length, getD};
+ghost use Rattle.meaning.specs.Terms.{Functor, compound, Terms, count as size};
 ghost use Rattle.term.specs.Setting.{Setting};
 ghost use Rattle.compare.specs.Compare.{Template, Against, AllAgainst, Answers, place-outcome, places-outcome};
+ghost use Rattle.compare.specs.Same.{SameConstant, SameBehind};
 use chains::follow::follow;
 use rows::table::Met;
 use rows::table::argument;
 use rows::table::count;
 use rows::table::differ;
 use rows::table::table;
+use term::word::View;
+use term::word::look;
 
 // How many of the goal's pairs are given a term so far; or it waits on the reader of a pair; or it fails.
 pub enum Result {
@@ -17,48 +23,108 @@ pub enum Result {
     Fails,
 }
 
-pub fn place(s: &mut [u64], values: usize, links: usize, h: u64, w: u64, n: usize) -> Result
-    requires { ⌜ ((x : Setting) × (y : Template) × (lo : ℕ) × (hi : ℕ) × (t : Term) × (u : Term) × Against (now s) x y values links lo hi t u h w n) ⌝ }
-    ensures { λ r. ⌜ ((x : Setting) (y : Template) (lo hi : ℕ) (t u : Term) → Against (now (s .entry)) x y values links lo hi t u h w n
-        → Answers (now (s .entry)) (now (s .exit)) x y n lo hi 1 (place-outcome x links t u) r) ⌝ }
+// Two compounds: their functors and numbers of arguments, and then their arguments.
+fn compounds(s: &mut [u64], values: usize, links: usize, p: usize, q: usize, n: usize) -> Result
+    requires { ⌜ ((x : Setting) × (y : Template) × (lo : ℕ) × (hi : ℕ) × (m : ℕ) × (g : Functor) × (us : Terms) × (l : ℕ) × (f : Functor) × (ts : Terms)
+        × Against (now s) x y values links lo hi (compound m g us) (compound l f ts) (6 + 8 * p) (6 + 8 * q) n) ⌝ }
+    ensures { λ r. ⌜ ((x : Setting) (y : Template) (lo hi m : ℕ) (g : Functor) (us : Terms) (l : ℕ) (f : Functor) (ts : Terms)
+        → Against (now (s .entry)) x y values links lo hi (compound m g us) (compound l f ts) (6 + 8 * p) (6 + 8 * q) n
+        → Answers (now (s .entry)) (now (s .exit)) x y n lo hi 1 (place-outcome x links (compound m g us) (compound l f ts)) r) ⌝ }
 {
-    match table(s, h, w, n) {
-        Met::Agrees(m) => Result::Agrees(m),
-        Met::Waits(z) => Result::Waits(z),
-        Met::Fails => Result::Fails,
-        Met::Below(p, q) => {
-            if differ(s, p, q) {
-                return Result::Fails;
-            }
-            places(s, values, links, p, q, n)
-        }
+    if differ(s, p, q) {
+        return Result::Fails;
+    }
+    places(s, values, links, p, q, n)
+}
+
+// Whether both are the same constant.
+fn same(h: u64, a: u64) -> bool
+    ensures { λ r. ⌜ (r ≡ true → SameConstant h a) ⌝ }
+{
+    if h != a {
+        return false;
+    }
+    match look(h) {
+        View::Integer(_) => true,
+        View::Name(_) => true,
+        View::Empty => true,
+        _ => false,
     }
 }
 
-// "From left to right and depth first", up to "the first place that fails or waits".
-pub fn places(s: &mut [u64], values: usize, links: usize, p: usize, q: usize, n: usize) -> Result
+// How many arguments of two compounds are to be compared: those at the end that are the same constants agree and give nothing.
+fn open(s: &[u64], p: usize, q: usize) -> usize
+    requires { ⌜ (p + 8 ≤ length (now s)) × (q + 8 ≤ length (now s)) ⌝ }
+    ensures { λ r. ⌜ SameBehind (now (s .entry)) p q (getD (now (s .entry)) p 0 % 8) r ⌝ }
+{
+    let mut k = count(s, p);
+    while 0 < k {
+        let h = argument(s, p, k);
+        let a = argument(s, q, k);
+        if !same(h, a) {
+            return k;
+        }
+        k -= 1;
+    }
+    0
+}
+
+// "From left to right and depth first", up to "the first place that fails or waits". It goes on to two compounds that stand last in its loop.
+pub fn places(
+    s: &mut [u64],
+    values: usize,
+    links: usize,
+    first: usize,
+    second: usize,
+    n: usize,
+) -> Result
     requires { ⌜ ((x : Setting) × (y : Template) × (m : ℕ) × (g : Functor) × (us : Terms) × (lo : ℕ) × (hi : ℕ) × (l : ℕ) × (f : Functor) × (ts : Terms)
-        × AllAgainst (now s) x y values links m g us lo hi l f ts p q n) ⌝ }
+        × AllAgainst (now s) x y values links m g us lo hi l f ts first second n) ⌝ }
     ensures { λ r. ⌜ ((x : Setting) (y : Template) (m : ℕ) (g : Functor) (us : Terms) (lo hi l : ℕ) (f : Functor) (ts : Terms)
-        → AllAgainst (now (s .entry)) x y values links m g us lo hi l f ts p q n
+        → AllAgainst (now (s .entry)) x y values links m g us lo hi l f ts first second n
         → Answers (now (s .entry)) (now (s .exit)) x y n lo hi (size us) (places-outcome x links us ts) r) ⌝ }
 {
-    let k = count(s, p);
+    let mut p = first;
+    let mut q = second;
+    let mut k = open(s, p, q);
     let mut given = n;
     let mut i = 1;
     while i <= k {
         let h = argument(s, p, i);
         let a = argument(s, q, i);
         let w = follow(s, values, links, a);
-        match place(s, values, links, h, w, given) {
-            Result::Agrees(m) => {
+        match table(s, h, w, given) {
+            Met::Agrees(m) => {
                 given = m;
             }
-            Result::Waits(z) => {
+            Met::Waits(z) => {
                 return Result::Waits(z);
             }
-            Result::Fails => {
+            Met::Fails => {
                 return Result::Fails;
+            }
+            Met::Below(b, c) => {
+                if i == k {
+                    if differ(s, b, c) {
+                        return Result::Fails;
+                    }
+                    p = b;
+                    q = c;
+                    k = open(s, p, q);
+                    i = 1;
+                    continue;
+                }
+                match compounds(s, values, links, b, c, given) {
+                    Result::Agrees(m) => {
+                        given = m;
+                    }
+                    Result::Waits(z) => {
+                        return Result::Waits(z);
+                    }
+                    Result::Fails => {
+                        return Result::Fails;
+                    }
+                }
             }
         }
         i += 1;

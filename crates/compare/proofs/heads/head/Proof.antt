@@ -1,5 +1,5 @@
--- `compare::heads::head` meets its contract. The invariant is that of `places`: what was given so far, and what is left of both lists of arguments,
--- of which the goal's stand followed.
+-- `compare::heads::head` meets its contract. The invariant: what was given so far, and what is left of both lists of arguments, of which the goal's
+-- stand followed.
 use Prim.Native.Nat.{ℕ, _+_, _-_}
 use mathlib.Core.Path.{_∙_}
 use mathlib.Core.Logic.{⊎-elim}
