@@ -11,8 +11,8 @@ use lib.ListN.{length, getD}
 use borrow.Author.Tests.{eq-eqb, ne-eqb}
 use Rattle.meaning.specs.Bytes.{if_then_else_}
 use Rattle.meaning.specs.Terms.{Half, writer, reader, Constant, Term, Terms, end, more, count}
-use Rattle.meaning.proofs.Lists.Among.{In, in-cons-cases, in-none}
-use Rattle.meaning.proofs.Lists.Pigeonhole.{Distinct, pigeonhole}
+use Rattle.laws.proofs.Lists.Among.{In, in-cons-cases, in-none}
+use Rattle.laws.proofs.Lists.Pigeonhole.{Distinct, pigeonhole}
 use Rattle.term.specs.Cells.{Places, term-word, constant-content}
 use Rattle.term.specs.Words.{word}
 use Rattle.term.specs.Holds.{Holds, HoldsFrom}

@@ -8,7 +8,7 @@ use native.Mathlib.Omega.{arith}
 use lib.ListN.{length, getD}
 use Rattle.meaning.specs.Terms.{Term}
 use Rattle.meaning.specs.State.{Values, value}
-use Rattle.meaning.proofs.Circle.Leaning.{Leans, Links, one, first}
+use Rattle.laws.proofs.Circle.Leaning.{Leans, Links, one, first}
 use Rattle.term.specs.Cells.{Places}
 use Rattle.circle.specs.Ground.{Ground, ground, GroundAt, Grounds, NewGrounds}
 

@@ -6,7 +6,7 @@ use mathlib.Core.List.{List}
 use native.Mathlib.Omega.{arith}
 use lib.ListN.{length, getD}
 use Rattle.meaning.specs.Terms.{Constant, Functor, cell, named, Term, Terms, end, more, count, renamed, all-renamed}
-use Rattle.meaning.proofs.Terms.Standing.{Stands, StandsIn}
+use Rattle.laws.proofs.Terms.Standing.{Stands, StandsIn}
 use Rattle.term.specs.Cells.{Places, term-word, functor-word}
 use Rattle.term.specs.Words.{Content, word}
 use Rattle.term.specs.Holds.{Holds, HoldsFrom}

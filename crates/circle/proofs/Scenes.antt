@@ -11,7 +11,7 @@ use lib.ListN.{length, getD, take, replicate, length-append, length-replicate, L
 use lib.Seq.{getD-take, length-take-le}
 use Rattle.meaning.specs.Terms.{Term}
 use Rattle.meaning.specs.State.{value}
-use Rattle.meaning.proofs.Trial.Values.{assigned-below}
+use Rattle.laws.proofs.Trial.Values.{assigned-below}
 use Rattle.term.specs.Holds.{HoldsValue, value-word}
 use Rattle.term.specs.Setting.{Within}
 use Rattle.circle.specs.Circle.{entry-pair, entry-term, Held, Trial, old, Tried}

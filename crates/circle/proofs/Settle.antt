@@ -13,7 +13,7 @@ use lib.Seq.{getD-set-same, getD-set-other}
 use borrow.Author.Tests.{ne-eqb}
 use Rattle.meaning.specs.Terms.{writer, Term}
 use Rattle.meaning.specs.State.{value}
-use Rattle.meaning.proofs.Terms.Standing.{Stands}
+use Rattle.laws.proofs.Terms.Standing.{Stands}
 use Rattle.term.specs.Holds.{Holds}
 use Rattle.circle.specs.Ground.{Ground, ground, GroundAt}
 use Rattle.circle.specs.Search.{Scene, Told, StandsAt, LeadsIs, LastLeads, Searching, visited, Searched, Settled}

@@ -11,7 +11,7 @@ use lib.ListN.{length, getD, set, take, replicate, length-set, length-append, le
 use lib.Seq.{getD-set-same, getD-set-other, getD-append-add, take-set-le, getD-take, length-take-le}
 use borrow.Author.Tests.{eq-eqb, ne-eqb}
 use Rattle.meaning.specs.Bytes.{if_then_else_}
-use Rattle.meaning.proofs.Circle.Leaning.{Leans}
+use Rattle.laws.proofs.Circle.Leaning.{Leans}
 use Rattle.circle.specs.Ground.{GroundAt}
 use Rattle.circle.specs.Search.{Scene, whole, Searching, visited, Visited, Stamped, Marked, Seen, Closed}
 use Rattle.circle.proofs.Grounds.{new-none, new-then, grounds-on}

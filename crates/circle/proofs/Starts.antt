@@ -10,8 +10,8 @@ use lib.ListN.{length, getD, take}
 use lib.Seq.{getD-take}
 use borrow.Author.Tests.{eq-eqb, ne-eqb}
 use Rattle.meaning.specs.State.{value}
-use Rattle.meaning.proofs.Circle.Leaning.{Links}
-use Rattle.meaning.proofs.Circle.Search.{circle-says, no-circle-says}
+use Rattle.laws.proofs.Circle.Leaning.{Links}
+use Rattle.laws.proofs.Circle.Search.{circle-says, no-circle-says}
 use Rattle.term.specs.Frames.{Only}
 use Rattle.circle.specs.Circle.{entry-pair, entry-term, Held, Trial, old, Tried, Answered}
 use Rattle.circle.specs.Ground.{Ground, Grounds, NewGrounds}

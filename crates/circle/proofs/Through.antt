@@ -10,8 +10,8 @@ use native.Mathlib.Decide.{ℕ-discrete, decLt}
 use native.Mathlib.Omega.{arith}
 use lib.ListN.{length, getD}
 use Rattle.meaning.specs.State.{value}
-use Rattle.meaning.proofs.Circle.Leaning.{Leans, Links, one, first, links-join}
-use Rattle.meaning.proofs.Circle.Search.{no-circle-says, leaning-below}
+use Rattle.laws.proofs.Circle.Leaning.{Leans, Links, one, first, links-join}
+use Rattle.laws.proofs.Circle.Search.{no-circle-says, leaning-below}
 use Rattle.circle.specs.Circle.{entry-pair, Trial, old, Tried}
 use Rattle.circle.specs.Ground.{Ground}
 use Rattle.circle.specs.Search.{Scene, On, StandsAt, Shown, Visited, Seen, Searched}

@@ -11,8 +11,8 @@ use lib.ListN.{length, getD, set}
 use lib.Seq.{getD-set-same, getD-set-other}
 use Rattle.meaning.specs.Terms.{writer, reader, Constant, Term}
 use Rattle.meaning.specs.State.{Values, value}
-use Rattle.meaning.proofs.Terms.Standing.{Stands}
-use Rattle.meaning.proofs.Circle.Leaning.{Leans, Links, one, first}
+use Rattle.laws.proofs.Terms.Standing.{Stands}
+use Rattle.laws.proofs.Circle.Leaning.{Leans, Links, one, first}
 use Rattle.circle.specs.Ground.{Ground, ground}
 use Rattle.circle.specs.Search.{Scene, side, On, Told, Given, StandsAt, Searching, visited, Visited, Stamped, Seen, Reaches, Searched, Firm}
 use Rattle.circle.proofs.Stamps.{

@@ -9,7 +9,7 @@ use native.Mathlib.Decide.{ℕ-discrete}
 use native.Mathlib.Omega.{arith}
 use lib.ListN.{length, getD}
 use Rattle.meaning.specs.Terms.{writer, reader, Constant, Term, Terms, end, more, count}
-use Rattle.meaning.proofs.Terms.Standing.{Stands, StandsIn}
+use Rattle.laws.proofs.Terms.Standing.{Stands, StandsIn}
 use Rattle.term.specs.Cells.{Places, term-word, functor-word}
 use Rattle.term.specs.Words.{word}
 use Rattle.term.specs.Holds.{Holds, HoldsFrom, value-word}

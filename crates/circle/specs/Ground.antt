@@ -7,7 +7,7 @@ use mathlib.Core.Option.{some}
 use lib.ListN.{length, getD}
 use Rattle.meaning.specs.Terms.{Term}
 use Rattle.meaning.specs.State.{Values, value}
-use Rattle.meaning.proofs.Terms.Standing.{Stands}
+use Rattle.laws.proofs.Terms.Standing.{Stands}
 use Rattle.term.specs.Cells.{Places}
 
 -- A pair has a value, and so has each pair that stands in it, and so on to the end.

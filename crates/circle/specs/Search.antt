@@ -11,8 +11,8 @@ use lib.ListN.{length, getD, take, replicate}
 use Rattle.meaning.specs.Bytes.{if_then_else_}
 use Rattle.meaning.specs.Terms.{Term}
 use Rattle.meaning.specs.State.{Values, value}
-use Rattle.meaning.proofs.Terms.Standing.{Stands}
-use Rattle.meaning.proofs.Circle.Leaning.{Leans, Links}
+use Rattle.laws.proofs.Terms.Standing.{Stands}
+use Rattle.laws.proofs.Circle.Leaning.{Leans, Links}
 use Rattle.term.specs.Cells.{Places}
 use Rattle.term.specs.Holds.{value-word, HoldsValue}
 use Rattle.circle.specs.Ground.{Ground, GroundAt, Grounds, NewGrounds}

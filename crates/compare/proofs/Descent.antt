@@ -10,7 +10,7 @@ use borrow.Author.Tests.{eqb-true}
 use Rattle.meaning.specs.Bytes.{if_then_else_}
 use Rattle.meaning.specs.Terms.{Functor, Term, Terms, end, more, count, renamed, all-renamed, same-functor}
 use Rattle.meaning.specs.Compare.{Result as Outcome, fails, place}
-use Rattle.meaning.proofs.Lists.Tests.{and-right}
+use Rattle.laws.proofs.Lists.Tests.{and-right}
 use Rattle.term.specs.Cells.{Known, Numbered}
 use Rattle.term.specs.Holds.{Holds}
 use Rattle.compare.specs.declared.compare.Result.{Result}

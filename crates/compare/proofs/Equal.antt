@@ -9,7 +9,7 @@ use lib.Dec.{eqb}
 use borrow.Author.Tests.{eqb-true, eq-eqb, ne-eqb}
 use Rattle.meaning.specs.Bytes.{Bytes, same, any, if_then_else_}
 use Rattle.meaning.specs.Terms.{Integer, plus, minus, Constant, Functor, cell, named, Term, same-integer, same-constant, same-functor}
-use Rattle.meaning.proofs.Lists.Tests.{same-answer, and-left, and-right, same-refl}
+use Rattle.laws.proofs.Lists.Tests.{same-answer, and-left, and-right, same-refl}
 use Rattle.term.specs.Cells.{Places, bits, number-of, term-word, functor-word, KnownName, KnownConstant, KnownFunctor}
 use Rattle.term.specs.Setting.{RangedInteger, RangedConstant}
 

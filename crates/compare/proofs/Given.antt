@@ -15,7 +15,7 @@ use Rattle.meaning.specs.Terms.{Functor, Term, Terms, Named, Clause, count, ren
 use Rattle.meaning.specs.State.{Values, value, QueryUnit}
 use Rattle.meaning.specs.Compare.{Assignment, Result, succeeds}
 use Rattle.meaning.specs.Trial.{with-pairs, assigned, next-pair, compared}
-use Rattle.meaning.proofs.Lists.Tests.{eqb-raised}
+use Rattle.laws.proofs.Lists.Tests.{eqb-raised}
 use Rattle.term.specs.Cells.{Places, term-word}
 use Rattle.term.specs.Holds.{value-word}
 use Rattle.compare.specs.declared.compare.Result.the-variants.{Agrees}

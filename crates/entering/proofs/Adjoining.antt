@@ -8,8 +8,8 @@ use lib.ListN.{length, getD, length-map, length-replicate}
 use Rattle.meaning.specs.Bytes.{Bytes}
 use Rattle.meaning.specs.Terms.{Term, Query, Named, as-term}
 use Rattle.meaning.specs.State.{Room, QueryUnit, Goal, value, unit-at, first-unit, goals-at}
-use Rattle.meaning.proofs.Lists.EachOf.{Each}
-use Rattle.meaning.proofs.Trial.Values.{value-replicate}
+use Rattle.laws.proofs.Lists.EachOf.{Each}
+use Rattle.laws.proofs.Trial.Values.{value-replicate}
 use Rattle.term.specs.Cells.{Places, Known}
 use Rattle.term.specs.Holds.{Holds}
 use Rattle.term.specs.Jobs.{query-record, EachFrom, GoalsKnown}

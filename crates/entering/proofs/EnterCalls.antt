@@ -12,9 +12,9 @@ use Rattle.meaning.specs.Bytes.{Bytes}
 use Rattle.meaning.specs.Terms.{Named, Query, Job}
 use Rattle.meaning.specs.State.{Room, number-of, all-goals, query-pairs, query-compounds, start}
 use Rattle.meaning.specs.Run.{queries-fit}
-use Rattle.meaning.proofs.Lists.EachOf.{Each}
-use Rattle.meaning.proofs.Reading.{accepted-keeps-the-figures}
-use Rattle.meaning.proofs.Reading.Figures.{QueryFits}
+use Rattle.laws.proofs.Lists.EachOf.{Each}
+use Rattle.laws.proofs.Reading.{accepted-keeps-the-figures}
+use Rattle.laws.proofs.Reading.Figures.{QueryFits}
 use Rattle.term.specs.Jobs.{query-record, EachFrom}
 use Rattle.term.specs.Layout.{queue-region}
 use Rattle.term.specs.States.{Atlas, ring, logged, listed, Ready}

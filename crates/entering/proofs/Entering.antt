@@ -9,9 +9,9 @@ use lib.Seq.{getD-append-seam, getD-set-same, getD-set-other}
 use Rattle.meaning.specs.Bytes.{Bytes}
 use Rattle.meaning.specs.Terms.{Term, Terms, variable, constant, compound, end, more, Named, Query, Job, renamed, all-renamed, as-term}
 use Rattle.meaning.specs.State.{Room, Goal, number-of, first-unit, goals-at, all-goals, query-pairs, query-compounds, start}
-use Rattle.meaning.proofs.Lists.EachOf.{Each, each-split}
-use Rattle.meaning.proofs.Reading.{accepted-keeps-the-figures}
-use Rattle.meaning.proofs.Reading.Figures.{QueryFits}
+use Rattle.laws.proofs.Lists.EachOf.{Each, each-split}
+use Rattle.laws.proofs.Reading.{accepted-keeps-the-figures}
+use Rattle.laws.proofs.Reading.Figures.{QueryFits}
 use Rattle.term.specs.Cells.{Places}
 use Rattle.term.specs.Holds.{Holds}
 use Rattle.term.specs.Jobs.{query-record, query-base, places-from, HoldsQuery, JobKept}

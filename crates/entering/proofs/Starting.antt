@@ -8,7 +8,7 @@ use lib.ListN.{length, length-append, length-map}
 use Rattle.meaning.specs.Terms.{Named, Query}
 use Rattle.meaning.specs.State.{Room, Goal, unit-at, number-of, first-unit, goals-at, all-goals, query-pairs, query-compounds, start}
 use Rattle.meaning.specs.Run.{queries-fit}
-use Rattle.meaning.proofs.Runs.Counts.{within-says}
+use Rattle.laws.proofs.Runs.Counts.{within-says}
 
 pub units-number : (done : List Query) (x : Query) → length (map first-unit (done ++ x ∷ [])) ≡ length done + 1
 units-number [] x = refl

@@ -10,7 +10,7 @@ use lib.ListN.{length, length-append}
 use Rattle.meaning.specs.Bytes.{among, each-once}
 use Rattle.meaning.specs.Terms.{Term, pairs-of}
 use Rattle.meaning.specs.Report.{Standing, written}
-use Rattle.meaning.proofs.Lists.Among.{In, here, there, in-none, in-among, in-append-left, in-append-right, each-once-covers}
+use Rattle.laws.proofs.Lists.Among.{In, here, there, in-none, in-among, in-append-left, in-append-right, each-once-covers}
 use Rattle.facts.specs.Threaded.{seen-after, shown}
 use Rattle.facts.proofs.Settled.{settled}
 

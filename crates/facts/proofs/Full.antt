@@ -11,9 +11,9 @@ use Rattle.meaning.specs.State.{Values, value}
 use Rattle.meaning.specs.Compare.{followed}
 use Rattle.meaning.specs.Circle.{circle}
 use Rattle.meaning.specs.Report.{applied}
-use Rattle.meaning.proofs.Circle.Following.{followed-unassigned}
-use Rattle.meaning.proofs.Circle.Written.{applied-within, applied-unassigned}
-use Rattle.meaning.proofs.Terms.Standing.{Stands}
+use Rattle.laws.proofs.Circle.Following.{followed-unassigned}
+use Rattle.laws.proofs.Circle.Written.{applied-within, applied-unassigned}
+use Rattle.laws.proofs.Terms.Standing.{Stands}
 use Rattle.facts.specs.Threaded.{full, all-full}
 
 -- What stands for a variable, over so many links more.

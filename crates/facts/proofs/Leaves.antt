@@ -12,7 +12,7 @@ use Rattle.meaning.specs.Bytes.{Bytes, bytes, decimal, same, any, if_then_else_
 use Rattle.meaning.specs.Terms.{Half, writer, reader, Integer, plus, minus, Constant, Functor, cell, named, Term, Terms}
 use Rattle.meaning.specs.State.{value}
 use Rattle.meaning.specs.Report.{alone, written, variable-bytes, number-in, integer-bytes, constant-bytes, behind-bar, empty-bytes}
-use Rattle.meaning.proofs.Terms.Standing.{Stands}
+use Rattle.laws.proofs.Terms.Standing.{Stands}
 use Rattle.term.specs.Words.{view-of}
 use Rattle.term.specs.Cells.{content, bits, number-of, functor-number, KnownName, Known}
 use Rattle.term.specs.Setting.{Setting, Within, Ranged, RangedInteger}

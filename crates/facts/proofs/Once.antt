@@ -12,8 +12,8 @@ use borrow.Author.Tests.{eqb-true, eq-eqb}
 use Rattle.meaning.specs.Bytes.{among, each-once}
 use Rattle.meaning.specs.Terms.{Half, Constant, Functor, Term, Terms, variable, constant, compound, end, more, pairs-of, pairs-of-all}
 use Rattle.meaning.specs.Report.{number-in, Line, pairs-shown, unassigned-pairs}
-use Rattle.meaning.proofs.Lists.Among.{In, here, there, in-append-left, in-append-right, in-among, each-once-covers}
-use Rattle.meaning.proofs.Terms.Standing.{Stands, StandsIn}
+use Rattle.laws.proofs.Lists.Among.{In, here, there, in-append-left, in-append-right, in-among, each-once-covers}
+use Rattle.laws.proofs.Terms.Standing.{Stands, StandsIn}
 use Rattle.facts.specs.Threaded.{seen-after, seen-after-all, seen-after-lines}
 
 pub among-append : (n : ℕ) (l m : List ℕ) → among n (l ++ m) ≡ among n l || among n m

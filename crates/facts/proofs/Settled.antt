@@ -35,8 +35,8 @@ use Rattle.meaning.specs.Report.{
   first-argument,
   other-arguments,
 }
-use Rattle.meaning.proofs.Lists.Among.{In, in-among}
-use Rattle.meaning.proofs.Terms.Standing.{Stands, StandsIn}
+use Rattle.laws.proofs.Lists.Among.{In, in-among}
+use Rattle.laws.proofs.Terms.Standing.{Stands, StandsIn}
 use Rattle.facts.specs.Threaded.{seen-after, seen-after-all, shown, shown-others, shown-arguments}
 use Rattle.facts.proofs.Once.{
   seen-after-compound,

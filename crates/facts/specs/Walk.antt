@@ -8,7 +8,7 @@ use Rattle.meaning.specs.Bytes.{Bytes, bytes}
 use Rattle.meaning.specs.Terms.{Functor, cell, named, Term, Terms, end, more, count}
 use Rattle.meaning.specs.State.{Values}
 use Rattle.meaning.specs.Report.{alone, tail, written, tail-bytes, element-and-tail, first-argument, other-arguments}
-use Rattle.meaning.proofs.Terms.Standing.{StandsIn}
+use Rattle.laws.proofs.Terms.Standing.{StandsIn}
 use Rattle.term.specs.Holds.{CellAt}
 use Rattle.term.specs.Setting.{Setting, UnitTerm, UnitTerms}
 use Rattle.term.specs.Spellings.{SpelledAt}

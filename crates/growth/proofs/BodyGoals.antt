@@ -11,11 +11,11 @@ use Rattle.meaning.specs.State.{Room, QueryUnit, Goal, unit-at, goals-at}
 use Rattle.meaning.specs.Compare.{Assignment}
 use Rattle.meaning.specs.Trial.{next-pair}
 use Rattle.meaning.specs.Step.{body-goals}
-use Rattle.meaning.proofs.Lists.Among.{In}
-use Rattle.meaning.proofs.Lists.EachOf.{Each, each-in}
-use Rattle.meaning.proofs.Trial.Values.{length-values-after}
-use Rattle.meaning.proofs.Reading.{accepted-keeps-the-figures}
-use Rattle.meaning.proofs.Reading.Figures.{Bounds, IntegerFits, ConstantFits, FunctorFits, TermFits, TermsFit, NamedFits, ClauseFits, as-term-fits}
+use Rattle.laws.proofs.Lists.Among.{In}
+use Rattle.laws.proofs.Lists.EachOf.{Each, each-in}
+use Rattle.laws.proofs.Trial.Values.{length-values-after}
+use Rattle.laws.proofs.Reading.{accepted-keeps-the-figures}
+use Rattle.laws.proofs.Reading.Figures.{Bounds, IntegerFits, ConstantFits, FunctorFits, TermFits, TermsFit, NamedFits, ClauseFits, as-term-fits}
 use Rattle.term.specs.Cells.{Places, Known}
 use Rattle.term.specs.Holds.{Holds}
 use Rattle.term.specs.Jobs.{GoalsKnown}

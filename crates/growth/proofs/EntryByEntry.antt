@@ -10,8 +10,8 @@ use Rattle.meaning.specs.Terms.{Term, renamed}
 use Rattle.meaning.specs.State.{Values, value}
 use Rattle.meaning.specs.Compare.{Assignment}
 use Rattle.meaning.specs.Trial.{assigned}
-use Rattle.meaning.proofs.Lists.Among.{In, here, there, in-cons-cases, in-none}
-use Rattle.meaning.proofs.Trial.Values.{value-assigned-other}
+use Rattle.laws.proofs.Lists.Among.{In, here, there, in-cons-cases, in-none}
+use Rattle.laws.proofs.Trial.Values.{value-assigned-other}
 use Rattle.term.specs.Cells.{Places, term-word}
 use Rattle.term.specs.Holds.{Holds}
 use Rattle.term.specs.Setting.{Setting}

@@ -13,15 +13,15 @@ use Rattle.meaning.specs.Compare.{Assignment}
 use Rattle.meaning.specs.Trial.{reduces}
 use Rattle.meaning.specs.Step.{unit-after, body-goals, wakes, goals-after, pairs-charged, compounds-charged, without-front, step}
 use Rattle.meaning.specs.Run.{fits, choice-for, run}
-use Rattle.meaning.proofs.Lists.EachOf.{each-of-those}
-use Rattle.meaning.proofs.Lists.Filters.{length-those}
-use Rattle.meaning.proofs.Reading.{accepted-keeps-the-occurrence-rules}
-use Rattle.meaning.proofs.Runs.{run-within-room}
-use Rattle.meaning.proofs.Runs.Charges.{run-units}
-use Rattle.meaning.proofs.Runs.Counts.{within-says, after-within}
-use Rattle.meaning.proofs.Circle.{run-no-circle, step-values-stay}
-use Rattle.meaning.proofs.Single.{reduction-assigns-once}
-use Rattle.meaning.proofs.Trial.Chosen.{reduces-agrees}
+use Rattle.laws.proofs.Lists.EachOf.{each-of-those}
+use Rattle.laws.proofs.Lists.Filters.{length-those}
+use Rattle.laws.proofs.Reading.{accepted-keeps-the-occurrence-rules}
+use Rattle.laws.proofs.Runs.{run-within-room}
+use Rattle.laws.proofs.Runs.Charges.{run-units}
+use Rattle.laws.proofs.Runs.Counts.{within-says, after-within}
+use Rattle.laws.proofs.Circle.{run-no-circle, step-values-stay}
+use Rattle.laws.proofs.Single.{reduction-assigns-once}
+use Rattle.laws.proofs.Trial.Chosen.{reduces-agrees}
 use Rattle.term.specs.Jobs.{query-record, GoalsKnown, EachFrom, JobKept}
 use Rattle.term.specs.Layout.{values-region, waiters-region, sets-region, marks-region, ends-region, queue-region, waiting-region, failed-region, need-of}
 use Rattle.term.specs.States.{Atlas, setting, goal-word, ring, UnitsStand, FirstPair, AllStand, QueueStands, WaitingStand, FailedStand, HoldsState}

@@ -11,10 +11,10 @@ use Rattle.meaning.specs.Terms.{Term, Clause, renamed}
 use Rattle.meaning.specs.State.{Room, value, QueryUnit}
 use Rattle.meaning.specs.Compare.{Assignment}
 use Rattle.meaning.specs.Trial.{with-pairs, values-after}
-use Rattle.meaning.proofs.Lists.Among.{In}
-use Rattle.meaning.proofs.Lists.EachOf.{each-in}
-use Rattle.meaning.proofs.Single.{AssignedOnce}
-use Rattle.meaning.proofs.Trial.Values.{value-with-pairs, length-with-pairs, length-values-after, value-after-cases, assigned-below}
+use Rattle.laws.proofs.Lists.Among.{In}
+use Rattle.laws.proofs.Lists.EachOf.{each-in}
+use Rattle.laws.proofs.Single.{AssignedOnce}
+use Rattle.laws.proofs.Trial.Values.{value-with-pairs, length-with-pairs, length-values-after, value-after-cases, assigned-below}
 use Rattle.term.specs.Cells.{Places}
 use Rattle.term.specs.Holds.{Holds, HoldsValue}
 use Rattle.term.specs.Setting.{Setting, OfUnit, UnitTerm, UnitStands}

@@ -9,7 +9,7 @@ use Rattle.meaning.specs.Bytes.{Bytes}
 use Rattle.meaning.specs.Terms.{Clause, Query, as-term}
 use Rattle.meaning.specs.State.{Room, QueryUnit, Goal, unit-at}
 use Rattle.meaning.specs.Compare.{Assignment}
-use Rattle.meaning.proofs.Trial.Values.{unit-at-set-same, unit-at-set-other, length-values-after}
+use Rattle.laws.proofs.Trial.Values.{unit-at-set-same, unit-at-set-other, length-values-after}
 use Rattle.term.specs.Cells.{Places}
 use Rattle.term.specs.Jobs.{query-record, EachFrom}
 use Rattle.term.specs.Layout.{values-region}

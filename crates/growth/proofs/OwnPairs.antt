@@ -9,9 +9,9 @@ use Rattle.meaning.specs.Terms.{Term, Query, Job}
 use Rattle.meaning.specs.State.{Room, QueryUnit, State, unit-at, first-unit, start}
 use Rattle.meaning.specs.Step.{step, unit-after}
 use Rattle.meaning.specs.Run.{choice-for, run}
-use Rattle.meaning.proofs.Runs.{run-keeps}
-use Rattle.meaning.proofs.Runs.Charges.{pairs-after}
-use Rattle.meaning.proofs.Trial.Values.{unit-at-set}
+use Rattle.laws.proofs.Runs.{run-keeps}
+use Rattle.laws.proofs.Runs.Charges.{pairs-after}
+use Rattle.laws.proofs.Trial.Values.{unit-at-set}
 use Rattle.term.specs.Jobs.{EachFrom}
 
 pub no-query : Query

@@ -14,12 +14,12 @@ use Rattle.meaning.specs.Compare.{Assignment}
 use Rattle.meaning.specs.Trial.{reduces}
 use Rattle.meaning.specs.Step.{wakes, without-front}
 use Rattle.meaning.specs.Run.{fits, choice-for, run}
-use Rattle.meaning.proofs.Lists.EachOf.{Each}
-use Rattle.meaning.proofs.Lists.Filters.{length-those}
-use Rattle.meaning.proofs.Reading.{accepted-keeps-the-occurrence-rules}
-use Rattle.meaning.proofs.Runs.Counts.{within-says}
-use Rattle.meaning.proofs.Single.{reduction-assigns-once}
-use Rattle.meaning.proofs.Trial.Chosen.{reduces-agrees}
+use Rattle.laws.proofs.Lists.EachOf.{Each}
+use Rattle.laws.proofs.Lists.Filters.{length-those}
+use Rattle.laws.proofs.Reading.{accepted-keeps-the-occurrence-rules}
+use Rattle.laws.proofs.Runs.Counts.{within-says}
+use Rattle.laws.proofs.Single.{reduction-assigns-once}
+use Rattle.laws.proofs.Trial.Chosen.{reduces-agrees}
 use Rattle.term.specs.Cells.{Places}
 use Rattle.term.specs.Jobs.{clause-record, query-record, HoldsGoals}
 use Rattle.term.specs.Layout.{values-region, waiters-region, sets-region, queue-region, waiting-region, need-of}

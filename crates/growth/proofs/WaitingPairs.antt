@@ -12,11 +12,11 @@ use Rattle.meaning.specs.Items.{job, reading}
 use Rattle.meaning.specs.State.{Room, QueryUnit, Goal, Waiting, State, unit-at, of, goals-of, part-of}
 use Rattle.meaning.specs.Compare.{Assignment}
 use Rattle.meaning.specs.Run.{run}
-use Rattle.meaning.proofs.Lists.Among.{In, in-those}
-use Rattle.meaning.proofs.Lists.EachOf.{Each, each-in, each-member}
-use Rattle.meaning.proofs.Runs.{run-placed}
-use Rattle.meaning.proofs.Reading.{accepted-keeps-the-occurrence-rules}
-use Rattle.meaning.proofs.Single.{single-occurrence}
+use Rattle.laws.proofs.Lists.Among.{In, in-those}
+use Rattle.laws.proofs.Lists.EachOf.{Each, each-in, each-member}
+use Rattle.laws.proofs.Runs.{run-placed}
+use Rattle.laws.proofs.Reading.{accepted-keeps-the-occurrence-rules}
+use Rattle.laws.proofs.Single.{single-occurrence}
 use Rattle.term.specs.States.{Atlas, goal-word, AllStand}
 use Rattle.reduction.specs.Build.{Copies}
 use Rattle.queues.specs.Log.{Slot, waits, gathered}

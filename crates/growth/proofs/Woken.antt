@@ -12,10 +12,10 @@ use Rattle.meaning.specs.Bytes.{among, any, those, if_then_else_}
 use Rattle.meaning.specs.State.{QueryUnit, Waiting, unit-at, of}
 use Rattle.meaning.specs.Compare.{Assignment}
 use Rattle.meaning.specs.Step.{wakes}
-use Rattle.meaning.proofs.Lists.Among.{In, among-in, in-among, any-in, in-any, in-map, in-same}
-use Rattle.meaning.proofs.Lists.Tests.{same-answer, and-left, and-right}
-use Rattle.meaning.proofs.Lists.Filters.{those-map}
-use Rattle.meaning.proofs.Lists.EachOf.{Each, each-in}
+use Rattle.laws.proofs.Lists.Among.{In, among-in, in-among, any-in, in-any, in-map, in-same}
+use Rattle.laws.proofs.Lists.Tests.{same-answer, and-left, and-right}
+use Rattle.laws.proofs.Lists.Filters.{those-map}
+use Rattle.laws.proofs.Lists.EachOf.{Each, each-in}
 use Rattle.term.specs.Cells.{Places}
 use Rattle.term.specs.Setting.{Setting}
 use Rattle.term.specs.States.{Atlas, goal-word}

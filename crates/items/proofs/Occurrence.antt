@@ -12,7 +12,7 @@ use borrow.Author.Tests.{leb-true, leb-false, le-leb, lt-leb}
 use Rattle.meaning.specs.Bytes.{all, up-to}
 use Rattle.meaning.specs.Terms.{Half, writer, reader, Named, goals-occurrences}
 use Rattle.meaning.specs.Items.{nothing-twice, both-halves}
-use Rattle.meaning.proofs.Lists.Tests.{and-left, and-right}
+use Rattle.laws.proofs.Lists.Tests.{and-left, and-right}
 use Rattle.openings.specs.Reading.{half-place}
 use Rattle.tables.specs.Rules.{once, alike, none-twice, halves-alike}
 use Rattle.tables.proofs.Tallies.{all-suc}

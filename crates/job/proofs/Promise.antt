@@ -35,12 +35,12 @@ use Rattle.meaning.specs.Call.{
   taken,
   call,
 }
-use Rattle.meaning.proofs.Lists.Tests.{differ, and-left, and-right}
-use Rattle.meaning.proofs.Report.Decimal.{tries-shown}
-use Rattle.meaning.proofs.Call.Delivered.{ran-read-a-job}
-use Rattle.meaning.proofs.Own.{TextsAlike}
-use Rattle.meaning.proofs.Own.Shown.{section-shown, rest-shown, left-by}
-use Rattle.meaning.proofs.Promise.{same-tries-same-section, both-rest-same-section}
+use Rattle.laws.proofs.Lists.Tests.{differ, and-left, and-right}
+use Rattle.laws.proofs.Report.Decimal.{tries-shown}
+use Rattle.laws.proofs.Call.Delivered.{ran-read-a-job}
+use Rattle.laws.proofs.Own.{TextsAlike}
+use Rattle.laws.proofs.Own.Shown.{section-shown, rest-shown, left-by}
+use Rattle.laws.proofs.Promise.{same-tries-same-section, both-rest-same-section}
 use Rattle.term.specs.Layout.{need-of}
 use Rattle.job.specs.Calling.{answer-of, outcome, Called}
 use Rattle.job.specs.declared.call.Answer.{Answer}

@@ -14,11 +14,11 @@ use Rattle.meaning.specs.State.{Room, QueryUnit, Goal, Waiting, unit-at, of, go
 use Rattle.meaning.specs.Trial.{joins-waiting}
 use Rattle.meaning.specs.Step.{goals-after, without-front, step}
 use Rattle.meaning.specs.Run.{run}
-use Rattle.meaning.proofs.Lists.Among.{In, here, among-in, in-among, in-those, in-append-left, in-append-right}
-use Rattle.meaning.proofs.Lists.EachOf.{Each, each-in}
-use Rattle.meaning.proofs.Runs.{run-placed}
-use Rattle.meaning.proofs.Reading.{accepted-keeps-the-occurrence-rules}
-use Rattle.meaning.proofs.Single.{single-occurrence, no-two-wait-on-one-pair}
+use Rattle.laws.proofs.Lists.Among.{In, here, among-in, in-among, in-those, in-append-left, in-append-right}
+use Rattle.laws.proofs.Lists.EachOf.{Each, each-in}
+use Rattle.laws.proofs.Runs.{run-placed}
+use Rattle.laws.proofs.Reading.{accepted-keeps-the-occurrence-rules}
+use Rattle.laws.proofs.Single.{single-occurrence, no-two-wait-on-one-pair}
 use Rattle.term.specs.States.{Atlas, listed, Lies, GoalStands, AllStand}
 use Rattle.trial.specs.Choosing.{AllBelow}
 use Rattle.queues.specs.Log.{Slot, gone, waits, pairs-in, slot, present}

@@ -7,7 +7,7 @@ use lib.ListN.{length, length-append, getD}
 use Rattle.meaning.specs.Bytes.{Bytes, decimal}
 use Rattle.meaning.specs.Terms.{Half, writer, reader, Term}
 use Rattle.meaning.specs.Report.{alone, written, number-in}
-use Rattle.meaning.proofs.Terms.Standing.{Stands}
+use Rattle.laws.proofs.Terms.Standing.{Stands}
 use Rattle.term.specs.Setting.{Setting}
 use Rattle.term.specs.declared.word.View.the-variants.{Writer, Reader}
 use Rattle.facts.specs.Threaded.{full}

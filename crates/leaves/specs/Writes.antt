@@ -6,7 +6,7 @@ use lib.ListN.{length, getD}
 use Rattle.meaning.specs.Bytes.{Bytes}
 use Rattle.meaning.specs.Terms.{Term}
 use Rattle.meaning.specs.Report.{alone, number-in, written}
-use Rattle.meaning.proofs.Terms.Standing.{Stands}
+use Rattle.laws.proofs.Terms.Standing.{Stands}
 use Rattle.term.specs.Setting.{Setting}
 use Rattle.facts.specs.Threaded.{full}
 use Rattle.facts.specs.Facts.{Readable, fact-place}

@@ -8,8 +8,8 @@ use Rattle.meaning.specs.Terms.{Clause, Job}
 use Rattle.meaning.specs.State.{Room, Goal, State, start}
 use Rattle.meaning.specs.Step.{without-front}
 use Rattle.meaning.specs.Run.{Verdict, rest, budget, room, Ended, ended, fits, choice-for, onward, run}
-use Rattle.meaning.proofs.Runs.{run-goes-on, rest-exactly-if-queue-empty, budget-exactly-if-spent, room-exactly-if-goal-and-budget-left}
-use Rattle.meaning.proofs.Runs.Further.{goes-on}
+use Rattle.laws.proofs.Runs.{run-goes-on, rest-exactly-if-queue-empty, budget-exactly-if-spent, room-exactly-if-goal-and-budget-left}
+use Rattle.laws.proofs.Runs.Further.{goes-on}
 
 pub run-starts : (j : Job) (figures : Room) → run j 0 figures .state ≡ start (j .queries)
 unfolding run onward ended

@@ -1,4 +1,5 @@
 -- The cases of document 01 as one computed statement over one list of them. `tests/cases` names those that fail, if any.
+-- What no case shows of two definitions stands in Alone.
 use Prim.Native.String.{String}
 use mathlib.Core.Path.{_≡_, refl}
 use mathlib.Core.List.{List, [], _∷_, _++_}
@@ -9,6 +10,7 @@ pub mod Texts
 pub mod Figures
 pub mod Calls
 pub mod Runs
+pub mod Alone
 use Session.{session, errors, session-words}
 use Texts.{tokens-cases, items-cases, texts-words}
 use Figures.{figures-cases, figures-words}

@@ -5,7 +5,7 @@ use mathlib.Core.Logic.{_⊎_, ⊎-elim}
 use mathlib.Core.List.{List, [], _∷_, _++_, map, append-nil, append-assoc}
 use native.Mathlib.Omega.{arith}
 use lib.ListN.{length}
-use Rattle.meaning.proofs.Lists.Among.{In, here, there, in-cons-cases, in-none, in-append-right}
+use Rattle.laws.proofs.Lists.Among.{In, here, there, in-cons-cases, in-none, in-append-right}
 use Rattle.queues.specs.Log.{Slot, gone, waits, slot, goal-of, present}
 
 -- The goals of a list of slots, from its first on.

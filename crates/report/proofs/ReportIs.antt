@@ -10,7 +10,7 @@ use Rattle.meaning.specs.Terms.{Query, Job}
 use Rattle.meaning.specs.State.{Room, State, Part, of, unit-at, goals-of, part-of}
 use Rattle.meaning.specs.Run.{run, Ended}
 use Rattle.meaning.specs.Report.{header, section, sections, run-line, report}
-use Rattle.meaning.proofs.Runs.Charges.{run-units}
+use Rattle.laws.proofs.Runs.Charges.{run-units}
 use Rattle.term.specs.Jobs.{query-record}
 use Rattle.term.specs.Layout.{waiters-region}
 use Rattle.term.specs.States.{Atlas, Finished, verdict-of}

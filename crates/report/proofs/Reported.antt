@@ -14,7 +14,7 @@ use Rattle.meaning.specs.Terms.{Job}
 use Rattle.meaning.specs.State.{Room}
 use Rattle.meaning.specs.Run.{run}
 use Rattle.meaning.specs.Report.{report}
-use Rattle.meaning.proofs.Runs.{steps-within-budget}
+use Rattle.laws.proofs.Runs.{steps-within-budget}
 use Rattle.term.specs.Layout.{waiters-region, need-of}
 use Rattle.term.specs.States.{Finished}
 use Rattle.term.specs.declared.state.Standing.{Standing}

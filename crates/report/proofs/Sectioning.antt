@@ -13,13 +13,13 @@ use Rattle.meaning.specs.State.{Room, QueryUnit, Goal, State, value, no-unit, u
 use Rattle.meaning.specs.Trial.{Choice, reduces, joins-waiting, joins-failed}
 use Rattle.meaning.specs.Step.{unit-after, step}
 use Rattle.meaning.specs.Run.{run, choice-for}
-use Rattle.meaning.proofs.Lists.Among.{In, in-cons-cases, in-none}
-use Rattle.meaning.proofs.Lists.Filters.{those-map}
-use Rattle.meaning.proofs.Lists.Pigeonhole.{Distinct, pigeonhole}
-use Rattle.meaning.proofs.Runs.Invariant.{run-keeps}
-use Rattle.meaning.proofs.Runs.Charges.{run-units}
-use Rattle.meaning.proofs.Trial.Values.{unit-at-set, length-values-after}
-use Rattle.meaning.proofs.Circle.Never.{run-no-circle}
+use Rattle.laws.proofs.Lists.Among.{In, in-cons-cases, in-none}
+use Rattle.laws.proofs.Lists.Filters.{those-map}
+use Rattle.laws.proofs.Lists.Pigeonhole.{Distinct, pigeonhole}
+use Rattle.laws.proofs.Runs.Invariant.{run-keeps}
+use Rattle.laws.proofs.Runs.Charges.{run-units}
+use Rattle.laws.proofs.Trial.Values.{unit-at-set, length-values-after}
+use Rattle.laws.proofs.Circle.Never.{run-no-circle}
 use Rattle.term.specs.Jobs.{query-record, EachFrom, HoldsQuery}
 use Rattle.term.specs.Layout.{values-region, waiters-region}
 use Rattle.term.specs.Setting.{Setting, UnitTerm, UnitStands}

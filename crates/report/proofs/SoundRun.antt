@@ -37,13 +37,13 @@ use Rattle.meaning.specs.Compare.{succeeds, followed, places, Assignment}
 use Rattle.meaning.specs.Trial.{Choice, reduces, joins-waiting, joins-failed, next-pair, compared, with-pairs, assigned, values-after, choice}
 use Rattle.meaning.specs.Step.{unit-after, body-goals, goals-after, without-front, step}
 use Rattle.meaning.specs.Run.{choice-for, run}
-use Rattle.meaning.proofs.Lists.EachOf.{Each, each-all, each-append, each-getD, each-map, each-replicate, each-set, each-in, each-implies}
-use Rattle.meaning.proofs.Trial.Table.{EachArgument, table-gives}
-use Rattle.meaning.proofs.Trial.Chosen.{reduces-agrees}
-use Rattle.meaning.proofs.Runs.Invariant.{run-keeps}
-use Rattle.meaning.proofs.Runs.AllGoals.{EachGoal, each-goal-at, each-goal-front, each-goal-after}
-use Rattle.meaning.proofs.Reading.{accepted-keeps-the-figures}
-use Rattle.meaning.proofs.Reading.Figures.{
+use Rattle.laws.proofs.Lists.EachOf.{Each, each-all, each-append, each-getD, each-map, each-replicate, each-set, each-in, each-implies}
+use Rattle.laws.proofs.Trial.Table.{EachArgument, table-gives}
+use Rattle.laws.proofs.Trial.Chosen.{reduces-agrees}
+use Rattle.laws.proofs.Runs.Invariant.{run-keeps}
+use Rattle.laws.proofs.Runs.AllGoals.{EachGoal, each-goal-at, each-goal-front, each-goal-after}
+use Rattle.laws.proofs.Reading.{accepted-keeps-the-figures}
+use Rattle.laws.proofs.Reading.Figures.{
   Bounds,
   SpellingFits,
   SpellingsFit,
@@ -57,7 +57,7 @@ use Rattle.meaning.proofs.Reading.Figures.{
   QueryFits,
   JobFits,
 }
-use Rattle.meaning.proofs.Reading.ItemByItem.{names-of}
+use Rattle.laws.proofs.Reading.ItemByItem.{names-of}
 use Rattle.facts.specs.Sound.{SoundConstant, SoundFunctor, Sound, AllSound, SoundValues}
 
 -- A value, a goal, goals and values of a state.

@@ -10,7 +10,7 @@ use borrow.Author.Tests.{eqb-true}
 use Rattle.meaning.specs.Bytes.{Bytes, if_then_else_, those}
 use Rattle.meaning.specs.Terms.{Query, as-term}
 use Rattle.meaning.specs.State.{Room, QueryUnit, Goal, State, of}
-use Rattle.meaning.proofs.Lists.EachOf.{Each}
+use Rattle.laws.proofs.Lists.EachOf.{Each}
 use Rattle.term.specs.Layout.{InRange, need-of, waiters-region}
 use Rattle.term.specs.Setting.{UnitTerm}
 use Rattle.term.specs.States.{Atlas, goal-word, setting-at, AllStand, HoldsState}

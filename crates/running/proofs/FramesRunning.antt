@@ -9,10 +9,10 @@ use Rattle.meaning.specs.Bytes.{Bytes}
 use Rattle.meaning.specs.Terms.{Query, Job, as-term}
 use Rattle.meaning.specs.State.{Room, QueryUnit, Goal, Goals, State, unit-at, number-of}
 use Rattle.meaning.specs.Run.{run}
-use Rattle.meaning.proofs.Circle.{run-no-circle}
-use Rattle.meaning.proofs.Lists.Sums.{sum}
-use Rattle.meaning.proofs.Runs.{steps-are-the-tries, charged-pairs-are-the-units}
-use Rattle.meaning.proofs.Runs.Charges.{run-units}
+use Rattle.laws.proofs.Circle.{run-no-circle}
+use Rattle.laws.proofs.Lists.Sums.{sum}
+use Rattle.laws.proofs.Runs.{steps-are-the-tries, charged-pairs-are-the-units}
+use Rattle.laws.proofs.Runs.Charges.{run-units}
 use Rattle.term.specs.Jobs.{query-record, JobKept}
 use Rattle.term.specs.Layout.{values-region, waiters-region, sets-region, marks-region, queue-region, waiting-region, need-of}
 use Rattle.term.specs.Setting.{Within}

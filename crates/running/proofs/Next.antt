@@ -8,8 +8,8 @@ use Rattle.meaning.specs.State.{Room, Goal, State}
 use Rattle.meaning.specs.Step.{without-front, step}
 use Rattle.meaning.specs.Run.{fits, choice-for, ended, onward, run}
 use Rattle.meaning.specs.Terms.{Clause}
-use Rattle.meaning.proofs.Runs.{run-goes-on}
-use Rattle.meaning.proofs.Runs.Further.{goes-on}
+use Rattle.laws.proofs.Runs.{run-goes-on}
+use Rattle.laws.proofs.Runs.Further.{goes-on}
 
 last-state : (clauses : List Clause) (figures : Room) (state : State) (queue : List Goal) → onward 0 clauses figures state queue .state ≡ state
 unfolding onward ended

@@ -15,7 +15,7 @@ use Rattle.term.specs.Setting.{Setting, UnitTerm}
 use Rattle.term.proofs.Holds.{holds-alike}
 use Rattle.term.proofs.Units.{within-every}
 use Rattle.meaning.specs.Terms.{more}
-use Rattle.meaning.proofs.Lists.Tests.{false-not-true}
+use Rattle.laws.proofs.Lists.Tests.{false-not-true}
 use Rattle.facts.specs.Threaded.{full, seen-after, shown, shown-goals, seen-after-goals}
 use Rattle.facts.specs.Sound.{Sound}
 use Rattle.facts.specs.Facts.{Readable, Shows, Changed}

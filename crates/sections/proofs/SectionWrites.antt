@@ -9,8 +9,8 @@ use Rattle.meaning.specs.Bytes.{Bytes, bytes, among}
 use Rattle.meaning.specs.Terms.{writer, Term, variable, as-term}
 use Rattle.meaning.specs.State.{Room, Values, Goal}
 use Rattle.meaning.specs.Report.{alone, written, value-lines, goal-lines, lines-applied}
-use Rattle.meaning.proofs.Lists.Among.{In, in-among, in-append-left}
-use Rattle.meaning.proofs.Terms.Standing.{Stands}
+use Rattle.laws.proofs.Lists.Among.{In, in-among, in-append-left}
+use Rattle.laws.proofs.Terms.Standing.{Stands}
 use Rattle.term.specs.Layout.{waiters-region}
 use Rattle.term.specs.Setting.{Setting}
 use Rattle.term.specs.declared.state.Standing.{Standing}

@@ -9,7 +9,7 @@ use Rattle.meaning.specs.Bytes.{Bytes, bytes, among, if_then_else_}
 use Rattle.meaning.specs.Terms.{Term, as-term}
 use Rattle.meaning.specs.State.{Values, Goal}
 use Rattle.meaning.specs.Report.{alone, written, number-in}
-use Rattle.meaning.proofs.Terms.Standing.{Stands}
+use Rattle.laws.proofs.Terms.Standing.{Stands}
 use Rattle.term.specs.Setting.{Setting, UnitTerm}
 use Rattle.facts.specs.Threaded.{full, written-goals}
 use Rattle.facts.specs.Sound.{Sound}

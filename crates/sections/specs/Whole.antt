@@ -6,7 +6,7 @@ use lib.ListN.{length, getD}
 use mathlib.Core.Bool.{true}
 use Rattle.meaning.specs.Bytes.{Bytes, bytes, among}
 use Rattle.meaning.specs.Terms.{as-term}
-use Rattle.meaning.proofs.Terms.Standing.{Stands}
+use Rattle.laws.proofs.Terms.Standing.{Stands}
 use Rattle.meaning.specs.State.{Room, Values, Goal}
 use Rattle.term.specs.Layout.{waiters-region}
 use Rattle.term.specs.Setting.{Setting}

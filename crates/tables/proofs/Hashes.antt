@@ -13,7 +13,7 @@ use lib.ListN.{length, getD, List·getD-append}
 use lib.Seq.{slice, slice-cons, slice-empty}
 use Rattle.meaning.specs.Bytes.{Bytes, same, if_then_else_}
 use Rattle.meaning.specs.Items.{place-of}
-use Rattle.meaning.proofs.Lists.Tests.{same-true}
+use Rattle.laws.proofs.Lists.Tests.{same-true}
 use Rattle.tables.specs.Places.{Place, spellings}
 use Rattle.tables.specs.Tables.{hash-from, hash-of, no-place, last-with}
 use Rattle.tables.proofs.Spellings.{same-false, place-at, place-none}

@@ -12,7 +12,7 @@ use lib.ListN.{length, getD, length-map}
 use lib.Seq.{slice, slice-cons, slice-empty, length-slice}
 use Rattle.meaning.specs.Bytes.{Bytes, same, any, if_then_else_}
 use Rattle.meaning.specs.Items.{place-of}
-use Rattle.meaning.proofs.Lists.Tests.{same-refl, same-true}
+use Rattle.laws.proofs.Lists.Tests.{same-refl, same-true}
 use Rattle.tables.specs.Places.{Place, spellings, with-place}
 use Rattle.tables.specs.Tables.{no-place, StandsAt}
 

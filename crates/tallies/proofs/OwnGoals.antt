@@ -11,8 +11,8 @@ use borrow.Author.Tests.{le-leb, leb-true, eq-eqb, ne-eqb}
 use Rattle.meaning.specs.Bytes.{Bytes, if_then_else_, those}
 use Rattle.meaning.specs.Terms.{Query, as-term}
 use Rattle.meaning.specs.State.{Room, QueryUnit, Goal, Waiting, State, unit-at, number-of, of}
-use Rattle.meaning.proofs.Lists.EachOf.{Each, each-append, each-split, each-map}
-use Rattle.meaning.proofs.Lists.Filters.{those-append, those-map}
+use Rattle.laws.proofs.Lists.EachOf.{Each, each-append, each-split, each-map}
+use Rattle.laws.proofs.Lists.Filters.{those-append, those-map}
 use Rattle.term.specs.Cells.{Places}
 use Rattle.term.specs.Setting.{Within, AllWithin}
 use Rattle.term.specs.Layout.{queue-region, waiting-region, failed-region, need-of, InRange}

@@ -9,7 +9,7 @@ use Rattle.meaning.specs.Terms.{Half, Term}
 use Rattle.meaning.specs.State.{Values, value}
 use Rattle.meaning.specs.Circle.{circle}
 use Rattle.meaning.specs.Compare.{followed}
-use Rattle.meaning.proofs.Circle.Following.{followed-within, followed-unassigned}
+use Rattle.laws.proofs.Circle.Following.{followed-within, followed-unassigned}
 use Rattle.term.specs.Chains.{value-of, Leads}
 
 some-none : (u : Term) → _≡_ {A = Option Term} (some u) none → ⊥

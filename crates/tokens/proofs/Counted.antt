@@ -8,7 +8,7 @@ use native.Mathlib.Numerals.{add-one}
 use lib.ListN.{length, getD, take, length-append}
 use lib.Seq.{take-suc}
 use Rattle.meaning.specs.Bytes.{those, if_then_else_}
-use Rattle.meaning.proofs.Lists.Filters.{those-append}
+use Rattle.laws.proofs.Lists.Filters.{those-append}
 
 those-one : (test : ℕ → Bool) (x : ℕ) → test x ≡ true → length (those test (x ∷ [])) ≡ 1
 unfolding those if_then_else_

@@ -16,7 +16,7 @@ use Rattle.meaning.specs.Terms.{Clause, Job, Named, count, as-term}
 use Rattle.meaning.specs.State.{Room, Goal, QueryUnit}
 use Rattle.meaning.specs.Compare.{Assignment, succeeds, waits, fails, waits-on}
 use Rattle.meaning.specs.Trial.{reduces, joins-waiting, joins-failed, procedure, trial, none-succeeds, choice-from, choice}
-use Rattle.meaning.proofs.Lists.Filters.{length-those}
+use Rattle.laws.proofs.Lists.Filters.{length-those}
 use Rattle.term.specs.Cells.{Places, Known, KnownName, number-of}
 use Rattle.term.specs.Holds.{Holds}
 use Rattle.term.specs.Jobs.{clause-record, ClauseAt, Linked, procedure-place}

@@ -14,12 +14,12 @@ use Rattle.meaning.specs.Terms.{plus, minus, Constant, Term, Terms, end, more, 
 use Rattle.meaning.specs.State.{Room, Goal}
 use Rattle.meaning.specs.Compare.{followed, places}
 use Rattle.meaning.specs.Trial.{procedure, compared}
-use Rattle.meaning.proofs.Lists.Among.{In, here, in-append-right}
-use Rattle.meaning.proofs.Lists.EachOf.{each-in, each-all, each-those, those-member}
-use Rattle.meaning.proofs.Lists.Tests.{and-right}
-use Rattle.meaning.proofs.Reading.{JobOk, accepted-keeps-the-occurrence-rules, accepted-keeps-the-figures, names-of}
-use Rattle.meaning.proofs.Reading.Figures.{Bounds, IntegerFits, ConstantFits, TermFits, TermsFit, ClauseFits}
-use Rattle.meaning.proofs.Circle.{run-followed-within}
+use Rattle.laws.proofs.Lists.Among.{In, here, in-append-right}
+use Rattle.laws.proofs.Lists.EachOf.{each-in, each-all, each-those, those-member}
+use Rattle.laws.proofs.Lists.Tests.{and-right}
+use Rattle.laws.proofs.Reading.{JobOk, accepted-keeps-the-occurrence-rules, accepted-keeps-the-figures, names-of}
+use Rattle.laws.proofs.Reading.Figures.{Bounds, IntegerFits, ConstantFits, TermFits, TermsFit, ClauseFits}
+use Rattle.laws.proofs.Circle.{run-followed-within}
 use Rattle.term.specs.Cells.{Places, Known, Numbered}
 use Rattle.term.specs.Holds.{Holds}
 use Rattle.term.specs.Jobs.{GoalsNumbered, GoalsKnown, ClauseAt}

@@ -11,10 +11,10 @@ use Rattle.meaning.specs.Terms.{Term, Constant, renamed}
 use Rattle.meaning.specs.State.{Values, value}
 use Rattle.meaning.specs.Compare.{Assignment}
 use Rattle.meaning.specs.Trial.{assigned}
-use Rattle.meaning.proofs.Lists.Among.{In, here, there, in-cons-cases, in-none}
-use Rattle.meaning.proofs.Lists.EachOf.{Each, each-in, each-member}
-use Rattle.meaning.proofs.Single.{AssignedOnce}
-use Rattle.meaning.proofs.Trial.Values.{value-assigned-other, value-set-same}
+use Rattle.laws.proofs.Lists.Among.{In, here, there, in-cons-cases, in-none}
+use Rattle.laws.proofs.Lists.EachOf.{Each, each-in, each-member}
+use Rattle.laws.proofs.Single.{AssignedOnce}
+use Rattle.laws.proofs.Trial.Values.{value-assigned-other, value-set-same}
 use Rattle.term.specs.Cells.{Places, term-word}
 use Rattle.term.specs.Setting.{Setting, UnitTerm}
 use Rattle.term.proofs.Cells.{numbered-order}

@@ -13,11 +13,11 @@ use Rattle.meaning.specs.Terms.{Functor, Term, Terms, Clause, Job, count, named
 use Rattle.meaning.specs.State.{Room, Goal, value}
 use Rattle.meaning.specs.Compare.{Assignment, succeeds, fails, waits-on}
 use Rattle.meaning.specs.Trial.{with-pairs, values-after, compared, tested, trial}
-use Rattle.meaning.proofs.Circle.{run-no-circle}
-use Rattle.meaning.proofs.Lists.Among.{In}
-use Rattle.meaning.proofs.Lists.EachOf.{each-in}
-use Rattle.meaning.proofs.Single.{AssignedOnce, trial-assigns-once}
-use Rattle.meaning.proofs.Trial.Values.{
+use Rattle.laws.proofs.Circle.{run-no-circle}
+use Rattle.laws.proofs.Lists.Among.{In}
+use Rattle.laws.proofs.Lists.EachOf.{each-in}
+use Rattle.laws.proofs.Single.{AssignedOnce, trial-assigns-once}
+use Rattle.laws.proofs.Trial.Values.{
   length-with-pairs,
   length-values-after,
   value-after-cases,

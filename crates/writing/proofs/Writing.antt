@@ -10,7 +10,7 @@ use lib.Seq.{getD-set-same, getD-set-other}
 use Rattle.meaning.specs.Bytes.{Bytes}
 use Rattle.meaning.specs.Terms.{Functor, Term, Terms, more, count}
 use Rattle.meaning.specs.Report.{alone, written}
-use Rattle.meaning.proofs.Terms.Standing.{Stands, StandsIn}
+use Rattle.laws.proofs.Terms.Standing.{Stands, StandsIn}
 use Rattle.term.specs.Setting.{Setting}
 use Rattle.term.specs.declared.word.View.the-variants.{Compound}
 use Rattle.facts.specs.Threaded.{full, all-full}

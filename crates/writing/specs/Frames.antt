@@ -6,7 +6,7 @@ use lib.ListN.{length, getD}
 use Rattle.meaning.specs.Bytes.{Bytes}
 use Rattle.meaning.specs.Terms.{Functor, Term, Terms, more}
 use Rattle.meaning.specs.Report.{number-in}
-use Rattle.meaning.proofs.Terms.Standing.{StandsIn}
+use Rattle.laws.proofs.Terms.Standing.{StandsIn}
 use Rattle.term.specs.Setting.{Setting}
 use Rattle.facts.specs.Threaded.{all-full}
 use Rattle.facts.specs.Laid.{Puts}

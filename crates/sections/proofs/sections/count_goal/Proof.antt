@@ -2,7 +2,7 @@
 use Prim.Native.Nat.{ℕ, _+_, _*_, _/_}
 use mathlib.Core.Path.{_≡_, refl, sym, ap, _∙_}
 use mathlib.Core.Bool.{Bool, true, false}
-use Rattle.meaning.proofs.Lists.Tests.{false-not-true}
+use Rattle.laws.proofs.Lists.Tests.{false-not-true}
 use Rattle.tallies.specs.Groups.{goal-in, own}
 use borrow.Author.Needs.{needs}
 use Rattle.sections.proofs.sections.count_goal.Statement.{statement}

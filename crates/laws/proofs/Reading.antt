@@ -1,0 +1,85 @@
+-- Reading: every accepted text keeps the occurrence rules and the figures, and what an item is depends on its tokens alone.
+-- Two readers that stand beside each other on the same tokens read alike; each reader's law is put together like the reader itself.
+pub mod EachToken
+pub mod Rules
+pub mod Numbering
+pub mod NumberedTerms
+pub mod Brackets
+pub mod Figures
+pub mod TokensFit
+pub mod Alike
+pub mod Counting
+pub mod Readers
+pub mod Items
+pub mod ItemByItem
+pub mod Accepted
+pub mod Pieces
+use Prim.Native.Nat.{ℕ}
+use mathlib.Core.Path.{_≡_}
+use mathlib.Core.List.{map}
+use lib.ListN.{length, getD, getElem?}
+use Rattle.meaning.specs.Bytes.{Bytes}
+use Rattle.meaning.specs.Terms.{Job, Query}
+use Rattle.meaning.specs.Items.{job, reading}
+use Rattle.laws.proofs.Lists.{each-paired, getD-from-getElem?, paired-equal, paired-equal-at, paired-length}
+use Rattle.laws.proofs.Reading.Figures.{ClauseFits, QueryFits}
+use Rattle.laws.proofs.Reading.Accepted.{clause-ok, clause-fits, query-ok, query-fits}
+use Rattle.laws.proofs.Reading.Pieces.{same-tokens-same-clause, same-tokens-same-query}
+-- The occurrence rules, the figures, and the tokens of a text, cut behind each full stop into clause items and query items.
+pub use Rules.{ClauseOk, QueryOk, JobOk}
+pub use Figures.{JobFits}
+pub use Alike.{bare}
+pub use Items.{clause-pieces, query-pieces}
+-- Each clause and each query of an accepted text is read from the tokens of its own piece.
+pub use ItemByItem.{accepted-is-read}
+-- The names counted over the whole text.
+unfoldable pub use ItemByItem.{names-behind, names-of}
+
+-- Every item of an accepted text keeps the occurrence rules, and its variables are numbered below its number of pairs.
+pub accepted-keeps-the-occurrence-rules : (text : Bytes) (j : Job) → reading text ≡ job j → JobOk j
+accepted-keeps-the-occurrence-rules text j e =
+    let r = accepted-is-read text j e in
+    record {
+      clauses-ok = each-paired ClauseOk (clause-ok (names-of text)) (r .clauses);
+      queries-ok = each-paired QueryOk (query-ok (names-of text)) (r .queries);
+    }
+
+-- Every accepted text keeps document 01's figures, its integers are in range, and its compounds are numbered in order.
+-- Its names are those counted over the text: at most 256, no two the same, and each name of the job is among them.
+pub accepted-keeps-the-figures : (text : Bytes) (j : Job) → reading text ≡ job j → JobFits (names-of text) j
+accepted-keeps-the-figures text j e =
+    let r = accepted-is-read text j e in
+    record {
+      names-fit = r .names-fit;
+      few-clauses = r .few-clauses;
+      some-queries = r .some-queries;
+      few-queries = r .few-queries;
+      clauses = each-paired (ClauseFits (names-of text)) (clause-fits (names-of text)) (r .clauses);
+      queries = each-paired (QueryFits (names-of text)) (query-fits (names-of text)) (r .queries);
+    }
+
+-- An accepted text has a clause for each of its clause pieces, and a query for each of its query pieces.
+pub as-many-clauses-as-pieces : (text : Bytes) (j : Job) → reading text ≡ job j → length (j .clauses) ≡ length (clause-pieces text)
+as-many-clauses-as-pieces text j reads = paired-length (accepted-is-read text j reads .clauses)
+
+pub as-many-queries-as-pieces : (text : Bytes) (j : Job) → reading text ≡ job j → length (j .queries) ≡ length (query-pieces text)
+as-many-queries-as-pieces text j reads = paired-length (accepted-is-read text j reads .queries)
+
+module _ (text₁ text₂ : Bytes) (j₁ j₂ : Job) (reads₁ : reading text₁ ≡ job j₁) (reads₂ : reading text₂ ≡ job j₂) where
+  -- Two accepted texts whose clauses have the same tokens, in order, read the same clauses, whatever their queries.
+  pub same-clause-tokens-same-clauses : map bare (clause-pieces text₁) ≡ map bare (clause-pieces text₂) → j₁ .clauses ≡ j₂ .clauses
+  same-clause-tokens-same-clauses e =
+      paired-equal bare (λ p₁ p₂ c₁ c₂ e r₁ r₂. same-tokens-same-clause p₁ p₂ c₁ c₂ e (r₁ .0) (r₂ .0))
+      (accepted-is-read text₁ j₁ reads₁ .clauses) (accepted-is-read text₂ j₂ reads₂ .clauses) e
+
+  -- Where the k-th queries of two accepted texts have the same tokens, the k-th queries read are the same, whatever the other items.
+  pub same-query-tokens-same-query : (k : ℕ) → getElem? (map bare (query-pieces text₁)) k ≡ getElem? (map bare (query-pieces text₂)) k
+      → getElem? (j₁ .queries) k ≡ getElem? (j₂ .queries) k
+  same-query-tokens-same-query k e =
+      paired-equal-at bare (λ p₁ p₂ q₁ q₂ e r₁ r₂. same-tokens-same-query p₁ p₂ q₁ q₂ e (r₁ .0) (r₂ .0))
+      (accepted-is-read text₁ j₁ reads₁ .queries) (accepted-is-read text₂ j₂ reads₂ .queries) k e
+
+  -- The same of the query that `getD` finds.
+  pub same-query-tokens-same-query-at : (k : ℕ) → getElem? (map bare (query-pieces text₁)) k ≡ getElem? (map bare (query-pieces text₂)) k
+      → (q : Query) → getD (j₁ .queries) k q ≡ getD (j₂ .queries) k q
+  same-query-tokens-same-query-at k e q = getD-from-getElem? (j₁ .queries) (j₂ .queries) k q (same-query-tokens-same-query k e)

@@ -1,0 +1,26 @@
+-- What an item's tokens are decides what is read: neither the other items nor the places of the tokens have any part in it.
+-- Two pieces with the same tokens read as the same clause, or as the same query.
+use mathlib.Core.Path.{_≡_, refl}
+use Rattle.meaning.specs.Terms.{Clause, Query}
+use Rattle.meaning.specs.Tokens.{Tokens, ends, token}
+use Rattle.laws.proofs.Reading.Alike.{bare}
+use Rattle.laws.proofs.Reading.Readers.{GoalsFit, goals-steady, RuleFits, rule-steady}
+use Rattle.laws.proofs.Reading.Items.{ClauseRead, QueryRead, behind-first, same-tokens-same-item}
+
+-- Two pieces with the same tokens read as the same clause, or as the same query.
+pub same-tokens-same-clause : (p₁ p₂ : Tokens) (c₁ c₂ : Clause) → bare p₁ ≡ bare p₂ → ClauseRead p₁ c₁ → ClauseRead p₂ c₂ → c₁ ≡ c₂
+same-tokens-same-clause p₁ p₂ c₁ c₂ e r₁ r₂ =
+    let both = same-tokens-same-item RuleFits rule-steady e (r₁ .item) (r₂ .item) in
+    rw (r₁ .made, r₂ .made, both .value, both .onward .variables, both .onward .compounds)
+
+behind-first-bare : (p₁ p₂ : Tokens) → bare p₁ ≡ bare p₂ → bare (behind-first p₁) ≡ bare (behind-first p₂)
+unfolding bare behind-first
+behind-first-bare (ends place₁) (ends place₂) e = refl
+behind-first-bare (ends place₁) (token place₂ t₂ s₂) e = cc
+behind-first-bare (token place₁ t₁ s₁) (ends place₂) e = cc
+behind-first-bare (token place₁ t₁ s₁) (token place₂ t₂ s₂) e = cc
+
+pub same-tokens-same-query : (p₁ p₂ : Tokens) (q₁ q₂ : Query) → bare p₁ ≡ bare p₂ → QueryRead p₁ q₁ → QueryRead p₂ q₂ → q₁ ≡ q₂
+same-tokens-same-query p₁ p₂ q₁ q₂ e r₁ r₂ =
+    let both = same-tokens-same-item (GoalsFit 8) (goals-steady 8) (behind-first-bare p₁ p₂ e) (r₁ .item) (r₂ .item) in
+    rw (r₁ .made, r₂ .made, both .value, both .onward .variables, both .onward .compounds)
