@@ -5,10 +5,10 @@ ghost use Rattle.term.specs.Setting.{Setting};
 ghost use Rattle.compare.specs.Compare.{Template, Against, AllAgainst, Answers, place-outcome, places-outcome};
 use chains::follow::follow;
 use rows::table::Met;
-use rows::table::argument;
-use rows::table::count;
 use rows::table::differ;
 use rows::table::table;
+use term::scratch::argument;
+use term::scratch::count;
 
 // How many of the goal's pairs are given a term so far; or it waits on the reader of a pair; or it fails.
 pub enum Result {

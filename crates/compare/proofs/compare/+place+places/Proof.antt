@@ -34,8 +34,8 @@ use Rattle.compare.proofs.compare.+place+places.Lts-place as place-lts
 use Rattle.compare.proofs.compare.places.Reads as places
 use Rattle.compare.proofs.compare.places.Kinds as places-kinds
 use Rattle.compare.proofs.compare.+place+places.Lts-places as places-lts
-use Rattle.rows.proofs.table.argument.Reads as argument-reads
-use Rattle.rows.proofs.table.count.Reads as count-reads
+use Rattle.term.proofs.scratch.argument.Reads as argument-reads
+use Rattle.term.proofs.scratch.count.Reads as count-reads
 use Rattle.rows.proofs.table.differ.Reads as differ-reads
 use Rattle.rows.proofs.table.table.Reads as table-reads
 use Rattle.chains.proofs.follow.follow.Reads as follow-reads
