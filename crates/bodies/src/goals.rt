@@ -4,11 +4,11 @@ use openings::cursor::Read;
 use openings::goal::Opening;
 use openings::goal::goal_name;
 use phrases::terms::compound;
+use term::word::word;
 use tokens::next::Next;
 use tokens::next::next_of;
 use tokens::token::Token;
 use tokens::token::front;
-ghost use mathlib.Core.Path.{_≡_};
 ghost use mathlib.Core.List.{List};
 ghost use Prim.Native.Nat.{_+_, _*_, _≤_, _<_};
 ghost use lib.ListN.{length};
@@ -55,12 +55,6 @@ fn ninth(rest: &[u8], at: usize) -> Read
         Token::Bad(a) => Read::Malformed(a),
         Token::End => Read::Malformed(rest.len()),
     }
-}
-
-fn word(n: usize) -> u64
-    ensures { λ r. ⌜ r ≡ n ⌝ }
-{
-    n as u64
 }
 
 // "8 body or query goals", up to the full stop: their words stand from a place on, and how many there are is the answer.

@@ -3,10 +3,10 @@ ghost use Prim.Native.Nat.{ℕ};
 ghost use Rattle.meaning.specs.Terms.{Functor, Terms};
 ghost use Rattle.term.specs.Setting.{Setting};
 ghost use Rattle.chains.specs.Follow.{Follows, ArgumentsFollowed};
-use crate::ends::set_at;
 use crate::follow::follow;
-use rows::table::argument;
-use rows::table::count;
+use term::scratch::argument;
+use term::scratch::count;
+use term::scratch::set_at;
 
 // Where the goal's arguments stand, followed, from the next word on: in the trial's region behind the woken goals' places.
 pub const FOLLOWED: usize = 40656;

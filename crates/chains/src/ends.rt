@@ -1,24 +1,15 @@
 // The ends to which the arguments of a goal lead, kept of their pairs for the next time that the goal is taken.
-ghost use mathlib.Core.Path.{_≡_};
-ghost use Prim.Native.Nat.{ℕ, _+_, _<_};
-ghost use lib.ListN.{length, set};
+ghost use Prim.Native.Nat.{ℕ};
 ghost use Rattle.meaning.specs.Terms.{Half, Functor, Term, Terms, variable};
 ghost use Rattle.term.specs.Setting.{Setting};
 ghost use Rattle.chains.specs.Follow.{PairAt, KeepsOf, Keeps, Kept};
 use crate::follow::follow;
-use crate::follow::word_at;
-use rows::table::argument;
-use rows::table::count;
+use term::scratch::argument;
+use term::scratch::count;
+use term::scratch::set_at;
+use term::scratch::word_at;
 use term::word::View;
 use term::word::look;
-
-// A word at so many words from a place, set.
-pub fn set_at(s: &mut [u64], from: usize, i: usize, w: u64)
-    requires { ⌜ from + i < length (now s) ⌝ }
-    ensures { λ r. ⌜ now (s .exit) ≡ set (now (s .entry)) (from + i) w ⌝ }
-{
-    s[from + i] = w;
-}
 
 // The end to which a variable with the word w leads, kept of its pair where the value is a reader.
 fn keep(s: &mut [u64], values: usize, links: usize, w: u64, p: usize)

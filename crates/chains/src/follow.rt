@@ -1,20 +1,11 @@
 // "A goal term that is an assigned variable is followed to its value, again and again."
-ghost use mathlib.Core.Path.{_≡_};
-ghost use Prim.Native.Nat.{ℕ, _+_, _<_};
-ghost use lib.ListN.{length, getD};
+ghost use Prim.Native.Nat.{ℕ};
 ghost use Rattle.meaning.specs.Terms.{Half, Term, variable};
 ghost use Rattle.term.specs.Setting.{Setting};
 ghost use Rattle.chains.specs.Follow.{Reads, FollowedTo, PairAt, Ahead};
+use term::scratch::word_at;
 use term::word::View;
 use term::word::look;
-
-// A word at so many words from a place.
-pub fn word_at(s: &[u64], from: usize, i: usize) -> u64
-    requires { ⌜ from + i < length (now s) ⌝ }
-    ensures { λ r. ⌜ r ≡ getD (now (s .entry)) (from + i) 0 ⌝ }
-{
-    s[from + i]
-}
 
 // The values of the room's pairs stand from a place on, and behind four words a pair the ends that are kept. A chain has no more links than there are pairs.
 pub fn follow(s: &[u64], values: usize, links: usize, w: u64) -> u64

@@ -1,6 +1,7 @@
 // A try counted, and whether what a reduction charges fits the room.
 use term::layout::QUERIES;
 use term::layout::Room;
+use term::scratch::word_at;
 use term::state::Standing;
 ghost use mathlib.Core.Path.{_≡_};
 ghost use Prim.Native.Nat.{_+_, _-_, _≤_, _<_};
@@ -9,13 +10,6 @@ ghost use Rattle.meaning.specs.Run.{within};
 ghost use Rattle.term.specs.Jobs.{query-record};
 ghost use Rattle.term.specs.Layout.{figures};
 ghost use Rattle.charges.specs.Counted.{Counted};
-
-fn word_at(s: &[u64], from: usize, i: usize) -> u64
-    requires { ⌜ from + i < length (now s) ⌝ }
-    ensures { λ r. ⌜ r ≡ getD (now (s .entry)) (from + i) 0 ⌝ }
-{
-    s[from + i]
-}
 
 // "Its query's number of tries rises by one."
 pub fn count_try(s: &mut [u64], query: usize)

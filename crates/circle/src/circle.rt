@@ -1,60 +1,24 @@
 // The circle test. While a trial is tested, each of the goal's pairs that it gives a term holds 7 and eight times its number in the trial.
 use term::layout::TRIAL;
+use term::scratch::argument;
+use term::scratch::count;
+use term::scratch::set_at;
+use term::scratch::word_at;
+use term::word::index;
+use term::word::word;
 ghost use mathlib.Core.Path.{_≡_};
 ghost use mathlib.Core.Option.{Option};
 ghost use Prim.Native.Nat.{ℕ, _%_, _/_, _+_, _*_, _<_, _^_};
 ghost use mathlib.Core.Bool.{true, false};
 ghost use mathlib.Core.List.{List};
-ghost use lib.ListN.{length, getD, set};
+ghost use lib.ListN.{length, getD};
 ghost use Rattle.meaning.specs.Terms.{Term};
 ghost use Rattle.circle.specs.Circle.{Entries, Held, held-word, entry-pair, Trial, Tried, Tested, Answered};
 ghost use Rattle.circle.specs.Ground.{GroundAt};
 ghost use Rattle.circle.specs.Search.{Scene, Told, Searching, LeadsIs, LastLeads, Settled, Names, begun-state, JoinedIs, SinceIs, SearchedFrom};
 
-fn index(w: u64) -> usize
-    ensures { λ r. ⌜ r ≡ w ⌝ }
-{
-    w as usize
-}
-
-fn word(n: usize) -> u64
-    ensures { λ r. ⌜ r ≡ n ⌝ }
-{
-    n as u64
-}
-
-// The word at so many words from a place, and setting it.
-fn word_at(s: &[u64], from: usize, i: usize) -> u64
-    requires { ⌜ from + i < length (now s) ⌝ }
-    ensures { λ r. ⌜ r ≡ getD (now (s .entry)) (from + i) 0 ⌝ }
-{
-    s[from + i]
-}
-
-fn set_at(s: &mut [u64], from: usize, i: usize, w: u64)
-    requires { ⌜ from + i < length (now s) ⌝ }
-    ensures { λ r. ⌜ now (s .exit) ≡ set (now (s .entry)) (from + i) w ⌝ }
-{
-    s[from + i] = w;
-}
-
 // The mark of a pair from which no unassigned pair is reached. Stamps are greater.
 const GROUND: u64 = 1;
-
-// The number of arguments of the compound at a place, and one of them.
-fn count(s: &[u64], q: usize) -> usize
-    requires { ⌜ q < length (now s) ⌝ }
-    ensures { λ r. ⌜ r ≡ getD (now (s .entry)) q 0 % 8 ⌝ }
-{
-    index(s[q] % 8)
-}
-
-fn argument(s: &[u64], q: usize, i: usize) -> u64
-    requires { ⌜ q + i < length (now s) ⌝ }
-    ensures { λ r. ⌜ r ≡ getD (now (s .entry)) (q + i) 0 ⌝ }
-{
-    s[q + i]
-}
 
 // The term of the head that the trial gives the i-th of its pairs.
 fn given_term(s: &[u64], i: usize) -> u64

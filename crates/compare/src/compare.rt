@@ -1,4 +1,4 @@
-// A head's term against a goal's, and the arguments of two compounds against each other: the table of document 01 (crate `rows`) at each place.
+// Two compounds against each other, by their functors and then their arguments: the table of document 01 (crate `rows`) at each place.
 ghost use mathlib.Core.Path.{_≡_};
 ghost use mathlib.Core.Bool.{true};
 ghost use Prim.Native.Nat.{ℕ, _+_, _*_, _%_, _≤_};
@@ -9,10 +9,10 @@ ghost use Rattle.compare.specs.Compare.{Template, Against, AllAgainst, A
 ghost use Rattle.compare.specs.Same.{SameConstant, SameBehind};
 use chains::follow::follow;
 use rows::table::Met;
-use rows::table::argument;
-use rows::table::count;
 use rows::table::differ;
 use rows::table::table;
+use term::scratch::argument;
+use term::scratch::count;
 use term::word::View;
 use term::word::look;
 

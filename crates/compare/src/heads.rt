@@ -6,12 +6,12 @@ ghost use Rattle.compare.specs.Compare.{Template, HeadAgainst, Answers, 
 use crate::compare::Result;
 use crate::compare::places;
 use chains::arguments::FOLLOWED;
-use chains::follow::word_at;
 use rows::table::Met;
-use rows::table::argument;
-use rows::table::count;
 use rows::table::differ;
 use rows::table::table;
+use term::scratch::argument;
+use term::scratch::count;
+use term::scratch::word_at;
 
 // The arguments of the head at p against the goal's, "from left to right and depth first", up to "the first place that fails or waits".
 pub fn head(s: &mut [u64], values: usize, links: usize, p: usize) -> Result

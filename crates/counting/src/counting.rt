@@ -3,8 +3,6 @@
 use facts::cells::Next;
 use facts::cells::behind;
 use facts::cells::functor;
-use facts::cells::index;
-use facts::cells::word_at;
 use facts::ends::fact;
 use facts::ends::lead;
 use facts::ends::pair;
@@ -13,7 +11,9 @@ use facts::length::CEILING;
 use facts::length::digits;
 use facts::length::further;
 use term::layout::TRIAL;
+use term::scratch::word_at;
 use term::word::View;
+use term::word::index;
 use term::word::look;
 ghost use mathlib.Core.Path.{_≡_};
 ghost use mathlib.Core.List.{List, [], _∷_, _++_};

@@ -4,12 +4,16 @@ use term::layout;
 use term::layout::COMPOUNDS;
 use term::layout::QUERIES;
 use term::layout::Room;
+use term::scratch::set_at;
+use term::scratch::word_at;
 use term::state::Standing;
+use term::word::index;
+use term::word::word;
 ghost use mathlib.Core.Path.{_≡_};
 ghost use mathlib.Core.Bool.{true};
 ghost use mathlib.Core.List.{List, [], _∷_, _++_};
 ghost use Prim.Native.Nat.{ℕ, _+_, _≤_, _<_};
-ghost use lib.ListN.{length, getD, set};
+ghost use lib.ListN.{length, getD};
 ghost use Rattle.meaning.specs.Bytes.{Bytes};
 ghost use Rattle.meaning.specs.Terms.{Job, Query};
 ghost use Rattle.term.specs.Layout.{figures};
@@ -17,32 +21,6 @@ ghost use Rattle.term.specs.States.{Ready, Atlas};
 ghost use Rattle.meaning.specs.Run.{queries-fit};
 ghost use Rattle.term.specs.Jobs.{query-record, HoldsJob};
 ghost use Rattle.entering.specs.Entering.{record-sum, EnterOnly, Entered};
-
-fn index(w: u64) -> usize
-    ensures { λ r. ⌜ r ≡ w ⌝ }
-{
-    w as usize
-}
-
-fn word(n: usize) -> u64
-    ensures { λ r. ⌜ r ≡ n ⌝ }
-{
-    n as u64
-}
-
-fn word_at(s: &[u64], from: usize, i: usize) -> u64
-    requires { ⌜ from + i < length (now s) ⌝ }
-    ensures { λ r. ⌜ r ≡ getD (now (s .entry)) (from + i) 0 ⌝ }
-{
-    s[from + i]
-}
-
-fn set_at(s: &mut [u64], from: usize, i: usize, w: u64)
-    requires { ⌜ from + i < length (now s) ⌝ }
-    ensures { λ r. ⌜ now (s .exit) ≡ set (now (s .entry)) (from + i) w ⌝ }
-{
-    s[from + i] = w;
-}
 
 // The queries' words at a place of their records, added up: 0 their goals, 1 their pairs, 2 their compounds.
 fn sum(s: &[u64], queries: usize, at: usize) -> usize

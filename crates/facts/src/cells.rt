@@ -1,9 +1,12 @@
-// A term in the scratch as the report reads it: the end of its chain, its compound's functor and arguments, and what stands behind an argument.
+// A term in the scratch as the report reads it: the end of its chain, its compound's functor, and what stands behind an argument.
 use crate::ends::end;
+use term::scratch::count;
+use term::scratch::word_at;
 use term::word::View;
+use term::word::index;
 use term::word::look;
 ghost use mathlib.Core.Path.{_≡_};
-ghost use Prim.Native.Nat.{ℕ, _+_, _/_, _%_, _<_};
+ghost use Prim.Native.Nat.{ℕ, _/_, _<_};
 ghost use lib.ListN.{length, getD};
 ghost use Rattle.meaning.specs.Bytes.{Bytes};
 ghost use Rattle.meaning.specs.Terms.{Functor, cell, named, Term, Terms, more};
@@ -11,32 +14,12 @@ ghost use Rattle.term.specs.Setting.{Setting};
 ghost use Rattle.facts.specs.Facts.{Readable, Led};
 ghost use Rattle.facts.specs.Walk.{Position, Found};
 
-pub fn index(w: u64) -> usize
-    ensures { λ r. ⌜ r ≡ w ⌝ }
-{
-    w as usize
-}
-
-pub fn word_at(s: &[u64], from: usize, i: usize) -> u64
-    requires { ⌜ from + i < length (now s) ⌝ }
-    ensures { λ r. ⌜ r ≡ getD (now (s .entry)) (from + i) 0 ⌝ }
-{
-    s[from + i]
-}
-
-// The number of the name of a compound's functor plus one, 0 for a list cell; and the number of its arguments.
+// The number of the name of a compound's functor plus one, 0 for a list cell.
 pub fn functor(s: &[u64], p: usize) -> usize
     requires { ⌜ p < length (now s) ⌝ }
     ensures { λ r. ⌜ r ≡ getD (now (s .entry)) p 0 / 8 ⌝ }
 {
     index(s[p] / 8)
-}
-
-pub fn arity(s: &[u64], p: usize) -> usize
-    requires { ⌜ p < length (now s) ⌝ }
-    ensures { λ r. ⌜ r ≡ getD (now (s .entry)) p 0 % 8 ⌝ }
-{
-    index(s[p] % 8)
 }
 
 // What stands behind an argument of a compound: a byte, and then an argument of a compound; or a last byte.
@@ -51,7 +34,7 @@ fn behind_argument(s: &[u64], p: usize, i: usize) -> Next
     ensures { λ r. ⌜ ((x : Setting) (f : Bytes) (j : ℕ) (u : Term) (us : Terms) → Position (now (s .entry)) x p i j (named f) u us
         → Found (now (s .entry)) x (named f) j us r) ⌝ }
 {
-    if i < arity(s, p) {
+    if i < count(s, p) {
         return Next::Goes(b',', p, i + 1);
     }
     Next::Ends(b')')

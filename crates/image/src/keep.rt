@@ -1,23 +1,13 @@
 // What is kept of a text beside its terms: where names and variables first stand, and the clauses of each procedure in text order.
 use term::layout::CLAUSES;
 use term::layout::PROCEDURES;
+use term::word::index;
+use term::word::word;
 ghost use mathlib.Core.Path.{_≡_};
 ghost use Prim.Native.Nat.{ℕ, _+_, _*_, _≤_, _<_};
 ghost use lib.ListN.{length, getD, take};
 ghost use Rattle.image.specs.Kept.{pairs-kept};
 ghost use Rattle.image.specs.Image.{linked};
-
-fn word(n: usize) -> u64
-    ensures { λ r. ⌜ r ≡ n ⌝ }
-{
-    n as u64
-}
-
-fn index(w: u64) -> usize
-    ensures { λ r. ⌜ r ≡ w ⌝ }
-{
-    w as usize
-}
 
 // The first so many places of a table, which count from an offset of the text: first byte and length of each, two words a place.
 pub fn keep_places(s: &mut [u64], table: &[u64], from: usize, place: usize, count: usize)

@@ -9,6 +9,7 @@ use tables::rules::nothing_twice;
 use term::layout::CLAUSES;
 use term::layout::ITEMS;
 use term::layout::QUERIES;
+use term::word::word;
 use tokens::next::Next;
 use tokens::next::next_of;
 use tokens::token::Token;
@@ -24,12 +25,6 @@ ghost use Rattle.tokens.specs.Fronts.{tokens-in};
 ghost use Rattle.items.specs.Outcomes.{ItemIs, Begins, Lent};
 ghost use Rattle.openings.specs.Reading.{Stands};
 ghost use Rattle.bodies.specs.Endings.{RuleIs};
-
-fn word(n: usize) -> u64
-    ensures { λ r. ⌜ r ≡ n ⌝ }
-{
-    n as u64
-}
 
 // Head and body of a clause: how many body goals there are. The head's own word is noted for the clause of this number.
 fn rule(

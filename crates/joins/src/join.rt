@@ -9,6 +9,7 @@ use running::stepped::Stepped;
 use term::layout;
 use term::layout::Room;
 use term::state::Standing;
+use term::word::index;
 use trial::choice::READERS;
 ghost use mathlib.Core.Path.{_≡_};
 ghost use mathlib.Core.List.{List};
@@ -22,12 +23,6 @@ ghost use Rattle.term.specs.States.{Atlas};
 ghost use Rattle.queues.specs.Log.{Slot};
 ghost use Rattle.running.specs.Running.{StepIs};
 ghost use Rattle.running.specs.Taking.{LogHere, FreePlace, Taken, JoiningWaiting, JoiningFailed};
-
-fn index(w: u64) -> usize
-    ensures { λ r. ⌜ r ≡ w ⌝ }
-{
-    w as usize
-}
 
 // The log with a free place at its end: closed up if it is full. How many places are used.
 fn free_place(s: &mut [u64], room: Room, log: usize) -> usize

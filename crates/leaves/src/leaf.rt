@@ -1,13 +1,13 @@
 // The parts of a term that need no walk: a variable, an integer, a name, and what stands before a compound's first argument.
 use facts::cells::functor;
-use facts::cells::index;
-use facts::cells::word_at;
 use facts::ends::fact;
 use putting::put::decimal;
 use putting::put::put;
 use putting::put::spelling;
 use putting::put::words;
+use term::scratch::word_at;
 use term::word::View;
+use term::word::index;
 use term::word::look;
 ghost use mathlib.Core.Path.{_≡_};
 ghost use mathlib.Core.List.{List, [], _∷_};

@@ -5,13 +5,15 @@ use reduces::reduce::reduce;
 use running::stepped::Stepped;
 use term::layout;
 use term::layout::Room;
+use term::scratch::word_at;
 use term::state::Standing;
+use term::word::index;
+use term::word::word;
 use trial::choice::Fate;
 use trial::choice::choice;
 ghost use mathlib.Core.Path.{_≡_};
 ghost use mathlib.Core.List.{List, _∷_};
 ghost use Prim.Native.Nat.{ℕ, _+_, _*_, _<_};
-ghost use lib.ListN.{length, getD};
 ghost use Rattle.meaning.specs.Bytes.{Bytes};
 ghost use Rattle.meaning.specs.Terms.{Job};
 ghost use Rattle.meaning.specs.State.{Goal};
@@ -20,25 +22,6 @@ ghost use Rattle.term.specs.Layout.{figures};
 ghost use Rattle.term.specs.States.{Atlas};
 ghost use Rattle.queues.specs.Log.{Slot};
 ghost use Rattle.running.specs.Running.{Running, StepIs};
-
-fn index(w: u64) -> usize
-    ensures { λ r. ⌜ r ≡ w ⌝ }
-{
-    w as usize
-}
-
-fn word(n: usize) -> u64
-    ensures { λ r. ⌜ r ≡ n ⌝ }
-{
-    n as u64
-}
-
-fn word_at(s: &[u64], from: usize, i: usize) -> u64
-    requires { ⌜ from + i < length (now s) ⌝ }
-    ensures { λ r. ⌜ r ≡ getD (now (s .entry)) (from + i) 0 ⌝ }
-{
-    s[from + i]
-}
 
 // "A step takes the goal at the front." Every step has 32,768 stamps of its own: 256 a clause.
 pub fn step(s: &mut [u64], room: Room, t: Standing) -> Stepped

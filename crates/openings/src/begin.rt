@@ -2,6 +2,7 @@
 use crate::cursor::Cursor;
 use tables::names;
 use tables::variables;
+use term::word::word;
 use tokens::next::Next;
 use tokens::next::next_of;
 use tokens::token::Token;
@@ -15,12 +16,6 @@ ghost use Rattle.tables.specs.Places.{Place};
 ghost use Rattle.tables.specs.Tables.{VariablesIn};
 ghost use Rattle.openings.specs.Begun.{BehindName, BehindBracket, VariableBegun};
 ghost use Rattle.openings.specs.Reading.{Stands, BegunIs};
-
-fn word(n: usize) -> u64
-    ensures { λ r. ⌜ r ≡ n ⌝ }
-{
-    n as u64
-}
 
 // A term begun: read whole, or up to behind its opening bracket, of a compound with its name's number; or 4 at a place, or 6.
 pub enum Begun {

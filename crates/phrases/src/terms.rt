@@ -3,6 +3,7 @@ use openings::begin::Begun;
 use openings::begin::begin;
 use openings::cursor::Cursor;
 use openings::cursor::Read;
+use term::word::word;
 use tokens::next::Next;
 use tokens::next::Start;
 use tokens::next::next_of;
@@ -18,12 +19,6 @@ ghost use Rattle.meaning.specs.Items.{place-of, compound-of};
 ghost use Rattle.meaning.specs.Items.{term as term-reader, arguments as arguments-reader, elements as elements-reader};
 ghost use Rattle.tables.specs.Places.{Place, spellings};
 ghost use Rattle.openings.specs.Reading.{Stands, ReadIs, ArgumentsAre, closed};
-
-fn word(n: usize) -> u64
-    ensures { λ r. ⌜ r ≡ n ⌝ }
-{
-    n as u64
-}
 
 // A compound's own word: the number of its arguments, and eight times its functor: 0 for the list cell, else the name's number and one.
 fn functor(name: usize, count: u64) -> u64

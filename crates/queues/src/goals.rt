@@ -1,5 +1,6 @@
 // The goals: the queue as a ring, the waiting goals as a log in the order in which they began to wait, the failed goals. A goal is one
 // word: eight times its compound's place, and its query.
+use term::word::word;
 ghost use mathlib.Core.Path.{_≡_};
 ghost use Prim.Native.Nat.{ℕ, _+_, _*_, _≤_, _<_};
 ghost use lib.ListN.{length, getD, set};
@@ -7,12 +8,6 @@ ghost use mathlib.Core.List.{List, [], _∷_, _++_};
 ghost use Rattle.queues.specs.Ring.{RingOk, Pushed, Passed};
 ghost use Rattle.term.specs.States.{round, listed};
 ghost use Rattle.queues.specs.Log.{Slot, gone, waits, joined, gathered, At, Joins, JoinsAll, Waits, LogNow, Turns, Turned, Shifts, LogOk, Settles, SettledAs, Closed, Failed, slot};
-
-fn word(n: usize) -> u64
-    ensures { λ r. ⌜ r ≡ n ⌝ }
-{
-    n as u64
-}
 
 // A place of the ring, counted past its end.
 fn spot(size: usize, at: usize) -> usize

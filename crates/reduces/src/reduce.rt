@@ -11,11 +11,11 @@ use running::stepped::Stepped;
 use term::layout;
 use term::layout::CLAUSES;
 use term::layout::Room;
+use term::scratch::word_at;
 use term::state::Standing;
-ghost use mathlib.Core.Path.{_≡_};
+use term::word::index;
 ghost use mathlib.Core.List.{List};
-ghost use Prim.Native.Nat.{ℕ, _+_, _<_};
-ghost use lib.ListN.{length, getD};
+ghost use Prim.Native.Nat.{ℕ};
 ghost use Rattle.meaning.specs.Bytes.{Bytes};
 ghost use Rattle.meaning.specs.Terms.{Clause, Job};
 ghost use Rattle.meaning.specs.State.{Goal};
@@ -25,19 +25,6 @@ ghost use Rattle.term.specs.States.{Atlas};
 ghost use Rattle.queues.specs.Log.{Slot};
 ghost use Rattle.running.specs.Running.{StepIs};
 ghost use Rattle.running.specs.Taking.{Taken, Reducing};
-
-fn index(w: u64) -> usize
-    ensures { λ r. ⌜ r ≡ w ⌝ }
-{
-    w as usize
-}
-
-fn word_at(s: &[u64], from: usize, i: usize) -> u64
-    requires { ⌜ from + i < length (now s) ⌝ }
-    ensures { λ r. ⌜ r ≡ getD (now (s .entry)) (from + i) 0 ⌝ }
-{
-    s[from + i]
-}
 
 // The goal is reduced by clause k, with n of its pairs given a term.
 pub fn reduce(s: &mut [u64], room: Room, t: Standing, query: usize, k: usize, n: usize) -> Stepped

@@ -1,4 +1,6 @@
 // A clause's terms renamed apart: its pairs come next, and its compounds are copied one behind the other.
+use term::scratch::argument;
+use term::scratch::count;
 use term::word::View;
 use term::word::look;
 ghost use mathlib.Core.Path.{_≡_};
@@ -16,14 +18,6 @@ fn placed(tag: u64, place: usize) -> u64
     tag + 8 * (place as u64)
 }
 
-// The number of a compound's arguments.
-fn number(s: &[u64], p: usize) -> usize
-    requires { ⌜ p < length (now s) ⌝ }
-    ensures { λ r. ⌜ r ≡ getD (now (s .entry)) p 0 % 8 ⌝ }
-{
-    (s[p] % 8) as usize
-}
-
 // The first word of the compound at a place, copied.
 fn copy_functor(s: &mut [u64], to: usize, p: usize)
     requires { ⌜ (p < length (now s)) × (to < length (now s)) ⌝ }
@@ -33,14 +27,7 @@ fn copy_functor(s: &mut [u64], to: usize, p: usize)
     s[to] = f;
 }
 
-// The word of an argument, and storing it.
-fn argument(s: &[u64], p: usize, i: usize) -> u64
-    requires { ⌜ p + i < length (now s) ⌝ }
-    ensures { λ r. ⌜ r ≡ getD (now (s .entry)) (p + i) 0 ⌝ }
-{
-    s[p + i]
-}
-
+// A word stored.
 fn put(s: &mut [u64], at: usize, w: u64)
     requires { ⌜ at < length (now s) ⌝ }
     ensures { λ r. ⌜ now (s .exit) ≡ set (now (s .entry)) at w ⌝ }
@@ -92,7 +79,7 @@ pub fn copy_arguments(s: &mut [u64], pair: usize, to: usize, p: usize) -> usize
     ensures { λ r. ⌜ ((x : Item) (n : ℕ) (f : Functor) (ts : Terms) → Original (now (s .entry)) x pair to (6 + 8 * p) (compound n f ts)
         → Laid (now (s .entry)) (now (s .exit)) x pair to (compound n f ts) r) ⌝ }
 {
-    let k = number(s, p);
+    let k = count(s, p);
     copy_functor(s, to, p);
     let mut free = to + 1 + k;
     let mut i = 1;

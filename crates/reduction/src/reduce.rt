@@ -5,10 +5,14 @@ use queues::goals::leave;
 use queues::goals::push;
 use queues::goals::take;
 use term::layout::TRIAL;
+use term::scratch::set_at;
+use term::scratch::word_at;
+use term::word::index;
+use term::word::word;
 ghost use mathlib.Core.Path.{_≡_};
 ghost use mathlib.Core.List.{List};
 ghost use Prim.Native.Nat.{ℕ, _+_, _*_, _/_, _≤_, _<_};
-ghost use lib.ListN.{length, getD, set};
+ghost use lib.ListN.{length};
 ghost use Rattle.meaning.specs.Terms.{Named};
 ghost use Rattle.term.specs.Cells.{Places};
 ghost use Rattle.compare.specs.Gifts.{Entry};
@@ -18,33 +22,6 @@ ghost use Rattle.reduction.specs.Reducing.{HeadAssigned, Assigning, Goal
 
 // Where the places of the woken goals in the log stand, in the trial's region behind the waiting readers.
 pub const WOKEN: usize = 40464;
-
-fn index(w: u64) -> usize
-    ensures { λ r. ⌜ r ≡ w ⌝ }
-{
-    w as usize
-}
-
-fn word(n: usize) -> u64
-    ensures { λ r. ⌜ r ≡ n ⌝ }
-{
-    n as u64
-}
-
-// A word at so many words from a place, and setting it.
-fn word_at(s: &[u64], from: usize, i: usize) -> u64
-    requires { ⌜ from + i < length (now s) ⌝ }
-    ensures { λ r. ⌜ r ≡ getD (now (s .entry)) (from + i) 0 ⌝ }
-{
-    s[from + i]
-}
-
-fn set_at(s: &mut [u64], from: usize, i: usize, w: u64)
-    requires { ⌜ from + i < length (now s) ⌝ }
-    ensures { λ r. ⌜ now (s .exit) ≡ set (now (s .entry)) (from + i) w ⌝ }
-{
-    s[from + i] = w;
-}
 
 // X := what the head's writers were given, the clause's pairs lying from a pair on.
 pub fn assign_head(s: &mut [u64], values: usize, pair: usize, pairs: usize)

@@ -11,6 +11,7 @@ ghost use Rattle.rows.specs.Rows.{head-written, goal-written, Done, writ
 use term::layout::TRIAL;
 use term::word::View;
 use term::word::look;
+use term::word::word;
 
 // How many of the goal's pairs are given a term so far; or it waits on the reader of a pair; or it fails; or the places of two compounds whose functors
 // and arguments are to be compared.
@@ -19,12 +20,6 @@ pub enum Met {
     Waits(usize),
     Fails,
     Below(usize, usize),
-}
-
-fn word(n: usize) -> u64
-    ensures { λ r. ⌜ r ≡ n ⌝ }
-{
-    n as u64
 }
 
 // Z := the head's term.
@@ -118,21 +113,4 @@ pub fn differ(s: &[u64], p: usize, q: usize) -> bool
     ensures { λ r. ⌜ r ≡ not (eqb (getD (now (s .entry)) p 0) (getD (now (s .entry)) q 0)) ⌝ }
 {
     s[p] != s[q]
-}
-
-// The number of a compound's arguments.
-pub fn count(s: &[u64], p: usize) -> usize
-    requires { ⌜ p < length (now s) ⌝ }
-    ensures { λ r. ⌜ r ≡ getD (now (s .entry)) p 0 % 8 ⌝ }
-{
-    let w = s[p];
-    (w % 8) as usize
-}
-
-// A compound's i-th argument, from 1 on.
-pub fn argument(s: &[u64], p: usize, i: usize) -> u64
-    requires { ⌜ p + i < length (now s) ⌝ }
-    ensures { λ r. ⌜ r ≡ getD (now (s .entry)) (p + i) 0 ⌝ }
-{
-    s[p + i]
 }

@@ -24,8 +24,6 @@ ghost use Rattle.sections.specs.Whole.{SectionStands, Uncounted, Numbers
 ghost use Rattle.term.specs.Layout.{waiters-region};
 ghost use mathlib.Core.Bool.{true, false};
 use counting::counting::count_term;
-use facts::cells::index;
-use facts::cells::word_at;
 use facts::length::further;
 use putting::put::put;
 use putting::put::spelling;
@@ -43,7 +41,9 @@ use term::layout;
 use term::layout::QUERIES;
 use term::layout::Room;
 use term::layout::TRIAL;
+use term::scratch::word_at;
 use term::state::Standing;
+use term::word::index;
 use writing::terms::write_term;
 
 // A line: so many bytes, a term and an LF.

@@ -1,6 +1,8 @@
 // The names of the text, numbered in order of first occurrence. A table of 1,024 words: for each name its first byte in the text and its
 // length, two words a name; at 512 for each hash the last name that has it, plus one; and at 768 for each name the one before it with the
 // same hash, plus one. So a name is compared only with those of its own hash.
+use term::word::index;
+use term::word::word;
 ghost use mathlib.Core.Path.{_≡_};
 ghost use mathlib.Core.List.{List};
 ghost use Prim.Native.Nat.{_+_, _≤_, _<_};
@@ -22,18 +24,6 @@ pub enum Numbered {
 pub enum Found {
     At(usize),
     Nothing,
-}
-
-fn index(w: u64) -> usize
-    ensures { λ r. ⌜ r ≡ w ⌝ }
-{
-    w as usize
-}
-
-fn word(n: usize) -> u64
-    ensures { λ r. ⌜ r ≡ n ⌝ }
-{
-    n as u64
 }
 
 fn wide(c: u8) -> usize

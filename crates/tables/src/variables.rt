@@ -2,6 +2,7 @@
 // the rest and its length, two words a variable; at 32 how often its writer has occurred, at 48 its reader, where 2 stands for more too.
 use crate::names::Found;
 use crate::names::spelled;
+use term::word::word;
 ghost use mathlib.Core.Path.{_≡_};
 ghost use mathlib.Core.List.{List};
 ghost use Prim.Native.Nat.{_+_, _≤_, _<_};
@@ -16,12 +17,6 @@ pub enum Numbered {
     // The variable's number, and how many there are then.
     Number(usize, usize),
     Passed,
-}
-
-fn word(n: usize) -> u64
-    ensures { λ r. ⌜ r ≡ n ⌝ }
-{
-    n as u64
 }
 
 // The number of the variable that is spelled as the bytes from a to e.

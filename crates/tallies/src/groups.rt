@@ -4,11 +4,11 @@ ghost use Prim.Native.Nat.{_+_, _*_, _%_, _≤_, _<_};
 ghost use lib.ListN.{length, getD};
 ghost use Rattle.term.specs.Layout.{figures, InRange};
 ghost use Rattle.tallies.specs.Groups.{goal-in, GroupInside, own as own-word, own-from, active-group, waiting-group, failed-group};
-use facts::cells::index;
-use facts::cells::word_at;
 use term::layout;
 use term::layout::Room;
+use term::scratch::word_at;
 use term::state::Standing;
+use term::word::index;
 
 // So many goals of one of the three lists: their words stand from a place on, so many words apart, in a ring of so many, from a first one on.
 pub struct Group {

@@ -11,16 +11,16 @@ use crate::groups::active;
 use crate::groups::failed;
 use crate::groups::number;
 use crate::groups::waiting;
-use facts::cells::index;
-use facts::cells::word_at;
 use facts::length::digits;
 use putting::put::decimal;
 use putting::put::put;
 use putting::put::words;
 use term::layout::QUERIES;
 use term::layout::Room;
+use term::scratch::word_at;
 use term::state::Standing;
 use term::state::Verdict;
+use term::word::index;
 
 // The counts of a query's goals.
 pub struct Tallies {

@@ -30,3 +30,16 @@ pub fn look(w: u64) -> View
         _ => View::Compound(payload as usize),
     }
 }
+
+// A word as an index, and a number as a word.
+pub fn index(w: u64) -> usize
+    ensures { λ r. ⌜ r ≡ w ⌝ }
+{
+    w as usize
+}
+
+pub fn word(n: usize) -> u64
+    ensures { λ r. ⌜ r ≡ n ⌝ }
+{
+    n as u64
+}

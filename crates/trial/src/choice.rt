@@ -6,10 +6,14 @@ use compare::heads::head;
 use term::layout::CLAUSES;
 use term::layout::PROCEDURES;
 use term::layout::TRIAL;
+use term::scratch::set_at;
+use term::scratch::word_at;
+use term::word::index;
+use term::word::word;
 ghost use mathlib.Core.Path.{_≡_};
 ghost use mathlib.Core.List.{List};
 ghost use Prim.Native.Nat.{ℕ, _+_, _*_, _≤_, _<_, _^_};
-ghost use lib.ListN.{length, getD, set};
+ghost use lib.ListN.{length, getD};
 ghost use Rattle.meaning.specs.Bytes.{Bytes};
 ghost use Rattle.meaning.specs.Terms.{Clause, Job};
 ghost use Rattle.meaning.specs.State.{Room, Goal};
@@ -33,33 +37,6 @@ pub enum Fate {
     Reduces(usize, usize),
     Waits(usize),
     Fails,
-}
-
-fn index(w: u64) -> usize
-    ensures { λ r. ⌜ r ≡ w ⌝ }
-{
-    w as usize
-}
-
-fn word(n: usize) -> u64
-    ensures { λ r. ⌜ r ≡ n ⌝ }
-{
-    n as u64
-}
-
-// A word at so many words from a place, and setting it.
-fn word_at(s: &[u64], from: usize, i: usize) -> u64
-    requires { ⌜ from + i < length (now s) ⌝ }
-    ensures { λ r. ⌜ r ≡ getD (now (s .entry)) (from + i) 0 ⌝ }
-{
-    s[from + i]
-}
-
-fn set_at(s: &mut [u64], from: usize, i: usize, w: u64)
-    requires { ⌜ from + i < length (now s) ⌝ }
-    ensures { λ r. ⌜ now (s .exit) ≡ set (now (s .entry)) (from + i) w ⌝ }
-{
-    s[from + i] = w;
 }
 
 // The head's writers are given nothing yet. There are 16 at the most, and so many words are set without a loop.

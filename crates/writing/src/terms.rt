@@ -2,10 +2,10 @@
 // numbers.
 use crate::rising::Risen;
 use crate::rising::rise;
-use facts::cells::word_at;
 use facts::ends::end;
 use leaves::leaf::leaf;
 use leaves::leaf::opening;
+use term::scratch::word_at;
 use term::word::View;
 use term::word::look;
 ghost use mathlib.Core.List.{List};

@@ -14,17 +14,17 @@ use Rattle.circle.proofs.Measure.{term-weight, lighter, no-heavier}
 use Rattle.circle.proofs.circle.from_term.Reads as from-term
 use Rattle.circle.proofs.circle.from_term.Kinds as from-term-kinds
 use Rattle.circle.proofs.circle.+from_term.Lts-from_term as from-term-lts
-use Rattle.circle.proofs.circle.argument.Reads as argument-reads
+use Rattle.term.proofs.scratch.argument.Reads as argument-reads
 use Rattle.circle.proofs.circle.begun.Reads as begun-reads
-use Rattle.circle.proofs.circle.count.Reads as count-reads
+use Rattle.term.proofs.scratch.count.Reads as count-reads
 use Rattle.circle.proofs.circle.ended.Reads as ended-reads
 use Rattle.circle.proofs.circle.given_term.Reads as given-term-reads
-use Rattle.circle.proofs.circle.index.Reads as index-reads
+use Rattle.term.proofs.word.index.Reads as index-reads
 use Rattle.circle.proofs.circle.joined.Reads as joined-reads
 use Rattle.circle.proofs.circle.leads.Reads as leads-reads
-use Rattle.circle.proofs.circle.set_at.Reads as set-at-reads
+use Rattle.term.proofs.scratch.set_at.Reads as set-at-reads
 use Rattle.circle.proofs.circle.since.Reads as since-reads
-use Rattle.circle.proofs.circle.word_at.Reads as word-at-reads
+use Rattle.term.proofs.scratch.word_at.Reads as word-at-reads
 use Rattle.circle.proofs.circle.+from_term.{statement}
 use Rattle.circle.proofs.circle.+from_term.Tie.{close}
 

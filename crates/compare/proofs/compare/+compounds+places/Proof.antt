@@ -45,7 +45,7 @@ use Rattle.compare.proofs.compare.places.Kinds as places-kinds
 use Rattle.compare.proofs.compare.+compounds+places.Lts-places as places-lts
 use Rattle.chains.proofs.follow.follow.Reads as follow-reads
 use Rattle.compare.proofs.compare.open.Reads as open-reads
-use Rattle.rows.proofs.table.argument.Reads as argument-reads
+use Rattle.term.proofs.scratch.argument.Reads as argument-reads
 use Rattle.rows.proofs.table.differ.Reads as differ-reads
 use Rattle.rows.proofs.table.table.Reads as table-reads
 use Rattle.compare.proofs.compare.+compounds+places.{statement}

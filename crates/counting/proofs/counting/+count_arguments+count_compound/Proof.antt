@@ -28,7 +28,7 @@ use Rattle.counting.proofs.counting.keep.Reads as keep-reads
 use Rattle.counting.proofs.counting.leaf.Reads as leaf-reads
 use Rattle.counting.proofs.counting.opening.Reads as opening-reads
 use Rattle.facts.proofs.cells.behind.Reads as behind-reads
-use Rattle.facts.proofs.cells.word_at.Reads as word-at-reads
+use Rattle.term.proofs.scratch.word_at.Reads as word-at-reads
 use Rattle.facts.proofs.ends.lead.Reads as lead-reads
 use Rattle.facts.proofs.length.further.Reads as further-reads
 use Rattle.term.proofs.word.look.Reads as look-reads

@@ -12,8 +12,8 @@ use Rattle.entering.proofs.enter.sum.Statement.{statement}
 use Rattle.entering.proofs.enter.sum.Tie as tie
 use Rattle.entering.proofs.enter.sum.Reads as reads
 use Rattle.entering.proofs.enter.sum.Lts as lts
-use Rattle.entering.proofs.enter.index.Reads as index-reads
-use Rattle.entering.proofs.enter.word_at.Reads as word-at-reads
+use Rattle.term.proofs.word.index.Reads as index-reads
+use Rattle.term.proofs.scratch.word_at.Reads as word-at-reads
 
 abbrev Inv-loop : tie.InvT-loop
 Inv-loop s queries at all₀ q₀ all q = (q ≤ queries) × (all ≡ record-sum s at q)

@@ -15,10 +15,10 @@ use Rattle.reduction.proofs.build.+copy_arguments+copy_compound.Lts-cop
 use Rattle.reduction.proofs.build.copy_compound.Reads as copy-compound
 use Rattle.reduction.proofs.build.copy_compound.Kinds as copy-compound-kinds
 use Rattle.reduction.proofs.build.+copy_arguments+copy_compound.Lts-copy_compound as copy-compound-lts
-use Rattle.reduction.proofs.build.argument.Reads as argument-reads
+use Rattle.term.proofs.scratch.argument.Reads as argument-reads
 use Rattle.reduction.proofs.build.copy_functor.Reads as copy-functor-reads
 use Rattle.reduction.proofs.build.moved.Reads as moved-reads
-use Rattle.reduction.proofs.build.number.Reads as number-reads
+use Rattle.term.proofs.scratch.count.Reads as count-reads
 use Rattle.reduction.proofs.build.placed.Reads as placed-reads
 use Rattle.reduction.proofs.build.put.Reads as put-reads
 use Rattle.term.proofs.word.look.Reads as look-reads
@@ -53,8 +53,8 @@ pub +copy-arguments+copy-compound-spec : {M : Type 1} → statement M
 +copy-arguments+copy-compound-spec =
     close μ-copy-arguments μ-copy-compound
     (λ t. copy-arguments-lts.spec (
-      number-reads.Asked,
-      number-reads.Learnt,
+      count-reads.Asked,
+      count-reads.Learnt,
       copy-functor-reads.Asked,
       copy-functor-reads.Learnt,
       argument-reads.Asked,
@@ -72,7 +72,7 @@ pub +copy-arguments+copy-compound-spec : {M : Type 1} → statement M
     copy-arguments.Post
     Inv
     μ-loop
-    -- number-requires
+    -- count-requires
     (λ c κs.
     let S = c .before .before in let a = S .args in
     let inside = calls.compound-inside (a .s .now) (a .pair) (a .to) (a .p) (S .pre .1) in
@@ -90,14 +90,14 @@ pub +copy-arguments+copy-compound-spec : {M : Type 1} → statement M
     -- add-free-2
     (λ c.
     let S = c .before .before .before .before .before .before .before in let a = S .args in
-    let inside = calls.copy-inside (a .s .now) (a .pair) (a .to) (a .p) _ (c .before .before .before .before .number .ensures) (S .pre .1) in
+    let inside = calls.copy-inside (a .s .now) (a .pair) (a .to) (a .p) _ (c .before .before .before .before .count .ensures) (S .pre .1) in
     omega (arith, inside, S .good))
     -- loop-holds
     (λ c. let a = c .before .before .before .before .before .before .before .args in calls.walk-begins _ (a .pair) (a .to) (a .p) _)
     -- argument-requires
     (λ c κs.
     let W = c .before .before in let L = W .loop in let S = W .before .before .before .before .before .before .before .before in let a = S .args in
-    let counted = W .before .before .before .before .before .number .ensures in let put = W .before .before .before .copy-functor .ensures in
+    let counted = W .before .before .before .before .before .count .ensures in let put = W .before .before .before .copy-functor .ensures in
     let inside = calls.compound-inside (a .s .now) (a .pair) (a .to) (a .p) (S .pre .1) in
     let size = calls.walk-size (a .s .now) (a .pair) (a .to) (a .p) _ counted _ put (L .s) (L .free) (L .i) (L .inv) (S .pre .1) in
     omega (arith, c .before .loop-test .taken, inside .0, size .0, size .1))
@@ -107,35 +107,35 @@ pub +copy-arguments+copy-compound-spec : {M : Type 1} → statement M
     (λ c. c .match .keys1)
     (λ c.
     let W = c .before .before .before .before .before .before .before .before in let L = W .loop in let S = W .before .before .before .before .before .before .before .before in let a = S .args in
-    let counted = W .before .before .before .before .before .number .ensures in let put = W .before .before .before .copy-functor .ensures in
+    let counted = W .before .before .before .before .before .count .ensures in let put = W .before .before .before .copy-functor .ensures in
     let inside = calls.copy-inside (a .s .now) (a .pair) (a .to) (a .p) _ counted (S .pre .1) in
     omega (arith, c .before .before .before .before .before .before .before .loop-test .taken, inside, S .good))
     (λ c κs.
     let W = c .before .before .before .before .before .before .before .before in let L = W .loop in let S = W .before .before .before .before .before .before .before .before in let a = S .args in
-    let counted = W .before .before .before .before .before .number .ensures in let put = W .before .before .before .copy-functor .ensures in
+    let counted = W .before .before .before .before .before .count .ensures in let put = W .before .before .before .copy-functor .ensures in
     let A = c .before .before .before .before .before .argument in
     let said = sym (c .before .before .before .before .look .ensures) ∙ c .before .before .q .given .1 in
     calls.walk-asks (a .s .now) (a .pair) (a .to) (a .p) _ counted _ put (L .s) (L .free) (L .i) (L .inv) (S .pre .1) (c .before .before .before .before .before .before .before .loop-test .taken) (A .result) (A .ensures) _ said t (S .pre .0))
     -- one that is none
     (λ c.
     let W = c .before .before .before .before .before .before in let L = W .loop in let S = W .before .before .before .before .before .before .before .before in let a = S .args in
-    let counted = W .before .before .before .before .before .number .ensures in let put = W .before .before .before .copy-functor .ensures in
+    let counted = W .before .before .before .before .before .count .ensures in let put = W .before .before .before .copy-functor .ensures in
     let inside = calls.copy-inside (a .s .now) (a .pair) (a .to) (a .p) _ counted (S .pre .1) in
     omega (arith, c .before .before .before .before .before .loop-test .taken, inside, S .good))
     (λ c κs.
     let W = c .before .before .before .before .before .before in let L = W .loop in let S = W .before .before .before .before .before .before .before .before in let a = S .args in
-    let counted = W .before .before .before .before .before .number .ensures in let put = W .before .before .before .copy-functor .ensures in
+    let counted = W .before .before .before .before .before .count .ensures in let put = W .before .before .before .copy-functor .ensures in
     let A = c .before .before .before .argument in
     calls.pair-fits (L .s) (a .pair) _ _ (A .result) (calls.walk-term (a .s .now) (a .pair) (a .to) (a .p) _ counted _ put (L .s) (L .free) (L .i) (L .inv) (S .pre .1) (c .before .before .before .before .before .loop-test .taken) (A .result) (A .ensures)))
     (λ c κs.
     let W = c .before .before .before .before .before .before .before in let L = W .loop in let S = W .before .before .before .before .before .before .before .before in let a = S .args in
-    let counted = W .before .before .before .before .before .number .ensures in let put = W .before .before .before .copy-functor .ensures in
+    let counted = W .before .before .before .before .before .count .ensures in let put = W .before .before .before .copy-functor .ensures in
     let A = c .before .before .before .before .argument in
     calls.term-inside (L .s) (a .pair) _ _ (A .result) (calls.walk-term (a .s .now) (a .pair) (a .to) (a .p) _ counted _ put (L .s) (L .free) (L .i) (L .inv) (S .pre .1) (c .before .before .before .before .before .before .loop-test .taken) (A .result) (A .ensures)))
     -- add-i
     (λ c.
     let W = c .before .before .before .before .before in let L = W .loop in let S = W .before .before .before .before .before .before .before .before in let a = S .args in
-    let counted = W .before .before .before .before .before .number .ensures in let put = W .before .before .before .copy-functor .ensures in
+    let counted = W .before .before .before .before .before .count .ensures in let put = W .before .before .before .copy-functor .ensures in
     let size = calls.walk-size (a .s .now) (a .pair) (a .to) (a .p) _ counted _ put (L .s) (L .free) (L .i) (L .inv) (S .pre .1) in
     omega (arith, c .before .before .before .before .loop-test .taken, size .1))
     -- loop-less
@@ -143,7 +143,7 @@ pub +copy-arguments+copy-compound-spec : {M : Type 1} → statement M
     -- loop-again
     (λ c.
     let W = c .before .before .before .before .before in let L = W .loop in let S = W .before .before .before .before .before .before .before .before in let a = S .args in
-    let counted = W .before .before .before .before .before .number .ensures in let put = W .before .before .before .copy-functor .ensures in
+    let counted = W .before .before .before .before .before .count .ensures in let put = W .before .before .before .copy-functor .ensures in
     let A = c .before .before .argument in let M = c .match in
     let on = calls.walk-on _ (a .pair) (a .to) (a .p) _ (L .s) (L .free) (L .i) (L .inv) (c .before .before .before .before .loop-test .taken) (A .result) (A .ensures) in
     ⊎-elim
@@ -157,12 +157,12 @@ pub +copy-arguments+copy-compound-spec : {M : Type 1} → statement M
     -- same-length
     (λ c.
     let W = c .before in let L = W .loop in let S = W .before .before .before .before .before .before .before .before in let a = S .args in
-    let counted = W .before .before .before .before .before .number .ensures in let put = W .before .before .before .copy-functor .ensures in
+    let counted = W .before .before .before .before .before .count .ensures in let put = W .before .before .before .copy-functor .ensures in
     calls.walk-size (a .s .now) (a .pair) (a .to) (a .p) _ counted _ put (L .s) (L .free) (L .i) (L .inv) (S .pre .1) .0)
     -- returns
     (λ c.
     let W = c .before in let L = W .loop in let S = W .before .before .before .before .before .before .before .before in let a = S .args in
-    let counted = W .before .before .before .before .before .number .ensures in let put = W .before .before .before .copy-functor .ensures in
+    let counted = W .before .before .before .before .before .count .ensures in let put = W .before .before .before .copy-functor .ensures in
     calls.walk-ends (a .s .now) (a .pair) (a .to) (a .p) _ counted _ put (L .s) (L .free) (L .i) (L .inv) (c .loop-test .left)))
     (λ t. copy-compound-lts.spec (
       placed-reads.Asked,

@@ -7,7 +7,7 @@ use Rattle.tallies.proofs.groups.goal_at.Statement.{statement}
 use Rattle.tallies.proofs.groups.goal_at.Tie as tie
 use Rattle.tallies.proofs.groups.goal_at.Reads as reads
 use Rattle.tallies.proofs.groups.goal_at.Lts as lts
-use Rattle.facts.proofs.cells.word_at.Reads as word-at-reads
+use Rattle.term.proofs.scratch.word_at.Reads as word-at-reads
 
 -- src/groups.rt:27:14
 add-at : tie.Need-add-at

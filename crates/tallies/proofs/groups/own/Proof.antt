@@ -8,7 +8,7 @@ use Rattle.tallies.proofs.groups.own.Statement.{statement}
 use Rattle.tallies.proofs.groups.own.Tie as tie
 use Rattle.tallies.proofs.groups.own.Reads as reads
 use Rattle.tallies.proofs.groups.own.Lts as lts
-use Rattle.facts.proofs.cells.index.Reads as index-reads
+use Rattle.term.proofs.word.index.Reads as index-reads
 
 -- src/groups.rt:39:9
 returns : tie.Need-returns

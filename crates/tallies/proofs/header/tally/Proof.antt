@@ -7,8 +7,8 @@ use Rattle.tallies.proofs.header.tally.Statement.{statement}
 use Rattle.tallies.proofs.header.tally.Tie as tie
 use Rattle.tallies.proofs.header.tally.Reads as reads
 use Rattle.tallies.proofs.header.tally.Lts as lts
-use Rattle.facts.proofs.cells.index.Reads as index-reads
-use Rattle.facts.proofs.cells.word_at.Reads as word-at-reads
+use Rattle.term.proofs.word.index.Reads as index-reads
+use Rattle.term.proofs.scratch.word_at.Reads as word-at-reads
 use Rattle.tallies.proofs.groups.active.Reads as active-reads
 use Rattle.tallies.proofs.groups.failed.Reads as failed-reads
 use Rattle.tallies.proofs.groups.number.Reads as number-reads

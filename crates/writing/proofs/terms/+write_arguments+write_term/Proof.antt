@@ -44,7 +44,7 @@ use Rattle.writing.proofs.terms.+write_arguments+write_term.Lts-write_a
 use Rattle.writing.proofs.terms.write_term.Reads as write-term
 use Rattle.writing.proofs.terms.write_term.Kinds as write-term-kinds
 use Rattle.writing.proofs.terms.+write_arguments+write_term.Lts-write_term as write-term-lts
-use Rattle.facts.proofs.cells.word_at.Reads as word-at-reads
+use Rattle.term.proofs.scratch.word_at.Reads as word-at-reads
 use Rattle.facts.proofs.ends.end.Reads as end-reads
 use Rattle.term.proofs.word.look.Reads as look-reads
 use Rattle.writing.proofs.rising.rise.Reads as rise-reads

@@ -27,7 +27,7 @@ use Rattle.tokens.proofs.next.starts.Reads as starts-reads
 use Rattle.phrases.proofs.terms.store_argument.Reads as store-argument-reads
 use Rattle.phrases.proofs.terms.store_cell.Reads as store-cell-reads
 use Rattle.phrases.proofs.terms.store_functor.Reads as store-functor-reads
-use Rattle.phrases.proofs.terms.word.Reads as word-reads
+use Rattle.term.proofs.word.word.Reads as word-reads
 
 abbrev pub μ-arguments : Measures 5 arguments-kinds.ps ℕ
 μ-arguments κs a = 4 * a .1 .1 .1 .1 .1 .1 .1 .0 + 1
