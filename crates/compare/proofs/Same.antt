@@ -1,24 +1,61 @@
 -- Arguments at the end of two compounds that are the same constants: their terms are the same, so they agree and give nothing.
 use Prim.Native.Nat.{ℕ, zero, suc, _+_, _*_, _-_, _≤_, _<_}
 use mathlib.Core.Path.{_≡_, refl, sym, subst, _∙_}
-use mathlib.Core.Bool.{true}
+use mathlib.Core.Bool.{true, false}
 use mathlib.Core.Logic.{⊎-elim}
-use mathlib.Core.List.{List, []}
+use mathlib.Core.List.{List, [], _∷_}
 use native.Mathlib.Nat.{eq-or-lt-of-le}
 use native.Mathlib.Omega.{arith}
+use lib.Dec.{eqb}
 use lib.ListN.{getD}
-use borrow.Author.Tests.{eq-eqb}
+use borrow.Author.Tests.{eqb-true, eq-eqb, ne-eqb}
+use denote.Enum.Declared.{tagOf}
+use types.Run.{OneOf, miss}
 use Rattle.meaning.specs.Bytes.{if_then_else_}
 use Rattle.meaning.specs.Terms.{writer, reader, Constant, Term, Terms, end, more, count, renamed, all-renamed, same-constant}
 use Rattle.meaning.specs.State.{Values}
 use Rattle.meaning.specs.Compare.{succeeds, followed, with-assignments, and-then, place, places}
+use Rattle.laws.proofs.Lists.Tests.{and-left, and-right}
+use Rattle.term.specs.declared.word.View.{View}
+use Rattle.term.specs.declared.word.View.the-variants.{Nothing, Writer, Reader, Integer, Name, Empty, Compound}
+use Rattle.term.proofs.word.View.{the-type}
 use Rattle.term.specs.Cells.{Places, term-word, Known, AllKnown}
 use Rattle.term.specs.Holds.{HoldsFrom}
 use Rattle.term.specs.Setting.{Setting, Ranged, AllRanged}
 use Rattle.rows.proofs.Seen.{seen, seen-term}
 use Rattle.compare.specs.Compare.{Template, item, place-outcome, places-outcome}
-use Rattle.compare.specs.Same.{is-constant, SameConstant, SameBehind}
+use Rattle.compare.specs.Same.{is-constant, same-word, SameConstant, SameBehind}
 use Rattle.compare.proofs.Equal.{constants-equal}
+
+-- What the test says.
+pub same-true : (h a : ℕ) → same-word h a ≡ true → SameConstant h a
+unfolding same-word
+same-true h a e = record {
+  equal = eqb-true h a (and-left (eqb h a) _ e);
+  constant = and-right (eqb h a) _ e;
+}
+
+pub same-differs : (h a : ℕ) → (h ≡ a → ⊥) → same-word h a ≡ false
+unfolding same-word
+same-differs h a d = rw (ne-eqb h a d)
+
+pub same-equal : (h a : ℕ) → h ≡ a → same-word h a ≡ is-constant (seen h)
+unfolding same-word
+same-equal h a e = rw (eq-eqb h a e)
+
+-- What is none of the three.
+abbrev pub NoConstant : View → Type 0
+NoConstant v = OneOf (0 ∷ 1 ∷ 2 ∷ 6 ∷ []) (tagOf the-type v)
+
+pub no-constant : (v : View) → NoConstant v → is-constant v ≡ false
+unfolding is-constant
+no-constant Nothing k = refl
+no-constant (Writer z) k = refl
+no-constant (Reader z) k = refl
+no-constant (Integer n) k = absurd (miss (0 ∷ 1 ∷ 2 ∷ 6 ∷ []) 3 tt k)
+no-constant (Name n) k = absurd (miss (0 ∷ 1 ∷ 2 ∷ 6 ∷ []) 4 tt k)
+no-constant Empty k = absurd (miss (0 ∷ 1 ∷ 2 ∷ 6 ∷ []) 5 tt k)
+no-constant (Compound q) k = refl
 
 -- Behind the last argument there is none.
 pub none-behind : (s : List ℕ) (p q n k : ℕ) → k ≡ n → SameBehind s p q n k

@@ -1,8 +1,9 @@
 -- The arguments at the end of two compounds that are the same constants, by their words alone.
 use Prim.Native.Nat.{ℕ, _+_, _/_, _%_, _≤_, _<_}
 use mathlib.Core.Path.{_≡_}
-use mathlib.Core.Bool.{Bool, true, false}
+use mathlib.Core.Bool.{Bool, true, false, _&&_}
 use mathlib.Core.List.{List}
+use lib.Dec.{eqb}
 use lib.ListN.{getD}
 use Rattle.term.specs.Words.{view}
 use Rattle.term.specs.declared.word.View.{View}
@@ -18,6 +19,10 @@ is-constant (Name n) = true
 is-constant Empty = true
 is-constant (Compound p) = false
 
+-- Whether the words are equal, and that of a constant.
+unfoldable pub same-word : ℕ → ℕ → Bool
+same-word h a = eqb h a && is-constant (view (h % 8) (h / 8))
+
 -- The words are equal, and that of a constant.
 pub record SameConstant (h a : ℕ) : Type 0 where
   pub equal : h ≡ a
@@ -27,3 +32,8 @@ pub record SameConstant (h a : ℕ) : Type 0 where
 pub record SameBehind (s : List ℕ) (p q n k : ℕ) : Type 0 where
   pub few : k ≤ n
   pub same : (i : ℕ) → k < i → i ≤ n → SameConstant (getD s (p + i) 0) (getD s (q + i) 0)
+
+-- And the k-th is not, or there is none.
+pub record LastOpen (s : List ℕ) (p q n k : ℕ) : Type 0 where
+  pub behind : SameBehind s p q n k
+  pub differs : 0 < k → same-word (getD s (p + k) 0) (getD s (q + k) 0) ≡ false

@@ -1,12 +1,11 @@
 // Two compounds against each other, by their functors and then their arguments: the table of document 01 (crate `rows`) at each place.
 ghost use mathlib.Core.Path.{_≡_};
-ghost use mathlib.Core.Bool.{true};
 ghost use Prim.Native.Nat.{ℕ, _+_, _*_, _%_, _≤_};
 ghost use lib.ListN.{length, getD};
 ghost use Rattle.meaning.specs.Terms.{Functor, compound, Terms, count as size};
 ghost use Rattle.term.specs.Setting.{Setting};
 ghost use Rattle.compare.specs.Compare.{Template, Against, AllAgainst, Answers, place-outcome, places-outcome};
-ghost use Rattle.compare.specs.Same.{SameConstant, SameBehind};
+ghost use Rattle.compare.specs.Same.{same-word, LastOpen};
 use chains::follow::follow;
 use rows::table::Met;
 use rows::table::differ;
@@ -39,7 +38,7 @@ fn compounds(s: &mut [u64], values: usize, links: usize, p: usize, q: usize, n: 
 
 // Whether both are the same constant.
 fn same(h: u64, a: u64) -> bool
-    ensures { λ r. ⌜ (r ≡ true → SameConstant h a) ⌝ }
+    ensures { λ r. ⌜ r ≡ same-word h a ⌝ }
 {
     if h != a {
         return false;
@@ -55,7 +54,7 @@ fn same(h: u64, a: u64) -> bool
 // How many arguments of two compounds are to be compared: those at the end that are the same constants agree and give nothing.
 fn open(s: &[u64], p: usize, q: usize) -> usize
     requires { ⌜ (p + 8 ≤ length (now s)) × (q + 8 ≤ length (now s)) ⌝ }
-    ensures { λ r. ⌜ SameBehind (now (s .entry)) p q (getD (now (s .entry)) p 0 % 8) r ⌝ }
+    ensures { λ r. ⌜ LastOpen (now (s .entry)) p q (getD (now (s .entry)) p 0 % 8) r ⌝ }
 {
     let mut k = count(s, p);
     while 0 < k {

@@ -39,7 +39,7 @@ pub enum Fate {
     Fails,
 }
 
-// The head's writers are given nothing yet. There are 16 at the most, and so many words are set without a loop.
+// The head's writers are given nothing yet. All 16 words are set, whatever the clause has: a number that the compiler knows.
 fn begin(s: &mut [u64])
     requires { ⌜ 40704 ≤ length (now s) ⌝ }
     ensures only { λ r. ⌜ Only 39936 39952 (now (s .entry)) (now (s .exit)) ⌝ }

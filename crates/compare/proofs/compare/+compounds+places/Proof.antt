@@ -155,7 +155,7 @@ pub +compounds+places-spec : {M : Type 1} → statement M
     (λ c x y m g us lo hi l f ts A.
     let start = c .before .before .before in
     let a = start .args in
-    begins (a .links) A (c .«open» .ensures) refl (omega arith) (λ s′ r answers. answers))
+    begins (a .links) A (c .«open» .ensures .behind) refl (omega arith) (λ s′ r answers. answers))
     -- places-argument-requires
     (λ c κs.
     let at = c .before .before in
@@ -322,7 +322,7 @@ pub +compounds+places-spec : {M : Type 1} → statement M
     let differs = c .before .before .before .differ .ensures in
     let same = c .before .before .if2 .left in
     let last = c .before .before .before .before .before .if1 .taken in
-    let on = turn-on (a .links) G left head goal leads done below differs same last (c .open2 .ensures) in
+    let on = turn-on (a .links) G left head goal leads done below differs same last (c .open2 .ensures .behind) in
     let later = turn-later (a .links) G left head goal leads done below in
     omega (arith, few-left (a .links) on, later .0, later .1, last))
     -- places-loop-again
@@ -341,7 +341,7 @@ pub +compounds+places-spec : {M : Type 1} → statement M
     let differs = c .before .before .before .differ .ensures in
     let same = c .before .before .if2 .left in
     let last = c .before .before .before .before .before .if1 .taken in
-    turn-on (a .links) G left head goal leads done below differs same last (c .open2 .ensures))
+    turn-on (a .links) G left head goal leads done below differs same last (c .open2 .ensures .behind))
     -- places-compounds-requires
     (λ c κs.
     let after = c .before .before .before .before .before .before .before in

@@ -1,10 +1,11 @@
 -- `compare::compare::open` meets its contract. The invariant: those behind the k-th are the same constants.
 use Prim.Native.Nat.{_%_}
+use mathlib.Core.Path.{sym, _∙_}
 use native.Mathlib.Omega.{arith}
 use lib.ListN.{getD}
-use borrow.Author.Tests.{not-false}
+use borrow.Author.Tests.{not-true, not-false}
 use Rattle.compare.specs.Same.{SameBehind}
-use Rattle.compare.proofs.Same.{none-behind, one-more-same}
+use Rattle.compare.proofs.Same.{same-true, none-behind, one-more-same}
 use Rattle.compare.proofs.compare.open.Statement.{statement}
 use Rattle.compare.proofs.compare.open.Tie as tie
 
@@ -32,7 +33,12 @@ same-requires : tie.Need-same-requires Inv-loop μ-loop
 same-requires c κs = tt
 
 returns : tie.Need-returns Inv-loop μ-loop
-returns c = c .before .before .before .before .before .loop .inv
+returns c = record {
+  behind = c .before .before .before .before .before .loop .inv;
+  differs = λ h.
+      rw (c .before .before .before .argument .ensures, c .before .before .argument2 .ensures)
+      at (sym (c .before .same .ensures) ∙ not-true (c .before .same .result) (c .if1 .taken));
+}
 
 sub-k : tie.Need-sub-k Inv-loop μ-loop
 sub-k c = omega arith
@@ -44,7 +50,7 @@ loop-again : tie.Need-loop-again Inv-loop μ-loop
 loop-again c =
     let a = c .before .before .before .before .before .before .before .before .args in
     let k = c .before .before .before .before .before .loop .k in
-    let told = c .before .same .ensures (not-false (c .before .same .result) (c .if1 .left)) in
+    let told = same-true _ _ (sym (c .before .same .ensures) ∙ not-false (c .before .same .result) (c .if1 .left)) in
     one-more-same (a .s .now) (a .p) (a .q) (getD (a .s .now) (a .p) 0 % 8) k (c .before .before .before .before .loop-test .taken)
     (c .before .before .before .before .before .loop .inv)
     (rw (c .before .before .before .argument .ensures, c .before .before .argument2 .ensures) at told)
@@ -52,7 +58,7 @@ loop-again c =
 returns-2 : tie.Need-returns-2 Inv-loop μ-loop
 returns-2 c =
     let b = c .before .loop .inv in
-    record { few = omega arith; same = λ i l h. b .same i (omega arith) h }
+    record { behind = record { few = omega arith; same = λ i l h. b .same i (omega arith) h }; differs = λ h. absurd (omega arith) }
 
 pub open-spec : {M : Type 1} → statement M
 open-spec =

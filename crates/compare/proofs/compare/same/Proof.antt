@@ -4,13 +4,13 @@ use Prim.Native.Nat.{ℕ}
 use native.Mathlib.Omega.{arith}
 use borrow.Author.Needs.{needs}
 use Rattle.compare.specs.Same.{is-constant}
+use Rattle.compare.proofs.Same.{same-differs, same-equal, no-constant}
+use Rattle.rows.proofs.Seen.{seen}
 use Rattle.compare.proofs.compare.same.Statement.{statement}
 use Rattle.compare.proofs.compare.same.Tie as tie
 
 returns : tie.Need-returns
-returns c e =
-    let z : _≡_ {A = ℕ} 0 1 = cc in
-    absurd (omega arith)
+returns c = sym (same-differs (c .before .args .h) (c .before .args .a) (c .if1 .taken))
 
 look-requires : tie.Need-look-requires
 look-requires c κs = search needs
@@ -26,29 +26,26 @@ enum-told-3 c = search needs
 
 returns-2 : tie.Need-returns-2
 unfolding is-constant
-returns-2 c e = record {
-  equal = c .before .before .before .if1 .left;
-  constant = ap is-constant (sym (c .before .before .look .ensures) ∙ c .enum-told .given .1);
-}
+returns-2 c =
+    let S = c .before .before .before in
+    sym (same-equal (S .before .args .h) (S .before .args .a) (S .if1 .left) ∙ ap is-constant (sym (c .before .before .look .ensures) ∙ c .enum-told .given .1))
 
 returns-3 : tie.Need-returns-3
 unfolding is-constant
-returns-3 c e = record {
-  equal = c .before .before .before .if1 .left;
-  constant = ap is-constant (sym (c .before .before .look .ensures) ∙ c .enum-told2 .given .1);
-}
+returns-3 c =
+    let S = c .before .before .before in
+    sym (same-equal (S .before .args .h) (S .before .args .a) (S .if1 .left) ∙ ap is-constant (sym (c .before .before .look .ensures) ∙ c .enum-told2 .given .1))
 
 returns-4 : tie.Need-returns-4
 unfolding is-constant
-returns-4 c e = record {
-  equal = c .before .before .before .if1 .left;
-  constant = ap is-constant (sym (c .before .before .look .ensures) ∙ c .enum-told3 .given .1);
-}
+returns-4 c =
+    let S = c .before .before .before in
+    sym (same-equal (S .before .args .h) (S .before .args .a) (S .if1 .left) ∙ ap is-constant (sym (c .before .before .look .ensures) ∙ c .enum-told3 .given .1))
 
 returns-5 : tie.Need-returns-5
-returns-5 c e =
-    let z : _≡_ {A = ℕ} 0 1 = cc in
-    absurd (omega arith)
+returns-5 c =
+    let S = c .before .before in
+    sym (same-equal (S .before .args .h) (S .before .args .a) (S .if1 .left) ∙ no-constant (seen (S .before .args .h)) (rw (c .before .look .ensures) at (c .match .keys4)))
 
 pub same-spec : {M : Type 1} → statement M
 same-spec =
