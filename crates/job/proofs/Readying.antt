@@ -19,8 +19,8 @@ use Rattle.term.specs.Frames.{Only}
 use Rattle.term.specs.Jobs.{query-base, query-record, QueryLaid}
 use Rattle.term.specs.Layout.{need-of, InRange}
 use Rattle.term.specs.States.{Ready}
-use Rattle.tables.specs.Places.{Place, spellings, item-places}
-use Rattle.image.specs.Image.{
+use Rattle.load_names.specs.Places.{Place, spellings, item-places}
+use Rattle.load_image.specs.Image.{
   Entry,
   a-clause,
   a-query,
@@ -36,26 +36,26 @@ use Rattle.image.specs.Image.{
   text-entries,
   image,
 }
-use Rattle.tables.proofs.Numbering.{spellings-length}
-use Rattle.image.proofs.Keeping.{goals-two, places-only}
-use Rattle.image.proofs.KeptItems.{clause-two, query-two}
-use Rattle.image.proofs.KeptEntries.{EntriesLaid, entries-earlier}
-use Rattle.image.proofs.Procedures.{LinkKept, linked-kept}
-use Rattle.image.proofs.ImageHolds.{entries-clauses-few, entries-headed, cleared-zero}
-use Rattle.image.proofs.Loaded.{accepted-laid-out, loaded-holds}
-use Rattle.image.proofs.TextHolds.{loaded-holds-text}
+use Rattle.load_names.proofs.Numbering.{spellings-length}
+use Rattle.load_image.proofs.Keeping.{goals-two, places-only}
+use Rattle.load_image.proofs.KeptItems.{clause-two, query-two}
+use Rattle.load_image.proofs.KeptEntries.{EntriesLaid, entries-earlier}
+use Rattle.load_image.proofs.Procedures.{LinkKept, linked-kept}
+use Rattle.load_image.proofs.ImageHolds.{entries-clauses-few, entries-headed, cleared-zero}
+use Rattle.load_image.proofs.Loaded.{accepted-laid-out, loaded-holds}
+use Rattle.load_image.proofs.TextHolds.{loaded-holds-text}
 
 -- A word that no item writes: the first pair and the tries of a query, and all from the trial's region on.
-pub record Kept (s s′ : List ℕ) : Type 0 where
+pub record RunWordsKept (s s′ : List ℕ) : Type 0 where
   pub size : length s′ ≡ length s
   pub third : (q : ℕ) → q < 8 → getD s′ (query-record q + 3) 0 ≡ getD s (query-record q + 3) 0
   pub fourth : (q : ℕ) → q < 8 → getD s′ (query-record q + 4) 0 ≡ getD s (query-record q + 4) 0
   pub behind : (k : ℕ) → 39936 ≤ k → getD s′ k 0 ≡ getD s k 0
 
-kept-same : (s : List ℕ) → Kept s s
+kept-same : (s : List ℕ) → RunWordsKept s s
 kept-same s = record { size = refl; third = λ q h. refl; fourth = λ q h. refl; behind = λ k h. refl }
 
-kept-then : (s t u : List ℕ) → Kept s t → Kept t u → Kept s u
+kept-then : (s t u : List ℕ) → RunWordsKept s t → RunWordsKept t u → RunWordsKept s u
 kept-then s t u a b = record {
   size = b .size ∙ a .size;
   third = λ q h. b .third q h ∙ a .third q h;
@@ -100,7 +100,7 @@ module _ (names : List Place) (k : ℕ) (few : k < 8) (g : Query) (laid : QueryL
       (λ (a : k < q). two .between (query-record q + i) (omega arith) (omega arith))
       (order q k)
 
-  pub query-kept : Kept s (query-stored names k g vs s)
+  pub query-kept : RunWordsKept s (query-stored names k g vs s)
   query-kept =
       let two = query-two names k few g laid vs few-places s in
       record {
@@ -111,7 +111,7 @@ module _ (names : List Place) (k : ℕ) (few : k < 8) (g : Query) (laid : QueryL
       }
 
 module _ (names : List Place) where
-  entries-kept : (k q : ℕ) (es : List Entry) (s : List ℕ) → EntriesLaid (spellings names) k q es → Kept s (entries-stored names k q es s)
+  entries-kept : (k q : ℕ) (es : List Entry) (s : List ℕ) → EntriesLaid (spellings names) k q es → RunWordsKept s (entries-stored names k q es s)
   unfolding EntriesLaid entries-stored
   entries-kept k q [] s l = kept-same s
   entries-kept k q (a-clause c ∷ es) s l =
@@ -130,7 +130,7 @@ module _ (names : List Place) where
       let s₁ = query-stored names q g vs s in
       kept-then s s₁ (entries-stored names k (q + 1) es s₁) (query-kept names q (l .0) g (l .1) vs (l .2) s) (entries-kept k (q + 1) es s₁ (l .3))
 
-pub image-kept : (text : Bytes) (j : Job) (s : List ℕ) → reading text ≡ job j → 40704 ≤ length s → Kept s (image text s)
+pub image-kept : (text : Bytes) (j : Job) (s : List ℕ) → reading text ≡ job j → 40704 ≤ length s → RunWordsKept s (image text s)
 unfolding image
 image-kept text j s h inside =
     let l = accepted-laid-out text j h in
@@ -139,7 +139,7 @@ image-kept text j s h inside =
     let s₁ = entries-stored names 0 0 es s in
     let s₂ = linked 0 (head-words names (clauses-of es)) s₁ in
     let s₃ = places-stored 0 names s₂ in
-    let first : Kept s s₁ = entries-kept names 0 0 es s (l .entries) in
+    let first : RunWordsKept s s₁ = entries-kept names 0 0 es s (l .entries) in
     let inside₁ : 40704 ≤ length s₁ = omega (arith, first .size) in
     let links : LinkKept s₁ s₂ = linked-kept names (l .few-names) 0 (clauses-of es) s₁ (entries-clauses-few (spellings names) 0 0 es (l .entries)) inside₁
     (entries-headed (spellings names) 0 0 es (l .entries)) in
@@ -179,7 +179,7 @@ pub loaded-ready : (text : Bytes) (j : Job) (figures : Room) (s s′ : List ℕ)
 loaded-ready text j figures s s′ range inside h e =
     let need = need-of figures in
     let size : length (cleared need s) ≡ length s = cleared-length need s inside in
-    let kept : Kept (cleared need s) s′ = rw e (image-kept text j (cleared need s) h (omega arith)) in
+    let kept : RunWordsKept (cleared need s) s′ = rw e (image-kept text j (cleared need s) h (omega arith)) in
     record {
       in-range = range;
       inside = omega (arith, kept .size);
@@ -200,5 +200,5 @@ pub loaded-clears : (text : Bytes) (j : Job) (figures : Room) (s s′ : List ℕ
 loaded-clears text j figures s s′ inside h e =
     let need = need-of figures in
     let size : length (cleared need s) ≡ length s = cleared-length need s inside in
-    let kept : Kept (cleared need s) s′ = rw e (image-kept text j (cleared need s) h (omega arith)) in
+    let kept : RunWordsKept (cleared need s) s′ = rw e (image-kept text j (cleared need s) h (omega arith)) in
     cleared-same need (cleared need s) s′ (kept .size) (λ k l. kept .behind k (omega arith)) ∙ cleared-twice need s

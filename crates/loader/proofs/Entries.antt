@@ -8,8 +8,8 @@ use Rattle.meaning.specs.Bytes.{Bytes}
 use Rattle.meaning.specs.Terms.{Clause, Query, Job, count}
 use Rattle.meaning.specs.Items.{Refusal, Reading, job, refused, with-clause, with-query}
 use Rattle.term.specs.Jobs.{clause-base, query-base, clause-record, query-record, GoalsKnown}
-use Rattle.tables.specs.Places.{Place, spellings, item-places}
-use Rattle.image.specs.Image.{
+use Rattle.load_names.specs.Places.{Place, spellings, item-places}
+use Rattle.load_image.specs.Image.{
   Entry,
   a-clause,
   a-query,
@@ -24,9 +24,9 @@ use Rattle.image.specs.Image.{
   places-stored,
 }
 use Rattle.loader.specs.Loading.{with-entries, EntriesKnown}
-use Rattle.openings.proofs.Passing.{More}
-use Rattle.bodies.proofs.GoalLists.{still-known, still-goals, still-stored}
-use Rattle.items.proofs.Heads.{still-head}
+use Rattle.load_openings.proofs.Passing.{More}
+use Rattle.load_goals.proofs.GoalLists.{still-known, still-goals, still-stored}
+use Rattle.load_items.proofs.Heads.{still-head}
 
 pub with-snoc : (es : List Entry) (e : Entry) (r : Reading) → with-entries (es ++ (e ∷ [])) r ≡ with-entries es (with-entries (e ∷ []) r)
 unfolding with-entries

@@ -14,11 +14,11 @@ use Rattle.meaning.specs.Items.{Refusal, no-query, Reading, job, refused, item,
 use Rattle.meaning.specs.Call.{cleared}
 use Rattle.term.specs.Cells.{number-of, functor-word}
 use Rattle.term.specs.Frames.{Only}
-use Rattle.tokens.specs.Fronts.{tokens-at}
-use Rattle.tables.specs.Places.{Place, spellings, item-places}
-use Rattle.tables.specs.Tables.{NamesIn}
-use Rattle.image.specs.Kept.{pairs-kept}
-use Rattle.image.specs.Image.{
+use Rattle.load_tokens.specs.Fronts.{tokens-at}
+use Rattle.load_names.specs.Places.{Place, spellings, item-places}
+use Rattle.load_names.specs.Tables.{NamesIn}
+use Rattle.load_image.specs.Kept.{pairs-kept}
+use Rattle.load_image.specs.Image.{
   names-in,
   Entry,
   a-clause,
@@ -36,14 +36,14 @@ use Rattle.image.specs.Image.{
   text-entries,
   image,
 }
-use Rattle.items.specs.Outcomes.{shifted}
+use Rattle.load_items.specs.Outcomes.{shifted}
 use Rattle.loader.specs.Loading.{with-entries, EntriesKnown, Reached}
 use Rattle.term.specs.Cells.{Known}
 use Rattle.meaning.specs.Terms.{as-term}
 use Rattle.term.specs.Jobs.{GoalsKnown}
-use Rattle.tables.proofs.Numbering.{spellings-length}
+use Rattle.load_names.proofs.Numbering.{spellings-length}
 use Rattle.loader.proofs.Entries.{with-all}
-use Rattle.items.proofs.PlacesKept.{kept-places}
+use Rattle.load_items.proofs.PlacesKept.{kept-places}
 
 -- Clearing again: nothing beyond the needed part has changed.
 only-drop : (hi n : ℕ) (s t : List ℕ) → hi ≤ n → Only 0 hi s t → drop n t ≡ drop n s

@@ -12,11 +12,11 @@ use Rattle.meaning.specs.Tokens.{Tokens, ends, token, sign, tokens}
 use Rattle.meaning.specs.Items.{Reading, Piece, clause, query, nothing, job, refused, Refusal, SoFar, with-clause, with-query, item, items, pieces}
 use Rattle.term.proofs.Frames.{only-same, only-then}
 use Rattle.term.specs.Frames.{Only}
-use Rattle.tokens.specs.Fronts.{tokens-at, tokens-in}
-use Rattle.tables.specs.Places.{Place, Placed, spellings, before, names-over, variables-over, with-name}
-use Rattle.tables.specs.Tables.{NamesIn, last-with}
-use Rattle.openings.specs.Reading.{piece}
-use Rattle.image.specs.Image.{
+use Rattle.load_tokens.specs.Fronts.{tokens-at, tokens-in}
+use Rattle.load_names.specs.Places.{Place, Placed, spellings, before, names-over, variables-over, with-name}
+use Rattle.load_names.specs.Tables.{NamesIn, last-with}
+use Rattle.load_openings.specs.Reading.{piece}
+use Rattle.load_image.specs.Image.{
   names-in,
   variables-in,
   Entry,
@@ -32,9 +32,9 @@ use Rattle.image.specs.Image.{
   head-word,
   head-words,
 }
-use Rattle.items.specs.Outcomes.{Took, TookClause, TookQuery, shifted}
+use Rattle.load_items.specs.Outcomes.{Took, TookClause, TookQuery, shifted}
 use Rattle.loader.specs.Loading.{with-entries, EntriesKnown, Reached}
-use Rattle.openings.proofs.Passing.{names-more}
+use Rattle.load_openings.proofs.Passing.{names-more}
 use Rattle.loader.proofs.Pieces.{piece-is, pieces-cut, names-before, names-of-piece, variables-of-piece, tokens-behind}
 use Rattle.loader.proofs.Entries.{
   with-snoc,

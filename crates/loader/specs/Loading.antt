@@ -10,10 +10,10 @@ use Rattle.meaning.specs.Items.{Refusal, no-query, Reading, job, refused, with-
 use Rattle.meaning.specs.Call.{refusal, number, line-of, cleared}
 use Rattle.term.specs.Frames.{Only}
 use Rattle.term.specs.Jobs.{GoalsKnown}
-use Rattle.tokens.specs.Fronts.{tokens-at}
-use Rattle.tables.specs.Places.{Place, spellings}
-use Rattle.tables.specs.Tables.{NamesIn}
-use Rattle.image.specs.Image.{
+use Rattle.load_tokens.specs.Fronts.{tokens-at}
+use Rattle.load_names.specs.Places.{Place, spellings}
+use Rattle.load_names.specs.Tables.{NamesIn}
+use Rattle.load_image.specs.Image.{
   names-in,
   Entry,
   a-clause,

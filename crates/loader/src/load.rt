@@ -1,21 +1,21 @@
 // The loader's one public function: a text becomes a job in the scratch, or is refused.
-use image::keep::keep_places;
-use image::keep::link;
-use items::items::Item;
-use items::items::next_item;
+use load_image::keep::keep_places;
+use load_image::keep::link;
+use load_items::items::Item;
+use load_items::items::next_item;
+use load_tokens::lines::line;
 use term::clear::clear;
 use term::layout::Room;
 use term::layout::need;
-use tokens::lines::line;
 ghost use mathlib.Core.Path.{_≡_};
 ghost use mathlib.Core.List.{List};
 ghost use Prim.Native.Nat.{ℕ, _+_, _≤_, _<_};
 ghost use lib.ListN.{length, drop, replicate};
 ghost use Rattle.meaning.specs.Call.{cleared};
 ghost use Rattle.term.specs.Layout.{need-of, figures, InRange};
-ghost use Rattle.tables.specs.Places.{Place};
-ghost use Rattle.tables.specs.Tables.{NamesIn};
-ghost use Rattle.items.specs.Outcomes.{ItemIs, Lent};
+ghost use Rattle.load_names.specs.Places.{Place};
+ghost use Rattle.load_names.specs.Tables.{NamesIn};
+ghost use Rattle.load_items.specs.Outcomes.{ItemIs, Lent};
 ghost use Rattle.loader.specs.Loading.{ListedIs, LoadedIs};
 
 // How many clauses and queries the job has; or the refusal's number and line.
@@ -90,7 +90,7 @@ fn all_items(text: &[u8], s: &mut [u64], names: &mut [u64], heads: &mut [u64]) -
             Item::Broken(a) => {
                 return Listed::Stopped(5, from + a);
             }
-            Item::Passed(a) => {
+            Item::Exceeded(a) => {
                 return Listed::Stopped(6, from + a);
             }
             Item::Nothing => {

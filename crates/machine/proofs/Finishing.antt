@@ -17,9 +17,9 @@ use Rattle.term.specs.States.{Atlas, HoldsState, Ready, Finished, verdict-of}
 use Rattle.term.specs.declared.state.Standing.{Standing}
 use Rattle.term.specs.declared.state.Verdict.{Verdict}
 use Rattle.term.proofs.Jobs.{holds-job-kept}
-use Rattle.queues.specs.Log.{Slot, present, LogOk}
-use Rattle.entering.specs.Entering.{EnterOnly, Entered}
-use Rattle.running.specs.Running.{RunOnly, Running}
+use Rattle.run_queues.specs.Log.{Slot, present, LogOk}
+use Rattle.run_enter.specs.Entering.{EnterOnly, Entered}
+use Rattle.run_between.specs.Running.{RunOnly, Running}
 use Rattle.machine.specs.Ending.{Behind, GoneOn, RanIs}
 use Rattle.machine.specs.declared.run.Ran.{Ran}
 use Rattle.machine.specs.declared.run.Ran.the-variants.{Ended, QueriesPassRoom}

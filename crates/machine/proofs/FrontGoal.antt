@@ -13,15 +13,15 @@ use Rattle.meaning.specs.Run.{choice-for, run}
 use Rattle.term.specs.Layout.{values-region, marks-region, queue-region}
 use Rattle.term.specs.States.{Atlas, goal-word, setting, GoalStands}
 use Rattle.term.specs.declared.state.Standing.{Standing}
-use Rattle.trial.specs.Choosing.{unit-of, Trying, MarksBelow, ChoiceTold, ChoiceIs}
-use Rattle.queues.specs.Log.{Slot}
-use Rattle.running.specs.Running.{RunOnly, Running, StepIs}
-use Rattle.running.specs.Taking.{Taken, Reducing, JoiningWaiting, JoiningFailed}
-use Rattle.running.specs.declared.stepped.Stepped.{Stepped}
-use Rattle.trial.specs.declared.choice.Fate.{Fate}
-use Rattle.trial.specs.declared.choice.Fate.the-variants.{Reduces, Waits, Fails}
-use Rattle.running.proofs.GroundMarks.{grounds-tried}
-use Rattle.running.proofs.FramesRunning.{few-units, word-query, word-place, front-word, front-stands, trying, trial-run-only, run-only-then, running-tried}
+use Rattle.run_trial.specs.Choosing.{unit-of, Trying, MarksBelow, ChoiceTold, ChoiceIs}
+use Rattle.run_queues.specs.Log.{Slot}
+use Rattle.run_between.specs.Running.{RunOnly, Running, StepIs}
+use Rattle.run_between.specs.Taking.{Taken, Reducing, JoiningWaiting, JoiningFailed}
+use Rattle.run_between.specs.declared.stepped.Stepped.{Stepped}
+use Rattle.run_trial.specs.declared.choice.ChoiceResult.{ChoiceResult}
+use Rattle.run_trial.specs.declared.choice.ChoiceResult.the-variants.{Reduces, Waits, Fails}
+use Rattle.run_between.proofs.GroundMarks.{grounds-tried}
+use Rattle.run_between.proofs.FramesRunning.{few-units, word-query, word-place, front-word, front-stands, trying, trial-run-only, run-only-then, running-tried}
 
 -- What the step has read.
 pub record Fetched (s : List ℕ) (figures : Room) (t : Standing) (goal query place values marks steps : ℕ) : Type 0 where
@@ -71,7 +71,7 @@ module _ (s : List ℕ) (text : Bytes) (names : List Bytes) (j : Job) (figures :
   choice-stamps = (omega arith, omega (arith, f .steps-are))
 
   -- The choice is made.
-  module _ (s₁ : List ℕ) (fate : Fate) (told : ChoiceIs s s₁ names j limit figures (atlas (g .query)) g marks (steps * 32768 + 2) fate) where
+  module _ (s₁ : List ℕ) (fate : ChoiceResult) (told : ChoiceIs s s₁ names j limit figures (atlas (g .query)) g marks (steps * 32768 + 2) fate) where
     tried-only : RunOnly figures s s₁
     tried-only = trial-run-only figures s s₁ (rw (f .marks-is) at (told .only))
 

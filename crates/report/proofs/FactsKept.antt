@@ -14,12 +14,12 @@ use Rattle.term.specs.Setting.{Setting, UnitTerm, UnitStands}
 use Rattle.term.specs.declared.state.Standing.{Standing}
 use Rattle.term.proofs.Holds.{holds-alike, holds-values-alike, EveryValue}
 use Rattle.term.proofs.Spellings.{holds-spellings-kept}
-use Rattle.facts.specs.Facts.{fact-place, Led, EndAt, Readable, Changed}
-use Rattle.tallies.specs.Groups.{goal-in, own, own-from, active-group, waiting-group, failed-group}
-use Rattle.tallies.specs.declared.groups.Group.{Group}
-use Rattle.tallies.specs.Header.{tallies-of, header-of}
-use Rattle.sections.specs.Sections.{Variables, GoalsHeld, Listed, SectionAt}
-use Rattle.sections.specs.Whole.{section-bytes, lines-shown}
+use Rattle.report_pairs.specs.Facts.{fact-place, Led, EndAt, Readable, Changed}
+use Rattle.report_tallies.specs.Groups.{goal-in, own, own-from, active-group, waiting-group, failed-group}
+use Rattle.report_tallies.specs.declared.groups.Group.{Group}
+use Rattle.report_tallies.specs.Header.{tallies-of, header-of}
+use Rattle.report_sections.specs.Sections.{Variables, GoalsHeld, Listed, SectionAt}
+use Rattle.report_sections.specs.Whole.{section-bytes, lines-shown}
 use Rattle.report.specs.All.{Made, FactsOnly, bytes-of, sections-bytes}
 use Rattle.term.proofs.Units.{within-every}
 

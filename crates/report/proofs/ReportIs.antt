@@ -16,13 +16,13 @@ use Rattle.term.specs.Layout.{waiters-region}
 use Rattle.term.specs.States.{Atlas, Finished, verdict-of}
 use Rattle.term.specs.declared.state.Standing.{Standing}
 use Rattle.term.specs.declared.state.Verdict.{Verdict as Told}
-use Rattle.facts.specs.Facts.{Cleared}
-use Rattle.facts.specs.Threaded.{shown-groups}
-use Rattle.tallies.specs.Header.{tallies-of, header-of, run-words-of, run-line-of}
-use Rattle.tallies.specs.declared.header.Tallies.{Tallies}
-use Rattle.sections.specs.Whole.{lines-shown, section-bytes}
+use Rattle.report_pairs.specs.Facts.{Cleared}
+use Rattle.report_pairs.specs.Threaded.{shown-groups}
+use Rattle.report_tallies.specs.Header.{tallies-of, header-of, run-words-of, run-line-of}
+use Rattle.report_tallies.specs.declared.header.Tallies.{Tallies}
+use Rattle.report_sections.specs.Whole.{lines-shown, section-bytes}
 use Rattle.report.specs.All.{Made, Stands, Sections, bytes-of, sections-bytes, report-bytes, no-query, made-of}
-use Rattle.sections.proofs.Lines.{section-shown}
+use Rattle.report_sections.proofs.Lines.{section-shown}
 use Rattle.report.proofs.Sectioning.{finished-sections}
 
 -- The report's first line, and a section's, by equal counts.

@@ -19,13 +19,13 @@ use Rattle.term.specs.Layout.{waiters-region, need-of}
 use Rattle.term.specs.States.{Finished}
 use Rattle.term.specs.declared.state.Standing.{Standing}
 use Rattle.term.specs.declared.state.Verdict.{Verdict as Told}
-use Rattle.facts.specs.Laid.{capped, laid, Puts}
-use Rattle.facts.specs.Facts.{Cleared}
-use Rattle.sections.specs.Whole.{Uncounted, Numbers}
+use Rattle.report_pairs.specs.Laid.{capped, laid, Puts}
+use Rattle.report_pairs.specs.Facts.{Cleared}
+use Rattle.report_sections.specs.Whole.{Uncounted, Numbers}
 use Rattle.report.specs.All.{Made, Sections, AllCounted, report-bytes, order-of, made-of}
-use Rattle.tallies.specs.Header.{run-line-of}
+use Rattle.report_tallies.specs.Header.{run-line-of}
 use Rattle.report.specs.Promise.{with-report, ReportIs}
-use Rattle.facts.proofs.Laid.{laid-whole}
+use Rattle.report_pairs.proofs.Laid.{laid-whole}
 use Rattle.report.proofs.Sectioning.{finished-sections}
 use Rattle.report.proofs.ReportIs.{report-is}
 

@@ -30,11 +30,11 @@ use Rattle.term.specs.declared.state.Verdict.{Verdict as Told}
 use Rattle.term.proofs.Holds.{holds-alike, holds-values-alike, EveryValue}
 use Rattle.term.proofs.Jobs.{each-at}
 use Rattle.term.proofs.Spellings.{holds-spellings-kept}
-use Rattle.facts.specs.Facts.{fact-place, EndAt, Readable, Cleared}
-use Rattle.tallies.specs.Groups.{goal-place, own, own-from, active-group, waiting-group, failed-group}
-use Rattle.tallies.specs.declared.groups.Group.{Group}
-use Rattle.sections.specs.Sections.{Variables, GoalsHeld, Listed}
-use Rattle.sections.specs.Whole.{Uncounted}
+use Rattle.report_pairs.specs.Facts.{fact-place, EndAt, Readable, Cleared}
+use Rattle.report_tallies.specs.Groups.{goal-place, own, own-from, active-group, waiting-group, failed-group}
+use Rattle.report_tallies.specs.declared.groups.Group.{Group}
+use Rattle.report_sections.specs.Sections.{Variables, GoalsHeld, Listed}
+use Rattle.report_sections.specs.Whole.{Uncounted}
 use Rattle.report.specs.All.{Sections, Stands, no-query, made-of}
 use Rattle.term.proofs.Units.{within-every}
 use Rattle.report.proofs.SoundRun.{sound-values, sound-queue, sound-waiting, sound-failed}

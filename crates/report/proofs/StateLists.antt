@@ -15,10 +15,10 @@ use Rattle.term.specs.Layout.{InRange, need-of, waiters-region}
 use Rattle.term.specs.Setting.{UnitTerm}
 use Rattle.term.specs.States.{Atlas, goal-word, setting-at, AllStand, HoldsState}
 use Rattle.term.specs.declared.state.Standing.{Standing}
-use Rattle.facts.specs.Sound.{Sound}
-use Rattle.tallies.specs.Groups.{active-group, waiting-group, failed-group}
-use Rattle.sections.specs.Sections.{GoalsHeld, Listed}
-use Rattle.tallies.proofs.OwnGoals.{own-active, own-waiting, own-failed, active-inside, waiting-inside, failed-inside}
+use Rattle.report_pairs.specs.Sound.{Sound}
+use Rattle.report_tallies.specs.Groups.{active-group, waiting-group, failed-group}
+use Rattle.report_sections.specs.Sections.{GoalsHeld, Listed}
+use Rattle.report_tallies.proofs.OwnGoals.{own-active, own-waiting, own-failed, active-inside, waiting-inside, failed-inside}
 
 -- A goal of the query has the query's place.
 of-place : (q : ℕ) (g : Goal) → of q g ≡ true → g .query ≡ q

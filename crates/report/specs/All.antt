@@ -11,10 +11,10 @@ use Rattle.term.specs.Setting.{Setting}
 use Rattle.term.specs.States.{Atlas, setting-at}
 use Rattle.term.specs.declared.state.Standing.{Standing}
 use Rattle.term.specs.declared.state.Verdict.{Verdict as Told}
-use Rattle.facts.specs.Threaded.{lines-seen}
-use Rattle.facts.specs.Laid.{capped}
-use Rattle.tallies.specs.Header.{run-line-of}
-use Rattle.sections.specs.Whole.{section-bytes, SectionStands, Numbers, Uncounted}
+use Rattle.report_pairs.specs.Threaded.{lines-seen}
+use Rattle.report_pairs.specs.Laid.{capped}
+use Rattle.report_tallies.specs.Header.{run-line-of}
+use Rattle.report_sections.specs.Whole.{section-bytes, SectionStands, Numbers, Uncounted}
 
 -- What a section is made of: its query's unit, variables and goals.
 pub record Made : Type 0 where

@@ -1,10 +1,10 @@
 // The report: counted, then written if it fits.
-use facts::ends::forget;
-use facts::length::CEILING;
-use sections::sections::count_section;
-use sections::sections::write_section;
-use tallies::header::run_length;
-use tallies::header::run_line;
+use report_pairs::ends::forget;
+use report_pairs::length::CEILING;
+use report_sections::sections::count_section;
+use report_sections::sections::write_section;
+use report_tallies::header::run_length;
+use report_tallies::header::run_line;
 use term::layout;
 use term::layout::Room;
 use term::layout::TRIAL;
@@ -19,8 +19,8 @@ ghost use Rattle.meaning.specs.Terms.{Job};
 ghost use Rattle.term.specs.Layout.{figures};
 ghost use Rattle.term.specs.States.{Finished};
 ghost use Rattle.term.specs.Layout.{waiters-region};
-ghost use Rattle.facts.specs.Laid.{Puts};
-ghost use Rattle.sections.specs.Whole.{Uncounted, Numbers};
+ghost use Rattle.report_pairs.specs.Laid.{Puts};
+ghost use Rattle.report_sections.specs.Whole.{Uncounted, Numbers};
 ghost use Rattle.report.specs.All.{Made, Sections, AllCounted, order-of, report-bytes};
 ghost use Rattle.report.specs.Promise.{ReportIs};
 

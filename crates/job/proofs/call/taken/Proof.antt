@@ -1,7 +1,7 @@
 -- `job::call::taken` meets its contract.
 use Rattle.term.specs.Layout.{need-of, figures}
-use Rattle.tables.specs.Places.{spellings}
-use Rattle.image.specs.Image.{text-names}
+use Rattle.load_names.specs.Places.{spellings}
+use Rattle.load_image.specs.Image.{text-names}
 use Rattle.job.proofs.Readying.{loaded-ready, loaded-clears}
 use Rattle.job.proofs.Answers.{taken-job, taken-refused}
 use borrow.Author.Needs.{needs}

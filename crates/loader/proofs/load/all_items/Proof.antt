@@ -7,8 +7,8 @@ use lib.ListN.{length, length-drop}
 use Rattle.meaning.specs.Items.{no-item, occurrence-rule, figure, line as line-of-place}
 use Rattle.meaning.specs.Call.{refusal, number, line-of}
 use Rattle.term.proofs.Frames.{only-then}
-use Rattle.tables.specs.Places.{Place}
-use Rattle.image.specs.Image.{Entry}
+use Rattle.load_names.specs.Places.{Place}
+use Rattle.load_image.specs.Image.{Entry}
 use Rattle.loader.specs.Loading.{Reached}
 use Rattle.loader.proofs.Reaching.{reached-none, reached-clause, reached-query, next-inside, here}
 use Rattle.loader.proofs.Stopping.{stopped}

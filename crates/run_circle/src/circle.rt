@@ -1,0 +1,269 @@
+// The circle test. While a trial is tested, each of the goal's pairs that it gives a term holds 7 and eight times its number in the trial.
+use term::layout::TRIAL;
+use term::scratch::argument;
+use term::scratch::count;
+use term::scratch::set_at;
+use term::scratch::word_at;
+use term::word::index;
+use term::word::word;
+ghost use mathlib.Core.Path.{_≡_};
+ghost use mathlib.Core.Option.{Option};
+ghost use Prim.Native.Nat.{ℕ, _%_, _/_, _+_, _*_, _<_, _^_};
+ghost use mathlib.Core.Bool.{true, false};
+ghost use mathlib.Core.List.{List};
+ghost use lib.ListN.{length, getD};
+ghost use Rattle.meaning.specs.Terms.{Term};
+ghost use Rattle.run_circle.specs.Circle.{Entries, Held, held-word, entry-pair, Trial, Tried, Tested, Answered};
+ghost use Rattle.run_circle.specs.Ground.{GroundAt};
+ghost use Rattle.run_circle.specs.Search.{Scene, Told, Searching, LeadsIs, LastLeads, Settled, Names, begun-state, JoinedIs, SinceIs, SearchedFrom};
+
+// The mark of a pair from which no unassigned pair is reached. Stamps are greater.
+const GROUND: u64 = 1;
+
+// The term of the head that the trial gives the i-th of its pairs.
+fn given_term(s: &[u64], i: usize) -> u64
+    requires { ⌜ 39953 + 2 * i < length (now s) ⌝ }
+    ensures { λ r. ⌜ r ≡ getD (now (s .entry)) (39953 + 2 * i) 0 ⌝ }
+{
+    s[TRIAL + 17 + 2 * i]
+}
+
+// Whether a term is a compound or a variable: from any other no pair is reached.
+fn leads(w: u64) -> bool
+    ensures { λ r. ⌜ LeadsIs w r ⌝ }
+{
+    let tag = w % 8;
+    if tag == 6 {
+        return true;
+    }
+    if tag == 0 {
+        return false;
+    }
+    if tag > 2 {
+        return false;
+    }
+    true
+}
+
+// The last argument of the compound at a place from which a pair may be reached; 0 if there is none.
+fn last(s: &[u64], q: usize) -> usize
+    requires { ⌜ q + 7 < length (now s) ⌝ }
+    ensures { λ r. ⌜ LastLeads (now (s .entry)) q r ⌝ }
+{
+    let mut k = count(s, q);
+    while 0 < k {
+        let a = argument(s, q, k);
+        if leads(a) {
+            return k;
+        }
+        k -= 1;
+    }
+    0
+}
+
+// Marks a ground pair as such, and those to which the last arguments of its value lead, as far as they have the search's stamp.
+fn settle(s: &mut [u64], values: usize, marks: usize, stamp: u64, pair: usize)
+    requires { ⌜ ((x : Scene) × (place : ℕ) × (goal : ℕ) × Searching (now s) x values marks place stamp goal × GroundAt (x .unit) (x .before) pair) ⌝ }
+    ensures { λ r. ⌜ ((x : Scene) (place goal : ℕ) → Searching (now (s .entry)) x values marks place stamp goal → GroundAt (x .unit) (x .before) pair
+        → Settled x marks stamp (now (s .entry)) (now (s .exit))) ⌝ }
+{
+    let mut t = word(8 * pair + 1);
+    while leads(t) {
+        let q = index(t / 8);
+        if t % 8 == 6 {
+            let k = last(s, q);
+            if k == 0 {
+                return;
+            }
+            t = argument(s, q, k);
+            continue;
+        }
+        let m = word_at(s, marks, q);
+        if m != stamp {
+            return;
+        }
+        set_at(s, marks, q, GROUND);
+        t = word_at(s, values, q);
+    }
+}
+
+// The end of a search that has not found the pair, where all that was left is ground: marks the pair that its state names. Whether it has met a pair that
+// may not be ground: 1; or 0.
+fn ended(s: &mut [u64], values: usize, marks: usize, stamp: u64, state: usize) -> u64
+    requires { ⌜ ((x : Scene) × (place : ℕ) × (goal : ℕ) × Searching (now s) x values marks place stamp goal × Names x state) ⌝ }
+    ensures settled { λ r. ⌜ ((x : Scene) (place goal : ℕ) → Searching (now (s .entry)) x values marks place stamp goal → Names x state
+        → Settled x marks stamp (now (s .entry)) (now (s .exit))) ⌝ }
+    ensures parity { λ r. ⌜ r ≡ state % 2 ⌝ }
+{
+    if state < 2 {
+        return word(state);
+    }
+    settle(s, values, marks, stamp, state / 2 - 1);
+    word(state % 2)
+}
+
+// The state of a search at its beginning. From a term of the head it never tells that all is ground.
+fn begun(head: bool) -> usize
+    ensures { λ r. ⌜ r ≡ begun-state head ⌝ }
+{
+    if head { 1 } else { 0 }
+}
+
+// The state when an argument was searched.
+fn joined(state: usize, r: u64) -> usize
+    ensures { λ o. ⌜ JoinedIs state r o ⌝ }
+{
+    if r == 0 { state } else { 1 }
+}
+
+// The state when a pair at a place is visited.
+fn since(state: usize, p: usize) -> usize
+    requires { ⌜ 2 * p + 4 < 2 ^ 64 ⌝ }
+    ensures { λ r. ⌜ SinceIs state p r ⌝ }
+{
+    if state > 1 {
+        return state;
+    }
+    state + 2 * p + 2
+}
+
+// Whether pair z is reached from a term: the head's, whose variables stand for what they are given, or the goal's. 2: it is; 0: it is not, and no
+// unassigned pair is; 1: else it is not. A pair with this search's stamp was visited.
+// Of the words' tags 6 is a compound's, and 1 and 2 are a pair's. The search goes on to a compound's last argument that leads on and to a pair's value in
+// its loop, and descends into the other arguments: `later` is the last one so far that leads on, or 0, and is searched when the next one is met.
+fn from_term(
+    s: &mut [u64],
+    values: usize,
+    marks: usize,
+    z: usize,
+    stamp: u64,
+    head: bool,
+    w: u64,
+) -> u64
+    requires { ⌜ ((x : Scene) × (goal : ℕ) × (v : Option Term) × Searching (now s) x values marks z stamp goal × Told x head w v) ⌝ }
+    ensures { λ r. ⌜ ((x : Scene) (goal : ℕ) (v : Option Term) → Searching (now (s .entry)) x values marks z stamp goal → Told x head w v
+        → SearchedFrom (now (s .entry)) (now (s .exit)) x marks stamp goal v r) ⌝ }
+{
+    let mut side = head;
+    let mut state = begun(head);
+    let mut t = w;
+    loop {
+        let tag = t % 8;
+        let p = index(t / 8);
+        if tag == 6 {
+            let k = count(s, p);
+            let mut later = 0;
+            let mut i = 1;
+            while i <= k {
+                let a = argument(s, p, i);
+                if leads(a) {
+                    if later != 0 {
+                        let r = from_term(s, values, marks, z, stamp, side, later);
+                        if r == 2 {
+                            return 2;
+                        }
+                        state = joined(state, r);
+                    }
+                    later = a;
+                }
+                i += 1;
+            }
+            if later == 0 {
+                return ended(s, values, marks, stamp, state);
+            }
+            t = later;
+            continue;
+        }
+        if tag == 0 {
+            return 1;
+        }
+        if tag > 2 {
+            return ended(s, values, marks, stamp, state);
+        }
+        if side {
+            t = word_at(s, TRIAL, p);
+            side = false;
+            continue;
+        }
+        if p == z {
+            return 2;
+        }
+        let m = word_at(s, marks, p);
+        if m == GROUND {
+            return ended(s, values, marks, stamp, state);
+        }
+        if m == stamp {
+            return 1;
+        }
+        set_at(s, marks, p, stamp);
+        state = since(state, p);
+        t = word_at(s, values, p);
+        let kind = t % 8;
+        if kind == 7 {
+            let i = index(t / 8);
+            t = given_term(s, i);
+            side = true;
+            state = 1;
+        }
+    }
+}
+
+// What an entry's pair holds while the trial is tested, and what before and after.
+fn held(testing: bool, i: usize) -> u64
+    requires { ⌜ 7 + 8 * i < 2 ^ 64 ⌝ }
+    ensures { λ r. ⌜ r ≡ held-word testing i ⌝ }
+{
+    if testing { word(7 + 8 * i) } else { 0 }
+}
+
+// The place of the pair of the i-th entry.
+fn entry_pair(s: &[u64], i: usize) -> usize
+    requires { ⌜ 39952 + 2 * i < length (now s) ⌝ }
+    ensures { λ r. ⌜ r ≡ entry-pair (now (s .entry)) i ⌝ }
+{
+    index(s[TRIAL + 16 + 2 * i])
+}
+
+// Sets the values of the entries' pairs to what they hold while the trial is tested, or back to nothing.
+fn hold(s: &mut [u64], values: usize, n: usize, testing: bool)
+    requires { ⌜ Entries (now s) values n ⌝ }
+    ensures { λ r. ⌜ Held (now (s .entry)) (now (s .exit)) values n testing ⌝ }
+{
+    let mut i = 0;
+    while i < n {
+        let z = entry_pair(s, i);
+        let v = held(testing, i);
+        set_at(s, values, z, v);
+        i += 1;
+    }
+}
+
+// Whether one of the entries' pairs is reached from its own term.
+fn from_entries(s: &mut [u64], values: usize, marks: usize, n: usize, stamp: u64) -> bool
+    requires { ⌜ ((y : Trial) × (s₀ : List ℕ) × Tried s₀ y values marks n stamp × Held s₀ (now s) values n true) ⌝ }
+    ensures { λ r. ⌜ ((y : Trial) (s₀ : List ℕ) → Tried s₀ y values marks n stamp → Held s₀ (now (s .entry)) values n true
+        → Answered s₀ (now (s .entry)) (now (s .exit)) y marks n stamp r) ⌝ }
+{
+    let mut i = 0;
+    while i < n {
+        let z = entry_pair(s, i);
+        let h = given_term(s, i);
+        let r = from_term(s, values, marks, z, stamp + word(i), true, h);
+        if r == 2 {
+            return true;
+        }
+        i += 1;
+    }
+    false
+}
+
+// Whether a trial that gives n pairs of the goal a term makes a circle. Stamps from this one on are unused.
+pub fn circle(s: &mut [u64], values: usize, marks: usize, n: usize, stamp: u64) -> bool
+    requires { ⌜ ((y : Trial) × Tried (now s) y values marks n stamp) ⌝ }
+    ensures { λ r. ⌜ ((y : Trial) → Tried (now (s .entry)) y values marks n stamp → Tested (now (s .entry)) (now (s .exit)) y marks n stamp r) ⌝ }
+{
+    hold(s, values, n, true);
+    let found = from_entries(s, values, marks, n, stamp);
+    hold(s, values, n, false);
+    found
+}
