@@ -16,8 +16,8 @@ use Rattle.meaning.specs.Items.{reading, job}
 use Rattle.meaning.specs.State.{Room}
 use Rattle.meaning.specs.Call.{cleared}
 use Rattle.term.specs.Frames.{Only}
-use Rattle.term.specs.Jobs.{query-base, query-record, QueryLaid}
-use Rattle.term.specs.Layout.{need-of, InRange}
+use Rattle.term.specs.Jobs.{QueryLaid}
+use Rattle.term.specs.Layout.{need-of, InRange, trial-region, compounds-region, query-record, query-base, query-first-pair-word, query-tries-word}
 use Rattle.term.specs.States.{Ready}
 use Rattle.load_names.specs.Places.{Place, spellings, item-places}
 use Rattle.load_image.specs.Image.{
@@ -48,9 +48,9 @@ use Rattle.load_image.proofs.TextHolds.{loaded-holds-text}
 -- A word that no item writes: the first pair and the tries of a query, and all from the trial's region on.
 pub record RunWordsKept (s s′ : List ℕ) : Type 0 where
   pub size : length s′ ≡ length s
-  pub third : (q : ℕ) → q < 8 → getD s′ (query-record q + 3) 0 ≡ getD s (query-record q + 3) 0
-  pub fourth : (q : ℕ) → q < 8 → getD s′ (query-record q + 4) 0 ≡ getD s (query-record q + 4) 0
-  pub behind : (k : ℕ) → 39936 ≤ k → getD s′ k 0 ≡ getD s k 0
+  pub third : (q : ℕ) → q < 8 → getD s′ (query-first-pair-word q) 0 ≡ getD s (query-first-pair-word q) 0
+  pub fourth : (q : ℕ) → q < 8 → getD s′ (query-tries-word q) 0 ≡ getD s (query-tries-word q) 0
+  pub behind : (k : ℕ) → trial-region ≤ k → getD s′ k 0 ≡ getD s k 0
 
 kept-same : (s : List ℕ) → RunWordsKept s s
 kept-same s = record { size = refl; third = λ q h. refl; fourth = λ q h. refl; behind = λ k h. refl }
@@ -121,8 +121,8 @@ module _ (names : List Place) where
       kept-then s s₁ (entries-stored names (k + 1) q es s₁)
       (record {
         size = two .size;
-        third = λ q′ h. two .between (query-record q′ + 3) (omega arith) (omega arith);
-        fourth = λ q′ h. two .between (query-record q′ + 4) (omega arith) (omega arith);
+        third = λ q′ h. two .between (query-first-pair-word q′) (omega arith) (omega arith);
+        fourth = λ q′ h. two .between (query-tries-word q′) (omega arith) (omega arith);
         behind = λ w h. two .above w (omega arith);
       })
       (entries-kept (k + 1) q es s₁ (l .2))
@@ -130,7 +130,7 @@ module _ (names : List Place) where
       let s₁ = query-stored names q g vs s in
       kept-then s s₁ (entries-stored names k (q + 1) es s₁) (query-kept names q (l .0) g (l .1) vs (l .2) s) (entries-kept k (q + 1) es s₁ (l .3))
 
-pub image-kept : (text : Bytes) (j : Job) (s : List ℕ) → reading text ≡ job j → 40704 ≤ length s → RunWordsKept s (image text s)
+pub image-kept : (text : Bytes) (j : Job) (s : List ℕ) → reading text ≡ job j → compounds-region ≤ length s → RunWordsKept s (image text s)
 unfolding image
 image-kept text j s h inside =
     let l = accepted-laid-out text j h in
@@ -140,7 +140,7 @@ image-kept text j s h inside =
     let s₂ = linked 0 (head-words names (clauses-of es)) s₁ in
     let s₃ = places-stored 0 names s₂ in
     let first : RunWordsKept s s₁ = entries-kept names 0 0 es s (l .entries) in
-    let inside₁ : 40704 ≤ length s₁ = omega (arith, first .size) in
+    let inside₁ : compounds-region ≤ length s₁ = omega (arith, first .size) in
     let links : LinkKept s₁ s₂ = linked-kept names (l .few-names) 0 (clauses-of es) s₁ (entries-clauses-few (spellings names) 0 0 es (l .entries)) inside₁
     (entries-headed (spellings names) 0 0 es (l .entries)) in
     let last : Only 0 (0 + 2 * length names) s₂ s₃ = places-only 0 names s₂ in
@@ -148,8 +148,8 @@ image-kept text j s h inside =
     kept-then s s₁ s₃ first
     (record {
       size = last .size ∙ links .size;
-      third = λ q m. last .above (query-record q + 3) (omega arith) ∙ links .behind (query-record q + 3) (omega arith);
-      fourth = λ q m. last .above (query-record q + 4) (omega arith) ∙ links .behind (query-record q + 4) (omega arith);
+      third = λ q m. last .above (query-first-pair-word q) (omega arith) ∙ links .behind (query-first-pair-word q) (omega arith);
+      fourth = λ q m. last .above (query-tries-word q) (omega arith) ∙ links .behind (query-tries-word q) (omega arith);
       behind = λ w m. last .above w (omega arith) ∙ links .behind w (omega arith);
     })
 
@@ -188,8 +188,8 @@ loaded-ready text j figures s s′ range inside h e =
       text-held = loaded-holds-text text j need s s′ h (omega arith) e;
       records-zero = λ q i m x.
           ⊎-elim
-          (λ (a : i ≡ 3). rw a (kept .third q m ∙ cleared-word need s (query-record q + 3) (omega arith)))
-          (λ (a : i ≡ 4). rw a (kept .fourth q m ∙ cleared-word need s (query-record q + 4) (omega arith)))
+          (λ (a : i ≡ 3). rw a (kept .third q m ∙ cleared-word need s (query-first-pair-word q) (omega arith)))
+          (λ (a : i ≡ 4). rw a (kept .fourth q m ∙ cleared-word need s (query-tries-word q) (omega arith)))
           x;
       zero = λ k low high. kept .behind k low ∙ cleared-word need s k high;
     }

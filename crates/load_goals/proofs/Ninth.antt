@@ -12,6 +12,7 @@ use Rattle.meaning.specs.Tokens.{Token, name, variable, integer, sign, bad, Tok
 use Rattle.meaning.specs.Items.{Counted, Read, read, malformed, passed, read-on, give, _>>_, passes, standing, is-name, goals}
 use Rattle.term.proofs.Frames.{only-same}
 use Rattle.term.specs.Jobs.{GoalsKnown}
+use Rattle.term.specs.Layout.{trial-region}
 use Rattle.load_tokens.specs.Fronts.{tokens-in, behind, FrontIs}
 use Rattle.load_names.specs.Places.{Place, Placed, before, names-over, variables-over}
 use Rattle.load_openings.specs.Reading.{piece, counted-at, half-place, Stands, Open}
@@ -49,7 +50,7 @@ partly-none text rest from base place known vars c s names item st = record {
   stored-is = refl;
   known-names = tt;
   halves = few-halves rest vars item (st .variables-in);
-  only = only-same 0 39936 s;
+  only = only-same 0 trial-region s;
 }
 
 -- A name passes the figure, anything else cannot stand.

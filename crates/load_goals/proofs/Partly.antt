@@ -14,6 +14,7 @@ use Rattle.term.specs.Frames.{Only}
 use Rattle.term.proofs.Frames.{only-set, only-then, only-wider}
 use Rattle.term.proofs.Cells.{stored-only}
 use Rattle.term.specs.Jobs.{GoalsKnown}
+use Rattle.term.specs.Layout.{trial-region, trial-base, item-place, item-compounds}
 use Rattle.load_tokens.specs.Fronts.{tokens-in}
 use Rattle.load_names.specs.Places.{Place, Placed, spellings, before, with-name, with-variable, names-over, variables-over, item-places}
 use Rattle.load_openings.specs.Reading.{piece, counted-at, half-place, Stands, Open, Gave}
@@ -43,13 +44,13 @@ stands-behind text rest from names item e known vars at st inside = record {
 
 -- Whatever a goal changes lies in its item's compounds.
 pub gave-only : {text rest : Bytes} {from base : ℕ} {known vars : List Place} {c c′ : Cursor} {s item s′ names′ item′ : List ℕ} {w : ℕ} {g : Named} {ps : List Placed}
-    → Gave as-term goal text rest from base known vars c s item s′ names′ item′ w c′ g ps → base + 32 ≤ 4992 → Only 0 39936 s s′
+    → Gave as-term goal text rest from base known vars c s item s′ names′ item′ w c′ g ps → base + item-compounds ≤ trial-base → Only 0 trial-region s s′
 unfolding item-places
 gave-only {from = from} {base = base} {known = known} {c = c} {c′ = c′} {s = s} {s′ = s′} {g = g} {ps = ps} gave small =
     let places = item-places (names-over ps known) base in
     let few = gave .stands .compounds-few in
     rw (gave .stored-is)
-    (only-wider (8 * (base + c .compounds)) (8 * (base + c′ .compounds)) 0 39936 s (stored places (as-term g) s) (omega arith) (omega arith)
+    (only-wider (item-place base (c .compounds)) (item-place base (c′ .compounds)) 0 trial-region s (stored places (as-term g) s) (omega arith) (omega arith)
     (stored-only places base (λ n. refl) (c .compounds) (c′ .compounds) (as-term g) s (gave .numbered)))
 
 module _ (text rest : Bytes) (from base place : ℕ) (known vars : List Place) (c : Cursor) (s₀ item₀ s names item : List ℕ) (d : Cursor)
@@ -77,7 +78,7 @@ module _ (text rest : Bytes) (from base place : ℕ) (known vars : List Place) (
 
   module _ (s′ names′ item′ : List ℕ) (w : ℕ) (e : Cursor) (g : Named) (qs : List Placed)
       (gave : Gave as-term goal text rest from base (names-over ps known) (variables-over from ps vars) d s item s′ names′ item′ w e g qs)
-      (small : base + 32 ≤ 4992) (low : place + 8 ≤ 39936) where
+      (small : base + item-compounds ≤ trial-base) (low : place + 8 ≤ trial-region) where
     abbrev known″ : List Place
     known″ = names-over qs (names-over ps known)
 
@@ -104,11 +105,11 @@ module _ (text rest : Bytes) (from base place : ℕ) (known vars : List Place) (
         → getD item′ (half-place h n) 0 ≡ min 2 (getD item₀ (half-place h n) 0 + goals-occurrences h n (gs ++ (g ∷ [])))
     grown-halves h n few = omega (arith, gave .halves h n few, t .halves h n few, occurrences-snoc h n gs g)
 
-    pub grown-only : Only 0 39936 s₀ (set s′ (place + length gs) w)
+    pub grown-only : Only 0 trial-region s₀ (set s′ (place + length gs) w)
     grown-only =
-        only-then 0 39936 s₀ s (set s′ (place + length gs) w) (t .only)
-        (only-then 0 39936 s s′ (set s′ (place + length gs) w) (gave-only gave small)
-        (only-set 0 39936 s′ (place + length gs) w (omega arith) (omega arith)))
+        only-then 0 trial-region s₀ s (set s′ (place + length gs) w) (t .only)
+        (only-then 0 trial-region s s′ (set s′ (place + length gs) w) (gave-only gave small)
+        (only-set 0 trial-region s′ (place + length gs) w (omega arith) (omega arith)))
 
     pub partly-other : (p : ℕ) → Stops (one-of 44 46 46) p (tokens-in from rest (e .at))
         → goals 8 (counted-at known vars (c .compounds)) (piece (tokens-in from rest (c .at))) ≡ malformed p

@@ -11,6 +11,7 @@ use Rattle.meaning.specs.Items.{Counted, Reader, Rule, rule, read, malformed, p
 use Rattle.term.specs.Cells.{Places as CellPlaces, stored, Known}
 use Rattle.term.specs.Frames.{Only}
 use Rattle.term.specs.Jobs.{GoalsKnown}
+use Rattle.term.specs.Layout.{trial-region}
 use Rattle.load_tokens.specs.Fronts.{tokens-in}
 use Rattle.load_names.specs.Places.{Place, Placed, spellings, with-place, before, names-over, variables-over, item-places}
 use Rattle.load_openings.specs.Reading.{piece, counted-at, half-place, Stands, Open}
@@ -50,7 +51,7 @@ pub record Ended {A : Type 0} (part : Part A) (by : Reader A) (text rest : Bytes
   pub known-names : GoalsKnown (spellings (names-over passed known)) (part .goals a)
   pub halves : (h : Half) (n : ℕ) → n < 16
       → getD item′ (half-place h n) 0 ≡ min 2 (getD item (half-place h n) 0 + goals-occurrences h n (part .goals a))
-  pub only : Only 0 39936 s s′
+  pub only : Only 0 trial-region s s′
 
 abbrev pub EndIs : {A : Type 0} (part : Part A) (by : Reader A) (text rest : Bytes) (from base : ℕ) (known vars : List Place) (c : Cursor)
     (s item s′ names′ item′ : List ℕ) → Read → Type 0
@@ -59,10 +60,10 @@ EndIs {A} part by text rest from base known vars c s item s′ names′ item′ 
 EndIs part by text rest from base known vars c s item s′ names′ item′ (Malformed place) =
     (by (counted-at known vars (c .compounds)) (piece (tokens-in from rest (c .at))) ≡ malformed (from + place))
     × (place ≤ length rest)
-    × Only 0 39936 s s′
+    × Only 0 trial-region s s′
 EndIs part by text rest from base known vars c s item s′ names′ item′ Exceeded =
     (by (counted-at known vars (c .compounds)) (piece (tokens-in from rest (c .at))) ≡ passed)
-    × Only 0 39936 s s′
+    × Only 0 trial-region s s′
 
 -- Some goals have been read, each with the comma behind it, and the reading stands at the next.
 pub record Partly (text rest : Bytes) (from base place : ℕ) (known vars : List Place) (c : Cursor) (s₀ item₀ s names item : List ℕ)
@@ -78,7 +79,7 @@ pub record Partly (text rest : Bytes) (from base place : ℕ) (known vars : List
   pub known-names : GoalsKnown (spellings (names-over passed known)) gs
   pub halves : (h : Half) (n : ℕ) → n < 16
       → getD item (half-place h n) 0 ≡ min 2 (getD item₀ (half-place h n) 0 + goals-occurrences h n gs)
-  pub only : Only 0 39936 s₀ s
+  pub only : Only 0 trial-region s₀ s
 
 -- The ninth goal: its name passes the figure, and any other token cannot stand.
 abbrev pub NinthIs : Bytes → ℕ → Read → Type 0

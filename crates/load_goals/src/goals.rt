@@ -14,6 +14,7 @@ ghost use Prim.Native.Nat.{_+_, _*_, _≤_, _<_};
 ghost use lib.ListN.{length};
 ghost use Rattle.meaning.specs.Terms.{as-term};
 ghost use Rattle.meaning.specs.Items.{goal as goal-reader, goals as goals-reader};
+ghost use Rattle.term.specs.Layout.{trial-region, trial-base, item-end, item-compounds};
 ghost use Rattle.load_names.specs.Places.{Place};
 ghost use Rattle.load_openings.specs.Reading.{Stands, ReadIs};
 ghost use Rattle.load_goals.specs.Endings.{NinthIs, EndIs, goals-part};
@@ -29,7 +30,7 @@ pub fn goal(
     base: usize,
     c: Cursor,
 ) -> Read
-    requires { ⌜ (8 * (base + 32) ≤ length (now s)) × (length (now s) < 1152921504606846976) ⌝ }
+    requires { ⌜ (item-end base ≤ length (now s)) × (length (now s) < 1152921504606846976) ⌝ }
     requires { ⌜ ((known : List Place) × (vars : List Place) × Stands (now text) (now rest) from (now names) (now item) c known vars) ⌝ }
     ensures { λ r. ⌜ ((known : List Place) (vars : List Place) → Stands (now (text .entry)) (now (rest .entry)) from (now (names .entry)) (now (item .entry)) c known vars
         → ReadIs as-term goal-reader (now (text .entry)) (now (rest .entry)) from base known vars c (now (s .entry)) (now (item .entry)) (now (s .exit)) (now (names .exit)) (now (item .exit)) r) ⌝ }
@@ -69,7 +70,7 @@ pub fn goals(
     place: usize,
     c: Cursor,
 ) -> Read
-    requires { ⌜ (base + 32 ≤ 4992) × (place + 8 ≤ 39936) × (39936 ≤ length (now s)) × (length (now s) < 1152921504606846976) ⌝ }
+    requires { ⌜ (base + item-compounds ≤ trial-base) × (place + 8 ≤ trial-region) × (trial-region ≤ length (now s)) × (length (now s) < 1152921504606846976) ⌝ }
     requires { ⌜ ((known : List Place) × (vars : List Place) × Stands (now text) (now rest) from (now names) (now item) c known vars) ⌝ }
     ensures { λ r. ⌜ ((known : List Place) (vars : List Place) → Stands (now (text .entry)) (now (rest .entry)) from (now (names .entry)) (now (item .entry)) c known vars
         → EndIs (goals-part place) (goals-reader 8) (now (text .entry)) (now (rest .entry)) from base known vars c (now (s .entry)) (now (item .entry)) (now (s .exit)) (now (names .exit)) (now (item .exit)) r) ⌝ }

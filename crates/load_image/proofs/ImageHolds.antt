@@ -9,8 +9,9 @@ use Rattle.meaning.specs.Terms.{Named, Clause, Query, Job, count}
 use Rattle.meaning.specs.Trial.{procedure}
 use Rattle.term.specs.Cells.{KnownName}
 use Rattle.term.specs.Frames.{Only}
-use Rattle.term.specs.Jobs.{HoldsClause, HoldsQuery, EachFrom, Linked, procedure-place, Distinct, ClauseAt, HoldsJob, clause-record}
+use Rattle.term.specs.Jobs.{HoldsClause, HoldsQuery, EachFrom, Linked, procedure-place, Distinct, ClauseAt, HoldsJob}
 use Rattle.term.proofs.Jobs.{each-map, linked-map, holds-clause-kept, holds-query-kept}
+use Rattle.term.specs.Layout.{clauses-region, queries-region, compounds-region, clause-record}
 use Rattle.load_names.specs.Places.{Place, spellings}
 use Rattle.load_image.specs.Image.{
   Entry,
@@ -56,7 +57,7 @@ unfoldable pub job-of : List Entry → Job
 job-of es = record { clauses = clauses-of es; queries = queries-of es }
 
 module _ (names : List Place) (es : List Entry) (s : List ℕ) (few-names : length (spellings names) ≤ 256)
-    (laid : EntriesLaid (spellings names) 0 0 es) (inside : 40704 ≤ length s) (zeros : (w : ℕ) → 512 ≤ w → w < 2560 → getD s w 0 ≡ 0) where
+    (laid : EntriesLaid (spellings names) 0 0 es) (inside : compounds-region ≤ length s) (zeros : (w : ℕ) → 512 ≤ w → w < clauses-region → getD s w 0 ≡ 0) where
   items-in : List ℕ
   items-in = entries-stored names 0 0 es s
 
@@ -70,7 +71,7 @@ module _ (names : List Place) (es : List Entry) (s : List ℕ) (few-names : leng
   unfolding items-in
   earlier = entries-earlier names 0 0 es s laid
 
-  inside-items : 40704 ≤ length items-in
+  inside-items : compounds-region ≤ length items-in
   inside-items = omega (arith, earlier .size)
 
   few-clauses : 0 + length (clauses-of es) ≤ 128
@@ -99,7 +100,7 @@ module _ (names : List Place) (es : List Entry) (s : List ℕ) (few-names : leng
   query-in : (k : ℕ) (q : Query) → HoldsQuery items-in (spellings names) k q → HoldsQuery names-too (spellings names) k q
   query-in k q h =
       holds-query-kept items-in names-too (spellings names) k size-names q
-      (λ i m x y. last .above (4608 + 64 * k + i) (omega arith) ∙ links .behind (4608 + 64 * k + i) (omega arith))
+      (λ i m x y. last .above (queries-region + 64 * k + i) (omega arith) ∙ links .behind (queries-region + 64 * k + i) (omega arith))
       (λ i l m. last .above i (omega arith) ∙ links .behind i (omega arith)) h
 
   clauses-in : EachFrom (HoldsClause items-in (spellings names)) 0 (clauses-of es)
@@ -149,8 +150,8 @@ pub record LaidOut (text : Bytes) (j : Job) : Type 0 where
   pub entries : EntriesLaid (spellings (text-names text)) 0 0 (text-entries text)
   pub job : job-of (text-entries text) ≡ j
 
-pub image-holds-laid-out : (text : Bytes) (j : Job) (s : List ℕ) → LaidOut text j → 40704 ≤ length s
-    → ((w : ℕ) → 512 ≤ w → w < 2560 → getD s w 0 ≡ 0) → HoldsJob (image text s) (spellings (text-names text)) j
+pub image-holds-laid-out : (text : Bytes) (j : Job) (s : List ℕ) → LaidOut text j → compounds-region ≤ length s
+    → ((w : ℕ) → 512 ≤ w → w < clauses-region → getD s w 0 ≡ 0) → HoldsJob (image text s) (spellings (text-names text)) j
 unfolding image
 image-holds-laid-out text j s l inside zeros =
     rw (l .job) at (stored-job (text-names text) (text-entries text) s (l .few-names) (l .entries) inside zeros (l .distinct))

@@ -5,9 +5,10 @@ use mathlib.Core.List.{List, [], _∷_}
 use native.Mathlib.Omega.{arith}
 use lib.ListN.{length, getD}
 use Rattle.meaning.specs.Bytes.{Bytes}
-use Rattle.term.specs.Jobs.{ClauseLaid, QueryLaid, HoldsClause, HoldsQuery, EachFrom, clause-base, clause-record, query-base, query-record}
+use Rattle.term.specs.Jobs.{ClauseLaid, QueryLaid, HoldsClause, HoldsQuery, EachFrom}
 use Rattle.term.proofs.Regions.{OnlyTwo}
 use Rattle.term.proofs.Jobs.{holds-clause-kept, holds-query-kept}
+use Rattle.term.specs.Layout.{queries-region, items-region, query-items-region, compounds-region, item-start, item-end, clause-record, clause-base, query-record, query-base, query-end, clause-pairs-word, clause-end}
 use Rattle.load_names.specs.Places.{Place, spellings}
 use Rattle.load_image.specs.Image.{Entry, a-clause, a-query, clauses-of, queries-of, clause-stored, query-stored, entries-stored}
 use Rattle.load_image.proofs.KeptItems.{clause-two, clause-holds, query-two, query-holds}
@@ -28,9 +29,9 @@ entries-few names k q (a-query g vs ∷ es) l = (entries-few names k (q + 1) es 
 pub record Earlier (k q : ℕ) (s s′ : List ℕ) : Type 0 where
   pub size : length s′ ≡ length s
   pub clause-words : (w : ℕ) → w < clause-record k → getD s′ w 0 ≡ getD s w 0
-  pub query-words : (w : ℕ) → 4608 ≤ w → w < query-record q → getD s′ w 0 ≡ getD s w 0
-  pub clause-cells : (w : ℕ) → 5120 ≤ w → w < 8 * clause-base k → getD s′ w 0 ≡ getD s w 0
-  pub query-cells : (w : ℕ) → 37888 ≤ w → w < 8 * query-base q → getD s′ w 0 ≡ getD s w 0
+  pub query-words : (w : ℕ) → queries-region ≤ w → w < query-record q → getD s′ w 0 ≡ getD s w 0
+  pub clause-cells : (w : ℕ) → items-region ≤ w → w < item-start (clause-base k) → getD s′ w 0 ≡ getD s w 0
+  pub query-cells : (w : ℕ) → query-items-region ≤ w → w < item-start (query-base q) → getD s′ w 0 ≡ getD s w 0
 
 earlier-same : (k q : ℕ) (s : List ℕ) → Earlier k q s s
 earlier-same k q s = record {
@@ -51,7 +52,7 @@ earlier-then k q k′ q′ s t u h i a b = record {
 }
 
 clause-earlier : (k q : ℕ) (s s′ : List ℕ) → k < 128 → q ≤ 8
-    → OnlyTwo (clause-record k + 1) (clause-record k + 16) (8 * clause-base k) (8 * (clause-base k + 32)) s s′ → Earlier k q s s′
+    → OnlyTwo (clause-pairs-word k) (clause-end k) (item-start (clause-base k)) (item-end (clause-base k)) s s′ → Earlier k q s s′
 clause-earlier k q s s′ h i two = record {
   size = two .size;
   clause-words = λ w m. two .below w (omega arith);
@@ -61,7 +62,7 @@ clause-earlier k q s s′ h i two = record {
 }
 
 query-earlier : (k q : ℕ) (s s′ : List ℕ) → k ≤ 128 → q < 8
-    → OnlyTwo (query-record q) (query-record q + 64) (8 * query-base q) (8 * (query-base q + 32)) s s′ → Earlier k q s s′
+    → OnlyTwo (query-record q) (query-end q) (item-start (query-base q)) (item-end (query-base q)) s s′ → Earlier k q s s′
 query-earlier k q s s′ h i two = record {
   size = two .size;
   clause-words = λ w m. two .below w (omega arith);
@@ -86,7 +87,7 @@ module _ (names : List Place) where
       (query-earlier k q s s₁ (entries-few (spellings names) k (q + 1) es (l .3) .0) (l .0) (query-two names q (l .0) g (l .1) vs (l .2) s))
       (entries-earlier k (q + 1) es s₁ (l .3))
 
-  pub entries-clauses : (k q : ℕ) (es : List Entry) (s : List ℕ) → EntriesLaid (spellings names) k q es → 40704 ≤ length s
+  pub entries-clauses : (k q : ℕ) (es : List Entry) (s : List ℕ) → EntriesLaid (spellings names) k q es → compounds-region ≤ length s
       → EachFrom (HoldsClause (entries-stored names k q es s) (spellings names)) k (clauses-of es)
   unfolding EntriesLaid entries-stored clauses-of EachFrom
   entries-clauses k q [] s l inside = tt
@@ -105,7 +106,7 @@ module _ (names : List Place) where
       let two = query-two names q (l .0) g (l .1) vs (l .2) s in
       entries-clauses k (q + 1) es (query-stored names q g vs s) (l .3) (omega (arith, two .size))
 
-  pub entries-queries : (k q : ℕ) (es : List Entry) (s : List ℕ) → EntriesLaid (spellings names) k q es → 40704 ≤ length s
+  pub entries-queries : (k q : ℕ) (es : List Entry) (s : List ℕ) → EntriesLaid (spellings names) k q es → compounds-region ≤ length s
       → EachFrom (HoldsQuery (entries-stored names k q es s) (spellings names)) q (queries-of es)
   unfolding EntriesLaid entries-stored queries-of EachFrom
   entries-queries k q [] s l inside = tt

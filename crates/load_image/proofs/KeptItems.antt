@@ -8,12 +8,13 @@ use lib.Seq.{getD-set-same, getD-set-other}
 use Rattle.meaning.specs.Terms.{Clause, Query, as-term}
 use Rattle.term.specs.Cells.{stored}
 use Rattle.term.specs.Frames.{Only}
-use Rattle.term.specs.Jobs.{GoalsNumbered, ClauseLaid, QueryLaid, HoldsClause, HoldsQuery, clause-base, clause-record, query-base, query-record}
+use Rattle.term.specs.Jobs.{GoalsNumbered, ClauseLaid, QueryLaid, HoldsClause, HoldsQuery}
 use Rattle.term.proofs.Frames.{only-set, only-then}
 use Rattle.term.proofs.Cells.{stored-only}
 use Rattle.term.proofs.Regions.{OnlyTwo, two-first, two-second, two-then, two-wider}
 use Rattle.term.proofs.Holds.{holds-kept, stored-holds}
 use Rattle.term.proofs.Jobs.{goals-numbered-order, holds-goals-kept}
+use Rattle.term.specs.Layout.{compounds-region, item-start, item-end, item-place, clause-record, clause-base, query-record, query-base, query-end, clause-pairs-word, clause-end}
 use Rattle.load_names.specs.Places.{Place, spellings, item-places}
 use Rattle.load_image.specs.Image.{goals-stored, places-stored, clause-stored, query-stored}
 use Rattle.load_image.proofs.Keeping.{goals-two, goals-hold, places-only}
@@ -43,7 +44,7 @@ module _ (s : List ℕ) (p q r a b c : ℕ) (first : p < length s) (second : q <
 
 -- The clause k.
 module _ (names : List Place) (k : ℕ) (few : k < 128) (c : Clause) (laid : ClauseLaid (spellings names) c) (s : List ℕ) where
-  pub clause-two : OnlyTwo (clause-record k + 1) (clause-record k + 16) (8 * clause-base k) (8 * (clause-base k + 32)) s (clause-stored names k c s)
+  pub clause-two : OnlyTwo (clause-pairs-word k) (clause-end k) (item-start (clause-base k)) (item-end (clause-base k)) s (clause-stored names k c s)
   unfolding clause-stored item-places GoalsNumbered
   clause-two =
       let p = item-places names (clause-base k) in
@@ -51,8 +52,8 @@ module _ (names : List Place) (k : ℕ) (few : k < 128) (c : Clause) (laid : Cla
       let r = clause-record k in
       let a = r + 1 in
       let b = r + 16 in
-      let v = 8 * base in
-      let w = 8 * (base + 32) in
+      let v = item-start base in
+      let w = item-end base in
       let mid = laid .numbered .0 in
       let hi = c .compounds in
       let high : mid ≤ hi = goals-numbered-order mid hi (c .body) (laid .numbered .2) in
@@ -62,16 +63,16 @@ module _ (names : List Place) (k : ℕ) (few : k < 128) (c : Clause) (laid : Cla
       let s₂ = goals-stored p (r + 4) (c .body) s₁ in
       let s₃ = clause-stored names k c s in
       two-then a b v w s s₁ s₃
-      (two-second a b v w (8 * (base + 0)) (8 * (base + mid)) s s₁ (omega arith) (omega arith) (omega arith)
+      (two-second a b v w (item-place base 0) (item-place base mid) s s₁ (omega arith) (omega arith) (omega arith)
       (stored-only p base (λ n. refl) 0 mid (as-term (c .head)) s (laid .numbered .1)))
       (two-then a b v w s₁ s₂ s₃
-      (two-wider (r + 4) (r + 4 + length (c .body)) (8 * (base + mid)) (8 * (base + hi)) a b v w s₁ s₂ (omega arith) (omega arith) (omega arith) (omega arith)
+      (two-wider (r + 4) (r + 4 + length (c .body)) (item-place base mid) (item-place base hi) a b v w s₁ s₂ (omega arith) (omega arith) (omega arith) (omega arith)
       (goals-two p base (λ n. refl) (r + 4) mid hi (c .body) s₁ (omega arith) (laid .numbered .2)))
       (two-first a b v w a b s₂ s₃ (omega arith) (omega arith) (omega arith)
       (three-only a b s₂ (r + 1) (r + 2) (r + 3) (c .pairs) (c .compounds) (length (c .body))
       (omega arith) (omega arith) (omega arith) (omega arith) (omega arith) (omega arith))))
 
-  pub clause-holds : 40704 ≤ length s → HoldsClause (clause-stored names k c s) (spellings names) k c
+  pub clause-holds : compounds-region ≤ length s → HoldsClause (clause-stored names k c s) (spellings names) k c
   unfolding clause-stored item-places GoalsNumbered
   clause-holds inside =
       let p = item-places names (clause-base k) in
@@ -86,7 +87,7 @@ module _ (names : List Place) (k : ℕ) (few : k < 128) (c : Clause) (laid : Cla
       let s₂ = goals-stored p (r + 4) (c .body) s₁ in
       let s₃ = clause-stored names k c s in
       let size₁ : length s₁ ≡ length s = stored-only p base (λ n. refl) 0 mid (as-term (c .head)) s (laid .numbered .1) .size in
-      let goals : OnlyTwo (r + 4) (r + 4 + length (c .body)) (8 * (base + mid)) (8 * (base + hi)) s₁ s₂
+      let goals : OnlyTwo (r + 4) (r + 4 + length (c .body)) (item-place base mid) (item-place base hi) s₁ s₂
       = goals-two p base (λ n. refl) (r + 4) mid hi (c .body) s₁ (omega arith) (laid .numbered .2) in
       let size₂ : length s₂ ≡ length s₁ = goals .size in
       let three : Only (r + 1) (r + 4) s₂ s₃
@@ -112,15 +113,15 @@ module _ (names : List Place) (k : ℕ) (few : k < 128) (c : Clause) (laid : Cla
 -- The query k, with where its variables first stand.
 module _ (names : List Place) (k : ℕ) (few : k < 8) (q : Query) (laid : QueryLaid (spellings names) q) (vs : List Place) (few-places : length vs ≤ 16)
     (s : List ℕ) where
-  pub query-two : OnlyTwo (query-record k) (query-record k + 64) (8 * query-base k) (8 * (query-base k + 32)) s (query-stored names k q vs s)
+  pub query-two : OnlyTwo (query-record k) (query-end k) (item-start (query-base k)) (item-end (query-base k)) s (query-stored names k q vs s)
   unfolding query-stored item-places
   query-two =
       let p = item-places names (query-base k) in
       let base = query-base k in
       let r = query-record k in
       let b = r + 64 in
-      let v = 8 * base in
-      let w = 8 * (base + 32) in
+      let v = item-start base in
+      let w = item-end base in
       let hi = q .compounds in
       let few-compounds : hi ≤ 32 = laid .few-compounds in
       let few-goals : length (q .goals) ≤ 8 = laid .few-goals in
@@ -128,7 +129,7 @@ module _ (names : List Place) (k : ℕ) (few : k < 8) (q : Query) (laid : QueryL
       let s₂ = set (set (set s₁ r (length (q .goals))) (r + 1) (length (q .variables))) (r + 2) (q .compounds) in
       let s₃ = places-stored (r + 16) vs s₂ in
       two-then r b v w s s₁ s₃
-      (two-wider (r + 8) (r + 8 + length (q .goals)) (8 * (base + 0)) (8 * (base + hi)) r b v w s s₁ (omega arith) (omega arith) (omega arith) (omega arith)
+      (two-wider (r + 8) (r + 8 + length (q .goals)) (item-place base 0) (item-place base hi) r b v w s s₁ (omega arith) (omega arith) (omega arith) (omega arith)
       (goals-two p base (λ n. refl) (r + 8) 0 hi (q .goals) s (omega arith) (laid .numbered)))
       (two-then r b v w s₁ s₂ s₃
       (two-first r b v w r b s₁ s₂ (omega arith) (omega arith) (omega arith)
@@ -136,7 +137,7 @@ module _ (names : List Place) (k : ℕ) (few : k < 8) (q : Query) (laid : QueryL
       (omega arith) (omega arith) (omega arith) (omega arith) (omega arith) (omega arith)))
       (two-first r b v w (r + 16) (r + 16 + 2 * length vs) s₂ s₃ (omega arith) (omega arith) (omega arith) (places-only (r + 16) vs s₂)))
 
-  pub query-holds : 40704 ≤ length s → HoldsQuery (query-stored names k q vs s) (spellings names) k q
+  pub query-holds : compounds-region ≤ length s → HoldsQuery (query-stored names k q vs s) (spellings names) k q
   unfolding query-stored item-places
   query-holds inside =
       let p = item-places names (query-base k) in

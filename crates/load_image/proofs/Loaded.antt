@@ -17,6 +17,7 @@ use Rattle.meaning.specs.Call.{cleared}
 use Rattle.meaning.specs.Items.{pieces, no-query, Reading, job, refused, items, asked, reading}
 use Rattle.term.specs.Jobs.{Distinct, HoldsJob}
 use Rattle.term.proofs.Numbers.{same-swap}
+use Rattle.term.specs.Layout.{clauses-region, compounds-region}
 use Rattle.load_names.specs.Places.{spellings}
 use Rattle.load_image.specs.Image.{so-far, text-names, text-entries, image}
 use Rattle.load_image.proofs.Steps.{added, name-added, names-after}
@@ -95,12 +96,12 @@ accepted-laid-out text j h =
     }
 
 -- Loading an accepted text into a scratch whose words were cleared.
-pub image-holds : (text : Bytes) (j : Job) (s : List ℕ) → reading text ≡ job j → 40704 ≤ length s
-    → ((w : ℕ) → 512 ≤ w → w < 2560 → getD s w 0 ≡ 0) → HoldsJob (image text s) (spellings (text-names text)) j
+pub image-holds : (text : Bytes) (j : Job) (s : List ℕ) → reading text ≡ job j → compounds-region ≤ length s
+    → ((w : ℕ) → 512 ≤ w → w < clauses-region → getD s w 0 ≡ 0) → HoldsJob (image text s) (spellings (text-names text)) j
 image-holds text j s h inside zeros = image-holds-laid-out text j s (accepted-laid-out text j h) inside zeros
 
 -- What `load` leaves in the room's words that it cleared first.
-pub loaded-holds : (text : Bytes) (j : Job) (need : ℕ) (s s′ : List ℕ) → reading text ≡ job j → 40704 ≤ need → s′ ≡ image text (cleared need s)
+pub loaded-holds : (text : Bytes) (j : Job) (need : ℕ) (s s′ : List ℕ) → reading text ≡ job j → compounds-region ≤ need → s′ ≡ image text (cleared need s)
     → HoldsJob s′ (spellings (text-names text)) j
 unfolding cleared
 loaded-holds text j need s s′ h inside e =

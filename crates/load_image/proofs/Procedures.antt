@@ -14,9 +14,10 @@ use Rattle.meaning.specs.Bytes.{Bytes, same, those, if_then_else_}
 use Rattle.meaning.specs.Terms.{Named, Clause, count, as-term}
 use Rattle.meaning.specs.Trial.{procedure}
 use Rattle.term.specs.Cells.{number-of, KnownName, Known, Numbered}
-use Rattle.term.specs.Jobs.{ClauseLaid, GoalsNumbered, GoalsKnown, EachFrom, Linked, procedure-place, clause-record}
+use Rattle.term.specs.Jobs.{ClauseLaid, GoalsNumbered, GoalsKnown, EachFrom, Linked, procedure-place}
 use Rattle.term.proofs.Numbers.{same-equal, number-below, number-apart}
 use Rattle.term.proofs.Jobs.{linked-map}
+use Rattle.term.specs.Layout.{clauses-region, queries-region, compounds-region, procedure-slot, clause-record}
 use Rattle.load_names.specs.Places.{Place, spellings, item-places}
 use Rattle.load_image.specs.Image.{head-word, head-words, link-one, linked}
 
@@ -34,14 +35,14 @@ alike : Named → Named → Bool
 alike g h = same (g .name) (h .name) && eqb (count (g .arguments)) (count (h .arguments))
 
 place-alike : (names : List Bytes) (m n : ℕ) (f g : Bytes) (a b : Bool) → same f g ≡ a → eqb m n ≡ b → (a && b) ≡ true
-    → 504 + (m + 8 * (number-of f names + 1)) ≡ 504 + (n + 8 * (number-of g names + 1))
+    → procedure-slot (m + 8 * (number-of f names + 1)) ≡ procedure-slot (n + 8 * (number-of g names + 1))
 place-alike names m n f g true true d e h = rw (same-equal f g d, eqb-true m n e)
 place-alike names m n f g true false d e h = let z : _≡_ {A = ℕ} 0 1 = cc in absurd (omega arith)
 place-alike names m n f g false b d e h = let z : _≡_ {A = ℕ} 0 1 = cc in absurd (omega arith)
 
 place-apart : (names : List Bytes) (m n : ℕ) (f g : Bytes) (a b : Bool) → m ≤ 6 → n ≤ 6 → KnownName names f → KnownName names g
     → same f g ≡ a → eqb m n ≡ b → (a && b) ≡ false
-    → 504 + (m + 8 * (number-of f names + 1)) ≢ 504 + (n + 8 * (number-of g names + 1))
+    → procedure-slot (m + 8 * (number-of f names + 1)) ≢ procedure-slot (n + 8 * (number-of g names + 1))
 place-apart names m n f g true true x y k l d e h p = let z : _≡_ {A = ℕ} 0 1 = cc in absurd (omega arith)
 place-apart names m n f g true false x y k l d e h p = eqb-false m n e (omega arith)
 place-apart names m n f g false b x y k l d e h p = number-apart f g names d k l (omega arith)
@@ -51,7 +52,7 @@ module _ (names : List Bytes) (g : Named) (h : Headed names g) (few : length nam
   pub place-low : 512 ≤ procedure-place names g
   place-low = omega arith
 
-  pub place-high : procedure-place names g < 2560
+  pub place-high : procedure-place names g < clauses-region
   place-high = omega (arith, number-below (g .name) names (h .known), h .few)
 
 -- One clause more: where it is one of the goal's, and where it is not.
@@ -71,7 +72,7 @@ procedure-none goal = refl
 linked-one : List ℕ → ℕ → ℕ → List ℕ
 linked-one s k p = set (set s (clause-record k) (getD s p 0)) p (k + 1)
 
-module _ (s : List ℕ) (k p : ℕ) (few : k < 128) (low : 512 ≤ p) (high : p < 2560) (inside : 40704 ≤ length s) where
+module _ (s : List ℕ) (k p : ℕ) (few : k < 128) (low : 512 ≤ p) (high : p < clauses-region) (inside : compounds-region ≤ length s) where
   one-size : length (linked-one s k p) ≡ length s
   unfolding linked-one
   one-size = length-set (set s (clause-record k) (getD s p 0)) p (k + 1) ∙ length-set s (clause-record k) (getD s p 0)
@@ -97,7 +98,7 @@ pub record LinkKept (s s′ : List ℕ) : Type 0 where
   pub size : length s′ ≡ length s
   pub before : (w : ℕ) → w < 512 → getD s′ w 0 ≡ getD s w 0
   pub records : (i j : ℕ) → 1 ≤ j → j < 16 → getD s′ (clause-record i + j) 0 ≡ getD s (clause-record i + j) 0
-  pub behind : (w : ℕ) → 4608 ≤ w → getD s′ w 0 ≡ getD s w 0
+  pub behind : (w : ℕ) → queries-region ≤ w → getD s′ w 0 ≡ getD s w 0
 
 module _ (names : List Place) (few-names : length (spellings names) ≤ 256) where
   linked-cons : (k : ℕ) (c : Clause) (cs : List Clause) (s : List ℕ)
@@ -109,7 +110,7 @@ module _ (names : List Place) (few-names : length (spellings names) ≤ 256) whe
   unfolding linked head-words
   linked-nil k s = refl
 
-  pub linked-kept : (k : ℕ) (cs : List Clause) (s : List ℕ) → k + length cs ≤ 128 → 40704 ≤ length s
+  pub linked-kept : (k : ℕ) (cs : List Clause) (s : List ℕ) → k + length cs ≤ 128 → compounds-region ≤ length s
       → EachFrom (λ i c. Headed (spellings names) (c .head)) k cs → LinkKept s (linked k (head-words names cs) s)
   unfolding EachFrom
   linked-kept k [] s room inside h =
@@ -118,13 +119,13 @@ module _ (names : List Place) (few-names : length (spellings names) ≤ 256) whe
       let s₁ = linked (k + 1) (head-words names cs) s in
       let p = procedure-place (spellings names) (c .head) in
       let low : 512 ≤ p = place-low (spellings names) (c .head) (h .0) few-names in
-      let high : p < 2560 = place-high (spellings names) (c .head) (h .0) few-names in
+      let high : p < clauses-region = place-high (spellings names) (c .head) (h .0) few-names in
       let few : k < 128 = omega arith in
       let rest : LinkKept s s₁ = linked-kept (k + 1) cs s (omega arith) inside (h .1) in
-      let in₁ : 40704 ≤ length s₁ = omega (arith, rest .size) in
+      let in₁ : compounds-region ≤ length s₁ = omega (arith, rest .size) in
       rw (linked-cons k c cs s) (after k s s₁ p few low high in₁ rest)
     where
-      after : (k : ℕ) (s s₁ : List ℕ) (p : ℕ) (few : k < 128) (low : 512 ≤ p) (high : p < 2560) (in₁ : 40704 ≤ length s₁) → LinkKept s s₁
+      after : (k : ℕ) (s s₁ : List ℕ) (p : ℕ) (few : k < 128) (low : 512 ≤ p) (high : p < clauses-region) (in₁ : compounds-region ≤ length s₁) → LinkKept s s₁
           → LinkKept s (linked-one s₁ k p)
       after k s s₁ p few low high in₁ rest = record {
         size = one-size s₁ k p few low high in₁ ∙ rest .size;
@@ -135,12 +136,12 @@ module _ (names : List Place) (few-names : length (spellings names) ≤ 256) whe
 
   -- One clause more in front.
   module _ (At : ℕ → Clause → Type 0) (goal : Named) (g : Headed (spellings names) goal) (k : ℕ) (c : Clause) (cs : List Clause) (s : List ℕ)
-      (few : k < 128) (inside : 40704 ≤ length s) (head : Headed (spellings names) (c .head)) (at : At k c)
+      (few : k < 128) (inside : compounds-region ≤ length s) (head : Headed (spellings names) (c .head)) (at : At k c)
       (rest : Linked s (λ i d. (k + 1 ≤ i) × (i < 128) × At i d) (getD s (procedure-place (spellings names) goal) 0) (procedure cs goal)) where
     first-low : 512 ≤ procedure-place (spellings names) (c .head)
     first-low = place-low (spellings names) (c .head) head few-names
 
-    first-high : procedure-place (spellings names) (c .head) < 2560
+    first-high : procedure-place (spellings names) (c .head) < clauses-region
     first-high = place-high (spellings names) (c .head) head few-names
 
     others : Linked (linked-one s k (procedure-place (spellings names) (c .head))) (λ i d. (k ≤ i) × (i < 128) × At i d)
@@ -148,7 +149,7 @@ module _ (names : List Place) (few-names : length (spellings names) ≤ 256) whe
     others =
         let p = procedure-place (spellings names) (c .head) in
         let low : 512 ≤ p = first-low in
-        let high : p < 2560 = first-high in
+        let high : p < clauses-region = first-high in
         linked-map s (linked-one s k p) (λ i d. (k + 1 ≤ i) × (i < 128) × At i d) (λ i d. (k ≤ i) × (i < 128) × At i d)
         (getD s (procedure-place (spellings names) goal) 0) (procedure cs goal)
         (λ i d h. (
@@ -176,7 +177,7 @@ module _ (names : List Place) (few-names : length (spellings names) ≤ 256) whe
         let p = procedure-place (spellings names) (c .head) in
         let q = procedure-place (spellings names) goal in
         let low : 512 ≤ q = place-low (spellings names) goal g few-names in
-        let high : q < 2560 = place-high (spellings names) goal g few-names in
+        let high : q < clauses-region = place-high (spellings names) goal g few-names in
         let apart : p ≢ q = place-apart (spellings names) (count (c .head .arguments)) (count (goal .arguments)) (c .head .name) (goal .name)
         (same (c .head .name) (goal .name)) (eqb (count (c .head .arguments)) (count (goal .arguments))) (head .few) (g .few)
         (head .known) (g .known) refl refl h in
@@ -188,7 +189,7 @@ module _ (names : List Place) (few-names : length (spellings names) ≤ 256) whe
 
   -- From the word of a goal's procedure on.
   pub linked-leads : (At : ℕ → Clause → Type 0) (goal : Named) → Headed (spellings names) goal → (k : ℕ) (cs : List Clause) (s : List ℕ)
-      → k + length cs ≤ 128 → 40704 ≤ length s → ((w : ℕ) → 512 ≤ w → w < 2560 → getD s w 0 ≡ 0)
+      → k + length cs ≤ 128 → compounds-region ≤ length s → ((w : ℕ) → 512 ≤ w → w < clauses-region → getD s w 0 ≡ 0)
       → EachFrom (λ i c. Headed (spellings names) (c .head)) k cs → EachFrom At k cs
       → Linked (linked k (head-words names cs) s) (λ i c. (k ≤ i) × (i < 128) × At i c)
       (getD (linked k (head-words names cs) s) (procedure-place (spellings names) goal) 0) (procedure cs goal)

@@ -11,10 +11,11 @@ use Rattle.meaning.specs.Tokens.{Tokens, tokens}
 use Rattle.meaning.specs.Call.{cleared}
 use Rattle.meaning.specs.Items.{Piece, nothing, clause, query, refused, item, pieces, reading, job}
 use Rattle.term.specs.Frames.{Only}
-use Rattle.term.specs.Jobs.{EachFrom, query-base, query-record}
+use Rattle.term.specs.Jobs.{EachFrom}
 use Rattle.term.specs.Spellings.{HoldsSpellings, HoldsVariables, HoldsText}
 use Rattle.term.proofs.Jobs.{each-map}
 use Rattle.term.proofs.Spellings.{holds-spellings-kept}
+use Rattle.term.specs.Layout.{compounds-region, query-record, query-base, query-variables-from, query-end}
 use Rattle.load_names.specs.Places.{Place, spellings, item-places}
 use Rattle.load_image.specs.Image.{
   Entry,
@@ -106,7 +107,7 @@ entries-placed text known k q (p ∷ ps) cut s =
 -- A query's record, and those of all entries.
 module _ (text : Bytes) (names : List Place) where
   query-variables : (k : ℕ) (g : Query) (vs : List Place) (s : List ℕ) → k < 8 → length vs ≤ 16
-      → query-record k + 64 ≤ length (query-stored names k g vs s)
+      → query-end k ≤ length (query-stored names k g vs s)
       → spellings vs ≡ g .variables → AllPlaced text vs → HoldsVariables (query-stored names k g vs s) text k g
   unfolding query-stored
   query-variables k g vs s few places room e h =
@@ -118,7 +119,7 @@ module _ (text : Bytes) (names : List Place) where
         held = rw e at (places-held text (r + 16) vs s₂ (omega (arith, places-only (r + 16) vs s₂ .size)) h);
       }
 
-  entries-variables : (k q : ℕ) (es : List Entry) (s : List ℕ) → EntriesLaid (spellings names) k q es → EntriesPlaced text es → 40704 ≤ length s
+  entries-variables : (k q : ℕ) (es : List Entry) (s : List ℕ) → EntriesLaid (spellings names) k q es → EntriesPlaced text es → compounds-region ≤ length s
       → EachFrom (HoldsVariables (entries-stored names k q es s) text) q (queries-of es)
   unfolding EntriesLaid EntriesPlaced entries-stored queries-of EachFrom
   entries-variables k q [] s l p inside = tt
@@ -132,7 +133,7 @@ module _ (text : Bytes) (names : List Place) where
       let few-variables : length (g .variables) ≤ 16 = here .few in (
         record {
           few = here .few;
-          held = holds-spellings-kept s₁ s₂ text (query-record q + 16) (g .variables) (λ w a b. later .query-words w (omega arith) (omega arith)) (here .held);
+          held = holds-spellings-kept s₁ s₂ text (query-variables-from q) (g .variables) (λ w a b. later .query-words w (omega arith) (omega arith)) (here .held);
         },
         entries-variables k (q + 1) es s₁ (l .3) (p .2) (omega (arith, two .size)),
       )
@@ -142,7 +143,7 @@ module _ (text : Bytes) (names : List Place) where
 
 -- All of it.
 module _ (text : Bytes) (names : List Place) (es : List Entry) (s : List ℕ) (few-names : length (spellings names) ≤ 256)
-    (laid : EntriesLaid (spellings names) 0 0 es) (inside : 40704 ≤ length s) where
+    (laid : EntriesLaid (spellings names) 0 0 es) (inside : compounds-region ≤ length s) where
   stored-text : AllPlaced text names → EntriesPlaced text es
       → HoldsText (places-stored 0 names (linked 0 (head-words names (clauses-of es)) (entries-stored names 0 0 es s))) text (spellings names) (job-of es)
   unfolding job-of
@@ -151,7 +152,7 @@ module _ (text : Bytes) (names : List Place) (es : List Entry) (s : List ℕ) (f
       let s₂ = linked 0 (head-words names (clauses-of es)) s₁ in
       let s₃ = places-stored 0 names s₂ in
       let earlier = entries-earlier names 0 0 es s laid in
-      let inside₁ : 40704 ≤ length s₁ = omega (arith, earlier .size) in
+      let inside₁ : compounds-region ≤ length s₁ = omega (arith, earlier .size) in
       let links : LinkKept s₁ s₂ = linked-kept names few-names 0 (clauses-of es) s₁ (entries-clauses-few (spellings names) 0 0 es laid) inside₁
       (entries-headed (spellings names) 0 0 es laid) in
       let last : Only 0 (0 + 2 * length names) s₂ s₃ = places-only 0 names s₂ in
@@ -161,13 +162,13 @@ module _ (text : Bytes) (names : List Place) (es : List Entry) (s : List ℕ) (f
         variables-held = each-map (HoldsVariables s₁ text) (HoldsVariables s₃ text) 0 (queries-of es)
             (λ k q l m v. record {
               few = v .few;
-              held = holds-spellings-kept s₁ s₃ text (query-record k + 16) (q .variables)
+              held = holds-spellings-kept s₁ s₃ text (query-variables-from k) (q .variables)
                   (λ w a b. last .above w (omega arith) ∙ links .behind w (omega arith)) (v .held);
             })
             (entries-variables text names 0 0 es s laid others inside);
       }
 
-pub image-holds-text : (text : Bytes) (j : Job) (s : List ℕ) → reading text ≡ job j → 40704 ≤ length s
+pub image-holds-text : (text : Bytes) (j : Job) (s : List ℕ) → reading text ≡ job j → compounds-region ≤ length s
     → HoldsText (image text s) text (spellings (text-names text)) j
 unfolding image text-names text-entries AllPlaced
 image-holds-text text j s h inside =
@@ -176,7 +177,7 @@ image-holds-text text j s h inside =
     (names-in-placed text (tokens text) [] (tokens-spelled text) tt)
     (entries-placed text [] 0 0 (pieces (tokens text)) (pieces-cut (tokens text)) (pieces-spelled text (tokens text) (tokens-spelled text))))
 
-pub loaded-holds-text : (text : Bytes) (j : Job) (need : ℕ) (s s′ : List ℕ) → reading text ≡ job j → 40704 ≤ need → s′ ≡ image text (cleared need s)
+pub loaded-holds-text : (text : Bytes) (j : Job) (need : ℕ) (s s′ : List ℕ) → reading text ≡ job j → compounds-region ≤ need → s′ ≡ image text (cleared need s)
     → HoldsText s′ text (spellings (text-names text)) j
 unfolding cleared
 loaded-holds-text text j need s s′ h inside e =

@@ -7,7 +7,7 @@ use Rattle.meaning.specs.Terms.{Named, named, Clause, Query, as-term, count}
 use Rattle.meaning.specs.Tokens.{Tokens, ends, token, tokens}
 use Rattle.meaning.specs.Items.{SoFar, Piece, nothing, clause, query, refused, item, pieces}
 use Rattle.term.specs.Cells.{Places as CellPlaces, term-word, functor-word, stored}
-use Rattle.term.specs.Jobs.{clause-record, clause-base, query-record, query-base}
+use Rattle.term.specs.Layout.{procedure-slot, clause-record, clause-base, query-record, query-base, query-pairs-word, query-compounds-word, query-goals-from, query-variables-from, clause-pairs-word, clause-compounds-word, clause-goals-word, clause-goals-from}
 use Rattle.load_names.specs.Places.{Place, spellings, with-name, with-variable, item-places}
 
 -- Where the names first stand, over some tokens, behind those already known; where the variables do.
@@ -66,24 +66,24 @@ clause-stored names k c s =
     set
     (set
     (set
-    (goals-stored (item-places names (clause-base k)) (clause-record k + 4) (c .body) (stored (item-places names (clause-base k)) (as-term (c .head)) s))
-    (clause-record k + 1)
+    (goals-stored (item-places names (clause-base k)) (clause-goals-from k) (c .body) (stored (item-places names (clause-base k)) (as-term (c .head)) s))
+    (clause-pairs-word k)
     (c .pairs))
-    (clause-record k + 2)
+    (clause-compounds-word k)
     (c .compounds))
-    (clause-record k + 3)
+    (clause-goals-word k)
     (length (c .body))
 
 -- The query k: its goals, then its goals, pairs and compounds counted, then where its variables first stand.
 unfoldable pub query-stored : List Place → ℕ → Query → List Place → List ℕ → List ℕ
 query-stored names k q vs s =
-    places-stored (query-record k + 16) vs
+    places-stored (query-variables-from k) vs
     (set
     (set
-    (set (goals-stored (item-places names (query-base k)) (query-record k + 8) (q .goals) s) (query-record k) (length (q .goals)))
-    (query-record k + 1)
+    (set (goals-stored (item-places names (query-base k)) (query-goals-from k) (q .goals) s) (query-record k) (length (q .goals)))
+    (query-pairs-word k)
     (length (q .variables)))
-    (query-record k + 2)
+    (query-compounds-word k)
     (q .compounds))
 
 unfoldable pub entries-stored : List Place → ℕ → ℕ → List Entry → List ℕ → List ℕ
@@ -100,7 +100,7 @@ head-words names cs = map (λ c. head-word names (c .head)) cs
 
 -- Clauses linked, from the last to the first: each becomes the first of its procedure, and the first so far its next.
 unfoldable pub link-one : ℕ → ℕ → List ℕ → List ℕ
-link-one k w s = set (set s (clause-record k) (getD s (504 + w) 0)) (504 + w) (k + 1)
+link-one k w s = set (set s (clause-record k) (getD s (procedure-slot w) 0)) (procedure-slot w) (k + 1)
 
 unfoldable pub linked : ℕ → List ℕ → List ℕ → List ℕ
 linked k [] s = s

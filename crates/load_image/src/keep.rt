@@ -1,4 +1,5 @@
 // What is kept of a text beside its terms: where names and variables first stand, and the clauses of each procedure in text order.
+use term::layout::CLAUSE_STRIDE;
 use term::layout::CLAUSES;
 use term::layout::PROCEDURES;
 use term::word::index;
@@ -6,6 +7,7 @@ use term::word::word;
 ghost use mathlib.Core.Path.{_≡_};
 ghost use Prim.Native.Nat.{ℕ, _+_, _*_, _≤_, _<_};
 ghost use lib.ListN.{length, getD, take};
+ghost use Rattle.term.specs.Layout.{queries-region};
 ghost use Rattle.load_image.specs.Kept.{pairs-kept};
 ghost use Rattle.load_image.specs.Image.{linked};
 
@@ -25,7 +27,7 @@ pub fn keep_places(s: &mut [u64], table: &[u64], from: usize, place: usize, coun
 
 // The clauses of each procedure linked in text order, the last one first: each becomes the first of its procedure.
 pub fn link(s: &mut [u64], heads: &[u64], clauses: usize)
-    requires { ⌜ (clauses ≤ length (now heads)) × (clauses ≤ 128) × (4608 ≤ length (now s)) ⌝ }
+    requires { ⌜ (clauses ≤ length (now heads)) × (clauses ≤ 128) × (queries-region ≤ length (now s)) ⌝ }
     requires { ⌜ ((k : ℕ) → k < clauses → (8 ≤ getD (now heads) k 0) × (getD (now heads) k 0 < 2056)) ⌝ }
     ensures { λ r. ⌜ now (s .exit) ≡ linked 0 (take clauses (now (heads .entry))) (now (s .entry)) ⌝ }
 {
@@ -33,7 +35,7 @@ pub fn link(s: &mut [u64], heads: &[u64], clauses: usize)
     while 0 < k {
         k -= 1;
         let first = PROCEDURES + index(heads[k]) - 8;
-        s[CLAUSES + 16 * k] = s[first];
+        s[CLAUSES + CLAUSE_STRIDE * k] = s[first];
         s[first] = word(k + 1);
     }
 }

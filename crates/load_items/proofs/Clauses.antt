@@ -28,7 +28,7 @@ use Rattle.meaning.specs.Items.{
 }
 use Rattle.term.specs.Frames.{Only}
 use Rattle.term.proofs.Frames.{only-set, only-then}
-use Rattle.term.specs.Jobs.{clause-base, clause-record}
+use Rattle.term.specs.Layout.{trial-region, clause-base, clause-pairs-word, clause-compounds-word, clause-goals-word, clause-goals-from}
 use Rattle.load_tokens.specs.Fronts.{tokens-in}
 use Rattle.load_names.specs.Places.{Place, Placed, spellings, names-over, variables-over}
 use Rattle.load_openings.specs.Reading.{piece, counted-at, Stands}
@@ -83,7 +83,7 @@ module _ (text rest : Bytes) (from : ℕ) (names item₀ : List ℕ) (count₀ :
     clause-passed h = rw (reads-rule, h)
 
     module _ (s′ names′ item′ : List ℕ) (w : ℕ) (c′ : Cursor) (r : Rule) (ps : List Placed) (stop : ℕ)
-        (t : Ended (rule-part (clause-record k + 4)) rule text rest from (clause-base k) known [] c s item₀ s′ names′ item′ w c′ r ps stop) where
+        (t : Ended (rule-part (clause-goals-from k)) rule text rest from (clause-base k) known [] c s item₀ s′ names′ item′ w c′ r ps stop) where
       abbrev known′ : List Place
       known′ = names-over ps known
 
@@ -133,12 +133,12 @@ module _ (text rest : Bytes) (from : ℕ) (names item₀ : List ℕ) (count₀ :
           → heads′ ≡ set heads k (head-word known′ (r .head)) → count (r .head .arguments) ≤ 6 → v ≡ c′ .variables → n ≡ c′ .compounds
           → (cl : Clause) × (ps : List Placed) × (stop : ℕ)
           × TookClause text rest from known k queries s heads
-          (set (set (set s′ (clause-record k + 1) v) (clause-record k + 2) n) (clause-record k + 3) w) names′ heads′ (c′ .at) (c′ .names) cl ps stop
-          × Only 0 39936 s (set (set (set s′ (clause-record k + 1) v) (clause-record k + 2) n) (clause-record k + 3) w)
+          (set (set (set s′ (clause-pairs-word k) v) (clause-compounds-word k) n) (clause-goals-word k) w) names′ heads′ (c′ .at) (c′ .names) cl ps stop
+          × Only 0 trial-region s (set (set (set s′ (clause-pairs-word k) v) (clause-compounds-word k) n) (clause-goals-word k) w)
       unfolding the-clause rule-part clause-stored
       clause-took heads′ v n h g noted arguments ev en =
-          let s₁ = set s′ (clause-record k + 1) v in
-          let s₂ = set s₁ (clause-record k + 2) n in (
+          let s₁ = set s′ (clause-pairs-word k) v in
+          let s₂ = set s₁ (clause-compounds-word k) n in (
             the-clause,
             ps,
             stop,
@@ -152,13 +152,13 @@ module _ (text rest : Bytes) (from : ℕ) (names item₀ : List ℕ) (count₀ :
                 count-is = t .stands .names-count;
               };
               reads = clause-kept h g;
-              stored-is = three-words s′ _ (clause-record k + 1) (clause-record k + 2) (clause-record k + 3) v (c′ .variables) n (c′ .compounds) w (length (r .body)) (t .stored-is) ev en (t .size-is);
+              stored-is = three-words s′ _ (clause-pairs-word k) (clause-compounds-word k) (clause-goals-word k) v (c′ .variables) n (c′ .compounds) w (length (r .body)) (t .stored-is) ev en (t .size-is);
               noted = noted;
               known-names = t .known-names;
               few = (few, arguments);
             },
-            only-then 0 39936 s s₂ (set s₂ (clause-record k + 3) w)
-                (only-then 0 39936 s s₁ s₂ (only-then 0 39936 s s′ s₁ (t .only) (only-set 0 39936 s′ (clause-record k + 1) v (omega arith) (omega arith)))
-                (only-set 0 39936 s₁ (clause-record k + 2) n (omega arith) (omega arith)))
-                (only-set 0 39936 s₂ (clause-record k + 3) w (omega arith) (omega arith)),
+            only-then 0 trial-region s s₂ (set s₂ (clause-goals-word k) w)
+                (only-then 0 trial-region s s₁ s₂ (only-then 0 trial-region s s′ s₁ (t .only) (only-set 0 trial-region s′ (clause-pairs-word k) v (omega arith) (omega arith)))
+                (only-set 0 trial-region s₁ (clause-compounds-word k) n (omega arith) (omega arith)))
+                (only-set 0 trial-region s₂ (clause-goals-word k) w (omega arith) (omega arith)),
           )

@@ -13,6 +13,7 @@ use Rattle.meaning.specs.Terms.{writer, reader}
 use Rattle.meaning.specs.Tokens.{variable, integer, sign, bad, Tokens, ends, token}
 use Rattle.meaning.specs.Items.{is, is-name}
 use Rattle.term.proofs.Frames.{only-same}
+use Rattle.term.specs.Layout.{trial-region}
 use Rattle.load_tokens.specs.Fronts.{tokens-in, behind, FrontIs}
 use Rattle.load_names.specs.Places.{Place}
 use Rattle.load_items.specs.Outcomes.{ItemIs}
@@ -32,28 +33,28 @@ module _ (text rest : Bytes) (from : ℕ) (known : List Place) (clauses queries 
   starts-sign b a n h = (
     rw (h .2 from) (starts-none known clauses queries (from + a) (tokens-in from rest (behind b a)) (sign b) refl (ne-eqb b 63 n)),
     omega (arith, behind-after b a),
-    only-same 0 39936 s,
+    only-same 0 trial-region s,
   )
 
   pub starts-writer : (a e : ℕ) → FrontIs rest 0 (Writer a e) → ItemIs text rest from known clauses queries s heads s names names heads (Malformed a)
   unfolding is-name is
   starts-writer a e h =
-      (rw (h .4 from) (starts-none known clauses queries (from + a) (tokens-in from rest e) (variable writer (slice a e rest)) refl refl), omega arith, only-same 0 39936 s)
+      (rw (h .4 from) (starts-none known clauses queries (from + a) (tokens-in from rest e) (variable writer (slice a e rest)) refl refl), omega arith, only-same 0 trial-region s)
 
   pub starts-reader : (a e : ℕ) → FrontIs rest 0 (Reader a e) → ItemIs text rest from known clauses queries s heads s names names heads (Malformed a)
   unfolding is-name is
   starts-reader a e h =
-      (rw (h .4 from) (starts-none known clauses queries (from + a) (tokens-in from rest (e + 1)) (variable reader (slice a e rest)) refl refl), omega arith, only-same 0 39936 s)
+      (rw (h .4 from) (starts-none known clauses queries (from + a) (tokens-in from rest (e + 1)) (variable reader (slice a e rest)) refl refl), omega arith, only-same 0 trial-region s)
 
   pub starts-integer : (w a e : ℕ) → FrontIs rest 0 (AnInteger w a e) → ItemIs text rest from known clauses queries s heads s names names heads (Malformed a)
   unfolding is-name is
   starts-integer w a e h =
-      (rw (h .6 from) (starts-none known clauses queries (from + a) (tokens-in from rest e) (integer (h .4)) refl refl), omega arith, only-same 0 39936 s)
+      (rw (h .6 from) (starts-none known clauses queries (from + a) (tokens-in from rest e) (integer (h .4)) refl refl), omega arith, only-same 0 trial-region s)
 
   pub starts-bad : (a : ℕ) → FrontIs rest 0 (Bad a) → ItemIs text rest from known clauses queries s heads s names names heads (Malformed a)
   unfolding is-name is
   starts-bad a h =
-      (rw (h .2 from .1) (starts-none known clauses queries (from + a) (h .2 from .0) bad refl refl), omega arith, only-same 0 39936 s)
+      (rw (h .2 from .1) (starts-none known clauses queries (from + a) (h .2 from .0) bad refl refl), omega arith, only-same 0 trial-region s)
 
   pub starts-nothing : FrontIs rest 0 End → ItemIs text rest from known clauses queries s heads s names names heads Nothing
   starts-nothing h = (h from, refl, refl, refl)

@@ -16,6 +16,7 @@ use Rattle.term.proofs.Frames.{only-then, only-wider}
 use Rattle.term.proofs.Cells.{arguments-stored-only}
 use Rattle.term.proofs.Names.{functor-word-more}
 use Rattle.term.specs.Jobs.{GoalsKnown}
+use Rattle.term.specs.Layout.{trial-region, trial-base, item-start, item-end, item-place, item-compounds}
 use Rattle.load_tokens.specs.Fronts.{tokens-in}
 use Rattle.load_names.specs.Places.{Place, Placed, spellings, before, with-name, with-variable, names-over, variables-over, item-places}
 use Rattle.load_openings.specs.Reading.{piece, counted-at, half-place, Stands, Open, Gave}
@@ -81,39 +82,39 @@ few-arguments : (lo hi : ℕ) (g : Named) → Numbered lo hi (as-term g) → cou
 unfolding Numbered as-term
 few-arguments lo hi g h = h .1
 
-head-stored : (known : List Place) (base hi : ℕ) (g : Named) (s : List ℕ) → Numbered 0 hi (as-term g) → 8 * base < length s
-    → getD (stored (item-places known base) (as-term g) s) (8 * base) 0 ≡ head-word known g
+head-stored : (known : List Place) (base hi : ℕ) (g : Named) (s : List ℕ) → Numbered 0 hi (as-term g) → item-start base < length s
+    → getD (stored (item-places known base) (as-term g) s) (item-start base) 0 ≡ head-word known g
 unfolding Numbered as-term stored head-word item-places
 head-stored known base hi g s h inside =
     let p = item-places known base in
     let s₁ = arguments-stored p (g .number) 0 (g .arguments) s in
     let w = functor-word p (named (g .name)) (count (g .arguments)) in
     let kept = arguments-stored-only p base (λ n. refl) 0 hi (g .number) 0 1 (g .arguments) s (h .0) (omega arith) (omega (arith, h .1)) (h .2) in
-    let here : 8 * (base + g .number) ≡ 8 * base = omega (arith, h .0) in
-    let still : 8 * base < length s₁ = omega (arith, kept .size) in
-    rw here (getD-set-same s₁ (8 * base) w 0 still)
+    let here : item-place base (g .number) ≡ item-start base = omega (arith, h .0) in
+    let still : item-start base < length s₁ = omega (arith, kept .size) in
+    rw here (getD-set-same s₁ (item-start base) w 0 still)
 
-module _ (place k : ℕ) (text rest : Bytes) (from base : ℕ) (known vars : List Place) (c : Cursor) (s item heads : List ℕ) (small : base + 32 ≤ 4992) where
+module _ (place k : ℕ) (text rest : Bytes) (from base : ℕ) (known vars : List Place) (c : Cursor) (s item heads : List ℕ) (small : base + item-compounds ≤ trial-base) where
   pub head-malformed : (s′ names′ item′ heads′ : List ℕ) (p : ℕ)
       → goal (counted-at known vars (c .compounds)) (piece (tokens-in from rest (c .at))) ≡ malformed (from + p) → p ≤ length rest
-      → Only (8 * base) (8 * (base + 32)) s s′ → RuleIs place k text rest from base known vars c s item heads s′ names′ item′ heads′ (Malformed p)
+      → Only (item-start base) (item-end base) s s′ → RuleIs place k text rest from base known vars c s item heads s′ names′ item′ heads′ (Malformed p)
   head-malformed s′ names′ item′ heads′ p h inside only = (
     rule-malformed (counted-at known vars (c .compounds)) (piece (tokens-in from rest (c .at))) (from + p) h,
     inside,
-    only-wider (8 * base) (8 * (base + 32)) 0 39936 s s′ (omega arith) (omega arith) only,
+    only-wider (item-start base) (item-end base) 0 trial-region s s′ (omega arith) (omega arith) only,
   )
 
   pub head-passed : (s′ names′ item′ heads′ : List ℕ)
       → goal (counted-at known vars (c .compounds)) (piece (tokens-in from rest (c .at))) ≡ passed
-      → Only (8 * base) (8 * (base + 32)) s s′ → RuleIs place k text rest from base known vars c s item heads s′ names′ item′ heads′ Exceeded
+      → Only (item-start base) (item-end base) s s′ → RuleIs place k text rest from base known vars c s item heads s′ names′ item′ heads′ Exceeded
   head-passed s′ names′ item′ heads′ h only = (
     rule-passed (counted-at known vars (c .compounds)) (piece (tokens-in from rest (c .at))) h,
-    only-wider (8 * base) (8 * (base + 32)) 0 39936 s s′ (omega arith) (omega arith) only,
+    only-wider (item-start base) (item-end base) 0 trial-region s s′ (omega arith) (omega arith) only,
   )
 
   module _ (s′ names′ item′ : List ℕ) (w : ℕ) (e : Cursor) (g : Named) (qs : List Placed)
       (gave : Gave as-term goal text rest from base known vars c s item s′ names′ item′ w e g qs)
-      (none : c .compounds ≡ 0) (inside : 8 * base < length s) where
+      (none : c .compounds ≡ 0) (inside : item-start base < length s) where
     abbrev known′ : List Place
     known′ = names-over qs known
 
@@ -123,14 +124,14 @@ module _ (place k : ℕ) (text rest : Bytes) (from base : ℕ) (known vars : Lis
     abbrev counted : Counted
     counted = counted-at known vars (c .compounds)
 
-    noted : getD s′ (8 * base) 0 ≡ head-word known′ g
+    noted : getD s′ (item-start base) 0 ≡ head-word known′ g
     noted = rw (gave .stored-is) (head-stored known′ base (e .compounds) g s (rw none at (gave .numbered)) inside)
 
     few : count (g .arguments) ≤ 6
     few = few-arguments (c .compounds) (e .compounds) g (gave .numbered)
 
     pub head-other : (p : ℕ) → Stops (one-of 58 46 46) (from + p) (tokens-in from rest (e .at)) → p ≤ length rest
-        → RuleIs place k text rest from base known vars c s item heads s′ names′ item′ (set heads k (getD s′ (8 * base) 0)) (Malformed p)
+        → RuleIs place k text rest from base known vars c s item heads s′ names′ item′ (set heads k (getD s′ (item-start base) 0)) (Malformed p)
     head-other p h inside′ = (
       rule-other counted (counted-at known′ vars′ (e .compounds)) (piece (tokens-in from rest (c .at))) (tokens-in from rest (e .at)) g (gave .reads) (from + p) h,
       inside′,
@@ -139,7 +140,7 @@ module _ (place k : ℕ) (text rest : Bytes) (from base : ℕ) (known vars : Lis
 
     -- A fact: `head.`
     pub head-stop : (behind : ℕ) (next : SignAt rest (e .at) 46 behind)
-        → RuleIs place k text rest from base known vars c s item heads s′ names′ item′ (set heads k (getD s′ (8 * base) 0)) (Got 0 (behind-it e behind))
+        → RuleIs place k text rest from base known vars c s item heads s′ names′ item′ (set heads k (getD s′ (item-start base) 0)) (Got 0 (behind-it e behind))
     unfolding rule-part goals-stored goals-occurrences occurrences as-term GoalsKnown
     head-stop behind next =
         let there : tokens-in from rest (e .at) ≡ token (from + next .place) (sign 46) (tokens-in from rest behind) = next .follows from in (
@@ -178,8 +179,8 @@ module _ (place k : ℕ) (text rest : Bytes) (from base : ℕ) (known vars : Lis
           rule-body counted (counted-at known′ vars′ (e .compounds)) (piece (tokens-in from rest (c .at))) (tokens-in from rest (e .at)) g (gave .reads)
           (from + next .place) (tokens-in from rest behind) there
 
-      head-only : Only 0 39936 s′ s″ → Only 0 39936 s s″
-      head-only o = only-then 0 39936 s s′ s″ (gave-only gave small) o
+      head-only : Only 0 trial-region s′ s″ → Only 0 trial-region s s″
+      head-only o = only-then 0 trial-region s s′ s″ (gave-only gave small) o
 
       body-ended : (n : ℕ) (c″ : Cursor) (gs : List Named) (ps : List Placed) (stop : ℕ)
           → Ended (goals-part place) (goals 8) text rest from base known′ vars′ d s′ item′ s″ names″ item″ n c″ gs ps stop
@@ -207,7 +208,7 @@ module _ (place k : ℕ) (text rest : Bytes) (from base : ℕ) (known vars : Lis
           }
 
       pub head-body : (r : Answer) → EndIs (goals-part place) (goals 8) text rest from base known′ vars′ d s′ item′ s″ names″ item″ r
-          → RuleIs place k text rest from base known vars c s item heads s″ names″ item″ (set heads k (getD s′ (8 * base) 0)) r
+          → RuleIs place k text rest from base known vars c s item heads s″ names″ item″ (set heads k (getD s′ (item-start base) 0)) r
       unfolding read-on names-over with-name
       head-body (Got n c″) (gs, ps, stop, t) =
           let colon : List Placed = record { at = from + next .place; token = sign 58 } ∷ ps in

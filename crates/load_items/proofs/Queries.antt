@@ -27,7 +27,7 @@ use Rattle.meaning.specs.Items.{
 }
 use Rattle.term.specs.Frames.{Only}
 use Rattle.term.proofs.Frames.{only-set, only-then}
-use Rattle.term.specs.Jobs.{query-base, query-record}
+use Rattle.term.specs.Layout.{trial-region, query-record, query-base, query-pairs-word, query-compounds-word, query-goals-from, query-variables-from}
 use Rattle.load_tokens.specs.Fronts.{tokens-in}
 use Rattle.load_names.specs.Places.{Place, Placed, spellings, before, names-over, variables-over, with-name, with-variable}
 use Rattle.load_openings.specs.Reading.{piece, counted-at, Stands, Open}
@@ -76,7 +76,7 @@ module _ (text rest : Bytes) (from : ℕ) (names item₀ : List ℕ) (count₀ :
     query-passed h = rw (reads-goals, h)
 
     module _ (s′ names′ item′ : List ℕ) (w : ℕ) (c′ : Cursor) (gs : List Named) (ps : List Placed) (stop : ℕ)
-        (t : Ended (goals-part (query-record k + 8)) (goals 8) text rest from (query-base k) known [] c s item₀ s′ names′ item′ w c′ gs ps stop) where
+        (t : Ended (goals-part (query-goals-from k)) (goals 8) text rest from (query-base k) known [] c s item₀ s′ names′ item′ w c′ gs ps stop) where
       abbrev known′ : List Place
       known′ = names-over ps known
 
@@ -111,30 +111,30 @@ module _ (text rest : Bytes) (from : ℕ) (names item₀ : List ℕ) (count₀ :
           rw reads-all (judged-kept (from + begins) gs known′ vars′ (c′ .compounds) (ends stop) (rw n at (sym twice ∙ h)))
 
       abbrev counted-words : ℕ → ℕ → List ℕ
-      counted-words v n = set (set (set s′ (query-record k) w) (query-record k + 1) v) (query-record k + 2) n
+      counted-words v n = set (set (set s′ (query-record k) w) (query-pairs-word k) v) (query-compounds-word k) n
 
       kept-words : (v n : ℕ) → v ≡ c′ .variables → n ≡ c′ .compounds
-          → pairs-kept item′ from (query-record k + 16) (c′ .variables) (counted-words v n)
+          → pairs-kept item′ from (query-variables-from k) (c′ .variables) (counted-words v n)
           ≡ query-stored known′ k the-query (map (shifted from) vars′) s
       unfolding the-query goals-part query-stored
       kept-words v n ev en =
           let counts = t .stands .variables-count in
           rw counts
-          (kept-places item′ from (query-record k + 16) vars′ (counted-words v n) (t .stands .variables-in .starts) (t .stands .variables-in .lengths))
-          ∙ ap (places-stored (query-record k + 16) (map (shifted from) vars′))
-          (three-words s′ _ (query-record k) (query-record k + 1) (query-record k + 2) w (length gs) v (length (spellings vars′)) n (c′ .compounds)
+          (kept-places item′ from (query-variables-from k) vars′ (counted-words v n) (t .stands .variables-in .starts) (t .stands .variables-in .lengths))
+          ∙ ap (places-stored (query-variables-from k) (map (shifted from) vars′))
+          (three-words s′ _ (query-record k) (query-pairs-word k) (query-compounds-word k) w (length gs) v (length (spellings vars′)) n (c′ .compounds)
           (t .stored-is) (t .size-is) (ev ∙ counts ∙ sym (spellings-length vars′)) en)
 
       pub query-took : (s″ : List ℕ) (v n : ℕ) → none-twice item′ (c′ .variables) ≡ true → v ≡ c′ .variables → n ≡ c′ .compounds
-          → s″ ≡ pairs-kept item′ from (query-record k + 16) (c′ .variables) (counted-words v n)
+          → s″ ≡ pairs-kept item′ from (query-variables-from k) (c′ .variables) (counted-words v n)
           → (q : Query) × (ps : List Placed) × (stop : ℕ)
           × TookQuery text rest from known clauses k s heads s″ names′ heads (c′ .at) (c′ .names) q ps stop
-          × Only 0 39936 s s″
+          × Only 0 trial-region s s″
       unfolding the-query goals-part before names-over variables-over with-name with-variable Open is byte
       query-took s″ v n h ev en e =
           let s₁ = set s′ (query-record k) w in
-          let s₂ = set s₁ (query-record k + 1) v in
-          let s₃ = set s₂ (query-record k + 2) n in (
+          let s₂ = set s₁ (query-pairs-word k) v in
+          let s₃ = set s₂ (query-compounds-word k) n in (
             the-query,
             record { at = from + begins; token = sign 63 } ∷ ps,
             stop,
@@ -154,10 +154,10 @@ module _ (text rest : Bytes) (from : ℕ) (names item₀ : List ℕ) (count₀ :
               few = few;
             },
             rw e
-                (only-then 0 39936 s s₃ (pairs-kept item′ from (query-record k + 16) (c′ .variables) s₃)
-                (only-then 0 39936 s s₂ s₃
-                (only-then 0 39936 s s₁ s₂ (only-then 0 39936 s s′ s₁ (t .only) (only-set 0 39936 s′ (query-record k) w (omega arith) (omega arith)))
-                (only-set 0 39936 s₁ (query-record k + 1) v (omega arith) (omega arith)))
-                (only-set 0 39936 s₂ (query-record k + 2) n (omega arith) (omega arith)))
-                (kept-only item′ from (query-record k + 16) (c′ .variables) 39936 s₃ (omega (arith, many)))),
+                (only-then 0 trial-region s s₃ (pairs-kept item′ from (query-variables-from k) (c′ .variables) s₃)
+                (only-then 0 trial-region s s₂ s₃
+                (only-then 0 trial-region s s₁ s₂ (only-then 0 trial-region s s′ s₁ (t .only) (only-set 0 trial-region s′ (query-record k) w (omega arith) (omega arith)))
+                (only-set 0 trial-region s₁ (query-pairs-word k) v (omega arith) (omega arith)))
+                (only-set 0 trial-region s₂ (query-compounds-word k) n (omega arith) (omega arith)))
+                (kept-only item′ from (query-variables-from k) (c′ .variables) trial-region s₃ (omega (arith, many)))),
           )

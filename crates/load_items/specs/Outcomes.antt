@@ -9,6 +9,7 @@ use Rattle.meaning.specs.Tokens.{Tokens, ends, token, sign}
 use Rattle.meaning.specs.Items.{Piece, clause, query, refused, no-item, occurrence-rule, figure, item}
 use Rattle.term.specs.Frames.{Only}
 use Rattle.term.specs.Jobs.{GoalsKnown}
+use Rattle.term.specs.Layout.{trial-region}
 use Rattle.load_tokens.specs.Fronts.{tokens-in}
 use Rattle.load_names.specs.Places.{Place, Placed, spellings, before, names-over, variables-over}
 use Rattle.load_names.specs.Tables.{NamesIn}
@@ -59,17 +60,17 @@ abbrev pub ItemIs : (text rest : Bytes) (from : ℕ) (known : List Place) (claus
 ItemIs text rest from known clauses queries s heads s′ names names′ heads′ (AClause at count) =
     (c : Clause) × (passed : List Placed) × (stop : ℕ)
     × TookClause text rest from known clauses queries s heads s′ names′ heads′ at count c passed stop
-    × Only 0 39936 s s′
+    × Only 0 trial-region s s′
 ItemIs text rest from known clauses queries s heads s′ names names′ heads′ (AQuery at count) =
     (q : Query) × (passed : List Placed) × (stop : ℕ)
     × TookQuery text rest from known clauses queries s heads s′ names′ heads′ at count q passed stop
-    × Only 0 39936 s s′
+    × Only 0 trial-region s s′
 ItemIs text rest from known clauses queries s heads s′ names names′ heads′ (Malformed a) =
-    (item (so-far known clauses queries) (piece (tokens-in from rest 0)) ≡ refused (no-item (from + a))) × (a ≤ length rest) × Only 0 39936 s s′
+    (item (so-far known clauses queries) (piece (tokens-in from rest 0)) ≡ refused (no-item (from + a))) × (a ≤ length rest) × Only 0 trial-region s s′
 ItemIs text rest from known clauses queries s heads s′ names names′ heads′ (Broken a) =
-    (item (so-far known clauses queries) (piece (tokens-in from rest 0)) ≡ refused (occurrence-rule (from + a))) × (a ≤ length rest) × Only 0 39936 s s′
+    (item (so-far known clauses queries) (piece (tokens-in from rest 0)) ≡ refused (occurrence-rule (from + a))) × (a ≤ length rest) × Only 0 trial-region s s′
 ItemIs text rest from known clauses queries s heads s′ names names′ heads′ (Exceeded a) =
-    (item (so-far known clauses queries) (piece (tokens-in from rest 0)) ≡ refused (figure (from + a))) × (a ≤ length rest) × Only 0 39936 s s′
+    (item (so-far known clauses queries) (piece (tokens-in from rest 0)) ≡ refused (figure (from + a))) × (a ≤ length rest) × Only 0 trial-region s s′
 ItemIs text rest from known clauses queries s heads s′ names names′ heads′ Nothing =
     (tokens-in from rest 0 ≡ ends (from + length rest)) × (s′ ≡ s) × (heads′ ≡ heads) × (names′ ≡ names)
 
@@ -82,6 +83,6 @@ pub record Begins (text rest : Bytes) (from : ℕ) (names item : List ℕ) (coun
 
 -- There is room for any item, and for each clause's head.
 pub record Lent (s heads : List ℕ) : Type 0 where
-  pub enough : 39936 ≤ length s
+  pub enough : trial-region ≤ length s
   pub fits : length s < 1152921504606846976
   pub heads-size : length heads ≡ 128

@@ -10,9 +10,13 @@ use load_tokens::next::Next;
 use load_tokens::next::next_of;
 use load_tokens::token::Token;
 use load_tokens::token::front;
+use term::layout::CLAUSE_STRIDE;
 use term::layout::CLAUSES;
+use term::layout::COMPOUND_WORDS;
+use term::layout::ITEM_COMPOUNDS;
 use term::layout::ITEMS;
 use term::layout::QUERIES;
+use term::layout::QUERY_STRIDE;
 use term::word::word;
 ghost use mathlib.Core.Path.{_≡_};
 ghost use mathlib.Core.List.{List};
@@ -21,6 +25,7 @@ ghost use lib.ListN.{length};
 ghost use Rattle.load_names.specs.Places.{Place};
 ghost use Rattle.meaning.specs.Bytes.{Bytes};
 ghost use Rattle.meaning.specs.Tokens.{Tokens, token, name, sign};
+ghost use Rattle.term.specs.Layout.{trial-region, trial-base, item-compounds};
 ghost use Rattle.load_tokens.specs.Fronts.{tokens-in};
 ghost use Rattle.load_items.specs.Outcomes.{ItemIs, Begins, Lent};
 ghost use Rattle.load_openings.specs.Reading.{Stands};
@@ -40,14 +45,14 @@ fn rule(
     k: usize,
     c: Cursor,
 ) -> Read
-    requires { ⌜ (base + 32 ≤ 4992) × (place + 8 ≤ 39936) × (39936 ≤ length (now s)) × (length (now s) < 1152921504606846976) × (k < 128) × (length (now heads) ≡ 128) × (c .compounds ≡ 0) ⌝ }
+    requires { ⌜ (base + item-compounds ≤ trial-base) × (place + 8 ≤ trial-region) × (trial-region ≤ length (now s)) × (length (now s) < 1152921504606846976) × (k < 128) × (length (now heads) ≡ 128) × (c .compounds ≡ 0) ⌝ }
     requires { ⌜ ((known : List Place) × (vars : List Place) × Stands (now text) (now rest) from (now names) (now item) c known vars) ⌝ }
     ensures { λ r. ⌜ ((known : List Place) (vars : List Place) → Stands (now (text .entry)) (now (rest .entry)) from (now (names .entry)) (now (item .entry)) c known vars
         → RuleIs place k (now (text .entry)) (now (rest .entry)) from base known vars c (now (s .entry)) (now (item .entry)) (now (heads .entry)) (now (s .exit)) (now (names .exit)) (now (item .exit)) (now (heads .exit)) r) ⌝ }
 {
     match goal(text, rest, from, s, names, item, base, c) {
         Read::Got(_, e) => {
-            heads[k] = s[8 * base];
+            heads[k] = s[COMPOUND_WORDS * base];
             let at = e.at;
             match next_of(rest, at, b':', b'.', b'.') {
                 Next::First(behind) => goals(
@@ -127,7 +132,7 @@ fn clause(
     if 128 <= k {
         return Item::Exceeded(begins);
     }
-    let record = CLAUSES + 16 * k;
+    let record = CLAUSES + CLAUSE_STRIDE * k;
     match rule(
         text,
         rest,
@@ -136,7 +141,7 @@ fn clause(
         names,
         item,
         heads,
-        ITEMS / 8 + 32 * k,
+        ITEMS / COMPOUND_WORDS + ITEM_COMPOUNDS * k,
         record + 4,
         k,
         first(known, 0),
@@ -180,7 +185,7 @@ fn query(
     if 8 <= k {
         return Item::Exceeded(begins);
     }
-    let record = QUERIES + 64 * k;
+    let record = QUERIES + QUERY_STRIDE * k;
     match goals(
         text,
         rest,
@@ -188,7 +193,7 @@ fn query(
         s,
         names,
         item,
-        ITEMS / 8 + 32 * (128 + k),
+        ITEMS / COMPOUND_WORDS + ITEM_COMPOUNDS * (128 + k),
         record + 8,
         first(known, begins + 2),
     ) {

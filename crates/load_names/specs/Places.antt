@@ -5,6 +5,7 @@ use mathlib.Core.List.{List, [], _∷_, _++_, map}
 use Rattle.meaning.specs.Bytes.{Bytes, same, any, if_then_else_}
 use Rattle.meaning.specs.Tokens.{Token, Tokens, ends, token, name, variable, integer, sign, bad}
 use Rattle.term.specs.Cells.{Places as CellPlaces}
+use Rattle.term.specs.Layout.{item-place}
 
 -- A spelling, and the offset at which it first stands.
 pub record Place : Type 0 where
@@ -56,4 +57,4 @@ variables-over from (p ∷ ps) places = variables-over from ps (with-variable (p
 
 -- An item's own places: pairs by their numbers, compounds from the item's first place on, eight words each.
 unfoldable pub item-places : List Place → ℕ → CellPlaces
-item-places names base = record { names = spellings names; pair = λ n. n; compound = λ n. 8 * (base + n); width = λ n. 8 }
+item-places names base = record { names = spellings names; pair = λ n. n; compound = λ n. item-place base n; width = λ n. 8 }

@@ -11,6 +11,7 @@ use Rattle.meaning.specs.Tokens.{Tokens, token, sign}
 use Rattle.meaning.specs.Items.{Counted, Reader, read, read-on, _>>=_, give, compound-of}
 use Rattle.term.specs.Cells.{term-word, stored, Numbered, Known}
 use Rattle.term.specs.Frames.{Only}
+use Rattle.term.specs.Layout.{item-start, item-end}
 use Rattle.load_tokens.specs.Fronts.{tokens-in}
 use Rattle.load_names.specs.Places.{Place, Placed, spellings, names-over, variables-over, item-places}
 use Rattle.load_tokens.specs.Nexts.{SignAt}
@@ -53,7 +54,7 @@ gave-moves g = record { follows = g .follows; names = refl; variables = refl; no
 -- Only words of the item's compounds changed.
 pub gave-only : {A : Type 0} {seen : A → Term} {by : Reader A} {text rest : Bytes} {from base : ℕ} {known vars : List Place} {c : Cursor}
     {s item s′ names′ item′ : List ℕ} {w : ℕ} {c′ : Cursor} {a : A} {over : List Placed}
-    → Gave seen by text rest from base known vars c s item s′ names′ item′ w c′ a over → Only (8 * base) (8 * (base + 32)) s s′
+    → Gave seen by text rest from base known vars c s item s′ names′ item′ w c′ a over → Only (item-start base) (item-end base) s s′
 gave-only {seen = seen} {base = base} {known = known} {c = c} {s = s} {c′ = c′} {a = a} {over = over} g =
     rw (g .stored-is)
     (stored-in-item (names-over over known) base (c .compounds) (c′ .compounds) (seen a) s (g .numbered) (g .stands .compounds-few))

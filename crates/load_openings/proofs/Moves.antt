@@ -15,6 +15,7 @@ use Rattle.term.specs.Frames.{Only}
 use Rattle.term.proofs.Names.{known-more, term-word-more, stored-more}
 use Rattle.term.proofs.Frames.{only-wider}
 use Rattle.term.proofs.Cells.{stored-only}
+use Rattle.term.specs.Layout.{item-start, item-end, item-place}
 use Rattle.load_tokens.specs.Fronts.{tokens-in}
 use Rattle.load_names.specs.Places.{Place, Placed, spellings, with-name, with-variable, before, names-over, variables-over, item-places}
 use Rattle.load_names.specs.Tables.{VariablesIn}
@@ -117,10 +118,10 @@ module _ (known : List Place) (passed : List Placed) (base : ℕ) where
 
 -- A term's compounds stored, all of the item's 32.
 pub stored-in-item : (known : List Place) (base lo hi : ℕ) (t : Term) (s : List ℕ) → Numbered lo hi t → hi ≤ 32
-    → Only (8 * base) (8 * (base + 32)) s (stored (item-places known base) t s)
+    → Only (item-start base) (item-end base) s (stored (item-places known base) t s)
 unfolding item-places
 stored-in-item known base lo hi t s n h =
-    only-wider (8 * (base + lo)) (8 * (base + hi)) (8 * base) (8 * (base + 32)) s (stored (item-places known base) t s) (omega arith) (omega arith)
+    only-wider (item-place base lo) (item-place base hi) (item-start base) (item-end base) s (stored (item-places known base) t s) (omega arith) (omega arith)
     (stored-only (item-places known base) base (λ k. refl) lo hi t s n)
 
 -- Counts up to 2, one part after the other.

@@ -15,6 +15,7 @@ use Rattle.meaning.specs.Tokens.{Tokens, ends, token, name, variable, integer, 
 use Rattle.meaning.specs.Items.{Counted, read, is, count-name, term}
 use Rattle.term.specs.Cells.{term-word, stored, Numbered, Known}
 use Rattle.term.specs.Cells.{bits as cell-bits}
+use Rattle.term.specs.Words.{integer-word, packed}
 use Rattle.load_tokens.specs.Fronts.{tokens-in, FrontIs, bits, behind}
 use Rattle.load_names.specs.Places.{Place, spellings, with-place, with-name, with-variable, item-places}
 use Rattle.load_names.specs.Answers.{NameIs}
@@ -125,7 +126,7 @@ module _ (left : ℕ) (text rest : Bytes) (from : ℕ) (known vars : List Place)
   nothing-more h n few = once (getD item (half-place h n) 0) (half-small (stands .variables-in) h n few)
 
   pub begun-integer : (w a e : ℕ) → FrontIs rest (c .at) (AnInteger w a e)
-      → BegunIs left text rest from known vars c item names item (Got (3 + 8 * w) (moved-to c e))
+      → BegunIs left text rest from known vars c item names item (Got (integer-word w) (moved-to c e))
   unfolding with-name with-variable is Numbered Known occurrences stored
   begun-integer w a e f =
       let i = f .4 in
@@ -145,7 +146,7 @@ module _ (left : ℕ) (text rest : Bytes) (from : ℕ) (known vars : List Place)
       )
 
   -- A variable.
-  module _ (h : Half) (tag a next : ℕ) (x : Bytes) (tagged : (n : ℕ) → tag + 8 * n ≡ term-word (item-places [] 0) (Term.variable h n))
+  module _ (h : Half) (tag a next : ℕ) (x : Bytes) (tagged : (n : ℕ) → packed tag n ≡ term-word (item-places [] 0) (Term.variable h n))
       (halved : (n : ℕ) → 16 + 16 * tag + n ≡ half-place h n) (inside : next ≤ length rest)
       (follows : tokens-in from rest (c .at) ≡ token (from + a) (variable h x) (tokens-in from rest next)) where
     first : here ≡ token (from + a) (variable h x) (piece (tokens-in from rest next))

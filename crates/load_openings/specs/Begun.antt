@@ -3,6 +3,7 @@ use Prim.Native.Nat.{ℕ, _+_, _*_, _<_}
 use mathlib.Core.Path.{_≡_}
 use mathlib.Core.List.{List}
 use Rattle.meaning.specs.Bytes.{Bytes}
+use Rattle.term.specs.Words.{name-word, packed}
 use Rattle.load_tokens.specs.Fronts.{tokens-in}
 use Rattle.load_names.specs.Places.{Place}
 use Rattle.load_names.specs.Answers.{VariableIs}
@@ -19,7 +20,7 @@ moved-to c at = record { at = at; names = c .names; variables = c .variables; co
 -- Behind the name n: no parenthesis, or one, where brackets may open or may not.
 abbrev pub BehindName : Bytes → (left n : ℕ) → Cursor → Begun → Type 0
 BehindName rest left n d (Got w d′) =
-    (w ≡ 4 + 8 * n) × (d′ ≡ d) × (place : ℕ) × ((from : ℕ) → Stops (one-of 40 40 40) (from + place) (tokens-in from rest (d .at)))
+    (w ≡ name-word n) × (d′ ≡ d) × (place : ℕ) × ((from : ℕ) → Stops (one-of 40 40 40) (from + place) (tokens-in from rest (d .at)))
 BehindName rest left n d (Round m d′) = (m ≡ n) × (0 < left) × (b : ℕ) × SignAt rest (d .at) 40 b × (d′ ≡ moved-to d b)
 BehindName rest left n d (Square d′) = ⊥
 BehindName rest left n d (Malformed place) = ⊥
@@ -37,7 +38,7 @@ BehindBracket rest left d Exceeded = left ≡ 0
 -- A variable with its half's tag, 1 or 2, behind which the reading goes on at `next`.
 abbrev pub VariableBegun : Bytes → List Place → (tag at : ℕ) → Bytes → (next : ℕ) → Cursor → (item item′ : List ℕ) → Begun → Type 0
 VariableBegun rest vars tag at x next c item item′ (Got w d) =
-    (n : ℕ) × (count : ℕ) × (w ≡ tag + 8 * n)
+    (n : ℕ) × (count : ℕ) × (w ≡ packed tag n)
     × (d ≡ record { at = next; names = c .names; variables = count; compounds = c .compounds })
     × VariableIs rest vars (16 + 16 * tag) at x item item′ (Number n count)
 VariableBegun rest vars tag at x next c item item′ (Round m d) = ⊥

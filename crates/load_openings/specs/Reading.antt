@@ -26,6 +26,7 @@ use Rattle.meaning.specs.Items.{
 }
 use Rattle.term.specs.Cells.{Places as CellPlaces, term-word, stored, arguments-stored, Numbered, AllNumbered, Known, AllKnown}
 use Rattle.term.specs.Frames.{Only}
+use Rattle.term.specs.Layout.{item-start, item-end}
 use Rattle.load_tokens.specs.Fronts.{tokens-in}
 use Rattle.load_names.specs.Places.{Place, Placed, spellings, before, names-over, variables-over, item-places}
 use Rattle.load_names.specs.Tables.{NamesIn, VariablesIn}
@@ -94,10 +95,10 @@ ReadIs {A} seen by text rest from base known vars c s item s′ names′ item′
 ReadIs seen by text rest from base known vars c s item s′ names′ item′ (Malformed place) =
     (by (counted-at known vars (c .compounds)) (piece (tokens-in from rest (c .at))) ≡ malformed (from + place))
     × (place ≤ length rest)
-    × Only (8 * base) (8 * (base + 32)) s s′
+    × Only (item-start base) (item-end base) s s′
 ReadIs seen by text rest from base known vars c s item s′ names′ item′ Exceeded =
     (by (counted-at known vars (c .compounds)) (piece (tokens-in from rest (c .at))) ≡ passed)
-    × Only (8 * base) (8 * (base + 32)) s s′
+    × Only (item-start base) (item-end base) s s′
 
 -- The same of the arguments of the compound n from the i-th on.
 pub record GaveArguments (n i : ℕ) (by : Reader Terms) (text rest : Bytes) (from base : ℕ) (known vars : List Place) (c : Cursor)
@@ -122,10 +123,10 @@ ArgumentsAre n i by text rest from base known vars c s item s′ names′ item�
 ArgumentsAre n i by text rest from base known vars c s item s′ names′ item′ (Malformed place) =
     (by (counted-at known vars (c .compounds)) (piece (tokens-in from rest (c .at))) ≡ malformed (from + place))
     × (place ≤ length rest)
-    × Only (8 * base) (8 * (base + 32)) s s′
+    × Only (item-start base) (item-end base) s s′
 ArgumentsAre n i by text rest from base known vars c s item s′ names′ item′ Exceeded =
     (by (counted-at known vars (c .compounds)) (piece (tokens-in from rest (c .at))) ≡ passed)
-    × Only (8 * base) (8 * (base + 32)) s s′
+    × Only (item-start base) (item-end base) s s′
 
 -- A compound as a term; the term behind a list's `|` with its closing bracket.
 unfoldable pub round-of : Reader Term → Bytes → Reader Term

@@ -6,6 +6,9 @@ use load_tokens::next::Next;
 use load_tokens::next::next_of;
 use load_tokens::token::Token;
 use load_tokens::token::front;
+use term::word::INTEGER;
+use term::word::NAME;
+use term::word::TAGS;
 use term::word::word;
 ghost use mathlib.Core.Path.{_≡_};
 ghost use mathlib.Core.List.{List};
@@ -47,7 +50,7 @@ fn behind_name(rest: &[u8], left: usize, n: usize, d: Cursor) -> Begun
                 },
             )
         }
-        Next::Other(_) => Begun::Got(4 + 8 * word(n), d),
+        Next::Other(_) => Begun::Got(NAME + TAGS * word(n), d),
         _ => Begun::Exceeded,
     }
 }
@@ -142,7 +145,7 @@ pub fn begin(
         Token::Writer(a, e) => variable(rest, item, 1, a, e, e, c),
         Token::Reader(a, e) => variable(rest, item, 2, a, e, e + 1, c),
         Token::Integer(w, _, e) => Begun::Got(
-            3 + 8 * w,
+            INTEGER + TAGS * w,
             Cursor {
                 at: e,
                 names: c.names,

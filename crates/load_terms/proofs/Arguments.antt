@@ -14,6 +14,8 @@ use Rattle.term.specs.Frames.{Only}
 use Rattle.term.proofs.Frames.{only-same, only-set, only-then}
 use Rattle.term.proofs.Cells.{numbered-order}
 use Rattle.term.proofs.Names.{known-name-more, number-of-more}
+use Rattle.term.specs.Layout.{item-start, item-end, item-place}
+use Rattle.term.specs.Words.{compound-word, packed}
 use Rattle.load_tokens.specs.Fronts.{tokens-in}
 use Rattle.load_names.specs.Places.{Place, Placed, spellings, names-over, variables-over, item-places}
 use Rattle.load_tokens.specs.Nexts.{SignAt, Stops, Goes, one-of}
@@ -61,20 +63,20 @@ module _ (text rest : Bytes) (from base : ℕ) (known vars : List Place) (c : Cu
   -- The argument was read, and its word stored.
   module _ (behind : n < c .compounds) (s₁ names₁ item₁ s₂ : List ℕ) (w : ℕ) (e : Cursor) (t : Term) (p : List Placed)
       (g : Gave (λ (t : Term). t) argument text rest from base known vars c s item s₁ names₁ item₁ w e t p)
-      (kept : s₂ ≡ set s₁ (8 * (base + n) + 1 + i) w) where
+      (kept : s₂ ≡ set s₁ (item-place base n + 1 + i) w) where
     abbrev known₁ : List Place
     known₁ = names-over p known
 
     abbrev vars₁ : List Place
     vars₁ = variables-over from p vars
 
-    pub argument-only : Only (8 * base) (8 * (base + 32)) s s₂
+    pub argument-only : Only (item-start base) (item-end base) s s₂
     argument-only =
         let few : e .compounds ≤ 32 = g .stands .compounds-few in
         let order : c .compounds ≤ e .compounds = numbered-order (c .compounds) (e .compounds) t (g .numbered) in
         rw kept
-        (only-then (8 * base) (8 * (base + 32)) s s₁ (set s₁ (8 * (base + n) + 1 + i) w) (gave-only g)
-        (only-set (8 * base) (8 * (base + 32)) s₁ (8 * (base + n) + 1 + i) w (omega arith) (omega arith)))
+        (only-then (item-start base) (item-end base) s s₁ (set s₁ (item-place base n + 1 + i) w) (gave-only g)
+        (only-set (item-start base) (item-end base) s₁ (item-place base n + 1 + i) w (omega arith) (omega arith)))
 
     -- Neither sign comes next.
     pub argument-stop : (place : ℕ) → place ≤ length rest → ((from : ℕ) → Stops (one-of 44 41 41) (from + place) (tokens-in from rest (e .at)))
@@ -106,7 +108,7 @@ module _ (text rest : Bytes) (from base : ℕ) (known vars : List Place) (c : Cu
             stands = rw (m .names, m .variables) (stands-moved b (g .stands) (sign-at .inside));
             count-is = omega arith;
             few = omega arith;
-            stored-is = rw (m .names) (kept ∙ ap (λ l. set l (8 * (base + n) + 1 + i) w) (g .stored-is) ∙ ap (λ v. set (stored (item-places known₁ base) t s) (8 * (base + n) + 1 + i) v) (g .word-is));
+            stored-is = rw (m .names) (kept ∙ ap (λ l. set l (item-place base n + 1 + i) w) (g .stored-is) ∙ ap (λ v. set (stored (item-places known₁ base) t s) (item-place base n + 1 + i) v) (g .word-is));
             numbered = (e .compounds, g .numbered, omega arith);
             known-names = rw (m .names) (g .known-names, tt);
             no-stop = m .no-stop;
@@ -148,7 +150,7 @@ module _ (text rest : Bytes) (from base : ℕ) (known vars : List Place) (c : Cu
             few = omega (arith, g₃ .few);
             stored-is = rw (m .names, stored-later known₁ q base t s (g .known-names), word-later known₁ q base t (g .known-names))
                 (g₃ .stored-is ∙ ap (λ l. arguments-stored (item-places (names-over q known₁) base) n (i + 1) ts l)
-                (kept ∙ ap (λ l. set l (8 * (base + n) + 1 + i) w) (g .stored-is) ∙ ap (λ v. set (stored (item-places known₁ base) t s) (8 * (base + n) + 1 + i) v) (g .word-is)));
+                (kept ∙ ap (λ l. set l (item-place base n + 1 + i) w) (g .stored-is) ∙ ap (λ v. set (stored (item-places known₁ base) t s) (item-place base n + 1 + i) v) (g .word-is)));
             numbered = (e .compounds, g .numbered, g₃ .numbered);
             known-names = rw (m .names) (known-later known₁ q base t (g .known-names), g₃ .known-names);
             no-stop = m .no-stop;
@@ -157,9 +159,9 @@ module _ (text rest : Bytes) (from base : ℕ) (known vars : List Place) (c : Cu
           },
         )
     argument-more b sign-at s₃ names₃ item₃ (Malformed place) a =
-        (rw six (step b sign-at ∙ rw (rw six′ at (a .0))), a .1, only-then (8 * base) (8 * (base + 32)) s s₂ s₃ argument-only (a .2))
+        (rw six (step b sign-at ∙ rw (rw six′ at (a .0))), a .1, only-then (item-start base) (item-end base) s s₂ s₃ argument-only (a .2))
     argument-more b sign-at s₃ names₃ item₃ Exceeded a =
-        (rw six (step b sign-at ∙ rw (rw six′ at (a .0))), only-then (8 * base) (8 * (base + 32)) s s₂ s₃ argument-only (a .1))
+        (rw six (step b sign-at ∙ rw (rw six′ at (a .0))), only-then (item-start base) (item-end base) s s₂ s₃ argument-only (a .1))
 
 -- The seventh argument's first token.
 module _ (text rest : Bytes) (from base : ℕ) (known vars : List Place) (c : Cursor) (s item names : List ℕ) (argument : Reader Term) (n i : ℕ)
@@ -172,7 +174,7 @@ module _ (text rest : Bytes) (from base : ℕ) (known vars : List Place) (c : Cu
   seventh-passed goes = (
     rw none-left
         (arguments-many argument (counted-at known vars (c .compounds)) (piece (tokens-in from rest (c .at))) (piece-goes begins-term (tokens-in from rest (c .at)) (goes from))),
-    only-same (8 * base) (8 * (base + 32)) s,
+    only-same (item-start base) (item-end base) s,
   )
 
   pub seventh-malformed : (place : ℕ) → place ≤ length rest → ((from : ℕ) → Stops begins-term (from + place) (tokens-in from rest (c .at)))
@@ -182,7 +184,7 @@ module _ (text rest : Bytes) (from base : ℕ) (known vars : List Place) (c : Cu
         (arguments-cannot argument (from + place) (counted-at known vars (c .compounds)) (piece (tokens-in from rest (c .at)))
         (piece-stops begins-term (from + place) (tokens-in from rest (c .at)) (stops from))),
     small,
-    only-same (8 * base) (8 * (base + 32)) s,
+    only-same (item-start base) (item-end base) s,
   )
 
 -- The compound over its arguments.
@@ -190,7 +192,7 @@ module _ (text rest : Bytes) (from base : ℕ) (known vars : List Place) (c : Cu
   pub compound-none : (names : List ℕ) → 32 ≤ c .compounds
       → ReadIs as-term (compound-of argument f) text rest from base known vars c s item s names item Exceeded
   compound-none names many =
-      (compound-many argument f known vars (c .compounds) (piece (tokens-in from rest (c .at))) many, only-same (8 * base) (8 * (base + 32)) s)
+      (compound-many argument f known vars (c .compounds) (piece (tokens-in from rest (c .at))) many, only-same (item-start base) (item-end base) s)
 
   module _ (few : c .compounds < 32) (s₁ names₁ item₁ : List ℕ) where
     over : compound-of argument f (counted-at known vars (c .compounds)) (piece (tokens-in from rest (c .at)))
@@ -211,8 +213,8 @@ module _ (text rest : Bytes) (from base : ℕ) (known vars : List Place) (c : Cu
 
     pub compound-got : (s₂ : List ℕ) (name w k : ℕ) (e : Cursor) → place-of f (spellings known) ≡ some name
         → ArgumentsAre (c .compounds) 0 (arguments argument 6) text rest from base known vars (counted-one c) s item s₁ names₁ item₁ (Got k e)
-        → s₂ ≡ set s₁ (8 * (base + c .compounds)) (k + 8 * (name + 1))
-        → w ≡ 6 + 8 * (8 * (base + c .compounds))
+        → s₂ ≡ set s₁ (item-place base (c .compounds)) (packed k (name + 1))
+        → w ≡ compound-word (item-place base (c .compounds))
         → ReadIs as-term (compound-of argument f) text rest from base known vars c s item s₂ names₁ item₁ (Got w e)
     unfolding read-on give as-term item-places stored Numbered Known occurrences
     compound-got s₂ name w k e place a kept word =
@@ -223,7 +225,7 @@ module _ (text rest : Bytes) (from base : ℕ) (known vars : List Place) (c : Cu
         let later = names-more p known in
         let number : number-of f (spellings (names-over p known)) ≡ name =
         ap (number-of f) (later .1) ∙ number-of-more f (spellings known) (later .0) (at .among) ∙ at .number in
-        let own : k + 8 * (name + 1) ≡ count ts + 8 * (number-of f (spellings (names-over p known)) + 1) = omega (arith, number, g .count-is) in (
+        let own : packed k (name + 1) ≡ count ts + 8 * (number-of f (spellings (names-over p known)) + 1) = omega (arith, number, g .count-is) in (
           record { number = c .compounds; name = f; arguments = ts },
           p,
           record {
@@ -231,8 +233,8 @@ module _ (text rest : Bytes) (from base : ℕ) (known vars : List Place) (c : Cu
             follows = g .follows;
             stands = g .stands;
             word-is = word;
-            stored-is = kept ∙ ap (λ v. set s₁ (8 * (base + c .compounds)) v) own
-                ∙ ap (λ l. set l (8 * (base + c .compounds)) (count ts + 8 * (number-of f (spellings (names-over p known)) + 1))) (g .stored-is);
+            stored-is = kept ∙ ap (λ v. set s₁ (item-place base (c .compounds)) v) own
+                ∙ ap (λ l. set l (item-place base (c .compounds)) (count ts + 8 * (number-of f (spellings (names-over p known)) + 1))) (g .stored-is);
             numbered = (refl, omega (arith, g .few), g .numbered);
             known-names = (rw (later .1) (known-name-more f (spellings known) (later .0) (at .among)), g .known-names);
             no-stop = g .no-stop;

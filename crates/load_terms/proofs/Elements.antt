@@ -12,6 +12,8 @@ use Rattle.term.specs.Cells.{term-word, stored, arguments-stored, Numbered, All
 use Rattle.term.specs.Frames.{Only}
 use Rattle.term.proofs.Frames.{only-same, only-set, only-then}
 use Rattle.term.proofs.Cells.{numbered-order, stored-set}
+use Rattle.term.specs.Layout.{item-start, item-end, item-place}
+use Rattle.term.specs.Words.{compound-word}
 use Rattle.load_tokens.specs.Fronts.{tokens-in}
 use Rattle.load_names.specs.Places.{Place, Placed, names-over, variables-over, item-places}
 use Rattle.load_tokens.specs.Nexts.{SignAt, Stops, Goes, one-of}
@@ -26,13 +28,13 @@ use Rattle.load_openings.proofs.Given.{gave-by, gave-moves, gave-only}
 
 -- The words of the list cell n: its element's, its tail's and its functor.
 abbrev pub cell-stored : (base n w v : ℕ) → List ℕ → List ℕ
-cell-stored base n w v s = set (set (set s (8 * (base + n) + 1 + 0) w) (8 * (base + n) + 1 + 1) v) (8 * (base + n)) 2
+cell-stored base n w v s = set (set (set s (item-place base n + 1 + 0) w) (item-place base n + 1 + 1) v) (item-place base n) 2
 
-pub cell-only : (base n w v : ℕ) (s : List ℕ) → n < 32 → Only (8 * base) (8 * (base + 32)) s (cell-stored base n w v s)
+pub cell-only : (base n w v : ℕ) (s : List ℕ) → n < 32 → Only (item-start base) (item-end base) s (cell-stored base n w v s)
 cell-only base n w v s few =
-    let lo = 8 * base in
-    let hi = 8 * (base + 32) in
-    let here = 8 * (base + n) in
+    let lo = item-start base in
+    let hi = item-end base in
+    let here = item-place base n in
     let s₁ = set s (here + 1 + 0) w in
     let s₂ = set s₁ (here + 1 + 1) v in
     only-then lo hi s s₁ (set s₂ here 2) (only-set lo hi s (here + 1 + 0) w (omega arith) (omega arith))
@@ -44,7 +46,7 @@ cell-then-stored : (known : List Place) (base n w v lo hi : ℕ) (t : Term) (s :
     → stored (item-places known base) t (cell-stored base n w v s) ≡ cell-stored base n w v (stored (item-places known base) t s)
 unfolding item-places
 cell-then-stored known base n w v lo hi t s m below =
-    let here = 8 * (base + n) in
+    let here = item-place base n in
     let s₁ = set s (here + 1 + 0) w in
     let s₂ = set s₁ (here + 1 + 1) v in
     let past = stored-set (item-places known base) base (λ k. refl) lo hi t in
@@ -60,13 +62,13 @@ module _ (text rest : Bytes) (from base : ℕ) (known vars : List Place) (c : Cu
     elements-none-cannot element (from + place) (counted-at known vars (c .compounds)) (piece (tokens-in from rest (c .at)))
         (piece-stops begins-term (from + place) (tokens-in from rest (c .at)) (stops from)),
     small,
-    only-same (8 * base) (8 * (base + 32)) s,
+    only-same (item-start base) (item-end base) s,
   )
   start-cannot names (suc left) place small stops = (
     elements-cannot element left known vars (c .compounds) (piece (tokens-in from rest (c .at))) (from + place)
         (piece-stops begins-term (from + place) (tokens-in from rest (c .at)) (stops from)),
     small,
-    only-same (8 * base) (8 * (base + 32)) s,
+    only-same (item-start base) (item-end base) s,
   )
 
   module _ (goes : (from : ℕ) → Goes begins-term (tokens-in from rest (c .at))) where
@@ -78,11 +80,11 @@ module _ (text rest : Bytes) (from base : ℕ) (known vars : List Place) (c : Cu
         → ReadIs (λ (t : Term). t) (elements element left) text rest from base known vars c s item s names item Exceeded
     element-many names zero many = (
       elements-none element (counted-at known vars (c .compounds)) (piece (tokens-in from rest (c .at))) goes-on,
-      only-same (8 * base) (8 * (base + 32)) s,
+      only-same (item-start base) (item-end base) s,
     )
     element-many names (suc left) many = (
       elements-many element left known vars (c .compounds) (piece (tokens-in from rest (c .at))) goes-on many,
-      only-same (8 * base) (8 * (base + 32)) s,
+      only-same (item-start base) (item-end base) s,
     )
 
 -- An element, read by its first token on, and its tail: of a token that cannot begin a term the term's reader says the same.
@@ -122,34 +124,34 @@ module _ (text rest : Bytes) (from base : ℕ) (known vars : List Place) (c : Cu
       abbrev rest-of-list : Reader Term
       rest-of-list = next (tail-of element (elements element left))
 
-      pub tail-malformed : (s₂ s₃ names₃ item₃ : List ℕ) (place : ℕ) → Only (8 * base) (8 * (base + 32)) s₁ s₂
+      pub tail-malformed : (s₂ s₃ names₃ item₃ : List ℕ) (place : ℕ) → Only (item-start base) (item-end base) s₁ s₂
           → ReadIs (λ (t : Term). t) rest-of-list text rest from base known₁ vars₁ e s₂ item₁ s₃ names₃ item₃ (Malformed place)
           → ReadIs (λ (t : Term). t) (elements element (suc left)) text rest from base known vars c s item s₃ names₃ item₃ (Malformed place)
       unfolding read-on
       tail-malformed s₂ s₃ names₃ item₃ place only a = (
         over ∙ rw (g .reads, a .0),
         a .1,
-        only-then (8 * base) (8 * (base + 32)) s s₁ s₃ (gave-only g) (only-then (8 * base) (8 * (base + 32)) s₁ s₂ s₃ only (a .2)),
+        only-then (item-start base) (item-end base) s s₁ s₃ (gave-only g) (only-then (item-start base) (item-end base) s₁ s₂ s₃ only (a .2)),
       )
 
-      pub tail-passed : (s₂ s₃ names₃ item₃ : List ℕ) → Only (8 * base) (8 * (base + 32)) s₁ s₂
+      pub tail-passed : (s₂ s₃ names₃ item₃ : List ℕ) → Only (item-start base) (item-end base) s₁ s₂
           → ReadIs (λ (t : Term). t) rest-of-list text rest from base known₁ vars₁ e s₂ item₁ s₃ names₃ item₃ Exceeded
           → ReadIs (λ (t : Term). t) (elements element (suc left)) text rest from base known vars c s item s₃ names₃ item₃ Exceeded
       unfolding read-on
       tail-passed s₂ s₃ names₃ item₃ only a = (
         over ∙ rw (g .reads, a .0),
-        only-then (8 * base) (8 * (base + 32)) s s₁ s₃ (gave-only g) (only-then (8 * base) (8 * (base + 32)) s₁ s₂ s₃ only (a .1)),
+        only-then (item-start base) (item-end base) s s₁ s₃ (gave-only g) (only-then (item-start base) (item-end base) s₁ s₂ s₃ only (a .1)),
       )
 
       -- Both are read, and the cell's words are stored over those of its element and its tail.
       tail-got : (s₂ s₃ names₃ item₃ s₄ : List ℕ) (v cell-word : ℕ) (d : Cursor) (tail : Term) (q : List Placed)
           → Gave (λ (t : Term). t) rest-of-list text rest from base known₁ vars₁ e s₂ item₁ s₃ names₃ item₃ v d tail q
           → s₄ ≡ cell-stored base (c .compounds) w v (stored (item-places (names-over q known₁) base) tail s₁)
-          → cell-word ≡ 6 + 8 * (8 * (base + c .compounds))
+          → cell-word ≡ compound-word (item-place base (c .compounds))
           → ReadIs (λ (t : Term). t) (elements element (suc left)) text rest from base known vars c s item s₄ names₃ item₃ (Got cell-word d)
       unfolding read-on give item-places stored arguments-stored Numbered AllNumbered Known AllKnown occurrences all-occurrences count
       tail-got s₂ s₃ names₃ item₃ s₄ v cell-word d tail q h kept word =
-          let here = 8 * (base + c .compounds) in
+          let here = item-place base (c .compounds) in
           let places = item-places (names-over q known₁) base in
           let m = moves-then from rest (c .at) (e .at) (d .at) known vars known₁ vars₁ (names-over q known₁) (variables-over from q vars₁) p q
           (gave-moves g) (gave-moves h) in
@@ -180,7 +182,7 @@ module _ (text rest : Bytes) (from base : ℕ) (known vars : List Place) (c : Cu
       pub cell-behind : (s₂ names₂ item₂ s₃ : List ℕ) (v cell-word : ℕ) (d : Cursor)
           → ReadIs (λ (t : Term). t) rest-of-list text rest from base known₁ vars₁ e s₁ item₁ s₂ names₂ item₂ (Got v d)
           → s₃ ≡ cell-stored base (c .compounds) w v s₂
-          → cell-word ≡ 6 + 8 * (8 * (base + c .compounds))
+          → cell-word ≡ compound-word (item-place base (c .compounds))
           → ReadIs (λ (t : Term). t) (elements element (suc left)) text rest from base known vars c s item s₃ names₂ item₂ (Got cell-word d)
       cell-behind s₂ names₂ item₂ s₃ v cell-word d a kept word =
           tail-got s₁ s₂ names₂ item₂ s₃ v cell-word d (a .0) (a .1) (a .2)
@@ -190,7 +192,7 @@ module _ (text rest : Bytes) (from base : ℕ) (known vars : List Place) (c : Cu
       pub cell-first : (s₂ s₃ names₃ item₃ : List ℕ) (v cell-word : ℕ) (d : Cursor)
           → s₂ ≡ cell-stored base (c .compounds) w v s₁
           → ReadIs (λ (t : Term). t) rest-of-list text rest from base known₁ vars₁ e s₂ item₁ s₃ names₃ item₃ (Got v d)
-          → cell-word ≡ 6 + 8 * (8 * (base + c .compounds))
+          → cell-word ≡ compound-word (item-place base (c .compounds))
           → ReadIs (λ (t : Term). t) (elements element (suc left)) text rest from base known vars c s item s₃ names₃ item₃ (Got cell-word d)
       cell-first s₂ s₃ names₃ item₃ v cell-word d kept a word =
           let places = item-places (names-over (a .1) known₁) base in
@@ -226,7 +228,7 @@ module _ (text rest : Bytes) (from base : ℕ) (known vars : List Place) (c : Cu
     tail-stops element others (from + place) (counted-at known vars (c .compounds)) (piece (tokens-in from rest (c .at)))
         (piece-stops (one-of 44 124 93) (from + place) (tokens-in from rest (c .at)) (stops from)),
     small,
-    only-same (8 * base) (8 * (base + 32)) s,
+    only-same (item-start base) (item-end base) s,
   )
 
 -- The last tail, and its closing bracket.

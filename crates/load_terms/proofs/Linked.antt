@@ -11,6 +11,8 @@ use Rattle.meaning.specs.Items.{Reader, begins-term, next, tail-of, elements, t
 use Rattle.term.specs.Frames.{Only}
 use Rattle.term.proofs.Frames.{only-same}
 use Rattle.term.proofs.Cells.{numbered-order}
+use Rattle.term.specs.Layout.{item-start, item-end, item-place}
+use Rattle.term.specs.Words.{compound-word}
 use Rattle.load_tokens.specs.Fronts.{tokens-in}
 use Rattle.load_tokens.specs.Nexts.{SignAt, Stops, Goes, one-of}
 use Rattle.load_names.specs.Places.{Place, Placed, names-over, variables-over}
@@ -45,8 +47,8 @@ pub record Linked (depth left : ℕ) (text rest : Bytes) (from base : ℕ) (know
   pub stands : Stands text rest from names₁ item₁ d known₁ vars₁
   pub enough : 32 ≤ left₁ + d .compounds
   pub got : (s′ names′ item′ : List ℕ) (w : ℕ) (f : Cursor)
-      → ReadIs (λ (t : Term). t) (elements (term depth) left₁) text rest from base known₁ vars₁ d s₁ item₁ s′ names′ item′ (Got (6 + 8 * (8 * (base + d .compounds))) f)
-      → w ≡ 6 + 8 * (8 * (base + c .compounds))
+      → ReadIs (λ (t : Term). t) (elements (term depth) left₁) text rest from base known₁ vars₁ d s₁ item₁ s′ names′ item′ (Got (compound-word (item-place base (d .compounds))) f)
+      → w ≡ compound-word (item-place base (c .compounds))
       → ReadIs (λ (t : Term). t) (elements (term depth) left) text rest from base known vars c s item s′ names′ item′ (Got w f)
   pub malformed : (s′ names′ item′ : List ℕ) (place : ℕ)
       → ReadIs (λ (t : Term). t) (elements (term depth) left₁) text rest from base known₁ vars₁ d s₁ item₁ s′ names′ item′ (Malformed place)
@@ -122,7 +124,7 @@ module _ (depth left : ℕ) (text rest : Bytes) (from base : ℕ) (known vars : 
       above = numbered-order (d .compounds + 1) (e .compounds) t (g .numbered)
 
       -- Behind a comma others follow, from the next compound on.
-      module _ (s₃ : List ℕ) (kept : s₃ ≡ cell-stored base (d .compounds) w (6 + 8 * (8 * (base + e .compounds))) s₂) (b : ℕ) (sign-at : SignAt rest (e .at) 44 b) where
+      module _ (s₃ : List ℕ) (kept : s₃ ≡ cell-stored base (d .compounds) w (compound-word (item-place base (e .compounds))) s₂) (b : ℕ) (sign-at : SignAt rest (e .at) 44 b) where
         behind-comma : (s′ names′ item′ : List ℕ) (r : Read)
             → ReadIs (λ (t : Term). t) others text rest from base known₂ vars₂ (moved-to e b) s₃ item₂ s′ names′ item′ r
             → ReadIs (λ (t : Term). t) rest-of-list text rest from base known₂ vars₂ e s₃ item₂ s′ names′ item′ r
@@ -130,8 +132,8 @@ module _ (depth left : ℕ) (text rest : Bytes) (from base : ℕ) (known vars : 
             sign-read text rest from base s₃ s′ names′ item′ rest-of-list others known₂ vars₂ e 44 b names₂ item₂ r sign-at refl (g .stands)
             (tail-more (term depth) others)
 
-        only : Only (8 * base) (8 * (base + 32)) s₂ s₃
-        only = rw kept (cell-only base (d .compounds) w (6 + 8 * (8 * (base + e .compounds))) s₂ few)
+        only : Only (item-start base) (item-end base) s₂ s₃
+        only = rw kept (cell-only base (d .compounds) w (compound-word (item-place base (e .compounds))) s₂ few)
 
         pub linked-more : Linked depth left text rest from base known vars c s item (moved-to e b) s₃ names₂ item₂
         linked-more = record {
@@ -142,8 +144,8 @@ module _ (depth left : ℕ) (text rest : Bytes) (from base : ℕ) (known vars : 
           enough = omega (arith, l .enough, above);
           got = λ s′ names′ item′ v f a same. l .got s′ names′ item′ v f
               (rw one (cell-first text rest from base (l .known₁) (l .vars₁) d s₁ item₁ depth few (l .left₁ - 1) s₂ names₂ item₂ w e t p g s₃ s′ names′ item′
-              (6 + 8 * (8 * (base + e .compounds))) (6 + 8 * (8 * (base + d .compounds))) f kept
-              (behind-comma s′ names′ item′ (Got (6 + 8 * (8 * (base + e .compounds))) f) a) refl))
+              (compound-word (item-place base (e .compounds))) (compound-word (item-place base (d .compounds))) f kept
+              (behind-comma s′ names′ item′ (Got (compound-word (item-place base (e .compounds))) f) a) refl))
               same;
           malformed = λ s′ names′ item′ place a. l .malformed s′ names′ item′ place
               (rw one (tail-malformed text rest from base (l .known₁) (l .vars₁) d s₁ item₁ depth few (l .left₁ - 1) s₂ names₂ item₂ w e t p g s₃ s′ names′ item′
@@ -156,12 +158,12 @@ module _ (depth left : ℕ) (text rest : Bytes) (from base : ℕ) (known vars : 
       -- It is the last one: its tail is read, and its cell stored.
       linked-cell : (s₃ names₃ item₃ s₄ : List ℕ) (v cell-word : ℕ) (f : Cursor)
           → ReadIs (λ (t : Term). t) rest-of-list text rest from base known₂ vars₂ e s₂ item₂ s₃ names₃ item₃ (Got v f)
-          → s₄ ≡ cell-stored base (d .compounds) w v s₃ → cell-word ≡ 6 + 8 * (8 * (base + c .compounds))
+          → s₄ ≡ cell-stored base (d .compounds) w v s₃ → cell-word ≡ compound-word (item-place base (c .compounds))
           → ReadIs (λ (t : Term). t) (elements (term depth) left) text rest from base known vars c s item s₄ names₃ item₃ (Got cell-word f)
       linked-cell s₃ names₃ item₃ s₄ v cell-word f a kept word =
           l .got s₄ names₃ item₃ cell-word f
           (rw one (cell-behind text rest from base (l .known₁) (l .vars₁) d s₁ item₁ depth few (l .left₁ - 1) s₂ names₂ item₂ w e t p g s₃ names₃ item₃ s₄ v
-          (6 + 8 * (8 * (base + d .compounds))) f a kept refl))
+          (compound-word (item-place base (d .compounds))) f a kept refl))
           word
 
       -- Its tail is the term behind a `|`.
@@ -174,7 +176,7 @@ module _ (depth left : ℕ) (text rest : Bytes) (from base : ℕ) (known vars : 
 
         pub linked-last : (s₄ : List ℕ) (v cell-word : ℕ) (f : Cursor)
             → ReadIs (λ (t : Term). t) (closed (term depth)) text rest from base known₂ vars₂ (moved-to e b) s₂ item₂ s₃ names₃ item₃ (Got v f)
-            → s₄ ≡ cell-stored base (d .compounds) w v s₃ → cell-word ≡ 6 + 8 * (8 * (base + c .compounds))
+            → s₄ ≡ cell-stored base (d .compounds) w v s₃ → cell-word ≡ compound-word (item-place base (c .compounds))
             → ReadIs (λ (t : Term). t) (elements (term depth) left) text rest from base known vars c s item s₄ names₃ item₃ (Got cell-word f)
         linked-last s₄ v cell-word f a = linked-cell s₃ names₃ item₃ s₄ v cell-word f (behind-bar (Got v f) a)
 
@@ -184,18 +186,18 @@ module _ (depth left : ℕ) (text rest : Bytes) (from base : ℕ) (known vars : 
         linked-last-malformed place a =
             l .malformed s₃ names₃ item₃ place
             (rw one (tail-malformed text rest from base (l .known₁) (l .vars₁) d s₁ item₁ depth few (l .left₁ - 1) s₂ names₂ item₂ w e t p g s₂ s₃ names₃ item₃
-            place (only-same (8 * base) (8 * (base + 32)) s₂) (behind-bar (Malformed place) a)))
+            place (only-same (item-start base) (item-end base) s₂) (behind-bar (Malformed place) a)))
 
         pub linked-last-passed : ReadIs (λ (t : Term). t) (closed (term depth)) text rest from base known₂ vars₂ (moved-to e b) s₂ item₂ s₃ names₃ item₃ Exceeded
             → ReadIs (λ (t : Term). t) (elements (term depth) left) text rest from base known vars c s item s₃ names₃ item₃ Exceeded
         linked-last-passed a =
             l .passed s₃ names₃ item₃
             (rw one (tail-passed text rest from base (l .known₁) (l .vars₁) d s₁ item₁ depth few (l .left₁ - 1) s₂ names₂ item₂ w e t p g s₂ s₃ names₃ item₃
-            (only-same (8 * base) (8 * (base + 32)) s₂) (behind-bar Exceeded a)))
+            (only-same (item-start base) (item-end base) s₂) (behind-bar Exceeded a)))
 
       -- Its tail is `[]`, or none of the three signs comes next.
       pub linked-closed : (b : ℕ) → SignAt rest (e .at) 93 b → (s₃ : List ℕ) (cell-word : ℕ)
-          → s₃ ≡ cell-stored base (d .compounds) w 5 s₂ → cell-word ≡ 6 + 8 * (8 * (base + c .compounds))
+          → s₃ ≡ cell-stored base (d .compounds) w 5 s₂ → cell-word ≡ compound-word (item-place base (c .compounds))
           → ReadIs (λ (t : Term). t) (elements (term depth) left) text rest from base known vars c s item s₃ names₂ item₂ (Got cell-word (moved-to e b))
       linked-closed b sign-at s₃ cell-word =
           linked-cell s₂ names₂ item₂ s₃ 5 cell-word (moved-to e b)
@@ -206,4 +208,4 @@ module _ (depth left : ℕ) (text rest : Bytes) (from base : ℕ) (known vars : 
       linked-stop place small stops =
           l .malformed s₂ names₂ item₂ place
           (rw one (tail-malformed text rest from base (l .known₁) (l .vars₁) d s₁ item₁ depth few (l .left₁ - 1) s₂ names₂ item₂ w e t p g s₂ s₂ names₂ item₂
-          place (only-same (8 * base) (8 * (base + 32)) s₂) (tail-other text rest from base known₂ vars₂ e s₂ names₂ item₂ (term depth) others place small stops)))
+          place (only-same (item-start base) (item-end base) s₂) (tail-other text rest from base known₂ vars₂ e s₂ names₂ item₂ (term depth) others place small stops)))

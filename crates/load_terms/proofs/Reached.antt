@@ -8,6 +8,7 @@ use Rattle.meaning.specs.Bytes.{Bytes}
 use Rattle.meaning.specs.Terms.{Term}
 use Rattle.meaning.specs.Items.{Reader, arguments}
 use Rattle.term.proofs.Cells.{numbered-order}
+use Rattle.term.specs.Layout.{item-place}
 use Rattle.load_names.specs.Places.{Place, Placed, names-over, variables-over}
 use Rattle.load_tokens.specs.Nexts.{SignAt}
 use Rattle.load_openings.specs.Reading.{Stands, Gave, ArgumentsAre}
@@ -38,7 +39,7 @@ module _ (argument : Reader Term) (n i : ℕ) (text rest : Bytes) (from base : �
   -- One more was read, its word stored, and a comma follows.
   pub reached-more : (s₂ names₂ item₂ s₃ : List ℕ) (w : ℕ) (e : Cursor) (a : Term) (p : List Placed)
       → Gave (λ (u : Term). u) argument text rest from base (t .known₁) (t .vars₁) d s₁ item₁ s₂ names₂ item₂ w e a p
-      → s₃ ≡ set s₂ (8 * (base + n) + 1 + i) w → (b : ℕ) → SignAt rest (e .at) 44 b
+      → s₃ ≡ set s₂ (item-place base n + 1 + i) w → (b : ℕ) → SignAt rest (e .at) 44 b
       → Reached argument n (i + 1) text rest from base known vars c s item (moved-to e b) s₃ names₂ item₂
   reached-more s₂ names₂ item₂ s₃ w e a p g kept b sign-at = record {
     known₁ = names-over p (t .known₁);

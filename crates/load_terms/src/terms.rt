@@ -7,6 +7,10 @@ use load_tokens::next::Next;
 use load_tokens::next::Start;
 use load_tokens::next::next_of;
 use load_tokens::next::starts;
+use term::layout::COMPOUND_WORDS;
+use term::layout::ITEM_COMPOUNDS;
+use term::word::COMPOUND;
+use term::word::TAGS;
 use term::word::word;
 ghost use mathlib.Core.Path.{_≡_};
 ghost use mathlib.Core.List.{List};
@@ -17,6 +21,8 @@ ghost use Rattle.meaning.specs.Bytes.{Bytes};
 ghost use Rattle.meaning.specs.Terms.{Term, as-term};
 ghost use Rattle.meaning.specs.Items.{place-of, compound-of};
 ghost use Rattle.meaning.specs.Items.{term as term-reader, arguments as arguments-reader, elements as elements-reader};
+ghost use Rattle.term.specs.Layout.{item-end, item-place};
+ghost use Rattle.term.specs.Words.{compound-word};
 ghost use Rattle.load_names.specs.Places.{Place, spellings};
 ghost use Rattle.load_openings.specs.Reading.{Stands, ReadIs, ArgumentsAre, closed};
 
@@ -25,38 +31,38 @@ fn functor(name: usize, count: u64) -> u64
     requires { ⌜ (name < 256) × (count ≤ 6) ⌝ }
     ensures { λ r. ⌜ r ≡ count + 8 * (name + 1) ⌝ }
 {
-    count + 8 * word(name + 1)
+    count + TAGS * word(name + 1)
 }
 
 // The word of the compound n of the item.
 fn compound_word(base: usize, n: usize) -> u64
     requires { ⌜ (base < 144115188075855872) × (n ≤ 32) ⌝ }
-    ensures { λ r. ⌜ r ≡ 6 + 8 * (8 * (base + n)) ⌝ }
+    ensures { λ r. ⌜ r ≡ compound-word (item-place base n) ⌝ }
 {
-    word(6 + 64 * (base + n))
+    COMPOUND + TAGS * word(COMPOUND_WORDS * (base + n))
 }
 
 // The words of the compound n of the item, whose compounds have places from 8 * base on: its own word, and one for each argument.
 fn store_functor(s: &mut [u64], base: usize, n: usize, w: u64)
-    requires { ⌜ (8 * (base + n) < length (now s)) × (length (now s) < 1152921504606846976) ⌝ }
-    ensures { λ r. ⌜ now (s .exit) ≡ set (now (s .entry)) (8 * (base + n)) w ⌝ }
+    requires { ⌜ (item-place base n < length (now s)) × (length (now s) < 1152921504606846976) ⌝ }
+    ensures { λ r. ⌜ now (s .exit) ≡ set (now (s .entry)) (item-place base n) w ⌝ }
 {
-    let here = 8 * (base + n);
+    let here = COMPOUND_WORDS * (base + n);
     s[here] = w;
 }
 
 fn store_argument(s: &mut [u64], base: usize, n: usize, i: usize, w: u64)
-    requires { ⌜ (8 * (base + n) + 1 + i < length (now s)) × (length (now s) < 1152921504606846976) ⌝ }
-    ensures { λ r. ⌜ now (s .exit) ≡ set (now (s .entry)) (8 * (base + n) + 1 + i) w ⌝ }
+    requires { ⌜ (item-place base n + 1 + i < length (now s)) × (length (now s) < 1152921504606846976) ⌝ }
+    ensures { λ r. ⌜ now (s .exit) ≡ set (now (s .entry)) (item-place base n + 1 + i) w ⌝ }
 {
-    let here = 8 * (base + n) + 1 + i;
+    let here = COMPOUND_WORDS * (base + n) + 1 + i;
     s[here] = w;
 }
 
 // The words of the list cell n: its element, its tail and its functor.
 fn store_cell(s: &mut [u64], base: usize, n: usize, element: u64, tail: u64)
-    requires { ⌜ (8 * (base + n) + 2 < length (now s)) × (length (now s) < 1152921504606846976) ⌝ }
-    ensures { λ r. ⌜ now (s .exit) ≡ set (set (set (now (s .entry)) (8 * (base + n) + 1 + 0) element) (8 * (base + n) + 1 + 1) tail) (8 * (base + n)) 2 ⌝ }
+    requires { ⌜ (item-place base n + 2 < length (now s)) × (length (now s) < 1152921504606846976) ⌝ }
+    ensures { λ r. ⌜ now (s .exit) ≡ set (set (set (now (s .entry)) (item-place base n + 1 + 0) element) (item-place base n + 1 + 1) tail) (item-place base n) 2 ⌝ }
 {
     store_argument(s, base, n, 0, element);
     store_argument(s, base, n, 1, tail);
@@ -75,7 +81,7 @@ pub fn term(
     left: usize,
     c: Cursor,
 ) -> Read
-    requires { ⌜ (left ≤ 15) × (8 * (base + 32) ≤ length (now s)) × (length (now s) < 1152921504606846976) ⌝ }
+    requires { ⌜ (left ≤ 15) × (item-end base ≤ length (now s)) × (length (now s) < 1152921504606846976) ⌝ }
     requires { ⌜ ((known : List Place) × (vars : List Place) × Stands (now text) (now rest) from (now names) (now item) c known vars) ⌝ }
     ensures { λ r. ⌜ ((known : List Place) (vars : List Place) → Stands (now (text .entry)) (now (rest .entry)) from (now (names .entry)) (now (item .entry)) c known vars
         → ReadIs (λ (t : Term). t) (term-reader left) (now (text .entry)) (now (rest .entry)) from base known vars c (now (s .entry)) (now (item .entry)) (now (s .exit)) (now (names .exit)) (now (item .exit)) r) ⌝ }
@@ -102,13 +108,13 @@ pub fn compound(
     name: usize,
     c: Cursor,
 ) -> Read
-    requires { ⌜ (left ≤ 15) × (8 * (base + 32) ≤ length (now s)) × (length (now s) < 1152921504606846976) ⌝ }
+    requires { ⌜ (left ≤ 15) × (item-end base ≤ length (now s)) × (length (now s) < 1152921504606846976) ⌝ }
     requires { ⌜ ((known : List Place) × (vars : List Place) × Stands (now text) (now rest) from (now names) (now item) c known vars × (f : Bytes) × (place-of f (spellings known) ≡ some name)) ⌝ }
     ensures { λ r. ⌜ ((known : List Place) (vars : List Place) → Stands (now (text .entry)) (now (rest .entry)) from (now (names .entry)) (now (item .entry)) c known vars
         → (f : Bytes) → place-of f (spellings known) ≡ some name → ReadIs as-term (compound-of (term-reader left) f) (now (text .entry)) (now (rest .entry)) from base known vars c (now (s .entry)) (now (item .entry)) (now (s .exit)) (now (names .exit)) (now (item .exit)) r) ⌝ }
 {
     let n = c.compounds;
-    if 32 <= n {
+    if ITEM_COMPOUNDS <= n {
         return Read::Exceeded;
     }
     let d = Cursor {
@@ -140,7 +146,7 @@ fn arguments(
     n: usize,
     c: Cursor,
 ) -> Read
-    requires { ⌜ (left ≤ 15) × (8 * (base + 32) ≤ length (now s)) × (length (now s) < 1152921504606846976) × (n < c .compounds) ⌝ }
+    requires { ⌜ (left ≤ 15) × (item-end base ≤ length (now s)) × (length (now s) < 1152921504606846976) × (n < c .compounds) ⌝ }
     requires { ⌜ ((known : List Place) × (vars : List Place) × Stands (now text) (now rest) from (now names) (now item) c known vars) ⌝ }
     ensures { λ r. ⌜ ((known : List Place) (vars : List Place) → Stands (now (text .entry)) (now (rest .entry)) from (now (names .entry)) (now (item .entry)) c known vars
         → ArgumentsAre n 0 (arguments-reader (term-reader left) 6) (now (text .entry)) (now (rest .entry)) from base known vars c (now (s .entry)) (now (item .entry)) (now (s .exit)) (now (names .exit)) (now (item .exit)) r) ⌝ }
@@ -209,14 +215,14 @@ fn elements(
     left: usize,
     c: Cursor,
 ) -> Read
-    requires { ⌜ (left ≤ 15) × (8 * (base + 32) ≤ length (now s)) × (length (now s) < 1152921504606846976) ⌝ }
+    requires { ⌜ (left ≤ 15) × (item-end base ≤ length (now s)) × (length (now s) < 1152921504606846976) ⌝ }
     requires { ⌜ ((known : List Place) × (vars : List Place) × Stands (now text) (now rest) from (now names) (now item) c known vars) ⌝ }
     ensures { λ r. ⌜ ((known : List Place) (vars : List Place) → Stands (now (text .entry)) (now (rest .entry)) from (now (names .entry)) (now (item .entry)) c known vars
         → (left-over : ℕ) → 32 ≤ left-over + c .compounds → ReadIs (λ (t : Term). t) (elements-reader (term-reader left) left-over) (now (text .entry)) (now (rest .entry)) from base known vars c (now (s .entry)) (now (item .entry)) (now (s .exit)) (now (names .exit)) (now (item .exit)) r) ⌝ }
 {
     let first = c.compounds;
     let mut d = c;
-    while d.compounds < 32 {
+    while d.compounds < ITEM_COMPOUNDS {
         let cell = d.compounds;
         let inside = Cursor {
             at: d.at,
@@ -301,7 +307,7 @@ fn last_tail(
     left: usize,
     c: Cursor,
 ) -> Read
-    requires { ⌜ (left ≤ 15) × (8 * (base + 32) ≤ length (now s)) × (length (now s) < 1152921504606846976) ⌝ }
+    requires { ⌜ (left ≤ 15) × (item-end base ≤ length (now s)) × (length (now s) < 1152921504606846976) ⌝ }
     requires { ⌜ ((known : List Place) × (vars : List Place) × Stands (now text) (now rest) from (now names) (now item) c known vars) ⌝ }
     ensures { λ r. ⌜ ((known : List Place) (vars : List Place) → Stands (now (text .entry)) (now (rest .entry)) from (now (names .entry)) (now (item .entry)) c known vars
         → ReadIs (λ (t : Term). t) (closed (term-reader left)) (now (text .entry)) (now (rest .entry)) from base known vars c (now (s .entry)) (now (item .entry)) (now (s .exit)) (now (names .exit)) (now (item .exit)) r) ⌝ }

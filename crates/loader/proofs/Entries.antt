@@ -7,7 +7,8 @@ use lib.ListN.{length, set}
 use Rattle.meaning.specs.Bytes.{Bytes}
 use Rattle.meaning.specs.Terms.{Clause, Query, Job, count}
 use Rattle.meaning.specs.Items.{Refusal, Reading, job, refused, with-clause, with-query}
-use Rattle.term.specs.Jobs.{clause-base, query-base, clause-record, query-record, GoalsKnown}
+use Rattle.term.specs.Jobs.{GoalsKnown}
+use Rattle.term.specs.Layout.{clause-base, query-base, query-goals-from, clause-goals-from}
 use Rattle.load_names.specs.Places.{Place, spellings, item-places}
 use Rattle.load_image.specs.Image.{
   Entry,
@@ -101,12 +102,12 @@ module _ (known known′ : List Place) (m : More known known′) where
   clause-still k c s h =
       rw (
         still-stored known known′ (clause-base k) m (c .head) s (h .0),
-        still-goals known known′ (clause-base k) m (clause-record k + 4) (c .body) _ (h .1),
+        still-goals known known′ (clause-base k) m (clause-goals-from k) (c .body) _ (h .1),
       )
 
   query-still : (k : ℕ) (q : Query) (vs : List Place) (s : List ℕ) → GoalsKnown (spellings known) (q .goals) → query-stored known′ k q vs s ≡ query-stored known k q vs s
   unfolding query-stored
-  query-still k q vs s h = rw (still-goals known known′ (query-base k) m (query-record k + 8) (q .goals) s h)
+  query-still k q vs s h = rw (still-goals known known′ (query-base k) m (query-goals-from k) (q .goals) s h)
 
   pub entries-still : (k q : ℕ) (es : List Entry) (s : List ℕ) → EntriesKnown (spellings known) es → entries-stored known′ k q es s ≡ entries-stored known k q es s
   unfolding entries-stored EntriesKnown

@@ -12,6 +12,7 @@ use Rattle.meaning.specs.Tokens.{Tokens, ends, token, sign, tokens}
 use Rattle.meaning.specs.Items.{Reading, Piece, clause, query, nothing, job, refused, Refusal, SoFar, with-clause, with-query, item, items, pieces}
 use Rattle.term.proofs.Frames.{only-same, only-then}
 use Rattle.term.specs.Frames.{Only}
+use Rattle.term.specs.Layout.{trial-region}
 use Rattle.load_tokens.specs.Fronts.{tokens-at, tokens-in}
 use Rattle.load_names.specs.Places.{Place, Placed, spellings, before, names-over, variables-over, with-name}
 use Rattle.load_names.specs.Tables.{NamesIn, last-with}
@@ -80,7 +81,7 @@ reached-none text s names heads e size = record {
   heads-are = refl;
   heads-size = size;
   known-names = tt;
-  only = only-same 0 39936 s;
+  only = only-same 0 trial-region s;
 }
 
 snoc-length : {A : Type 0} (l : List A) (a : A) → length (l ++ (a ∷ [])) ≡ length l + 1
@@ -153,7 +154,7 @@ module _ (text : Bytes) (s₀ s names heads : List ℕ) (from clauses queries kn
 
   -- A clause more.
   pub reached-clause : (s′ names′ heads′ : List ℕ) (at count′ : ℕ) (c : Clause) (ps : List Placed) (stop : ℕ)
-      → TookClause text (drop from text) from places clauses queries s heads s′ names′ heads′ at count′ c ps stop → Only 0 39936 s s′
+      → TookClause text (drop from text) from places clauses queries s heads s′ names′ heads′ at count′ c ps stop → Only 0 trial-region s s′
       → Reached text s₀ s′ names′ heads′ (from + at) (clauses + 1) queries count′ (names-over ps places) (done ++ (a-clause c ∷ []))
   unfolding with-entries clauses-of queries-of head-words EntriesKnown so-far
   reached-clause s′ names′ heads′ at count′ c ps stop k only =
@@ -195,12 +196,12 @@ module _ (text : Bytes) (s₀ s names heads : List ℕ) (from clauses queries kn
         known-names =
             known-snoc-entries (spellings places′) done (a-clause c ∷ []) (entries-still-known places places′ m done (r .known-names))
             (k .known-names, k .few .1, tt);
-        only = only-then 0 39936 s₀ s s′ (r .only) only;
+        only = only-then 0 trial-region s₀ s s′ (r .only) only;
       }
 
   -- A query more.
   pub reached-query : (s′ names′ heads′ : List ℕ) (at count′ : ℕ) (q : Query) (ps : List Placed) (stop : ℕ)
-      → TookQuery text (drop from text) from places clauses queries s heads s′ names′ heads′ at count′ q ps stop → Only 0 39936 s s′
+      → TookQuery text (drop from text) from places clauses queries s heads s′ names′ heads′ at count′ q ps stop → Only 0 trial-region s s′
       → Reached text s₀ s′ names′ heads′ (from + at) clauses (queries + 1) count′ (names-over ps places)
       (done ++ (a-query q (map (shifted from) (variables-over from ps [])) ∷ []))
   unfolding with-entries clauses-of queries-of head-words EntriesKnown so-far
@@ -242,5 +243,5 @@ module _ (text : Bytes) (s₀ s names heads : List ℕ) (from clauses queries kn
         heads-size = rw (k .noted) (r .heads-size);
         known-names =
             known-snoc-entries (spellings places′) done (a-query q vs ∷ []) (entries-still-known places places′ m done (r .known-names)) (k .known-names, tt);
-        only = only-then 0 39936 s₀ s s′ (r .only) only;
+        only = only-then 0 trial-region s₀ s s′ (r .only) only;
       }

@@ -10,6 +10,7 @@ use Rattle.meaning.specs.Items.{Refusal, no-query, Reading, job, refused, with-
 use Rattle.meaning.specs.Call.{refusal, number, line-of, cleared}
 use Rattle.term.specs.Frames.{Only}
 use Rattle.term.specs.Jobs.{GoalsKnown}
+use Rattle.term.specs.Layout.{trial-region}
 use Rattle.load_tokens.specs.Fronts.{tokens-at}
 use Rattle.load_names.specs.Places.{Place, spellings}
 use Rattle.load_names.specs.Tables.{NamesIn}
@@ -58,7 +59,7 @@ pub record Reached (text : Bytes) (s₀ s names heads : List ℕ) (from clauses 
   pub heads-are : take clauses heads ≡ head-words places (clauses-of done)
   pub heads-size : length heads ≡ 128
   pub known-names : EntriesKnown (spellings places) done
-  pub only : Only 0 39936 s₀ s
+  pub only : Only 0 trial-region s₀ s
 
 -- All items read, or the first refused item with its number and place.
 abbrev pub ListedIs : (text : Bytes) (s₀ s names heads : List ℕ) → Listed → Type 0
@@ -67,7 +68,7 @@ ListedIs text s₀ s names heads (Items clauses queries known) =
     × Reached text s₀ s names heads from clauses queries known places done
     × (tokens-at text from ≡ Tokens.ends n)
 ListedIs text s₀ s names heads (Stopped n place) =
-    (r : Refusal) × (reading text ≡ refused r) × (n ≡ number (refusal text r)) × (line text place ≡ line-of (refusal text r)) × Only 0 39936 s₀ s
+    (r : Refusal) × (reading text ≡ refused r) × (n ≡ number (refusal text r)) × (line text place ≡ line-of (refusal text r)) × Only 0 trial-region s₀ s
 
 -- The answer of `load`.
 abbrev pub LoadedIs : (text : Bytes) (need : ℕ) (s s′ : List ℕ) → Loaded → Type 0

@@ -10,9 +10,9 @@ use Rattle.meaning.specs.Bytes.{Bytes}
 use Rattle.meaning.specs.Terms.{Query, Job}
 use Rattle.meaning.specs.State.{Room, start}
 use Rattle.meaning.specs.Run.{run}
-use Rattle.term.specs.Jobs.{query-record, EachFrom, HoldsJob, JobKept}
+use Rattle.term.specs.Jobs.{EachFrom, HoldsJob, JobKept}
 use Rattle.term.specs.Spellings.{SpelledAt, HoldsSpellings, HoldsVariables, HoldsText}
-use Rattle.term.specs.Layout.{values-region, waiters-region, sets-region, marks-region, ends-region, queue-region, waiting-region, need-of}
+use Rattle.term.specs.Layout.{values-region, waiters-region, sets-region, marks-region, ends-region, queue-region, waiting-region, need-of, queries-region, items-region, trial-region, query-record, query-variables-from}
 use Rattle.term.specs.States.{Atlas, HoldsState, Ready, Finished, verdict-of}
 use Rattle.term.specs.declared.state.Standing.{Standing}
 use Rattle.term.specs.declared.state.Verdict.{Verdict}
@@ -60,9 +60,9 @@ entered-running s text names j figures atlas t e =
 -- What neither entering nor running changes.
 pub record Untouched (figures : Room) (s s′ : List ℕ) : Type 0 where
   pub size : length s′ ≡ length s
-  pub before : (k : ℕ) → k < 4608 → getD s′ k 0 ≡ getD s k 0
+  pub before : (k : ℕ) → k < queries-region → getD s′ k 0 ≡ getD s k 0
   pub records : (q i : ℕ) → q < 8 → i < 64 → i ≢ 3 → i ≢ 4 → getD s′ (query-record q + i) 0 ≡ getD s (query-record q + i) 0
-  pub items : (k : ℕ) → 5120 ≤ k → k < 39936 → getD s′ k 0 ≡ getD s k 0
+  pub items : (k : ℕ) → items-region ≤ k → k < trial-region → getD s′ k 0 ≡ getD s k 0
   pub behind : (k : ℕ) → need-of figures ≤ k → getD s′ k 0 ≡ getD s k 0
 
 pub entered-then-run : (figures : Room) (s t u : List ℕ) → EnterOnly figures s t → RunOnly figures t u → Untouched figures s u
@@ -98,12 +98,12 @@ module _ (figures : Room) (s s′ : List ℕ) (u : Untouched figures s s′) whe
       let vars = h .0 .few in (
         record {
           few = h .0 .few;
-          held = spellings-kept text (query-record k + 16) (q .variables) same (h .0 .held);
+          held = spellings-kept text (query-variables-from k) (q .variables) same (h .0 .held);
         },
         variables-kept text (k + 1) qs (omega (arith, more)) (h .1),
       )
     where
-      same : (w : ℕ) → query-record k + 16 ≤ w → w < query-record k + 16 + 2 * length (q .variables) → getD s′ w 0 ≡ getD s w 0
+      same : (w : ℕ) → query-variables-from k ≤ w → w < query-variables-from k + 2 * length (q .variables) → getD s′ w 0 ≡ getD s w 0
       same w l m =
           let more : length (q ∷ qs) ≡ 1 + length qs = omega arith in
           let few-variables : length (q .variables) ≤ 16 = h .0 .few in

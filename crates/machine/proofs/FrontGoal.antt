@@ -13,6 +13,7 @@ use Rattle.meaning.specs.Run.{choice-for, run}
 use Rattle.term.specs.Layout.{values-region, marks-region, queue-region}
 use Rattle.term.specs.States.{Atlas, goal-word, setting, GoalStands}
 use Rattle.term.specs.declared.state.Standing.{Standing}
+use Rattle.term.specs.Words.{tag-in, rest-in}
 use Rattle.run_trial.specs.Choosing.{unit-of, Trying, MarksBelow, ChoiceTold, ChoiceIs}
 use Rattle.run_queues.specs.Log.{Slot}
 use Rattle.run_between.specs.Running.{RunOnly, Running, StepIs}
@@ -26,8 +27,8 @@ use Rattle.run_between.proofs.FramesRunning.{few-units, word-query, word-place,
 -- What the step has read.
 pub record Fetched (s : List ℕ) (figures : Room) (t : Standing) (goal query place values marks steps : ℕ) : Type 0 where
   pub goal-is : goal ≡ getD s (queue-region figures + t .front) 0
-  pub query-is : query ≡ goal % 8
-  pub place-is : place ≡ goal / 8
+  pub query-is : query ≡ tag-in goal
+  pub place-is : place ≡ rest-in goal
   pub values-is : values ≡ values-region figures
   pub marks-is : marks ≡ marks-region figures
   pub steps-are : steps ≡ t .steps
@@ -55,10 +56,10 @@ module _ (s : List ℕ) (text : Bytes) (names : List Bytes) (j : Job) (figures :
       )
 
   its-query : query ≡ g .query
-  its-query = f .query-is ∙ ap (λ w. w % 8) its-word ∙ word-query (g .query) (atlas (g .query) .compound (g .goal .number)) few-queries
+  its-query = f .query-is ∙ ap (λ w. tag-in w) its-word ∙ word-query (g .query) (atlas (g .query) .compound (g .goal .number)) few-queries
 
   its-place : place ≡ atlas (g .query) .compound (g .goal .number)
-  its-place = f .place-is ∙ ap (λ w. w / 8) its-word ∙ word-place (g .query) (atlas (g .query) .compound (g .goal .number)) few-queries
+  its-place = f .place-is ∙ ap (λ w. rest-in w) its-word ∙ word-place (g .query) (atlas (g .query) .compound (g .goal .number)) few-queries
 
   pub choice-tries : Trying s text names j limit figures (atlas (g .query)) g others values marks (figures .pairs) place
   choice-tries =

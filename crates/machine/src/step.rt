@@ -9,6 +9,7 @@ use term::layout;
 use term::layout::Room;
 use term::scratch::word_at;
 use term::state::Standing;
+use term::word::TAGS;
 use term::word::index;
 use term::word::word;
 ghost use mathlib.Core.Path.{_≡_};
@@ -36,13 +37,13 @@ pub fn step(s: &mut [u64], room: Room, t: Standing) -> Stepped
         → StepIs (now (s .entry)) (now (s .exit)) text names j (figures room) limit atlas g others t r) ⌝ }
 {
     let goal = word_at(s, layout::queue(room), t.front);
-    let query = index(goal % 8);
+    let query = index(goal % TAGS);
     match choice(
         s,
         layout::values(room),
         layout::marks(room),
         room.pairs,
-        index(goal / 8),
+        index(goal / TAGS),
         word(t.steps) * 32768 + 2,
     ) {
         ChoiceResult::Reduces(k, n) => reduce(s, room, t, query, k, n),

@@ -15,7 +15,7 @@ use Rattle.meaning.specs.State.{Room}
 use Rattle.meaning.specs.Run.{run}
 use Rattle.meaning.specs.Report.{report}
 use Rattle.laws.proofs.Runs.{steps-within-budget}
-use Rattle.term.specs.Layout.{waiters-region, need-of}
+use Rattle.term.specs.Layout.{waiters-region, need-of, pairs-told}
 use Rattle.term.specs.States.{Finished}
 use Rattle.term.specs.declared.state.Standing.{Standing}
 use Rattle.term.specs.declared.state.Verdict.{Verdict as Told}
@@ -49,7 +49,7 @@ with-all bs buffer h l = rw (le-leb (length bs) (length buffer) h, le-leb (lengt
 -- Before the counting: nothing is kept of the pairs from `facts` on, and the trial's second word is the room's pairs.
 module _ (s s₁ s₂ : List ℕ) (text : Bytes) (names : List Bytes) (figures : Room) (j : Job) (limit : ℕ) (v : Told) (t : Standing) (facts n : ℕ)
     (F : Finished s text names figures j limit v t) (all : n ≡ length (j .queries)) (short : length text ≤ 16384) (here : facts ≡ waiters-region figures)
-    (forgot : Cleared s s₁ facts (t .pairs)) (noted : s₂ ≡ set s₁ 39937 (figures .pairs)) where
+    (forgot : Cleared s s₁ facts (t .pairs)) (noted : s₂ ≡ set s₁ pairs-told (figures .pairs)) where
   abbrev making : ℕ → Made
   making = made-of figures (F .atlas) (j .queries) (run j limit figures .state)
 
@@ -80,13 +80,13 @@ module _ (s s₁ s₂ : List ℕ) (text : Bytes) (names : List Bytes) (figures :
     counted = told text making begun few-steps uncounted
 
     size : length s₃ ≡ length s
-    size = counted .only .size ∙ ap length noted ∙ length-set s₁ 39937 (figures .pairs) ∙ cleared .only .size
+    size = counted .only .size ∙ ap length noted ∙ length-set s₁ pairs-told (figures .pairs) ∙ cleared .only .size
 
     behind : (k : ℕ) → need-of figures ≤ k → getD s₃ k 0 ≡ getD s k 0
     behind k h =
         counted .only .behind k (omega arith)
         ∙ ap (λ (l : List ℕ). getD l k 0) noted
-        ∙ getD-set-other s₁ 39937 k (figures .pairs) 0 (λ e. omega arith)
+        ∙ getD-set-other s₁ pairs-told k (figures .pairs) 0 (λ e. omega arith)
         ∙ cleared .only .above k (omega (arith, F .state .pairs, F .state .lies .pairs-fit))
 
     counted-is : r ≡ min (length (report (j .queries) (run j limit figures))) 16777217

@@ -16,7 +16,7 @@ ghost use Prim.Native.Nat.{ℕ, _+_, _≤_, _<_};
 ghost use lib.ListN.{length, getD, set};
 ghost use Rattle.meaning.specs.Bytes.{Bytes};
 ghost use Rattle.meaning.specs.Terms.{Job};
-ghost use Rattle.term.specs.Layout.{figures};
+ghost use Rattle.term.specs.Layout.{figures, compounds-region, pairs-told};
 ghost use Rattle.term.specs.States.{Finished};
 ghost use Rattle.term.specs.Layout.{waiters-region};
 ghost use Rattle.report_pairs.specs.Laid.{Puts};
@@ -26,8 +26,8 @@ ghost use Rattle.report.specs.Promise.{ReportIs};
 
 // The number of the room's pairs, for the chains' ends.
 fn note_pairs(s: &mut [u64], pairs: usize)
-    requires { ⌜ 40704 ≤ length (now s) ⌝ }
-    ensures { λ r. ⌜ now (s .exit) ≡ set (now (s .entry)) 39937 pairs ⌝ }
+    requires { ⌜ compounds-region ≤ length (now s) ⌝ }
+    ensures { λ r. ⌜ now (s .exit) ≡ set (now (s .entry)) pairs-told pairs ⌝ }
 {
     s[TRIAL + 1] = pairs as u64;
 }

@@ -15,6 +15,7 @@ use Rattle.meaning.specs.Terms.{Half, Term}
 use Rattle.meaning.specs.State.{value}
 use Rattle.meaning.specs.Report.{alone}
 use Rattle.term.specs.Setting.{Setting}
+use Rattle.term.specs.Layout.{trial-region, pair-facts}
 use Rattle.report_pairs.specs.Threaded.{full, seen-after, shown}
 use Rattle.report_pairs.specs.Pairs.{pair-seen}
 use Rattle.report_pairs.specs.Facts.{fact-place, Readable, Shows, Changed, Counting, LengthAt}
@@ -25,7 +26,7 @@ use Rattle.report_pairs.proofs.Chains.{variable-below, fact-inside}
 use Rattle.report_pairs.proofs.Keeping.{readable-kept, ends-kept}
 
 pub length-known : (s : List ℕ) (text : Bytes) (x : Setting) (facts : ℕ) (seen : List ℕ) (t : Term) (w p e : ℕ) → Readable s text x facts
-    → Counting s x facts seen → Shows s x t w → p ≡ pair-seen (look w) → p ≢ 0 → e ≡ getD s (facts + 4 * (p - 1) + 1) 0 → LengthKnown x seen t e
+    → Counting s x facts seen → Shows s x t w → p ≡ pair-seen (look w) → p ≢ 0 → e ≡ getD s (facts + pair-facts * (p - 1) + 1) 0 → LengthKnown x seen t e
 length-known s text x facts seen t w p e r c k q d i = go (pair-told (x .places) t w p (k .word) q d)
   where
     by : (h : Half) (n : ℕ) (v : Option Term) → value (x .values) n ≡ v → LengthAt s x facts seen n v → e ≡ getD s (fact-place x facts n + 1) 0
@@ -39,7 +40,7 @@ length-known s text x facts seen t w p e r c k q d i = go (pair-told (x .places)
     go : (h : Half) × (n : ℕ) × (t ≡ Term.variable h n) × (p - 1 ≡ x .places .pair n) → LengthKnown x seen t e
     go (h, n, v, g) =
         let b = variable-below s text x facts r h n w (rw v at k) in
-        let same : facts + 4 * (p - 1) + 1 ≡ fact-place x facts n + 1 = omega arith in
+        let same : facts + pair-facts * (p - 1) + 1 ≡ fact-place x facts n + 1 = omega arith in
         rw v (by h n (value (x .values) n) refl (c .lengths n b) (i ∙ ap (λ (m : ℕ). getD s m 0) same))
 
 -- The length of an assigned variable's value is kept.
@@ -71,7 +72,7 @@ module _ (s : List ℕ) (text : Bytes) (x : Setting) (facts : ℕ) (r : Readable
   now-counting : (seen : List ℕ) (u : Term) → value (x .values) n ≡ some u → seen-after seen (full (x .values) u) ≡ seen
       → v ≡ length (shown seen alone (full (x .values) u)) → Counting s x facts seen → Counting now x facts seen
   now-counting seen u e a c k = record {
-    given = now-other 39936 (λ z. omega (arith, r .behind)) ∙ k .given;
+    given = now-other trial-region (λ z. omega (arith, r .behind)) ∙ k .given;
     numbers = λ m h. now-other (fact-place x facts m + 2) (λ z. omega arith) ∙ k .numbers m h;
     lengths = λ m h. go m h (eqb m n) refl;
   }
@@ -83,17 +84,17 @@ module _ (s : List ℕ) (text : Bytes) (x : Setting) (facts : ℕ) (r : Readable
 
 pub keep-now : (s : List ℕ) (text : Bytes) (x : Setting) (facts : ℕ) (seen : List ℕ) (t : Term) (w p at to : ℕ) → Readable s text x facts
     → Counting s x facts seen → Shows s x t w → Known-now x facts seen t at to → p ≡ pair-seen (look w) → p ≢ 0 → to ≢ 16777217
-    → Changed s (set s (facts + 4 * (p - 1) + 1) (to - at)) x facts × Readable (set s (facts + 4 * (p - 1) + 1) (to - at)) text x facts
-    × Counting (set s (facts + 4 * (p - 1) + 1) (to - at)) x facts seen
+    → Changed s (set s (facts + pair-facts * (p - 1) + 1) (to - at)) x facts × Readable (set s (facts + pair-facts * (p - 1) + 1) (to - at)) text x facts
+    × Counting (set s (facts + pair-facts * (p - 1) + 1) (to - at)) x facts seen
 keep-now s text x facts seen t w p at to r c k K q d o = go (pair-told (x .places) t w p (k .word) q d)
   where
     go : (h : Half) × (n : ℕ) × (t ≡ Term.variable h n) × (p - 1 ≡ x .places .pair n)
-        → Changed s (set s (facts + 4 * (p - 1) + 1) (to - at)) x facts × Readable (set s (facts + 4 * (p - 1) + 1) (to - at)) text x facts
-        × Counting (set s (facts + 4 * (p - 1) + 1) (to - at)) x facts seen
+        → Changed s (set s (facts + pair-facts * (p - 1) + 1) (to - at)) x facts × Readable (set s (facts + pair-facts * (p - 1) + 1) (to - at)) text x facts
+        × Counting (set s (facts + pair-facts * (p - 1) + 1) (to - at)) x facts seen
     go (h, n, v, g) =
         let b = variable-below s text x facts r h n w (rw v at k) in
         let U = K .assigned h n v in
-        let same : facts + 4 * (p - 1) + 1 ≡ fact-place x facts n + 1 = omega arith in
+        let same : facts + pair-facts * (p - 1) + 1 ≡ fact-place x facts n + 1 = omega arith in
         let full-is : full (x .values) t ≡ full (x .values) (U .0) = ap (full (x .values)) v ∙ full-assigned (x .values) (r .no-circle) h n (U .0) (U .1) in
         let all : seen-after seen (full (x .values) (U .0)) ≡ seen = rw full-is at (K .seen-all o) in
         let size : to ≡ at + length (shown seen alone (full (x .values) (U .0))) = rw full-is at (K .size o) in

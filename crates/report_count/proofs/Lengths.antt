@@ -8,6 +8,7 @@ use native.Mathlib.Omega.{arith}
 use lib.ListN.{length, getD}
 use Rattle.meaning.specs.Bytes.{Bytes}
 use Rattle.term.specs.Setting.{Setting}
+use Rattle.term.specs.Layout.{trial-region, pair-facts}
 use Rattle.report_pairs.specs.Laid.{capped}
 use Rattle.report_pairs.specs.Facts.{Readable, Counting, Changed, fact-place}
 use Rattle.report_count.specs.Counts.{Counts, Counted}
@@ -19,11 +20,11 @@ pub changed-then : (s t u : List ℕ) (x : Setting) (facts : ℕ) → Changed s 
 changed-then s t u x facts c d = record { size = d .size ∙ c .size; others = λ k h n. d .others k h n ∙ c .others k h n }
 
 -- A word below the facts, but the numbers given, and one behind them is as it was.
-pub changed-below : (s s′ : List ℕ) (text : Bytes) (x : Setting) (facts : ℕ) → Changed s s′ x facts → (k : ℕ) → k < facts → k ≢ 39936
+pub changed-below : (s s′ : List ℕ) (text : Bytes) (x : Setting) (facts : ℕ) → Changed s s′ x facts → (k : ℕ) → k < facts → k ≢ trial-region
     → getD s′ k 0 ≡ getD s k 0
 changed-below s s′ text x facts c k h d = c .others k d (λ n l. ((λ e. omega arith), (λ e. omega arith), (λ e. omega arith)))
 
-pub changed-behind : (s s′ : List ℕ) (text : Bytes) (x : Setting) (facts : ℕ) → Readable s text x facts → Changed s s′ x facts → (k : ℕ) → facts + 4 * x .pairs ≤ k
+pub changed-behind : (s s′ : List ℕ) (text : Bytes) (x : Setting) (facts : ℕ) → Readable s text x facts → Changed s s′ x facts → (k : ℕ) → facts + pair-facts * x .pairs ≤ k
     → getD s′ k 0 ≡ getD s k 0
 changed-behind s s′ text x facts r c k h =
     c .others k (λ e. omega (arith, r .behind))

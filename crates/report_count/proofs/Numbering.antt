@@ -15,6 +15,7 @@ use Rattle.meaning.specs.Terms.{Half, Term}
 use Rattle.meaning.specs.State.{value}
 use Rattle.meaning.specs.Report.{alone, number-in}
 use Rattle.term.specs.Setting.{Setting}
+use Rattle.term.specs.Layout.{trial-region, pair-facts}
 use Rattle.report_pairs.specs.Threaded.{full, seen-after, shown}
 use Rattle.report_pairs.specs.Facts.{fact-place, number-seen, Readable, Changed, Counting, LengthAt}
 use Rattle.report_pairs.proofs.Once.{among-append, seen-after-known, seen-after-new, number-known, number-new, number-in-more, number-in-new}
@@ -54,9 +55,9 @@ Told s s′ text x facts seen n h r = Changed s s′ x facts × Readable s′ te
     × (r ≡ number-in n (seen-after seen (Term.variable h n)))
 
 pub number-had : (s : List ℕ) (text : Bytes) (x : Setting) (facts : ℕ) (seen : List ℕ) (n p k : ℕ) → Readable s text x facts → Counting s x facts seen
-    → n < length (x .values) → p ≡ x .places .pair n → k ≡ getD s (facts + 4 * p + 2) 0 → k ≢ 0 → (h : Half) → Told s s text x facts seen n h k
+    → n < length (x .values) → p ≡ x .places .pair n → k ≡ getD s (facts + pair-facts * p + 2) 0 → k ≢ 0 → (h : Half) → Told s s text x facts seen n h k
 number-had s text x facts seen n p k r c b q e d h =
-    let place : facts + 4 * p + 2 ≡ fact-place x facts n + 2 = omega arith in
+    let place : facts + pair-facts * p + 2 ≡ fact-place x facts n + 2 = omega arith in
     let S = seen-by n seen k (e ∙ ap (λ (m : ℕ). getD s m 0) place ∙ c .numbers n b) d in
     (changed-none s x facts, r, rw (seen-after-known seen h n (S .0)) c, S .1 ∙ sym (number-known seen h n (S .0)))
 
@@ -66,17 +67,17 @@ module _ (s : List ℕ) (text : Bytes) (x : Setting) (facts : ℕ) (r : Readable
   next = length seen + 1
 
   abbrev s₁ : List ℕ
-  s₁ = set s 39936 next
+  s₁ = set s trial-region next
 
   abbrev s₂ : List ℕ
   s₂ = set s₁ (fact-place x facts n + 2) next
 
-  other : (k : ℕ) → k ≢ 39936 → k ≢ fact-place x facts n + 2 → getD s₂ k 0 ≡ getD s k 0
-  other k d e = getD-set-other s₁ (fact-place x facts n + 2) k next 0 e ∙ getD-set-other s 39936 k next 0 d
+  other : (k : ℕ) → k ≢ trial-region → k ≢ fact-place x facts n + 2 → getD s₂ k 0 ≡ getD s k 0
+  other k d e = getD-set-other s₁ (fact-place x facts n + 2) k next 0 e ∙ getD-set-other s trial-region k next 0 d
 
   new-changed : Changed s s₂ x facts
   new-changed = record {
-    size = length-set s₁ (fact-place x facts n + 2) next ∙ length-set s 39936 next;
+    size = length-set s₁ (fact-place x facts n + 2) next ∙ length-set s trial-region next;
     others = λ k d o. other k d (o n b .2);
   }
 
@@ -108,8 +109,8 @@ module _ (s : List ℕ) (text : Bytes) (x : Setting) (facts : ℕ) (r : Readable
 
   new-counting : Counting s₂ x facts (seen ++ (n ∷ []))
   new-counting = record {
-    given = getD-set-other s₁ (fact-place x facts n + 2) 39936 next 0 (λ z. omega (arith, r .behind))
-        ∙ getD-set-same s 39936 next 0 (omega (arith, r .behind, r .inside)) ∙ sym (length-append seen (n ∷ []));
+    given = getD-set-other s₁ (fact-place x facts n + 2) trial-region next 0 (λ z. omega (arith, r .behind))
+        ∙ getD-set-same s trial-region next 0 (omega (arith, r .behind, r .inside)) ∙ sym (length-append seen (n ∷ []));
     numbers = λ m h. go m h (eqb m n) refl;
     lengths = λ m h. lengths-on m (value (x .values) m)
         (other (fact-place x facts m + 1) (λ z. omega (arith, r .behind)) (λ z. omega arith)) (c .lengths m h);
@@ -118,7 +119,7 @@ module _ (s : List ℕ) (text : Bytes) (x : Setting) (facts : ℕ) (r : Readable
       go : (m : ℕ) → m < length (x .values) → (t : Bool) → eqb m n ≡ t → getD s₂ (fact-place x facts m + 2) 0 ≡ number-seen m (seen ++ (n ∷ []))
       go m h true q =
           let same : m ≡ n = eqb-true m n q in
-          rw same (getD-set-same s₁ (fact-place x facts n + 2) next 0 (omega (arith, fact-inside s text x facts r n b, length-set s 39936 next)) ∙ number-here)
+          rw same (getD-set-same s₁ (fact-place x facts n + 2) next 0 (omega (arith, fact-inside s text x facts r n b, length-set s trial-region next)) ∙ number-here)
       go m h false q =
           other (fact-place x facts m + 2) (λ z. omega (arith, r .behind)) (λ z. eqb-false m n q (r .apart m n h b (omega arith)))
           ∙ c .numbers m h ∙ number-other m (eqb-false m n q)
@@ -127,14 +128,14 @@ module _ (s : List ℕ) (text : Bytes) (x : Setting) (facts : ℕ) (r : Readable
   number-given h = (new-changed, new-readable, rw (after-is h) new-counting, sym (number-new seen h n new))
 
 pub number-missing : (s : List ℕ) (x : Setting) (facts : ℕ) (seen : List ℕ) (n p k : ℕ) → Counting s x facts seen → n < length (x .values)
-    → p ≡ x .places .pair n → k ≡ getD s (facts + 4 * p + 2) 0 → k ≡ 0 → among n seen ≡ false
+    → p ≡ x .places .pair n → k ≡ getD s (facts + pair-facts * p + 2) 0 → k ≡ 0 → among n seen ≡ false
 number-missing s x facts seen n p k c b q e z =
-    let place : facts + 4 * p + 2 ≡ fact-place x facts n + 2 = omega arith in
+    let place : facts + pair-facts * p + 2 ≡ fact-place x facts n + 2 = omega arith in
     unseen-by n seen k (e ∙ ap (λ (m : ℕ). getD s m 0) place ∙ c .numbers n b) z
 
 pub number-given-at : (s : List ℕ) (text : Bytes) (x : Setting) (facts : ℕ) (seen : List ℕ) (n p v : ℕ) → Readable s text x facts → Counting s x facts seen
     → n < length (x .values) → among n seen ≡ false → p ≡ x .places .pair n → v ≡ length seen + 1 → (h : Half)
-    → Told s (set (set s 39936 v) (facts + 4 * p + 2) v) text x facts seen n h v
+    → Told s (set (set s trial-region v) (facts + pair-facts * p + 2) v) text x facts seen n h v
 number-given-at s text x facts seen n p v r c b new q e h =
-    let place : facts + 4 * p + 2 ≡ fact-place x facts n + 2 = omega arith in
+    let place : facts + pair-facts * p + 2 ≡ fact-place x facts n + 2 = omega arith in
     rw (place, e) (number-given s text x facts r seen c n b new h)

@@ -25,7 +25,7 @@ ghost use Rattle.meaning.specs.Report.{alone, number-in, integer-bytes};
 ghost use mathlib.Core.Option.{none};
 ghost use Rattle.meaning.specs.State.{value};
 ghost use Rattle.term.specs.Cells.{bits};
-ghost use Rattle.term.specs.Words.{view};
+ghost use Rattle.term.specs.Words.{view, tag-in, rest-in};
 ghost use Rattle.term.specs.Setting.{Setting, RangedInteger};
 ghost use Rattle.report_pairs.specs.Threaded.{full, seen-after, shown};
 ghost use Rattle.report_pairs.specs.Facts.{Readable, Shows, Led, Counting, Changed};
@@ -77,7 +77,7 @@ fn leaf(s: &mut [u64], facts: usize, w: u64) -> usize
     requires { ⌜ ((text : Bytes) × (x : Setting) × (seen : List ℕ) × (t : Term) × Readable (now s) text x facts × Counting (now s) x facts seen
         × (length seen ≤ 16777216) × Led (now s) x t w) ⌝ }
     ensures { λ r. ⌜ ((text : Bytes) (x : Setting) (seen : List ℕ) (t : Term) → Readable (now (s .entry)) text x facts → Counting (now (s .entry)) x facts seen
-        → Led (now (s .entry)) x t w → NoCompound (view (w % 8) (w / 8)) → LeafCounted (now (s .entry)) (now (s .exit)) text x facts seen t r) ⌝ }
+        → Led (now (s .entry)) x t w → NoCompound (view (tag-in w) (rest-in w)) → LeafCounted (now (s .entry)) (now (s .exit)) text x facts seen t r) ⌝ }
 {
     match look(w) {
         View::Writer(p) => 1 + digits(number(s, facts, p)),
@@ -152,8 +152,8 @@ fn count_compound(s: &mut [u64], facts: usize, at: usize, w: u64, q: usize) -> u
 
 // What stands before a compound's first argument.
 fn opening(s: &[u64], at: usize, p: usize) -> usize
-    requires { ⌜ ((text : Bytes) × (f : Functor) × (at ≤ 16777217) × (p < length (now s)) × Opens (now s) text (getD (now s) p 0 / 8) f) ⌝ }
-    ensures { λ r. ⌜ ((text : Bytes) (f : Functor) → Opens (now (s .entry)) text (getD (now (s .entry)) p 0 / 8) f → r ≡ capped (at + length (opening-bytes f))) ⌝ }
+    requires { ⌜ ((text : Bytes) × (f : Functor) × (at ≤ 16777217) × (p < length (now s)) × Opens (now s) text (rest-in (getD (now s) p 0)) f) ⌝ }
+    ensures { λ r. ⌜ ((text : Bytes) (f : Functor) → Opens (now (s .entry)) text (rest-in (getD (now (s .entry)) p 0)) f → r ≡ capped (at + length (opening-bytes f))) ⌝ }
 {
     let f = functor(s, p);
     if f == 0 {

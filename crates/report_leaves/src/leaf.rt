@@ -17,9 +17,10 @@ ghost use Rattle.meaning.specs.Bytes.{Bytes, decimal as in-decimal};
 ghost use Rattle.meaning.specs.Terms.{Integer, Functor, Term};
 ghost use Rattle.meaning.specs.Report.{alone, written, integer-bytes};
 ghost use Rattle.term.specs.Cells.{bits};
-ghost use Rattle.term.specs.Words.{view};
+ghost use Rattle.term.specs.Words.{view, tag-in, rest-in};
 ghost use Rattle.term.specs.Setting.{Setting, RangedInteger};
 ghost use Rattle.term.specs.Spellings.{SpelledAt};
+ghost use Rattle.term.specs.Layout.{pair-facts};
 ghost use Rattle.report_pairs.specs.Threaded.{full};
 ghost use Rattle.report_pairs.specs.Laid.{Puts};
 ghost use Rattle.report_pairs.specs.Facts.{Led};
@@ -29,8 +30,8 @@ ghost use Rattle.report_leaves.specs.Writes.{Writes};
 
 // "An unassigned pair is `_1`, `_2`, .."
 fn variable(s: &[u64], facts: usize, buffer: &mut [u8], at: usize, p: usize) -> usize
-    requires { ⌜ (facts + 4 * p + 2 < length (now s)) × (at + 1 + length (in-decimal (getD (now s) (facts + 4 * p + 2) 0)) ≤ length (now buffer)) ⌝ }
-    ensures { λ r. ⌜ Puts (now (buffer .entry)) (now (buffer .exit)) at r (95 ∷ in-decimal (getD (now (s .entry)) (facts + 4 * p + 2) 0)) ⌝ }
+    requires { ⌜ (facts + pair-facts * p + 2 < length (now s)) × (at + 1 + length (in-decimal (getD (now s) (facts + pair-facts * p + 2) 0)) ≤ length (now buffer)) ⌝ }
+    ensures { λ r. ⌜ Puts (now (buffer .entry)) (now (buffer .exit)) at r (95 ∷ in-decimal (getD (now (s .entry)) (facts + pair-facts * p + 2) 0)) ⌝ }
 {
     let to = put(buffer, at, b'_');
     decimal(buffer, to, fact(s, facts, p, 2))
@@ -64,7 +65,7 @@ fn name(text: &[u8], s: &[u64], buffer: &mut [u8], at: usize, k: usize) -> usize
 pub fn leaf(text: &[u8], s: &[u64], facts: usize, buffer: &mut [u8], at: usize, w: u64) -> usize
     requires { ⌜ ((x : Setting) × (order : List ℕ) × (t : Term) × Writes (now s) (now text) x facts order t at (length (now buffer)) × Led (now s) x t w) ⌝ }
     ensures { λ r. ⌜ ((x : Setting) (order : List ℕ) (t : Term) → Writes (now (s .entry)) (now (text .entry)) x facts order t at (length (now (buffer .entry)))
-        → Led (now (s .entry)) x t w → NoCompound (view (w % 8) (w / 8))
+        → Led (now (s .entry)) x t w → NoCompound (view (tag-in w) (rest-in w))
         → Puts (now (buffer .entry)) (now (buffer .exit)) at r (written order alone (full (x .values) t))) ⌝ }
 {
     match look(w) {
@@ -82,9 +83,9 @@ pub fn leaf(text: &[u8], s: &[u64], facts: usize, buffer: &mut [u8], at: usize, 
 
 // What stands before a compound's first argument: its name and a parenthesis, or a bracket.
 pub fn opening(text: &[u8], s: &[u64], buffer: &mut [u8], at: usize, p: usize) -> usize
-    requires { ⌜ ((f : Functor) × (p < length (now s)) × Opens (now s) (now text) (getD (now s) p 0 / 8) f
+    requires { ⌜ ((f : Functor) × (p < length (now s)) × Opens (now s) (now text) (rest-in (getD (now s) p 0)) f
         × (at + length (opening-bytes f) ≤ length (now buffer))) ⌝ }
-    ensures { λ r. ⌜ ((f : Functor) → Opens (now (s .entry)) (now (text .entry)) (getD (now (s .entry)) p 0 / 8) f
+    ensures { λ r. ⌜ ((f : Functor) → Opens (now (s .entry)) (now (text .entry)) (rest-in (getD (now (s .entry)) p 0)) f
         → Puts (now (buffer .entry)) (now (buffer .exit)) at r (opening-bytes f)) ⌝ }
 {
     let f = functor(s, p);

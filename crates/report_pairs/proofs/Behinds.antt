@@ -8,6 +8,7 @@ use lib.ListN.{length, getD}
 use Rattle.meaning.specs.Bytes.{Bytes}
 use Rattle.meaning.specs.Terms.{Functor, cell, named, Term, Terms, end, more, count}
 use Rattle.term.specs.Setting.{Setting}
+use Rattle.term.specs.Words.{rest-in}
 use Rattle.report_pairs.specs.Facts.{Shows}
 use Rattle.report_pairs.specs.Walk.{Position, Found}
 use Rattle.report_pairs.specs.declared.cells.Next.{Next}
@@ -15,14 +16,14 @@ use Rattle.report_pairs.specs.declared.cells.Next.the-variants.{Ends}
 use Rattle.report_pairs.proofs.Walking.{position-inside, position-named, position-cell, position-element, position-tail, tail-shows}
 
 module _ (s : List ℕ) (x : Setting) (p i j : ℕ) (f : Functor) (u : Term) (us : Terms) (a : Position s x p i j f u us) where
-  pub named-asks : getD s p 0 / 8 ≢ 0
+  pub named-asks : rest-in (getD s p 0) ≢ 0
       → (x : Setting) × (f : Bytes) × (j : ℕ) × (u : Term) × (us : Terms) × Position s x p i j (named f) u us
   named-asks d = go (position-named s x p i j f u us a d)
     where
       go : (g : Bytes) × (f ≡ named g) → (x : Setting) × (f : Bytes) × (j : ℕ) × (u : Term) × (us : Terms) × Position s x p i j (named f) u us
       go (g, e) = (x, g, j, u, us, rw e at a)
 
-  pub named-tells : getD s p 0 / 8 ≢ 0 → (r : Next)
+  pub named-tells : rest-in (getD s p 0) ≢ 0 → (r : Next)
       → ((x : Setting) (f : Bytes) (j : ℕ) (u : Term) (us : Terms) → Position s x p i j (named f) u us → Found s x (named f) j us r)
       → Found s x f j us r
   named-tells d r told = go (position-named s x p i j f u us a d)
@@ -37,7 +38,7 @@ module _ (s : List ℕ) (x : Setting) (p i j : ℕ) (f : Functor) (u : Term) (us
     pub inside : p + 2 < length s
     pub tells : (r : Next) → Found s x cell 0 (more tail-term end) r → Found s x f j us r
 
-  pub tail-asks : getD s p 0 / 8 ≡ 0 → i ≡ 1 → Tail
+  pub tail-asks : rest-in (getD s p 0) ≡ 0 → i ≡ 1 → Tail
   unfolding count
   tail-asks z one = go (position-cell s x p i j f u us a z)
     where
@@ -54,7 +55,7 @@ module _ (s : List ℕ) (x : Setting) (p i j : ℕ) (f : Functor) (u : Term) (us
       go : f ≡ cell → Tail
       go e = with-cell e (position-element s x p i j u us (rw e at a) one)
 
-  pub tail-tells : getD s p 0 / 8 ≡ 0 → i ≢ 1 → Found s x f j us (Ends 93)
+  pub tail-tells : rest-in (getD s p 0) ≡ 0 → i ≢ 1 → Found s x f j us (Ends 93)
   tail-tells z d = go (position-cell s x p i j f u us a z)
     where
       go : f ≡ cell → Found s x f j us (Ends 93)

@@ -20,6 +20,7 @@ use Rattle.term.specs.Holds.{value-word}
 use Rattle.term.specs.Setting.{Setting, Within, UnitTerm}
 use Rattle.term.proofs.Cells.{word-positive}
 use Rattle.term.proofs.Chains.{followed-none, chains-end, nearer}
+use Rattle.term.specs.Layout.{trial-region, pairs-told, pair-facts}
 use Rattle.report_pairs.specs.Threaded.{full}
 use Rattle.report_pairs.specs.Sound.{Sound}
 use Rattle.report_pairs.specs.Pairs.{pair-seen}
@@ -44,10 +45,10 @@ module _ (s : List ℕ) (text : Bytes) (x : Setting) (facts : ℕ) (r : Readable
   value-inside n h = omega (arith, r .inside, r .stands .held .place n h)
 
   -- Where the pair of the term is not 0, it is a variable's, and its words lie in the scratch.
-  pub pair-inside : (t : Term) (w p : ℕ) → Shows s x t w → p ≡ pair-seen (seen w) → p ≢ 0 → facts + 4 * (p - 1) + 3 < length s
+  pub pair-inside : (t : Term) (w p : ℕ) → Shows s x t w → p ≡ pair-seen (seen w) → p ≢ 0 → facts + pair-facts * (p - 1) + 3 < length s
   pair-inside t w p k e d = go (pair-told (x .places) t w p (k .word) e d)
     where
-      go : (h : Half) × (n : ℕ) × (t ≡ Term.variable h n) × (p - 1 ≡ x .places .pair n) → facts + 4 * (p - 1) + 3 < length s
+      go : (h : Half) × (n : ℕ) × (t ≡ Term.variable h n) × (p - 1 ≡ x .places .pair n) → facts + pair-facts * (p - 1) + 3 < length s
       go (h, n, v, q) = rw q (fact-inside n (variable-below h n w (rw v at k)))
 
   -- It stops at a term that is no variable.
@@ -74,13 +75,13 @@ module _ (s : List ℕ) (text : Bytes) (x : Setting) (facts : ℕ) (r : Readable
       }
 
   pub next-end : (t : Term) (w p e : ℕ) → Shows s x t w → p ≡ pair-seen (seen w) → p ≢ 0
-      → e ≡ getD s (facts + 4 * (p - 1) + 0) 0 → e ≢ 0 → LeadsOn s x t e
+      → e ≡ getD s (facts + pair-facts * (p - 1) + 0) 0 → e ≢ 0 → LeadsOn s x t e
   next-end t w p e k q d i z = go (pair-told (x .places) t w p (k .word) q d)
     where
       go : (h : Half) × (n : ℕ) × (t ≡ Term.variable h n) × (p - 1 ≡ x .places .pair n) → LeadsOn s x t e
       go (h, n, v, g) =
           let b = variable-below h n w (rw v at k) in
-          let same : facts + 4 * (p - 1) + 0 ≡ fact-place x facts n = omega arith in
+          let same : facts + pair-facts * (p - 1) + 0 ≡ fact-place x facts n = omega arith in
           rw v (end-leads h n e b (value (x .values) n) refl (r .ends n b) (i ∙ ap (λ (m : ℕ). getD s m 0) same) z)
 
   -- It goes to the value.
@@ -104,13 +105,13 @@ module _ (s : List ℕ) (text : Bytes) (x : Setting) (facts : ℕ) (r : Readable
   }
 
   pub next-value : (t : Term) (w p e : ℕ) → Shows s x t w → p ≡ pair-seen (seen w) → p ≢ 0
-      → e ≡ getD s (facts - getD s 39937 0 + (p - 1)) 0 → LeadsOn s x t e
+      → e ≡ getD s (facts - getD s pairs-told 0 + (p - 1)) 0 → LeadsOn s x t e
   next-value t w p e k q d i = go (pair-told (x .places) t w p (k .word) q d)
     where
       go : (h : Half) × (n : ℕ) × (t ≡ Term.variable h n) × (p - 1 ≡ x .places .pair n) → LeadsOn s x t e
       go (h, n, v, g) =
           let b = variable-below h n w (rw v at k) in
-          let same : facts - getD s 39937 0 + (p - 1) ≡ facts - x .pairs + x .places .pair n = rw (g, r .room) in
+          let same : facts - getD s pairs-told 0 + (p - 1) ≡ facts - x .pairs + x .places .pair n = rw (g, r .room) in
           rw v (value-leads h n e b (value (x .values) n) refl (i ∙ ap (λ (m : ℕ). getD s m 0) same ∙ r .stands .held .stands n b))
 
   -- On the way: the term at hand, with so many links left.
@@ -120,7 +121,7 @@ module _ (s : List ℕ) (text : Bytes) (x : Setting) (facts : ℕ) (r : Readable
     pub same : full (x .values) t ≡ full (x .values) here
     pub ends : value-of (x .values) (followed left (x .values) here) ≡ none
 
-  pub way-begins : (t : Term) (w left : ℕ) → Shows s x t w → left ≡ getD s 39937 0 → Way t w left
+  pub way-begins : (t : Term) (w left : ℕ) → Shows s x t w → left ≡ getD s pairs-told 0 → Way t w left
   way-begins t w left k e = record {
     here = t;
     shows = k;
@@ -210,7 +211,7 @@ module _ (s : List ℕ) (text : Bytes) (x : Setting) (facts : ℕ) (r : Readable
 
   now-counting : (n e : ℕ) → n < length (x .values) → (seen : List ℕ) → Counting s x facts seen → Counting (now n e) x facts seen
   now-counting n e b seen c = record {
-    given = now-other n e 39936 (λ z. omega (arith, r .behind)) ∙ c .given;
+    given = now-other n e trial-region (λ z. omega (arith, r .behind)) ∙ c .given;
     numbers = λ m h. now-other n e (fact-place x facts m + 2) (λ z. omega arith) ∙ c .numbers m h;
     lengths = λ m h. length-kept m (value (x .values) m) (now-other n e (fact-place x facts m + 1) (λ z. omega arith)) (c .lengths m h);
   }
@@ -221,15 +222,15 @@ module _ (s : List ℕ) (text : Bytes) (x : Setting) (facts : ℕ) (r : Readable
       length-kept m (some u) q l = λ d. let k = l (λ z. d (q ∙ z)) in (k .0, q ∙ k .1)
 
   pub lead-kept : (t : Term) (w p e : ℕ) → Shows s x t w → p ≡ pair-seen (seen w) → p ≢ 0 → e ≢ w → Led s x t e
-      → Leads s (set s (facts + 4 * (p - 1) + 0) e) text x facts t e
+      → Leads s (set s (facts + pair-facts * (p - 1) + 0) e) text x facts t e
   lead-kept t w p e k q d o l = go (pair-told (x .places) t w p (k .word) q d)
     where
-      go : (h : Half) × (n : ℕ) × (t ≡ Term.variable h n) × (p - 1 ≡ x .places .pair n) → Leads s (set s (facts + 4 * (p - 1) + 0) e) text x facts t e
+      go : (h : Half) × (n : ℕ) × (t ≡ Term.variable h n) × (p - 1 ≡ x .places .pair n) → Leads s (set s (facts + pair-facts * (p - 1) + 0) e) text x facts t e
       go (h, n, v, g) =
           let k′ : Shows s x (Term.variable h n) w = rw v at k in
           let l′ : Led s x (Term.variable h n) e = rw v at l in
           let b = variable-below s text x facts r h n w k′ in
-          let same : facts + 4 * (p - 1) + 0 ≡ fact-place x facts n = omega arith in
+          let same : facts + pair-facts * (p - 1) + 0 ≡ fact-place x facts n = omega arith in
           let c = now-changed n e b in
           let there : Led (now n e) x (Term.variable h n) e = led-kept s (now n e) text x facts r c (Term.variable h n) e l′ in
           rw (same, v) (record {

@@ -8,6 +8,7 @@ use lib.ListN.{length, getD, set}
 use lib.Seq.{getD-set-same, getD-set-other}
 use Rattle.term.specs.Frames.{Only}
 use Rattle.term.proofs.Frames.{only-same, only-set, only-then}
+use Rattle.term.specs.Layout.{pair-facts}
 use Rattle.report_pairs.specs.Facts.{Cleared}
 
 -- So many words from a place on are 0, and others up to a bound may have changed.
@@ -31,10 +32,10 @@ zeroed-more s₀ s facts bound n below inside z = record {
     word a h (no d) = getD-set-other s (facts + n) (facts + a) 0 0 (λ e. d (omega arith)) ∙ z .zero a (omega arith)
 
 -- All four words of so many pairs.
-pub zeroed-all : (s s′ : List ℕ) (facts pairs : ℕ) → Zeroed s s′ facts (facts + 4 * pairs) (4 * pairs) → Cleared s s′ facts pairs
+pub zeroed-all : (s s′ : List ℕ) (facts pairs : ℕ) → Zeroed s s′ facts (facts + pair-facts * pairs) (pair-facts * pairs) → Cleared s s′ facts pairs
 zeroed-all s s′ facts pairs z = record { only = z .only; zero = λ p i h k. word p i h k }
   where
-    word : (p i : ℕ) → p < pairs → i < 3 → getD s′ (facts + 4 * p + i) 0 ≡ 0
+    word : (p i : ℕ) → p < pairs → i < 3 → getD s′ (facts + pair-facts * p + i) 0 ≡ 0
     word p i h k =
-        let same : facts + 4 * p + i ≡ facts + (4 * p + i) = omega arith in
-        rw same (z .zero (4 * p + i) (omega arith))
+        let same : facts + pair-facts * p + i ≡ facts + (pair-facts * p + i) = omega arith in
+        rw same (z .zero (pair-facts * p + i) (omega arith))

@@ -15,6 +15,7 @@ use Rattle.term.specs.Setting.{Setting, UnitTerm, UnitTerms, UnitStands}
 use Rattle.term.proofs.Holds.{holds-alike, holds-from-alike, holds-values-alike, EveryValue}
 use Rattle.term.proofs.Spellings.{holds-spellings-kept}
 use Rattle.term.proofs.Units.{within-every}
+use Rattle.term.specs.Layout.{trial-region, pairs-told}
 use Rattle.report_pairs.specs.Facts.{fact-place, Led, EndAt, Readable, Shows, Changed, Counting, LengthAt}
 
 pub changed-none : (s : List ℕ) (x : Setting) (facts : ℕ) → Changed s s x facts
@@ -25,10 +26,10 @@ changed-then s t u x facts a b = record { size = b .size ∙ a .size; others = �
 
 module _ (s s′ : List ℕ) (text : Bytes) (x : Setting) (facts : ℕ) (r : Readable s text x facts) (c : Changed s s′ x facts) where
   -- The words below the trial's region, the compounds' words, the values' words.
-  pub before-kept : (k : ℕ) → k < 39936 → getD s′ k 0 ≡ getD s k 0
+  pub before-kept : (k : ℕ) → k < trial-region → getD s′ k 0 ≡ getD s k 0
   before-kept k h = c .others k (λ e. omega arith) (λ n l. (λ e. omega (arith, r .behind), λ e. omega (arith, r .behind), λ e. omega (arith, r .behind)))
 
-  pub front-kept : (k : ℕ) → 39937 ≤ k → k < facts → getD s′ k 0 ≡ getD s k 0
+  pub front-kept : (k : ℕ) → pairs-told ≤ k → k < facts → getD s′ k 0 ≡ getD s k 0
   front-kept k l h = c .others k (λ e. omega arith) (λ n b. (λ e. omega arith, λ e. omega arith, λ e. omega arith))
 
   compound-kept : (n : ℕ) → n < x .compounds → (k : ℕ) → x .places .compound n ≤ k → k < x .places .compound n + x .places .width n → getD s′ k 0 ≡ getD s k 0
@@ -66,7 +67,7 @@ module _ (s s′ : List ℕ) (text : Bytes) (x : Setting) (facts : ℕ) (r : Rea
   readable-kept e = record {
     inside = omega (arith, c .size, r .inside);
     behind = r .behind;
-    room = front-kept 39937 (omega arith) (omega (arith, r .behind)) ∙ r .room;
+    room = front-kept pairs-told (omega arith) (omega (arith, r .behind)) ∙ r .room;
     links = r .links;
     apart = r .apart;
     compound-behind = r .compound-behind;

@@ -11,7 +11,7 @@ use native.Mathlib.Omega.{arith}
 use Rattle.meaning.specs.Bytes.{Bytes}
 use Rattle.meaning.specs.Terms.{Half, writer, reader, Integer, Constant, Functor, Term, Terms}
 use Rattle.meaning.specs.State.{Values}
-use Rattle.term.specs.Words.{Content, view, view-of}
+use Rattle.term.specs.Words.{Content, view, view-of, tag-in, rest-in}
 use Rattle.term.specs.Cells.{Places, bits, number-of, content, term-word}
 use Rattle.term.specs.Chains.{value-of}
 use Rattle.term.specs.declared.word.View.{View}
@@ -21,7 +21,7 @@ use Rattle.report_pairs.specs.Pairs.{pair-seen, NoCompound}
 
 -- What a look at a word says.
 abbrev pub seen : ℕ → View
-seen w = view (w % 8) (w / 8)
+seen w = view (tag-in w) (rest-in w)
 
 pub seen-term : (places : Places) (t : Term) (w : ℕ) → w ≡ term-word places t → seen w ≡ view-of (content places t)
 seen-term places t w e = rw e (view-word (content places t))
@@ -141,11 +141,11 @@ payload v (suc (suc (suc (suc zero)))) rest p e = (λ q. absurd (omega (arith, t
 payload v (suc (suc (suc (suc (suc zero))))) rest p e = (λ q. absurd (omega (arith, tags _ _ (e ∙ q))), λ q. absurd (omega (arith, tags _ _ (e ∙ q))))
 payload v (suc (suc (suc (suc (suc (suc tag)))))) rest p e = (λ q. absurd (omega (arith, tags _ _ (e ∙ q))), λ q. absurd (omega (arith, tags _ _ (e ∙ q))))
 
-pub writer-payload : (w p : ℕ) → seen w ≡ Writer p → p ≡ w / 8
-writer-payload w p e = payload (seen w) (w % 8) (w / 8) p refl .0 e
+pub writer-payload : (w p : ℕ) → seen w ≡ Writer p → p ≡ rest-in w
+writer-payload w p e = payload (seen w) (tag-in w) (rest-in w) p refl .0 e
 
-pub reader-payload : (w p : ℕ) → seen w ≡ Reader p → p ≡ w / 8
-reader-payload w p e = payload (seen w) (w % 8) (w / 8) p refl .1 e
+pub reader-payload : (w p : ℕ) → seen w ≡ Reader p → p ≡ rest-in w
+reader-payload w p e = payload (seen w) (tag-in w) (rest-in w) p refl .1 e
 
 -- Any other view has no pair.
 pub no-pair-seen : (v : View) → OneOf (0 ∷ 3 ∷ 4 ∷ 5 ∷ 6 ∷ []) (tagOf the-type v) → 0 ≡ pair-seen v

@@ -11,7 +11,7 @@ use Rattle.meaning.specs.Bytes.{Bytes, bytes}
 use Rattle.meaning.specs.Terms.{Half, Integer, Constant, Functor, cell, named, Term, Terms, end, more, count}
 use Rattle.meaning.specs.State.{Values}
 use Rattle.meaning.specs.Report.{alone, tail, written, tail-bytes, element-and-tail, first-argument, other-arguments, behind-bar, empty-bytes, before-element, constant-bytes}
-use Rattle.term.specs.Words.{view-of}
+use Rattle.term.specs.Words.{view-of, packed, tag-in, rest-in}
 use Rattle.term.specs.Cells.{Places, content, term-word, number-of, functor-number, functor-word, KnownName, KnownFunctor, Known, AllKnown}
 use Rattle.term.specs.Holds.{CellAt, Holds, HoldsFrom}
 use Rattle.term.specs.Setting.{Setting, Within, AllWithin, Ranged, AllRanged, UnitTerm, UnitTerms}
@@ -32,12 +32,12 @@ use Rattle.report_pairs.proofs.Full.{full-constant, full-compound, full
 use Rattle.report_pairs.proofs.Once.{seen-after-constant, seen-after-compound, seen-after-end, seen-after-more}
 use Rattle.report_pairs.proofs.Told.{seen, seen-term, empty-told, compound-told}
 
-apart : (tag n : ℕ) → tag < 8 → ((tag + 8 * n) % 8 ≡ tag) × ((tag + 8 * n) / 8 ≡ n)
+apart : (tag n : ℕ) → tag < 8 → (tag-in (packed tag n) ≡ tag) × (rest-in (packed tag n) ≡ n)
 apart tag n h = (omega arith, omega arith)
 
 -- A compound's first word: its functor above, the number of its arguments below.
 pub functor-parts : (s : List ℕ) (places : Places) (n : ℕ) (f : Functor) (k : ℕ) → CellAt s places n f k
-    → (getD s (places .compound n) 0 / 8 ≡ functor-number places f) × (getD s (places .compound n) 0 % 8 ≡ k)
+    → (rest-in (getD s (places .compound n) 0) ≡ functor-number places f) × (tag-in (getD s (places .compound n) 0) ≡ k)
 functor-parts s places n f k c =
     let parts = apart k (functor-number places f) (omega (arith, c .few)) in
     (rw (c .functor) (parts .1), rw (c .functor) (parts .0))
@@ -53,10 +53,10 @@ module _ (s : List ℕ) (x : Setting) (p i j : ℕ) (f : Functor) (u : Term) (us
   pub functor-inside : p < length s
   functor-inside = omega (arith, position-inside)
 
-  pub position-functor : getD s p 0 / 8 ≡ functor-number (x .places) f
+  pub position-functor : rest-in (getD s p 0) ≡ functor-number (x .places) f
   position-functor = rw (a .place) (functor-parts s (x .places) (a .number) f (j + count (more u us)) (a .cell-at) .0)
 
-  pub position-arity : getD s p 0 % 8 ≡ j + suc (count us)
+  pub position-arity : tag-in (getD s p 0) ≡ j + suc (count us)
   unfolding count
   position-arity = rw (a .place) (functor-parts s (x .places) (a .number) f (j + suc (count us)) (a .cell-at) .1)
 
@@ -124,7 +124,7 @@ others-one order values v vs =
     ap (λ (l : Bytes). 44 ∷ l) (append-assoc (written order alone (full values v)) (other-arguments order (all-full values vs)) (41 ∷ []))
 
 pub behind-argument-goes : (s : List ℕ) (x : Setting) (p i j : ℕ) (f : Bytes) (u : Term) (us : Terms) → Position s x p i j (named f) u us
-    → i < getD s p 0 % 8 → Found s x (named f) j us (Goes 44 p (i + 1))
+    → i < tag-in (getD s p 0) → Found s x (named f) j us (Goes 44 p (i + 1))
 unfolding count
 behind-argument-goes s x p i j f u end a h = absurd (omega (arith, position-arity s x p i j (named f) u end a, a .index))
 behind-argument-goes s x p i j f u (more v vs) a h = (
@@ -139,7 +139,7 @@ behind-argument-goes s x p i j f u (more v vs) a h = (
 )
 
 pub behind-argument-ends : (s : List ℕ) (x : Setting) (p i j : ℕ) (f : Bytes) (u : Term) (us : Terms) → Position s x p i j (named f) u us
-    → getD s p 0 % 8 ≤ i → Found s x (named f) j us (Ends 41)
+    → tag-in (getD s p 0) ≤ i → Found s x (named f) j us (Ends 41)
 unfolding count other-arguments all-full
 behind-argument-ends s x p i j f u end a h = (λ order. refl, λ seen. seen-after-end seen)
 behind-argument-ends s x p i j f u (more v vs) a h = absurd (omega (arith, position-arity s x p i j (named f) u (more v vs) a, a .index))
@@ -189,7 +189,7 @@ module _ (s : List ℕ) (x : Setting) (p w : ℕ) (u v : Term) (a : Position s x
             ∙ seen-after-more seen (Term.constant Constant.empty) end ∙ seen-after-end (seen-after seen (Term.constant Constant.empty)) ∙ seen-after-constant seen Constant.empty,
       )
 
-  pub element-bar-compound : (q : ℕ) → seen w ≡ Compound q → getD s q 0 / 8 ≢ 0 → Found s x cell 0 (more v end) (Goes 124 p 2)
+  pub element-bar-compound : (q : ℕ) → seen w ≡ Compound q → rest-in (getD s q 0) ≢ 0 → Found s x cell 0 (more v end) (Goes 124 p 2)
   unfolding Holds
   element-bar-compound q e d =
       bar (barred-last s x v w l (λ z. go-empty z) (λ n ts z. go-cell n ts z))
@@ -243,7 +243,7 @@ module _ (s : List ℕ) (x : Setting) (p w : ℕ) (u v : Term) (a : Position s x
         λ m k. rw same (inl k),
       )
 
-  pub element-cell : (q : ℕ) → seen w ≡ Compound q → getD s q 0 / 8 ≡ 0 → Found s x cell 0 (more v end) (Goes 44 q 1)
+  pub element-cell : (q : ℕ) → seen w ≡ Compound q → rest-in (getD s q 0) ≡ 0 → Found s x cell 0 (more v end) (Goes 44 q 1)
   unfolding Holds Sound
   element-cell q e zero-functor = go (compound-told (x .places) (l .last) q (sym (seen-term (x .places) (l .last) w (l .word)) ∙ e))
     where
@@ -254,17 +254,17 @@ module _ (s : List ℕ) (x : Setting) (p w : ℕ) (u v : Term) (a : Position s x
       go (n, named f, ts, z, b) =
           let held : Holds s (x .places) (Term.compound n (named f) ts) = rw z at (l .term .held) in
           let upper = functor-parts s (x .places) n (named f) (count ts) (held .0) .0 in
-          let none : getD s (x .places .compound n) 0 / 8 ≡ 0 = rw b at zero-functor in
+          let none : rest-in (getD s (x .places .compound n) 0) ≡ 0 = rw b at zero-functor in
           absurd (omega (arith, none, upper))
 
 -- Where the compound is seen by its functor's word.
 pub position-named : (s : List ℕ) (x : Setting) (p i j : ℕ) (f : Functor) (u : Term) (us : Terms) → Position s x p i j f u us
-    → getD s p 0 / 8 ≢ 0 → (g : Bytes) × (f ≡ named g)
+    → rest-in (getD s p 0) ≢ 0 → (g : Bytes) × (f ≡ named g)
 position-named s x p i j cell u us a d = absurd (d (position-functor s x p i j cell u us a))
 position-named s x p i j (named g) u us a d = (g, refl)
 
 pub position-cell : (s : List ℕ) (x : Setting) (p i j : ℕ) (f : Functor) (u : Term) (us : Terms) → Position s x p i j f u us
-    → getD s p 0 / 8 ≡ 0 → f ≡ cell
+    → rest-in (getD s p 0) ≡ 0 → f ≡ cell
 position-cell s x p i j cell u us a z = refl
 position-cell s x p i j (named g) u us a z = absurd (omega (arith, position-functor s x p i j (named g) u us a))
 

@@ -10,6 +10,7 @@ use Rattle.meaning.specs.Report.{alone, written, element-and-tail, first-argume
 use Rattle.term.specs.Cells.{number-of, Known}
 use Rattle.term.specs.Holds.{Holds}
 use Rattle.term.specs.Setting.{Setting}
+use Rattle.term.specs.Words.{rest-in}
 use Rattle.report_pairs.specs.Threaded.{full, all-full}
 use Rattle.report_pairs.specs.Sound.{Sound}
 use Rattle.report_pairs.specs.Facts.{Readable}
@@ -42,7 +43,7 @@ some-argument n f (more u us) k = (u, us, refl)
 
 -- The functor's word.
 pub stands-opens : (s : List ℕ) (text : Bytes) (x : Setting) (facts : ℕ) → Readable s text x facts → (n : ℕ) (f : Functor) (ts : Terms) (p : ℕ)
-    → StandsAt s x n f ts p → (p < length s) × Opens s text (getD s p 0 / 8) f
+    → StandsAt s x n f ts p → (p < length s) × Opens s text (rest-in (getD s p 0)) f
 unfolding Holds Known
 stands-opens s text x facts r n cell ts p a =
     let c = a .term .held .0 in

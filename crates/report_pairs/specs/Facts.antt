@@ -19,11 +19,12 @@ use Rattle.term.specs.Chains.{value-of}
 use Rattle.term.specs.Frames.{Only}
 use Rattle.term.specs.Setting.{Setting, UnitTerm, UnitStands}
 use Rattle.term.specs.Spellings.{HoldsSpellings}
+use Rattle.term.specs.Layout.{trial-region, compounds-region, pairs-told, pair-facts}
 use Rattle.report_pairs.specs.Threaded.{full, seen-after, shown}
 use Rattle.report_pairs.specs.Sound.{Sound, SoundValues}
 
 abbrev pub fact-place : Setting → ℕ → ℕ → ℕ
-fact-place x facts n = facts + 4 * x .places .pair n
+fact-place x facts n = facts + pair-facts * x .places .pair n
 
 -- A term has its chain's end in the word w: a term of the unit that is no assigned variable, with the same values applied.
 pub record Led (s : List ℕ) (x : Setting) (t : Term) (w : ℕ) : Type 0 where
@@ -42,12 +43,12 @@ EndAt s x facts n (some u) = getD s (fact-place x facts n) 0 ≢ 0 → Led s x u
 -- What both the counting and the writing of a section read: the unit's values and the ends kept, the spellings of the names. The facts stand behind the
 -- values of all pairs of the room, whose number is the trial's second word.
 pub record Readable (s : List ℕ) (text : Bytes) (x : Setting) (facts : ℕ) : Type 0 where
-  pub inside : facts + 4 * x .pairs ≤ length s
-  pub behind : 40704 + x .pairs ≤ facts
-  pub room : getD s 39937 0 ≡ x .pairs
+  pub inside : facts + pair-facts * x .pairs ≤ length s
+  pub behind : compounds-region + x .pairs ≤ facts
+  pub room : getD s pairs-told 0 ≡ x .pairs
   pub links : length (x .values) ≤ x .pairs
   pub apart : (n m : ℕ) → n < length (x .values) → m < length (x .values) → x .places .pair n ≡ x .places .pair m → n ≡ m
-  pub compound-behind : (n : ℕ) → n < x .compounds → 40704 ≤ x .places .compound n
+  pub compound-behind : (n : ℕ) → n < x .compounds → compounds-region ≤ x .places .compound n
   pub compound-before : (n : ℕ) → n < x .compounds → x .places .compound n + x .places .width n + x .pairs ≤ facts
   pub no-circle : circle (x .values) ≡ false
   pub sound : SoundValues (x .values)
@@ -86,14 +87,14 @@ abbrev pub number-seen : ℕ → List ℕ → ℕ
 number-seen n seen = if among n seen then number-in n seen else 0
 
 pub record Counting (s : List ℕ) (x : Setting) (facts : ℕ) (seen : List ℕ) : Type 0 where
-  pub given : getD s 39936 0 ≡ length seen
+  pub given : getD s trial-region 0 ≡ length seen
   pub numbers : (n : ℕ) → n < length (x .values) → getD s (fact-place x facts n + 2) 0 ≡ number-seen n seen
   pub lengths : (n : ℕ) → n < length (x .values) → LengthAt s x facts seen n (value (x .values) n)
 
 -- Only what is kept of the unit's pairs has changed, and how many numbers were given.
 pub record Changed (s s′ : List ℕ) (x : Setting) (facts : ℕ) : Type 0 where
   pub size : length s′ ≡ length s
-  pub others : (k : ℕ) → k ≢ 39936
+  pub others : (k : ℕ) → k ≢ trial-region
       → ((n : ℕ) → n < length (x .values) → (k ≢ fact-place x facts n) × (k ≢ fact-place x facts n + 1) × (k ≢ fact-place x facts n + 2))
       → getD s′ k 0 ≡ getD s k 0
 
@@ -106,5 +107,5 @@ pub record Leads (s s′ : List ℕ) (text : Bytes) (x : Setting) (facts : ℕ) 
 
 -- So many pairs have nothing kept.
 pub record Cleared (s s′ : List ℕ) (facts pairs : ℕ) : Type 0 where
-  pub only : Only facts (facts + 4 * pairs) s s′
-  pub zero : (p i : ℕ) → p < pairs → i < 3 → getD s′ (facts + 4 * p + i) 0 ≡ 0
+  pub only : Only facts (facts + pair-facts * pairs) s s′
+  pub zero : (p i : ℕ) → p < pairs → i < 3 → getD s′ (facts + pair-facts * p + i) 0 ≡ 0

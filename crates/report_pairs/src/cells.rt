@@ -2,6 +2,7 @@
 use crate::ends::end;
 use term::scratch::count;
 use term::scratch::word_at;
+use term::word::TAGS;
 use term::word::View;
 use term::word::index;
 use term::word::look;
@@ -11,15 +12,16 @@ ghost use lib.ListN.{length, getD};
 ghost use Rattle.meaning.specs.Bytes.{Bytes};
 ghost use Rattle.meaning.specs.Terms.{Functor, cell, named, Term, Terms, more};
 ghost use Rattle.term.specs.Setting.{Setting};
+ghost use Rattle.term.specs.Words.{rest-in};
 ghost use Rattle.report_pairs.specs.Facts.{Readable, Led};
 ghost use Rattle.report_pairs.specs.Walk.{Position, Found};
 
 // The number of the name of a compound's functor plus one, 0 for a list cell.
 pub fn functor(s: &[u64], p: usize) -> usize
     requires { ⌜ p < length (now s) ⌝ }
-    ensures { λ r. ⌜ r ≡ getD (now (s .entry)) p 0 / 8 ⌝ }
+    ensures { λ r. ⌜ r ≡ rest-in (getD (now (s .entry)) p 0) ⌝ }
 {
-    index(s[p] / 8)
+    index(s[p] / TAGS)
 }
 
 // What stands behind an argument of a compound: a byte, and then an argument of a compound; or a last byte.

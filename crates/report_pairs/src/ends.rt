@@ -1,5 +1,6 @@
 // What the report keeps of each pair of the run, in four words a pair behind the values: the end of the chain of values that begins with it, the
 // length of its value where it was counted in the section, its number in the section; the fourth word is not used.
+use term::layout::PAIR_FACTS;
 use term::layout::TRIAL;
 use term::word::View;
 use term::word::look;
@@ -9,33 +10,34 @@ ghost use Prim.Native.Nat.{ℕ, _+_, _-_, _*_, _/_, _%_, _≤_, _<_};
 ghost use lib.ListN.{length, getD, set};
 ghost use Rattle.meaning.specs.Bytes.{Bytes};
 ghost use Rattle.meaning.specs.Terms.{Term};
-ghost use Rattle.term.specs.Words.{view};
+ghost use Rattle.term.specs.Words.{view, tag-in, rest-in};
 ghost use Rattle.term.specs.Setting.{Setting};
+ghost use Rattle.term.specs.Layout.{pairs-told, pair-facts};
 ghost use Rattle.report_pairs.specs.Facts.{Readable, Shows, Led, LeadsOn, Counting, Leads, Cleared};
 ghost use Rattle.report_pairs.specs.Pairs.{pair-seen};
 
 // A word of a pair's four, and setting it.
 pub fn fact(s: &[u64], facts: usize, p: usize, i: usize) -> u64
-    requires { ⌜ facts + 4 * p + i < length (now s) ⌝ }
-    ensures { λ r. ⌜ r ≡ getD (now (s .entry)) (facts + 4 * p + i) 0 ⌝ }
+    requires { ⌜ facts + pair-facts * p + i < length (now s) ⌝ }
+    ensures { λ r. ⌜ r ≡ getD (now (s .entry)) (facts + pair-facts * p + i) 0 ⌝ }
 {
-    s[facts + 4 * p + i]
+    s[facts + PAIR_FACTS * p + i]
 }
 
 pub fn set_fact(s: &mut [u64], facts: usize, p: usize, i: usize, w: u64)
-    requires { ⌜ facts + 4 * p + i < length (now s) ⌝ }
-    ensures { λ r. ⌜ now (s .exit) ≡ set (now (s .entry)) (facts + 4 * p + i) w ⌝ }
+    requires { ⌜ facts + pair-facts * p + i < length (now s) ⌝ }
+    ensures { λ r. ⌜ now (s .exit) ≡ set (now (s .entry)) (facts + pair-facts * p + i) w ⌝ }
 {
-    s[facts + 4 * p + i] = w;
+    s[facts + PAIR_FACTS * p + i] = w;
 }
 
 // No pair has an end, a length or a number. All four words are set, which the compiler does as one block.
 pub fn forget(s: &mut [u64], facts: usize, pairs: usize)
-    requires { ⌜ facts + 4 * pairs ≤ length (now s) ⌝ }
+    requires { ⌜ facts + pair-facts * pairs ≤ length (now s) ⌝ }
     ensures { λ r. ⌜ Cleared (now (s .entry)) (now (s .exit)) facts pairs ⌝ }
 {
     let mut i = 0;
-    while i < 4 * pairs {
+    while i < PAIR_FACTS * pairs {
         s[facts + i] = 0;
         i += 1;
     }
@@ -43,15 +45,15 @@ pub fn forget(s: &mut [u64], facts: usize, pairs: usize)
 
 // How many pairs the room has, as it is kept for the report.
 fn pairs(s: &[u64]) -> usize
-    requires { ⌜ 39937 < length (now s) ⌝ }
-    ensures { λ r. ⌜ r ≡ getD (now (s .entry)) 39937 0 ⌝ }
+    requires { ⌜ pairs-told < length (now s) ⌝ }
+    ensures { λ r. ⌜ r ≡ getD (now (s .entry)) pairs-told 0 ⌝ }
 {
     s[TRIAL + 1] as usize
 }
 
 // The pair of a variable plus one; 0 for any other term.
 pub fn pair(w: u64) -> usize
-    ensures { λ r. ⌜ r ≡ pair-seen (view (w % 8) (w / 8)) ⌝ }
+    ensures { λ r. ⌜ r ≡ pair-seen (view (tag-in w) (rest-in w)) ⌝ }
 {
     match look(w) {
         View::Writer(p) => p + 1,
@@ -62,8 +64,8 @@ pub fn pair(w: u64) -> usize
 
 // The value of a pair.
 fn value(s: &[u64], facts: usize, p: usize) -> u64
-    requires { ⌜ (39937 < length (now s)) × (getD (now s) 39937 0 ≤ facts) × (facts + p < length (now s)) ⌝ }
-    ensures { λ r. ⌜ r ≡ getD (now (s .entry)) (facts - getD (now (s .entry)) 39937 0 + p) 0 ⌝ }
+    requires { ⌜ (pairs-told < length (now s)) × (getD (now s) pairs-told 0 ≤ facts) × (facts + p < length (now s)) ⌝ }
+    ensures { λ r. ⌜ r ≡ getD (now (s .entry)) (facts - getD (now (s .entry)) pairs-told 0 + p) 0 ⌝ }
 {
     s[facts - pairs(s) + p]
 }

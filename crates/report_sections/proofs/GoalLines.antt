@@ -14,6 +14,8 @@ use Rattle.term.specs.Holds.{Holds, HoldsFrom, CellAt}
 use Rattle.term.specs.Setting.{Setting, UnitTerm}
 use Rattle.term.proofs.Holds.{holds-alike}
 use Rattle.term.proofs.Units.{within-every}
+use Rattle.term.specs.Layout.{pair-facts}
+use Rattle.term.specs.Words.{compound-word, packed, rest-in}
 use Rattle.meaning.specs.Terms.{more}
 use Rattle.laws.proofs.Lists.Tests.{false-not-true}
 use Rattle.report_pairs.specs.Threaded.{full, seen-after, shown, shown-goals, seen-after-goals}
@@ -29,7 +31,7 @@ use Rattle.report_tallies.proofs.GoalPlaces.{own-in, own-out, own-end}
 
 -- A goal's word.
 abbrev pub word-of : Setting → ℕ → Goal → ℕ
-word-of x q h = q + 8 * x .places .compound (h .goal .number)
+word-of x q h = packed q (x .places .compound (h .goal .number))
 
 -- A term of the unit stays held when facts change.
 pub term-kept : (s s′ : List ℕ) (text : Bytes) (x : Setting) (facts : ℕ) → Readable s text x facts → Changed s s′ x facts → (t : Term) → UnitTerm s x t → UnitTerm s′ x t
@@ -44,7 +46,7 @@ term-kept s s′ text x facts r c t u =
 
 -- The list's words stay, and it lies in the scratch still.
 pub goal-kept : (s s′ : List ℕ) (text : Bytes) (x : Setting) (facts : ℕ) (g : Group) (i : ℕ) → Readable s text x facts → Changed s s′ x facts
-    → facts + 4 * x .pairs ≤ g .from → goal-in s′ g i ≡ goal-in s g i
+    → facts + pair-facts * x .pairs ≤ g .from → goal-in s′ g i ≡ goal-in s g i
 goal-kept s s′ text x facts g i r c b = changed-behind s s′ text x facts r c (goal-place g i) (omega arith)
 
 pub inside-kept : (s s′ : List ℕ) (x : Setting) (facts : ℕ) (g : Group) → Changed s s′ x facts → GroupInside s g → GroupInside s′ g
@@ -71,7 +73,7 @@ pub record Next (s₀ s : List ℕ) (text : Bytes) (x : Setting) (facts at : ℕ
   pub split : gs ≡ done ++ (goal-is ∷ left)
   pub words : own-from s₀ g q (i + 1) (g .count - (i + 1)) ≡ map (word-of x q) left
   pub counted : Counted s₀ s text x facts at (length (shown-goals (x .values) seen word done)) (seen-after-goals (x .values) seen done) to
-  pub shows : Shows s x (as-term (goal-is .goal)) (6 + 8 * (goal / 8))
+  pub shows : Shows s x (as-term (goal-is .goal)) (compound-word (rest-in goal))
 
 module _ (s₀ s : List ℕ) (text : Bytes) (x : Setting) (facts at : ℕ) (seen : List ℕ) (g : Group) (q : ℕ) (gs : List Goal) (word : Bytes) where
   pub progress-start : Counts s₀ text x facts seen at → Listed s₀ x facts g q gs → Progress s₀ s₀ text x facts at seen g q gs word at 0
@@ -136,7 +138,7 @@ module _ (s₀ s : List ℕ) (text : Bytes) (x : Setting) (facts at : ℕ) (seen
             };
           }
         where
-          word-is : goal ≡ word-of x q a → 6 + 8 * (goal / 8) ≡ 6 + 8 * x .places .compound (a .goal .number)
+          word-is : goal ≡ word-of x q a → compound-word (rest-in goal) ≡ compound-word (x .places .compound (a .goal .number))
           word-is f = let small : q < 8 = l .small in omega arith
 
 -- One goal's line more.
@@ -186,7 +188,7 @@ progress-taken s₀ s s′ text x facts at seen g q gs word to i goal r n d =
 pub goal-asks : (s₀ s : List ℕ) (text : Bytes) (x : Setting) (facts at : ℕ) (seen : List ℕ) (g : Group) (q : ℕ) (gs : List Goal) (word : Bytes) (to i : ℕ) → i < g .count
     → Counts s₀ text x facts seen at → Listed s₀ x facts g q gs → (p : Progress s₀ s text x facts at seen g q gs word to i)
     → (t : Term) × Counts s text x facts (p .counted .after) to × GroupInside s g
-    × (own q (goal-in s g i) ≡ true → Shows s x t (6 + 8 * (goal-in s g i / 8)))
+    × (own q (goal-in s g i) ≡ true → Shows s x t (compound-word (rest-in (goal-in s g i))))
 goal-asks s₀ s text x facts at seen g q gs word to i h c l p = go (own q (goal-in s g i)) refl
   where
     same : goal-in s g i ≡ goal-in s₀ g i
@@ -200,7 +202,7 @@ goal-asks s₀ s text x facts at seen g q gs word to i h c l p = go (own q (goal
 
     go : (b : Bool) → own q (goal-in s g i) ≡ b
         → (t : Term) × Counts s text x facts (p .counted .after) to × GroupInside s g
-        × (own q (goal-in s g i) ≡ true → Shows s x t (6 + 8 * (goal-in s g i / 8)))
+        × (own q (goal-in s g i) ≡ true → Shows s x t (compound-word (rest-in (goal-in s g i))))
     go true e =
         let n = progress-next s₀ s text x facts at seen g q gs word to i (goal-in s g i) h (c .readable) l same (ap (own q) (sym same) ∙ e) p in
         (as-term (n .goal-is .goal), ready, inside, λ f. n .shows)
@@ -210,7 +212,7 @@ goal-asks s₀ s text x facts at seen g q gs word to i h c l p = go (own q (goal
 pub goal-told : (s₀ s s′ : List ℕ) (text : Bytes) (x : Setting) (facts at : ℕ) (seen : List ℕ) (g : Group) (q : ℕ) (gs : List Goal) (word : Bytes) (label to i r : ℕ) → i < g .count
     → Counts s₀ text x facts seen at → Listed s₀ x facts g q gs → label ≡ length word → Progress s₀ s text x facts at seen g q gs word to i
     → (own q (goal-in s g i) ≡ false → (r ≡ to) × (s′ ≡ s))
-    → ((seen′ : List ℕ) (t : Term) → own q (goal-in s g i) ≡ true → Counts s text x facts seen′ to → Shows s x t (6 + 8 * (goal-in s g i / 8))
+    → ((seen′ : List ℕ) (t : Term) → own q (goal-in s g i) ≡ true → Counts s text x facts seen′ to → Shows s x t (compound-word (rest-in (goal-in s g i)))
     → Counted s s′ text x facts to (label + (length (shown seen′ alone (full (x .values) t)) + 1)) (seen-after seen′ (full (x .values) t)) r)
     → Progress s₀ s′ text x facts at seen g q gs word r (i + 1)
 goal-told s₀ s s′ text x facts at seen g q gs word label to i r h c l e p out into = go (own q (goal-in s g i)) refl

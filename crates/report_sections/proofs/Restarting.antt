@@ -9,8 +9,7 @@ use lib.Seq.{getD-set-same, getD-set-other}
 use Rattle.meaning.specs.Bytes.{Bytes, among, if_then_else_}
 use Rattle.meaning.specs.Terms.{Term}
 use Rattle.meaning.specs.State.{Room, Values, Goal, value}
-use Rattle.term.specs.Jobs.{query-record}
-use Rattle.term.specs.Layout.{waiters-region}
+use Rattle.term.specs.Layout.{waiters-region, trial-region, compounds-region, query-tries-word}
 use Rattle.term.specs.Setting.{Setting}
 use Rattle.term.specs.declared.state.Standing.{Standing}
 use Rattle.report_pairs.specs.Threaded.{lines-length, lines-seen}
@@ -39,7 +38,7 @@ section-kept s s′ text x facts figures t q xs actives ws fs r c a =
     }
 
 pub tallies-same : (s s′ : List ℕ) (text : Bytes) (x : Setting) (facts : ℕ) (figures : Room) (t : Standing) (q : ℕ) (xs : List Bytes) (actives ws fs : List Goal)
-    → getD s′ (query-record q + 4) 0 ≡ getD s (query-record q + 4) 0
+    → getD s′ (query-tries-word q) 0 ≡ getD s (query-tries-word q) 0
     → SectionAt s text x facts figures t q xs actives ws fs → SectionAt s′ text x facts figures t q xs actives ws fs
     → tallies-of s′ figures q t ≡ tallies-of s figures q t
 tallies-same s s′ text x facts figures t q xs actives ws fs e a b =
@@ -64,22 +63,22 @@ module _ (s : List ℕ) (text : Bytes) (x : Setting) (figures : Room) (t : Stand
   facts = waiters-region figures
 
   abbrev s₀ : List ℕ
-  s₀ = set s 39936 0
+  s₀ = set s trial-region 0
 
-  long : 40704 ≤ length s
+  long : compounds-region ≤ length s
   long = omega (arith, st .readable .inside, st .readable .behind)
 
   changed₀ : Changed s s₀ x facts
-  changed₀ = record { size = length-set s 39936 0; others = λ k d e. getD-set-other s 39936 k 0 0 d }
+  changed₀ = record { size = length-set s trial-region 0; others = λ k d e. getD-set-other s trial-region k 0 0 d }
 
   fact-stays : (n i : ℕ) → getD s₀ (fact-place x facts n + i) 0 ≡ getD s (fact-place x facts n + i) 0
-  fact-stays n i = getD-set-other s 39936 (fact-place x facts n + i) 0 0 (λ e. omega (arith, st .readable .behind))
+  fact-stays n i = getD-set-other s trial-region (fact-place x facts n + i) 0 0 (λ e. omega (arith, st .readable .behind))
 
   readable₀ : Readable s₀ text x facts
   readable₀ =
       readable-kept s s₀ text x facts (st .readable) changed₀
       (λ n h. ends-kept s s₀ text x facts (st .readable) changed₀ n h
-      (getD-set-other s 39936 (fact-place x facts n) 0 0 (λ e. omega (arith, st .readable .behind))))
+      (getD-set-other s trial-region (fact-place x facts n) 0 0 (λ e. omega (arith, st .readable .behind))))
 
   no-length : (n : ℕ) (v : Option Term) → getD s₀ (fact-place x facts n + 1) 0 ≡ 0 → LengthAt s₀ x facts [] n v
   no-length n none e = e
@@ -89,7 +88,7 @@ module _ (s : List ℕ) (text : Bytes) (x : Setting) (figures : Room) (t : Stand
   unfolding among if_then_else_
   counting₀ =
       record {
-        given = getD-set-same s 39936 0 0 (omega (arith, long));
+        given = getD-set-same s trial-region 0 0 (omega (arith, long));
         numbers = λ n h. fact-stays n 2 ∙ u .numbers n h;
         lengths = λ n h. no-length n (value (x .values) n) (fact-stays n 1 ∙ u .lengths n h);
       }
@@ -103,7 +102,7 @@ module _ (s : List ℕ) (text : Bytes) (x : Setting) (figures : Room) (t : Stand
   tallies₀ : tallies-of s₀ figures q t ≡ tallies-of s figures q t
   tallies₀ =
       tallies-same s s₀ text x facts figures t q xs actives ws fs
-      (getD-set-other s 39936 (query-record q + 4) 0 0 (λ e. omega (arith, st .here .variables .small))) (st .here) section-restarted
+      (getD-set-other s trial-region (query-tries-word q) 0 0 (λ e. omega (arith, st .here .variables .small))) (st .here) section-restarted
 
   pub section-told : (s′ : List ℕ) (at r : ℕ)
       → Counted s₀ s′ text x facts at (length (header-of q (tallies-of s₀ figures q t)) + lines-length (x .values) xs actives ws fs)
@@ -121,7 +120,7 @@ module _ (s : List ℕ) (text : Bytes) (x : Setting) (figures : Room) (t : Stand
         numbers = λ h. subst (Numbers s′ x facts) (c .exact h) (c .counting .numbers);
       }
 
-  pub long-enough : 40704 ≤ length s
+  pub long-enough : compounds-region ≤ length s
   long-enough = long
 
   -- The same of a scratch that is this one, and of facts that begin there.

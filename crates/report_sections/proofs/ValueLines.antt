@@ -12,10 +12,11 @@ use Rattle.meaning.specs.State.{Values}
 use Rattle.meaning.specs.Report.{alone}
 use Rattle.term.specs.Cells.{Known}
 use Rattle.term.specs.Holds.{Holds}
-use Rattle.term.specs.Jobs.{query-record}
 use Rattle.term.specs.Setting.{Setting, Within, Ranged}
 use Rattle.term.specs.Spellings.{HoldsSpellings, SpelledAt}
 use Rattle.term.proofs.Spellings.{holds-spellings-kept, holds-spelling-at}
+use Rattle.term.specs.Layout.{items-region, query-pairs-word, query-first-pair-word, query-variables-from}
+use Rattle.term.specs.Words.{writer-word}
 use Rattle.report_pairs.specs.Threaded.{full, seen-after, shown, shown-values, seen-after-values}
 use Rattle.report_pairs.specs.Sound.{Sound}
 use Rattle.report_pairs.specs.Facts.{Readable, Shows, Changed}
@@ -31,21 +32,21 @@ use Rattle.report_count.proofs.Lengths.{changed-below, counted-none, counted-th
 pub variables-kept : (s s′ : List ℕ) (text : Bytes) (x : Setting) (facts q : ℕ) (xs : List Bytes) → Readable s text x facts → Changed s s′ x facts
     → Variables s text x q xs → Variables s′ text x q xs
 variables-kept s s′ text x facts q xs r c v =
-    let same : (k : ℕ) → k < 5120 → getD s′ k 0 ≡ getD s k 0 =
+    let same : (k : ℕ) → k < items-region → getD s′ k 0 ≡ getD s k 0 =
     λ k h. changed-below s s′ text x facts c k (omega (arith, r .behind)) (λ e. omega arith) in
     record {
       small = v .small;
       few = v .few;
-      number = same (query-record q + 1) (omega (arith, v .small)) ∙ v .number;
-      spelled = holds-spellings-kept s s′ text (query-record q + 16) xs (λ k l h. same k (omega (arith, v .small, v .few))) (v .spelled);
-      pair = λ n h. v .pair n h ∙ ap (λ (k : ℕ). k + n) (sym (same (query-record q + 3) (omega (arith, v .small))));
+      number = same (query-pairs-word q) (omega (arith, v .small)) ∙ v .number;
+      spelled = holds-spellings-kept s s′ text (query-variables-from q) xs (λ k l h. same k (omega (arith, v .small, v .few))) (v .spelled);
+      pair = λ n h. v .pair n h ∙ ap (λ (k : ℕ). k + n) (sym (same (query-first-pair-word q) (omega (arith, v .small))));
       low = v .low;
       within = v .within;
     }
 
 -- The v-th variable is a term of the unit.
 pub shows-variable : (s : List ℕ) (text : Bytes) (x : Setting) (q : ℕ) (xs : List Bytes) (v w : ℕ) → Variables s text x q xs → v < length xs
-    → w ≡ 1 + 8 * (getD s (query-record q + 3) 0 + v) → Shows s x (Term.variable writer v) w
+    → w ≡ writer-word (getD s (query-first-pair-word q) 0 + v) → Shows s x (Term.variable writer v) w
 unfolding Holds Within Known Ranged Sound
 shows-variable s text x q xs v w vs h e =
     record {
@@ -56,10 +57,10 @@ shows-variable s text x q xs v w vs h e =
 
 -- How long its name is.
 pub name-size : (s : List ℕ) (text : Bytes) (x : Setting) (q : ℕ) (xs : List Bytes) (v : ℕ) → Variables s text x q xs → v < length xs
-    → SpelledAt text (getD s (query-record q + 16 + 2 * v + 0) 0) (getD s (query-record q + 16 + 2 * v + 1) 0) (getD xs v [])
+    → SpelledAt text (getD s (query-variables-from q + 2 * v + 0) 0) (getD s (query-variables-from q + 2 * v + 1) 0) (getD xs v [])
 name-size s text x q xs v vs h =
-    let none : query-record q + 16 + 2 * v + 0 ≡ query-record q + 16 + 2 * v = omega arith in
-    rw none (holds-spelling-at s text (query-record q + 16) v xs h (vs .spelled))
+    let none : query-variables-from q + 2 * v + 0 ≡ query-variables-from q + 2 * v = omega arith in
+    rw none (holds-spelling-at s text (query-variables-from q) v xs h (vs .spelled))
 
 -- The lengths and the pairs of one line more.
 module _ (values : Values) (seen : List ℕ) (xs : List Bytes) (v : ℕ) (h : v < length xs) where

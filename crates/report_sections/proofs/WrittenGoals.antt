@@ -11,6 +11,7 @@ use Rattle.meaning.specs.State.{Values, Goal}
 use Rattle.meaning.specs.Report.{alone, written, number-in}
 use Rattle.laws.proofs.Terms.Standing.{Stands}
 use Rattle.term.specs.Setting.{Setting, UnitTerm}
+use Rattle.term.specs.Words.{compound-word, rest-in}
 use Rattle.report_pairs.specs.Threaded.{full, written-goals}
 use Rattle.report_pairs.specs.Sound.{Sound}
 use Rattle.report_pairs.specs.Laid.{Puts}
@@ -84,7 +85,7 @@ wrote-as s x order buffer₀ buffer buffer′ at g q gs word to to′ i e f p = 
 pub record NextLine (s : List ℕ) (text : Bytes) (x : Setting) (facts : ℕ) (order : List ℕ) (buffer₀ buffer : List ℕ) (at : ℕ) (g : Group) (q : ℕ) (gs : List Goal) (word : Bytes) (to i goal : ℕ) : Type 0 where
   pub term : Term
   pub writes : Writes s text x facts order term (to + length word) (length buffer)
-  pub shows : Shows s x term (6 + 8 * (goal / 8))
+  pub shows : Shows s x term (compound-word (rest-in goal))
   pub fits : to + length word + length (written order alone (full (x .values) term)) + 1 ≤ length buffer
   pub gives : (c : List ℕ) (r : ℕ) → Puts buffer c to r (word ++ (written order alone (full (x .values) term) ++ bytes "\n"))
       → Wrote s x order buffer₀ c at g q gs word r (i + 1)
@@ -171,5 +172,5 @@ module _ (s : List ℕ) (text : Bytes) (x : Setting) (facts : ℕ) (order : List
             };
           }
         where
-          word-is : goal ≡ word-of x q a → 6 + 8 * (goal / 8) ≡ 6 + 8 * x .places .compound (a .goal .number)
+          word-is : goal ≡ word-of x q a → compound-word (rest-in goal) ≡ compound-word (x .places .compound (a .goal .number))
           word-is f = let small : q < 8 = l .small in omega arith

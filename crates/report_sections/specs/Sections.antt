@@ -6,8 +6,7 @@ use lib.ListN.{length, getD}
 use Rattle.meaning.specs.Bytes.{Bytes}
 use Rattle.meaning.specs.Terms.{as-term}
 use Rattle.meaning.specs.State.{Room, Goal}
-use Rattle.term.specs.Jobs.{query-record}
-use Rattle.term.specs.Layout.{InRange}
+use Rattle.term.specs.Layout.{InRange, pair-facts, query-pairs-word, query-first-pair-word, query-variables-from}
 use Rattle.term.specs.declared.state.Standing.{Standing}
 use Rattle.term.specs.Setting.{Setting, UnitTerm}
 use Rattle.term.specs.Spellings.{HoldsSpellings}
@@ -19,9 +18,9 @@ use Rattle.report_tallies.specs.declared.groups.Group.{Group}
 pub record Variables (s : List ℕ) (text : Bytes) (x : Setting) (q : ℕ) (xs : List Bytes) : Type 0 where
   pub small : q < 8
   pub few : length xs ≤ 16
-  pub number : getD s (query-record q + 1) 0 ≡ length xs
-  pub spelled : HoldsSpellings s text (query-record q + 16) xs
-  pub pair : (n : ℕ) → n < length xs → x .places .pair n ≡ getD s (query-record q + 3) 0 + n
+  pub number : getD s (query-pairs-word q) 0 ≡ length xs
+  pub spelled : HoldsSpellings s text (query-variables-from q) xs
+  pub pair : (n : ℕ) → n < length xs → x .places .pair n ≡ getD s (query-first-pair-word q) 0 + n
   pub low : (n : ℕ) → n < length xs → x .places .pair n ≤ 65535
   pub within : length xs ≤ length (x .values)
 
@@ -33,7 +32,7 @@ GoalsHeld s x (g ∷ gs) = UnitTerm s x (as-term (g .goal)) × Sound (as-term (g
 pub record Listed (s : List ℕ) (x : Setting) (facts : ℕ) (g : Group) (q : ℕ) (gs : List Goal) : Type 0 where
   pub small : q < 8
   pub inside : GroupInside s g
-  pub behind : facts + 4 * x .pairs ≤ g .from
+  pub behind : facts + pair-facts * x .pairs ≤ g .from
   pub words : own-from s g q 0 (g .count) ≡ map (λ h. q + 8 * x .places .compound (h .goal .number)) gs
   pub held : GoalsHeld s x gs
 

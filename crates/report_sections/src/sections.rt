@@ -7,7 +7,6 @@ ghost use Rattle.meaning.specs.Bytes.{Bytes, bytes};
 ghost use Rattle.meaning.specs.Terms.{writer, Term};
 ghost use Rattle.meaning.specs.State.{Goal};
 ghost use Rattle.meaning.specs.Report.{alone, written};
-ghost use Rattle.term.specs.Jobs.{query-record};
 ghost use Rattle.term.specs.Setting.{Setting};
 ghost use Rattle.report_pairs.specs.Threaded.{full, seen-after, shown, shown-values, seen-after-values, shown-goals, seen-after-goals};
 ghost use Rattle.report_pairs.specs.Laid.{Puts};
@@ -15,13 +14,14 @@ ghost use Rattle.report_pairs.specs.Facts.{Readable, Shows};
 ghost use Rattle.report_count.specs.Counts.{Counts, Counted};
 ghost use Rattle.report_leaves.specs.Writes.{Numbered, Writes};
 ghost use Rattle.report_tallies.specs.Groups.{goal-in, GroupInside, own as own-word};
-ghost use Rattle.term.specs.Layout.{figures};
+ghost use Rattle.term.specs.Layout.{figures, items-region, trial-region, compounds-region, query-pairs-word, query-first-pair-word, query-variables-from};
 ghost use Rattle.report_tallies.specs.Header.{header-of, tallies-of};
 ghost use Rattle.report_pairs.specs.Threaded.{written-values, lines-length, lines-seen};
 ghost use Rattle.report_sections.specs.Sections.{Variables, Listed, SectionAt};
 ghost use Rattle.report_pairs.specs.Threaded.{written-goals};
 ghost use Rattle.report_sections.specs.Whole.{SectionStands, Uncounted, Numbers, SectionCounted, section-bytes, AllIn};
 ghost use Rattle.term.specs.Layout.{waiters-region};
+ghost use Rattle.term.specs.Words.{writer-word, compound-word, rest-in};
 ghost use mathlib.Core.Bool.{true, false};
 use report_count::counting::count_term;
 use report_pairs::length::further;
@@ -40,10 +40,17 @@ use report_tallies::header::tally;
 use report_write::terms::write_term;
 use term::layout;
 use term::layout::QUERIES;
+use term::layout::QUERY_FIRST_PAIR;
+use term::layout::QUERY_PAIRS;
+use term::layout::QUERY_STRIDE;
+use term::layout::QUERY_VARIABLES;
 use term::layout::Room;
 use term::layout::TRIAL;
 use term::scratch::word_at;
 use term::state::Standing;
+use term::word::COMPOUND;
+use term::word::TAGS;
+use term::word::WRITER;
 use term::word::index;
 
 // A line: so many bytes, a term and an LF.
@@ -72,26 +79,26 @@ fn write_line(text: &[u8], s: &[u64], facts: usize, buffer: &mut [u8], at: usize
 
 // The word of the query's v-th variable.
 fn variable(s: &[u64], q: usize, v: usize) -> u64
-    requires { ⌜ (q < 8) × (v < 16) × (5120 ≤ length (now s)) × (getD (now s) (query-record q + 3) 0 ≤ 65535) ⌝ }
-    ensures { λ r. ⌜ r ≡ 1 + 8 * (getD (now (s .entry)) (query-record q + 3) 0 + v) ⌝ }
+    requires { ⌜ (q < 8) × (v < 16) × (items-region ≤ length (now s)) × (getD (now s) (query-first-pair-word q) 0 ≤ 65535) ⌝ }
+    ensures { λ r. ⌜ r ≡ writer-word (getD (now (s .entry)) (query-first-pair-word q) 0 + v) ⌝ }
 {
-    1 + 8 * (word_at(s, QUERIES + 64 * q, 3) + v as u64)
+    WRITER + TAGS * (word_at(s, QUERIES + QUERY_STRIDE * q, QUERY_FIRST_PAIR) + v as u64)
 }
 
 // The number of the query's variables.
 fn variables(s: &[u64], q: usize) -> usize
-    requires { ⌜ (q < 8) × (5120 ≤ length (now s)) ⌝ }
-    ensures { λ r. ⌜ r ≡ getD (now (s .entry)) (query-record q + 1) 0 ⌝ }
+    requires { ⌜ (q < 8) × (items-region ≤ length (now s)) ⌝ }
+    ensures { λ r. ⌜ r ≡ getD (now (s .entry)) (query-pairs-word q) 0 ⌝ }
 {
-    index(word_at(s, QUERIES + 64 * q, 1))
+    index(word_at(s, QUERIES + QUERY_STRIDE * q, QUERY_PAIRS))
 }
 
 // Where the spelling of the query's v-th variable begins, and how long it is.
 fn spelled(s: &[u64], q: usize, v: usize, i: usize) -> usize
-    requires { ⌜ (q < 8) × (v < 16) × (i < 2) × (5120 ≤ length (now s)) ⌝ }
-    ensures { λ r. ⌜ r ≡ getD (now (s .entry)) (query-record q + 16 + 2 * v + i) 0 ⌝ }
+    requires { ⌜ (q < 8) × (v < 16) × (i < 2) × (items-region ≤ length (now s)) ⌝ }
+    ensures { λ r. ⌜ r ≡ getD (now (s .entry)) (query-variables-from q + 2 * v + i) 0 ⌝ }
 {
-    index(word_at(s, QUERIES + 64 * q + 16 + 2 * v, i))
+    index(word_at(s, QUERIES + QUERY_STRIDE * q + QUERY_VARIABLES + 2 * v, i))
 }
 
 // "`NAME = value` for each pair of the query in order of first occurrence"
@@ -126,9 +133,9 @@ fn count_values(s: &mut [u64], facts: usize, at: usize, q: usize) -> usize
 
 // The word of a goal's term.
 fn goal_term(goal: u64) -> u64
-    ensures { λ r. ⌜ r ≡ 6 + 8 * (goal / 8) ⌝ }
+    ensures { λ r. ⌜ r ≡ compound-word (rest-in goal) ⌝ }
 {
-    6 + 8 * (goal / 8)
+    COMPOUND + TAGS * (goal / TAGS)
 }
 
 // The line of the i-th goal of a list, if it is one of the query's.
@@ -142,10 +149,10 @@ fn count_goal(
     i: usize,
 ) -> usize
     requires { ⌜ ((text : Bytes) × (x : Setting) × (seen : List ℕ) × (t : Term) × Counts (now s) text x facts seen at × GroupInside (now s) g × (i < g .count)
-        × (own-word q (goal-in (now s) g i) ≡ true → Shows (now s) x t (6 + 8 * (goal-in (now s) g i / 8)))) ⌝ }
+        × (own-word q (goal-in (now s) g i) ≡ true → Shows (now s) x t (compound-word (rest-in (goal-in (now s) g i))))) ⌝ }
     ensures { λ r. ⌜ (own-word q (goal-in (now (s .entry)) g i) ≡ false → (r ≡ at) × (now (s .exit) ≡ now (s .entry)))
         × ((text : Bytes) (x : Setting) (seen : List ℕ) (t : Term) → own-word q (goal-in (now (s .entry)) g i) ≡ true → Counts (now (s .entry)) text x facts seen at
-        → Shows (now (s .entry)) x t (6 + 8 * (goal-in (now (s .entry)) g i / 8))
+        → Shows (now (s .entry)) x t (compound-word (rest-in (goal-in (now (s .entry)) g i)))
         → Counted (now (s .entry)) (now (s .exit)) text x facts at (label + (length (shown seen alone (full (x .values) t)) + 1))
         (seen-after seen (full (x .values) t)) r) ⌝ }
 {
@@ -237,11 +244,11 @@ fn write_goal(
     goal: u64,
 ) -> usize
     requires { ⌜ ((x : Setting) × (order : List ℕ) × (t : Term) × Writes (now s) (now text) x facts order t (at + length (now label)) (length (now buffer))
-        × Shows (now s) x t (6 + 8 * (goal / 8))
+        × Shows (now s) x t (compound-word (rest-in goal))
         × (at + length (now label) + length (written order alone (full (x .values) t)) + 1 ≤ length (now buffer))) ⌝ }
     ensures { λ r. ⌜ ((x : Setting) (order : List ℕ) (t : Term)
         → Writes (now (s .entry)) (now (text .entry)) x facts order t (at + length (now (label .entry))) (length (now (buffer .entry)))
-        → Shows (now (s .entry)) x t (6 + 8 * (goal / 8))
+        → Shows (now (s .entry)) x t (compound-word (rest-in goal))
         → Puts (now (buffer .entry)) (now (buffer .exit)) at r (now (label .entry) ++ (written order alone (full (x .values) t) ++ bytes "\n"))) ⌝ }
 {
     let to = words(buffer, at, label);
@@ -300,8 +307,8 @@ fn write_goals(
 
 // No number is given yet.
 fn restart(s: &mut [u64])
-    requires { ⌜ 40704 ≤ length (now s) ⌝ }
-    ensures { λ r. ⌜ now (s .exit) ≡ set (now (s .entry)) 39936 0 ⌝ }
+    requires { ⌜ compounds-region ≤ length (now s) ⌝ }
+    ensures { λ r. ⌜ now (s .exit) ≡ set (now (s .entry)) trial-region 0 ⌝ }
 {
     s[TRIAL] = 0;
 }

@@ -9,6 +9,7 @@ use lib.ListN.{length, getD}
 use borrow.Author.Tests.{le-leb, leb-true, eq-eqb, ne-eqb}
 use Rattle.meaning.specs.Bytes.{if_then_else_}
 use Rattle.term.specs.States.{round, standing}
+use Rattle.term.specs.Words.{tag-in}
 use Rattle.report_tallies.specs.Groups.{goal-place, goal-in, GroupInside, own, own-from}
 use Rattle.report_tallies.specs.declared.groups.Group.{Group}
 
@@ -45,7 +46,7 @@ pub own-none : (q w : ℕ) → w ≡ 0 → own q w ≡ false
 unfolding own if_then_else_
 own-none q w e = rw (eq-eqb w 0 e)
 
-pub own-some : (q w : ℕ) → (w ≡ 0 → ⊥) → own q w ≡ eqb (w % 8) q
+pub own-some : (q w : ℕ) → (w ≡ 0 → ⊥) → own q w ≡ eqb (tag-in w) q
 unfolding own if_then_else_
 own-some q w d = rw (ne-eqb w 0 d)
 

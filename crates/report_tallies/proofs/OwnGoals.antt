@@ -30,13 +30,14 @@ use Rattle.term.specs.States.{
   HoldsState,
 }
 use Rattle.term.specs.declared.state.Standing.{Standing}
+use Rattle.term.specs.Words.{packed, tag-in}
 use Rattle.report_tallies.specs.Groups.{goal-place, goal-in, GroupInside, own, goals-from, own-from, active-group, waiting-group, failed-group}
 use Rattle.report_tallies.specs.declared.groups.Group.{Group}
 use Rattle.report_tallies.proofs.GoalPlaces.{round-below, round-beyond}
 
 -- A query's word among words.
 abbrev rests : ℕ → ℕ → Bool
-rests q w = eqb (w % 8) q
+rests q w = eqb (tag-in w) q
 
 -- A query's goals from a place on are those of the goals there.
 own-one : (q w : ℕ) (l : List ℕ) → (if own q w then w ∷ l else l) ≡ those (rests q) (standing w) ++ l
@@ -122,10 +123,10 @@ module _ (s : List ℕ) (names : List Bytes) (figures : Room) (atlas : Atlas) (u
   unfolding Within as-term
   goal-positive g stands = omega (arith, lies .compound-behind (g .query) (g .goal .number) (stands .query) (stands .term .of .within .0))
 
-  goal-rests : (g : Goal) → GoalStands s figures atlas units g → goal-word atlas g % 8 ≡ g .query
+  goal-rests : (g : Goal) → GoalStands s figures atlas units g → tag-in (goal-word atlas g) ≡ g .query
   goal-rests g stands = let small : g .query < 8 = omega (arith, stands .query) in remainder (g .query) (atlas (g .query) .compound (g .goal .number)) small
     where
-      remainder : (q place : ℕ) → q < 8 → (q + 8 * place) % 8 ≡ q
+      remainder : (q place : ℕ) → q < 8 → tag-in (packed q place) ≡ q
       remainder q place h = omega arith
 
   pub goal-words-positive : (gs : List Goal) → AllStand s figures atlas units gs → Each (λ w. 0 < w) (map (goal-word atlas) gs)

@@ -9,6 +9,7 @@ use Rattle.meaning.specs.State.{Room}
 use Rattle.term.specs.States.{round, standing}
 use Rattle.term.specs.Layout.{queue-region, waiting-region, failed-region}
 use Rattle.term.specs.declared.state.Standing.{Standing}
+use Rattle.term.specs.Words.{tag-in}
 use Rattle.report_tallies.specs.declared.groups.Group.{Group}
 
 -- The word of a list's i-th place.
@@ -25,7 +26,7 @@ pub record GroupInside (s : List ℕ) (g : Group) : Type 0 where
 
 -- A goal's word has its query's place for a remainder by 8; 0 is no goal.
 unfoldable pub own : ℕ → ℕ → Bool
-own q w = if eqb w 0 then false else eqb (w % 8) q
+own q w = if eqb w 0 then false else eqb (tag-in w) q
 
 -- The goals of so many places from the i-th on, and those of them that are a query's.
 unfoldable pub goals-from : List ℕ → Group → ℕ → ℕ → List ℕ

@@ -5,10 +5,10 @@ use lib.ListN.{length, getD}
 use Rattle.meaning.specs.Bytes.{Bytes, bytes, decimal}
 use Rattle.meaning.specs.State.{Room}
 use Rattle.meaning.specs.Report.{verdict-bytes}
-use Rattle.term.specs.Jobs.{query-record}
 use Rattle.term.specs.States.{verdict-of}
 use Rattle.term.specs.declared.state.Standing.{Standing}
 use Rattle.term.specs.declared.state.Verdict.{Verdict as Told}
+use Rattle.term.specs.Layout.{query-tries-word}
 use Rattle.report_tallies.specs.Groups.{GroupInside, own-from, active-group, waiting-group, failed-group}
 use Rattle.report_tallies.specs.declared.header.Tallies.{Tallies}
 
@@ -16,7 +16,7 @@ use Rattle.report_tallies.specs.declared.header.Tallies.{Tallies}
 abbrev pub tallies-of : List ℕ → Room → ℕ → Standing → Tallies
 tallies-of s room q t =
     record {
-      tries = getD s (query-record q + 4) 0;
+      tries = getD s (query-tries-word q) 0;
       active = length (own-from s (active-group room t) q 0 (t .active));
       waiting = length (own-from s (waiting-group room t) q 0 (t .log));
       failed = length (own-from s (failed-group room t) q 0 (t .failed));

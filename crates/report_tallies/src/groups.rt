@@ -8,6 +8,7 @@ use term::layout;
 use term::layout::Room;
 use term::scratch::word_at;
 use term::state::Standing;
+use term::word::TAGS;
 use term::word::index;
 
 // So many goals of one of the three lists: their words stand from a place on, so many words apart, in a ring of so many, from a first one on.
@@ -38,7 +39,7 @@ pub fn own(goal: u64, q: usize) -> bool
     if goal == 0 {
         return false;
     }
-    index(goal % 8) == q
+    index(goal % TAGS) == q
 }
 
 // How many goals of the list are the query's.

@@ -4,7 +4,7 @@ ghost use mathlib.Core.List.{_++_};
 ghost use Prim.Native.Nat.{_+_, _*_, _≤_, _<_};
 ghost use lib.ListN.{length, getD};
 ghost use Rattle.meaning.specs.Bytes.{decimal as in-decimal};
-ghost use Rattle.term.specs.Layout.{figures, InRange};
+ghost use Rattle.term.specs.Layout.{figures, InRange, compounds-region};
 ghost use Rattle.report_pairs.specs.Laid.{Puts};
 ghost use Rattle.report_tallies.specs.Header.{tallies-of, GroupsInside, header-of, run-words-of, run-line-of};
 use crate::groups::active;
@@ -16,6 +16,8 @@ use report_put::put::decimal;
 use report_put::put::put;
 use report_put::put::words;
 use term::layout::QUERIES;
+use term::layout::QUERY_STRIDE;
+use term::layout::QUERY_TRIES;
 use term::layout::Room;
 use term::scratch::word_at;
 use term::state::Standing;
@@ -31,11 +33,11 @@ pub struct Tallies {
 }
 
 pub fn tally(s: &[u64], room: Room, q: usize, t: Standing) -> Tallies
-    requires { ⌜ InRange (figures room) × GroupsInside (now s) (figures room) t × (q < 8) × (40704 ≤ length (now s)) ⌝ }
+    requires { ⌜ InRange (figures room) × GroupsInside (now s) (figures room) t × (q < 8) × (compounds-region ≤ length (now s)) ⌝ }
     ensures { λ r. ⌜ r ≡ tallies-of (now (s .entry)) (figures room) q t ⌝ }
 {
     Tallies {
-        tries: index(word_at(s, QUERIES + 64 * q, 4)),
+        tries: index(word_at(s, QUERIES + QUERY_STRIDE * q, QUERY_TRIES)),
         active: number(s, active(room, t), q),
         waiting: number(s, waiting(room, t), q),
         failed: number(s, failed(room, t), q),

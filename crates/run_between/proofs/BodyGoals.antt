@@ -21,6 +21,7 @@ use Rattle.term.specs.Holds.{Holds}
 use Rattle.term.specs.Jobs.{GoalsKnown}
 use Rattle.term.specs.Setting.{Setting, Within, AllWithin, Ranged, AllRanged, UnitTerm}
 use Rattle.term.specs.States.{Atlas, setting, setting-at, goal-word, GoalStands, AllStand}
+use Rattle.term.specs.Words.{packed}
 use Rattle.run_between.specs.Extended.{replaced-at}
 use Rattle.run_effects.specs.Build.{Copies}
 use Rattle.run_effects.specs.Reducing.{GoalsHeld, GoalsWithin}
@@ -129,7 +130,7 @@ module _ (s s′ : List ℕ) (names : List Bytes) (figures : Room) (atlas : Atla
       let e : replaced-at atlas q places q .compound (c₀ + g .number) ≡ places .compound (c₀ + g .number) =
       ap (λ (x : Places). x .compound (c₀ + g .number)) (replaced-there atlas q places)
       in
-      let first : q + 8 * replaced-at atlas q places q .compound (c₀ + g .number) ≡ q + 8 * places .compound (c₀ + g .number) = ap (λ n. q + 8 * n) e in
+      let first : packed q (replaced-at atlas q places q .compound (c₀ + g .number)) ≡ packed q (places .compound (c₀ + g .number)) = ap (λ n. q + 8 * n) e in
       let later = body-words-of gs in
       cc
 

@@ -7,6 +7,7 @@ use borrow.Author.Tests.{eq-eqb, ne-eqb}
 use Rattle.meaning.specs.Bytes.{if_then_else_}
 use Rattle.term.specs.Cells.{Places}
 use Rattle.term.specs.States.{Atlas}
+use Rattle.term.specs.Layout.{compounds-region, compound-words}
 use Rattle.run_effects.specs.Build.{Item, Copies, Moved}
 use Rattle.run_between.specs.Extended.{extended, replaced-at}
 use Rattle.run_queues.proofs.Deciding.{if-below, if-beyond}
@@ -14,9 +15,9 @@ use Rattle.run_between.proofs.Growing.{AgreeBelow}
 
 -- An item's compounds are copied to words from the first free one up to the next that is, no further on than eight words for each compound charged.
 pub record CopiedTo (y : Copies) (cells cells′ charged : ℕ) : Type 0 where
-  pub behind : 40704 ≤ cells
+  pub behind : compounds-region ≤ cells
   pub order : cells ≤ cells′
-  pub fit : cells′ ≤ 40704 + 8 * charged
+  pub fit : cells′ ≤ compounds-region + compound-words * charged
   pub at : (n : ℕ) → (cells ≤ y .at n) × (y .at n + y .width n ≤ cells′)
 
 pub extended-agrees : (places : Places) (p c pair : ℕ) (y : Copies) → AgreeBelow p c places (extended places p c pair y)

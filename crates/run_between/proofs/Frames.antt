@@ -10,8 +10,8 @@ use lib.Seq.{getD-set-same, getD-set-other}
 use Rattle.meaning.specs.Bytes.{Bytes}
 use Rattle.meaning.specs.Terms.{Term, Query, as-term}
 use Rattle.meaning.specs.State.{Room, QueryUnit, Goal, Waiting, value, no-unit, unit-at}
-use Rattle.term.specs.Jobs.{query-record, EachFrom}
-use Rattle.term.specs.Layout.{values-region, queue-region, waiting-region, failed-region}
+use Rattle.term.specs.Jobs.{EachFrom}
+use Rattle.term.specs.Layout.{values-region, queue-region, waiting-region, failed-region, compounds-region, query-first-pair-word, query-tries-word}
 use Rattle.term.specs.Setting.{Setting, OfUnit, UnitStands}
 use Rattle.term.specs.States.{Atlas, setting-at, Lies, UnitsStand, FirstPair, GoalStands, AllStand, logged, QueueStands, FailedStand, WaitingStand}
 use Rattle.term.proofs.Holds.{EveryValue, holds-value-alike}
@@ -68,7 +68,7 @@ units-set units q u h v c = record {
 -- The words of the compounds, which lie before a first free word, and of the values stay.
 pub record UnitsKept (figures : Room) (free : ℕ) (s s′ : List ℕ) : Type 0 where
   pub size : length s′ ≡ length s
-  pub cells : (k : ℕ) → 40704 ≤ k → k < free → getD s′ k 0 ≡ getD s k 0
+  pub cells : (k : ℕ) → compounds-region ≤ k → k < free → getD s′ k 0 ≡ getD s k 0
   pub values : (k : ℕ) → values-region figures ≤ k → k < values-region figures + figures .pairs → getD s′ k 0 ≡ getD s k 0
 
 -- The compounds lie before the values.
@@ -126,7 +126,7 @@ module _ (s s′ : List ℕ) (names : List Bytes) (figures : Room) (atlas : Atla
 -- The units stand: their values, and their tries where those words stay.
 pub units-kept : (s s′ : List ℕ) (names : List Bytes) (figures : Room) (atlas : Atlas) (units : List QueryUnit) (pairs compounds cells : ℕ)
     → Lies names figures atlas units pairs compounds cells → UnitsKept figures cells s s′
-    → ((k : ℕ) → k < length units → getD s′ (query-record k + 4) 0 ≡ getD s (query-record k + 4) 0)
+    → ((k : ℕ) → k < length units → getD s′ (query-tries-word k) 0 ≡ getD s (query-tries-word k) 0)
     → UnitsStand s figures atlas units → UnitsStand s′ figures atlas units
 units-kept s s′ names figures atlas units pairs compounds cells lies kept own h = record {
   unit = λ k l. unit-kept s s′ names figures atlas units units pairs compounds cells lies kept (units-same units) k l (h .unit k l);
@@ -137,8 +137,8 @@ units-kept s s′ names figures atlas units pairs compounds cells lies kept own 
 pub units-tried : (s s′ : List ℕ) (names : List Bytes) (figures : Room) (atlas : Atlas) (units : List QueryUnit) (pairs compounds cells : ℕ)
     → Lies names figures atlas units pairs compounds cells → UnitsKept figures cells s s′ → (q : ℕ) (u : QueryUnit) → q < length units
     → u .values ≡ unit-at q units .values → u .compounds ≡ unit-at q units .compounds → u .tries ≡ unit-at q units .tries + 1
-    → ((k : ℕ) → k < length units → (k ≡ q → ⊥) → getD s′ (query-record k + 4) 0 ≡ getD s (query-record k + 4) 0)
-    → getD s′ (query-record q + 4) 0 ≡ getD s (query-record q + 4) 0 + 1
+    → ((k : ℕ) → k < length units → (k ≡ q → ⊥) → getD s′ (query-tries-word k) 0 ≡ getD s (query-tries-word k) 0)
+    → getD s′ (query-tries-word q) 0 ≡ getD s (query-tries-word q) 0 + 1
     → UnitsStand s figures atlas units → UnitsStand s′ figures atlas (set units q u)
 unfolding unit-at
 units-tried s s′ names figures atlas units pairs compounds cells lies kept q u inside v c e others own h =
@@ -150,14 +150,14 @@ units-tried s s′ names figures atlas units pairs compounds cells lies kept q u
       tries = λ k l. tries-now k (omega (arith, alike .number));
     }
   where
-    tries-now : (k : ℕ) → k < length units → getD s′ (query-record k + 4) 0 ≡ unit-at k (set units q u) .tries
+    tries-now : (k : ℕ) → k < length units → getD s′ (query-tries-word k) 0 ≡ unit-at k (set units q u) .tries
     tries-now k l = by-place k q
         (λ f. rw (f, getD-set-same units q u no-unit inside) (omega (arith, own, h .tries q inside, e)))
         (λ f. rw (getD-set-other units q k u no-unit f) (others k l f ∙ h .tries k l))
 
 -- Where the queries' own pairs begin.
 pub first-pairs-kept : (s s′ : List ℕ) (atlas : Atlas) (queries : List Query) → length queries ≤ 8
-    → ((k : ℕ) → k < 8 → getD s′ (query-record k + 3) 0 ≡ getD s (query-record k + 3) 0)
+    → ((k : ℕ) → k < 8 → getD s′ (query-first-pair-word k) 0 ≡ getD s (query-first-pair-word k) 0)
     → EachFrom (FirstPair s atlas) 0 queries → EachFrom (FirstPair s′ atlas) 0 queries
 first-pairs-kept s s′ atlas queries few own h =
     each-map (FirstPair s atlas) (FirstPair s′ atlas) 0 queries

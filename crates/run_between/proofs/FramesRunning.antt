@@ -13,14 +13,15 @@ use Rattle.laws.proofs.Circle.{run-no-circle}
 use Rattle.laws.proofs.Lists.Sums.{sum}
 use Rattle.laws.proofs.Runs.{steps-are-the-tries, charged-pairs-are-the-units}
 use Rattle.laws.proofs.Runs.Charges.{run-units}
-use Rattle.term.specs.Jobs.{query-record, JobKept}
-use Rattle.term.specs.Layout.{values-region, waiters-region, sets-region, marks-region, queue-region, waiting-region, need-of}
+use Rattle.term.specs.Jobs.{JobKept}
+use Rattle.term.specs.Layout.{values-region, waiters-region, sets-region, marks-region, queue-region, waiting-region, need-of, compounds-region, query-record, query-first-pair-word, query-tries-word}
 use Rattle.term.specs.Setting.{Within}
 use Rattle.term.specs.Chains.{EndsStand}
 use Rattle.term.specs.States.{Atlas, setting-at, goal-word, ring, GoalStands, AllStand, QueueStands, HoldsState}
 use Rattle.term.specs.declared.state.Standing.{Standing}
 use Rattle.term.proofs.Chains.{chains-end}
 use Rattle.term.proofs.Jobs.{holds-job-kept}
+use Rattle.term.specs.Words.{packed, tag-in, rest-in}
 use Rattle.run_trial.specs.Choosing.{Trying, MarksBelow, TrialOnly}
 use Rattle.run_queues.specs.Log.{Slot}
 use Rattle.run_between.specs.Running.{RunOnly, AllEnds, Running, GroundMarks}
@@ -33,9 +34,9 @@ use Rattle.run_queues.proofs.Waking.{log-kept}
 -- The words that a state reads stay.
 pub record StateKept (figures : Room) (s s′ : List ℕ) : Type 0 where
   pub size : length s′ ≡ length s
-  pub first-pairs : (q : ℕ) → q < 8 → getD s′ (query-record q + 3) 0 ≡ getD s (query-record q + 3) 0
-  pub tries : (q : ℕ) → q < 8 → getD s′ (query-record q + 4) 0 ≡ getD s (query-record q + 4) 0
-  pub units : (k : ℕ) → 40704 ≤ k → k < waiters-region figures → getD s′ k 0 ≡ getD s k 0
+  pub first-pairs : (q : ℕ) → q < 8 → getD s′ (query-first-pair-word q) 0 ≡ getD s (query-first-pair-word q) 0
+  pub tries : (q : ℕ) → q < 8 → getD s′ (query-tries-word q) 0 ≡ getD s (query-tries-word q) 0
+  pub units : (k : ℕ) → compounds-region ≤ k → k < waiters-region figures → getD s′ k 0 ≡ getD s k 0
   pub goals : (k : ℕ) → queue-region figures ≤ k → k < need-of figures → getD s′ k 0 ≡ getD s k 0
 
 pub state-units-kept : (figures : Room) (s s′ : List ℕ) (cells : ℕ) → cells ≤ values-region figures → StateKept figures s s′
@@ -94,7 +95,7 @@ module _ (s : List ℕ) (text : Bytes) (names : List Bytes) (j : Job) (figures :
   few-units = omega (arith, run-units j limit figures, r .held .few-queries)
 
   -- A query's tries are among the steps.
-  pub tries-below : (k : ℕ) → k < length (run j limit figures .state .units) → getD s (query-record k + 4) 0 ≤ t .steps
+  pub tries-below : (k : ℕ) → k < length (run j limit figures .state .units) → getD s (query-tries-word k) 0 ≤ t .steps
   tries-below k h =
       omega (
         arith,
@@ -130,12 +131,12 @@ module _ (s : List ℕ) (text : Bytes) (names : List Bytes) (j : Job) (figures :
   }
 
 -- What the choice changes: the trial's region and the marks.
-module _ (figures : Room) (s s′ : List ℕ) (only : TrialOnly 40704 (marks-region figures) (figures .pairs) s s′) where
+module _ (figures : Room) (s s′ : List ℕ) (only : TrialOnly compounds-region (marks-region figures) (figures .pairs) s s′) where
   pub trial-state-kept : StateKept figures s s′
   trial-state-kept = record {
     size = only .size;
-    first-pairs = λ q h. only .same (query-record q + 3) (inl (omega arith)) (inl (omega arith));
-    tries = λ q h. only .same (query-record q + 4) (inl (omega arith)) (inl (omega arith));
+    first-pairs = λ q h. only .same (query-first-pair-word q) (inl (omega arith)) (inl (omega arith));
+    tries = λ q h. only .same (query-tries-word q) (inl (omega arith)) (inl (omega arith));
     units = λ k a b. only .same k (inr (omega arith)) (inl (omega arith));
     goals = λ k a b. only .same k (inr (omega arith)) (inr (omega arith));
   }
@@ -167,7 +168,7 @@ run-only-then figures s t u a b = record {
 }
 
 pub running-tried : (s s′ : List ℕ) (text : Bytes) (names : List Bytes) (j : Job) (figures : Room) (limit : ℕ) (atlas : Atlas) (slots : List Slot) (t : Standing)
-    (stamp stamp′ : ℕ) → Running s text names j figures limit atlas slots t stamp → TrialOnly 40704 (marks-region figures) (figures .pairs) s s′
+    (stamp stamp′ : ℕ) → Running s text names j figures limit atlas slots t stamp → TrialOnly compounds-region (marks-region figures) (figures .pairs) s s′
     → MarksBelow s′ (marks-region figures) (figures .pairs) stamp′ → GroundMarks s′ figures atlas (run j limit figures .state .units)
     → Running s′ text names j figures limit atlas slots t stamp′
 running-tried s s′ text names j figures limit atlas slots t stamp stamp′ r only marks grounds =
@@ -208,14 +209,14 @@ module _ (s : List ℕ) (names : List Bytes) (figures : Room) (queries : List Qu
   front-number =
       goal-within (length (unit-at (g .query) (state .units) .values)) (unit-at (g .query) (state .units) .compounds) g (front-stands .term .of .within)
 
-  pub front-place : 40704 ≤ atlas (g .query) .compound (g .goal .number)
+  pub front-place : compounds-region ≤ atlas (g .query) .compound (g .goal .number)
   front-place = h .lies .compound-behind (g .query) (g .goal .number) (front-stands .query) front-number
 
 -- A goal's word taken apart.
-pub word-query : (q n : ℕ) → q < 8 → (q + 8 * n) % 8 ≡ q
+pub word-query : (q n : ℕ) → q < 8 → tag-in (packed q n) ≡ q
 word-query q n h = omega arith
 
-pub word-place : (q n : ℕ) → q < 8 → (q + 8 * n) / 8 ≡ n
+pub word-place : (q n : ℕ) → q < 8 → rest-in (packed q n) ≡ n
 word-place q n h = omega arith
 
 -- The ends of a query's own unit.

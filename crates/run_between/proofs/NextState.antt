@@ -22,8 +22,8 @@ use Rattle.laws.proofs.Runs.Counts.{within-says, after-within}
 use Rattle.laws.proofs.Circle.{run-no-circle, step-values-stay}
 use Rattle.laws.proofs.Single.{reduction-assigns-once}
 use Rattle.laws.proofs.Trial.Chosen.{reduces-agrees}
-use Rattle.term.specs.Jobs.{query-record, GoalsKnown, EachFrom, JobKept}
-use Rattle.term.specs.Layout.{values-region, waiters-region, sets-region, marks-region, ends-region, queue-region, waiting-region, failed-region, need-of}
+use Rattle.term.specs.Jobs.{GoalsKnown, EachFrom, JobKept}
+use Rattle.term.specs.Layout.{values-region, waiters-region, sets-region, marks-region, ends-region, queue-region, waiting-region, failed-region, need-of, trial-region, compounds-region, query-tries-word}
 use Rattle.term.specs.States.{Atlas, setting, goal-word, ring, UnitsStand, FirstPair, AllStand, QueueStands, WaitingStand, FailedStand, HoldsState}
 use Rattle.term.specs.declared.state.Standing.{Standing}
 use Rattle.term.proofs.Jobs.{holds-job-kept}
@@ -53,12 +53,12 @@ use Rattle.run_between.proofs.WaitingPairs.{OwnReaders, waiting-readers
 pub record Reduced (s s′ : List ℕ) (figures : Room) (atlas : Atlas) (units : List QueryUnit) (q P C cells cells′ : ℕ) (y : Copies) (c : Clause) (list : List Entry) (slots : List Slot)
     (zs : List ℕ) (front active : ℕ) : Type 0 where
   pub only : RunOnly figures s s′
-  pub tried : getD s′ (query-record q + 4) 0 ≡ getD s (query-record q + 4) 0 + 1
-  pub tries : (k : ℕ) → k < 8 → (k ≡ q → ⊥) → getD s′ (query-record k + 4) 0 ≡ getD s (query-record k + 4) 0
+  pub tried : getD s′ (query-tries-word q) 0 ≡ getD s (query-tries-word q) 0 + 1
+  pub tries : (k : ℕ) → k < 8 → (k ≡ q → ⊥) → getD s′ (query-tries-word k) 0 ≡ getD s (query-tries-word k) 0
   pub copied : CopiedTo y cells cells′ (C + c .compounds)
-  pub older : (k : ℕ) → 40704 ≤ k → k < cells → getD s′ k 0 ≡ getD s k 0
+  pub older : (k : ℕ) → compounds-region ≤ k → k < cells → getD s′ k 0 ≡ getD s k 0
   pub others : (z : ℕ) → z < P → NoEntry (atlas q) z list → getD s′ (values-region figures + z) 0 ≡ getD s (values-region figures + z) 0
-  pub head : (a : ℕ) → a < c .pairs → getD s′ (values-region figures + (P + a)) 0 ≡ getD s (39936 + a) 0
+  pub head : (a : ℕ) → a < c .pairs → getD s′ (values-region figures + (P + a)) 0 ≡ getD s (trial-region + a) 0
   pub entries : EntriesGiven s′ (atlas q) (enlarged (atlas q) (unit-at q units) P y) (values-region figures)
       (length (unit-at q units .values)) (unit-at q units .compounds) list
   pub goals : GoalsHeld s′ (enlarged (atlas q) (unit-at q units) P y) (length (unit-at q units .values)) (unit-at q units .compounds) (c .body)

@@ -19,6 +19,7 @@ use Rattle.term.specs.Cells.{Places}
 use Rattle.term.specs.Holds.{Holds, HoldsValue}
 use Rattle.term.specs.Setting.{Setting, OfUnit, UnitTerm, UnitStands}
 use Rattle.term.specs.States.{setting}
+use Rattle.term.specs.Layout.{trial-region}
 use Rattle.run_compare.specs.Gifts.{Entry, assignments}
 use Rattle.run_compare.specs.Compare.{Gave, HeadTerm}
 use Rattle.run_trial.proofs.Once.{once-apart, assigned-is, to-clause}
@@ -49,7 +50,7 @@ pub record UnitReduced (s s′ : List ℕ) (figures : Room) (unit : QueryUnit) (
   pub grown : Grown s s′ (setting figures at unit) (setting figures (enlarged at unit P y) (after-unit c given unit))
   pub inside : from + figures .pairs ≤ length s′
   pub others : (z : ℕ) → z < P → NoEntry at z (gave .list) → getD s′ (from + z) 0 ≡ getD s (from + z) 0
-  pub head : (a : ℕ) → a < c .pairs → getD s′ (from + (P + a)) 0 ≡ getD s (39936 + a) 0
+  pub head : (a : ℕ) → a < c .pairs → getD s′ (from + (P + a)) 0 ≡ getD s (trial-region + a) 0
   pub entries : EntriesGiven s′ at (enlarged at unit P y) from (length (unit .values)) (unit .compounds) (gave .list)
 
 module _ (s s′ : List ℕ) (figures : Room) (unit : QueryUnit) (at : Places) (from P : ℕ) (y : Copies) (k n : ℕ) (c : Clause) (given : List Assignment)

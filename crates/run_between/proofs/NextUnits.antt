@@ -11,8 +11,8 @@ use Rattle.meaning.specs.State.{Room, QueryUnit, Goal, unit-at}
 use Rattle.meaning.specs.Compare.{Assignment}
 use Rattle.laws.proofs.Trial.Values.{unit-at-set-same, unit-at-set-other, length-values-after}
 use Rattle.term.specs.Cells.{Places}
-use Rattle.term.specs.Jobs.{query-record, EachFrom}
-use Rattle.term.specs.Layout.{values-region}
+use Rattle.term.specs.Jobs.{EachFrom}
+use Rattle.term.specs.Layout.{values-region, compounds-region, query-first-pair-word, query-tries-word}
 use Rattle.term.specs.Setting.{Within, UnitStands}
 use Rattle.term.specs.States.{Atlas, setting, setting-at, goal-word, Lies, UnitsStand, FirstPair, GoalStands, AllStand}
 use Rattle.run_effects.specs.Build.{Copies}
@@ -39,7 +39,7 @@ pub record Enlarges (s s′ : List ℕ) (names : List Bytes) (figures : Room) (a
   pub compounds-fit : C + c .compounds ≤ figures .compounds
   pub size : length s′ ≡ length s
   pub copied : CopiedTo y cells cells′ (C + c .compounds)
-  pub older : (k : ℕ) → 40704 ≤ k → k < cells → getD s′ k 0 ≡ getD s k 0
+  pub older : (k : ℕ) → compounds-region ≤ k → k < cells → getD s′ k 0 ≡ getD s k 0
 
 module _ (s s′ : List ℕ) (names : List Bytes) (figures : Room) (atlas : Atlas) (units : List QueryUnit) (q P C cells cells′ : ℕ) (y : Copies) (c : Clause) (given : List Assignment)
     (r : Enlarges s s′ names figures atlas units q P C cells cells′ y c) where
@@ -191,7 +191,7 @@ module _ (s s′ : List ℕ) (names : List Bytes) (figures : Room) (atlas : Atla
   apart k l n m h i (newer-pair a d f g o) (older-pair b e) same = absurd (omega (arith, r .lies .pair-below l m i b))
   apart k l n m h i (newer-pair a d f g o) (newer-pair a′ d′ f′ g′ o′) same = (f ∙ sym f′, omega arith)
 
-  behind-first : (k n : ℕ) → k < length units → CompoundAt k n → 40704 ≤ atlas′ k .compound n
+  behind-first : (k n : ℕ) → k < length units → CompoundAt k n → compounds-region ≤ atlas′ k .compound n
   behind-first k n h (older-compound b e f) = omega (arith, r .lies .compound-behind k n h b)
   behind-first k n h (newer-compound a e f) = omega (arith, r .copied .behind, r .copied .at a .0)
 
@@ -225,8 +225,8 @@ module _ (s s′ : List ℕ) (names : List Bytes) (figures : Room) (atlas : Atla
   pub units-stand : UnitStands s′ (setting figures (enlarged (atlas q) (unit-at q units) P y) (after-unit c given (unit-at q units))) (values-region figures)
       → ((k n : ℕ) → k < length units → (k ≡ q → ⊥) → n < length (unit-at k units .values)
       → getD s′ (values-region figures + atlas k .pair n) 0 ≡ getD s (values-region figures + atlas k .pair n) 0)
-      → getD s′ (query-record q + 4) 0 ≡ getD s (query-record q + 4) 0 + 1
-      → ((k : ℕ) → k < length units → (k ≡ q → ⊥) → getD s′ (query-record k + 4) 0 ≡ getD s (query-record k + 4) 0)
+      → getD s′ (query-tries-word q) 0 ≡ getD s (query-tries-word q) 0 + 1
+      → ((k : ℕ) → k < length units → (k ≡ q → ⊥) → getD s′ (query-tries-word k) 0 ≡ getD s (query-tries-word k) 0)
       → UnitsStand s figures atlas units → UnitsStand s′ figures atlas′ units′
   units-stand this others tried tries u =
       record {
@@ -240,7 +240,7 @@ module _ (s s′ : List ℕ) (names : List Bytes) (figures : Room) (atlas : Atla
         tries = λ k h. tries-now k (omega (arith, as-many));
       }
     where
-      tries-now : (k : ℕ) → k < length units → getD s′ (query-record k + 4) 0 ≡ unit-at k units′ .tries
+      tries-now : (k : ℕ) → k < length units → getD s′ (query-tries-word k) 0 ≡ unit-at k units′ .tries
       tries-now k h = by-place k q
           (λ e. rw (e, unit-at-set-same units q (after-unit c given (unit-at q units)) (r .inside)) (omega (arith, tried, u .tries q (r .inside))))
           (λ e. rw (unit-at-set-other units q k (after-unit c given (unit-at q units)) e) (tries k h e ∙ u .tries k h))
@@ -248,7 +248,7 @@ module _ (s s′ : List ℕ) (names : List Bytes) (figures : Room) (atlas : Atla
   -- Where the queries' own pairs begin.
   pub first-pairs-after : (queries : List Query) → length queries ≡ length units → length queries ≤ 8
       → ((k : ℕ) → k < length queries → length (getD queries k no-query .variables) ≤ length (unit-at k units .values))
-      → ((k : ℕ) → k < 8 → getD s′ (query-record k + 3) 0 ≡ getD s (query-record k + 3) 0)
+      → ((k : ℕ) → k < 8 → getD s′ (query-first-pair-word k) 0 ≡ getD s (query-first-pair-word k) 0)
       → EachFrom (FirstPair s atlas) 0 queries → EachFrom (FirstPair s′ atlas′) 0 queries
   first-pairs-after queries number few own same e =
       each-map-at (FirstPair s atlas) (FirstPair s′ atlas′) no-query 0 queries

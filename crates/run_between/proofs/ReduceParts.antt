@@ -21,8 +21,8 @@ use Rattle.laws.proofs.Runs.Counts.{within-says}
 use Rattle.laws.proofs.Single.{reduction-assigns-once}
 use Rattle.laws.proofs.Trial.Chosen.{reduces-agrees}
 use Rattle.term.specs.Cells.{Places}
-use Rattle.term.specs.Jobs.{clause-record, query-record, HoldsGoals}
-use Rattle.term.specs.Layout.{values-region, waiters-region, sets-region, queue-region, waiting-region, need-of}
+use Rattle.term.specs.Jobs.{HoldsGoals}
+use Rattle.term.specs.Layout.{values-region, waiters-region, sets-region, queue-region, waiting-region, need-of, items-region, trial-region, compounds-region, gift-pair, woken-part, followed-part, clause-record, query-record, query-tries-word, clause-goals-from}
 use Rattle.term.specs.States.{Atlas, setting, goal-word, ring, Lies, AllStand, HoldsState}
 use Rattle.term.specs.declared.state.Standing.{Standing}
 use Rattle.term.proofs.Jobs.{holds-clause-kept}
@@ -109,7 +109,7 @@ module _ {s : List ℕ} {text : Bytes} {names : List Bytes} {j : Job} {figures :
   lies = rw (st .pairs, st .compounds) (st .lies)
 
   -- The goal in front is a compound.
-  cells-behind : 40704 ≤ cells
+  cells-behind : compounds-region ≤ cells
   cells-behind =
       omega (
         arith,
@@ -150,7 +150,7 @@ module _ {s : List ℕ} {text : Bytes} {names : List Bytes} {j : Job} {figures :
   -- What every part leans on, in numbers.
   pub record Sizes : Type 0 where
     pub pairs : P + c .pairs ≤ figures .pairs
-    pub behind : 40704 ≤ cells
+    pub behind : compounds-region ≤ cells
     pub before : cells′ ≤ vals
     pub space : 1 ≤ total (entry-terms list) + total (goal-terms (c .body)) → cells′ < vals
     pub number : k < 128
@@ -199,7 +199,7 @@ module _ {s : List ℕ} {text : Bytes} {names : List Bytes} {j : Job} {figures :
   moved = extended-moved (atlas q) (length (unit .values)) (unit .compounds) P y x refl
 
   -- The entries one by one.
-  entry-word : (i : ℕ) → i < n → getD s (39952 + 2 * i) 0 ≡ atlas q .pair (getD list i no-entry .pair)
+  entry-word : (i : ℕ) → i < n → getD s (gift-pair i) 0 ≡ atlas q .pair (getD list i no-entry .pair)
   entry-word i h =
       let is : 0 + i ≡ i = omega arith in
       rw is at (entry-words s (item-places (atlas q .names) k) (atlas q) 0 list i (omega (arith, red .gave .gave .size)) (red .gave .gave .stand) .0)
@@ -207,7 +207,7 @@ module _ {s : List ℕ} {text : Bytes} {names : List Bytes} {j : Job} {figures :
   entry-below : (i : ℕ) → i < n → getD list i no-entry .pair < length (unit .values)
   entry-below i h = entry-held s (setting figures (atlas q) unit) (template k c) (red .gave .gave .low) (red .gave .gave .high) list i (omega (arith, red .gave .gave .size)) (red .gave .gave .held) .0
 
-  entries-apart : (i m : ℕ) → i < n → m < n → getD s (39952 + 2 * i) 0 ≡ getD s (39952 + 2 * m) 0 → i ≡ m
+  entries-apart : (i m : ℕ) → i < n → m < n → getD s (gift-pair i) 0 ≡ getD s (gift-pair m) 0 → i ≡ m
   entries-apart i m h l e =
       let size : length list ≡ n = red .gave .gave .size in
       let once = reduction-assigns-once j (accepted-keeps-the-occurrence-rules text j (taken .running .reads)) limit figures g others (taken .front) c given (red .chosen) in
@@ -247,13 +247,13 @@ module _ {s : List ℕ} {text : Bytes} {names : List Bytes} {j : Job} {figures :
               (λ m h. lies .pair-below q m here h) (red .gave .gave .held);
           apart = λ i m a b e.
               entries-apart i m a b
-              (sym (below-1 (39952 + 2 * i) (omega (arith, z .entries))) ∙ e ∙ below-1 (39952 + 2 * m) (omega (arith, z .entries)));
+              (sym (below-1 (gift-pair i) (omega (arith, z .entries))) ∙ e ∙ below-1 (gift-pair m) (omega (arith, z .entries)));
         }
 
     -- The entries' pairs are assigned.
     module _ (s₂ : List ℕ) (r₂ : ℕ) (h₂ : GoalAssigned s₁ s₂ (clause-item (atlas (g .query) .names) k c) (atlas (g .query)) (values-region figures) (t .pairs)
         (t .pairs) (t .cells) (red .gave .gave .list) r₂) where
-      low-2 : (w : ℕ) → w < 40704 → getD s₂ w 0 ≡ getD s w 0
+      low-2 : (w : ℕ) → w < compounds-region → getD s₂ w 0 ≡ getD s w 0
       low-2 w h = h₂ .kept .same w (inl (omega (arith, sizes .behind)), inl (omega arith)) ∙ h₁ .kept .same w (inl (omega arith))
 
       high-2 : (w : ℕ) → vals + figures .pairs ≤ w → getD s₂ w 0 ≡ getD s w 0
@@ -277,7 +277,7 @@ module _ {s : List ℕ} {text : Bytes} {names : List Bytes} {j : Job} {figures :
             few = z .entries;
             behind = omega arith;
             small = λ i h.
-                rw (low-2 (39952 + 2 * i) (omega (arith, z .entries)), entry-word i h)
+                rw (low-2 (gift-pair i) (omega (arith, z .entries)), entry-word i h)
                 (omega (arith, lies .pair-below q _ here (entry-below i h), z .pairs));
           }
 
@@ -316,13 +316,13 @@ module _ {s : List ℕ} {text : Bytes} {names : List Bytes} {j : Job} {figures :
 
       -- The woken goals are found.
       module _ (s₃ : List ℕ) (r : ℕ) (h₃ : Waked s₂ s₃ (waiting-region figures) (waiters-region figures) (sets-region figures) (figures .pairs) slots n r) where
-        low-3 : (w : ℕ) → w < 40464 → getD s₃ w 0 ≡ getD s w 0
+        low-3 : (w : ℕ) → w < woken-part → getD s₃ w 0 ≡ getD s w 0
         low-3 w h = h₃ .kept .same w (inl h, (inl (omega arith), inl (omega arith))) ∙ low-2 w (omega arith)
 
         size-3 : length s₃ ≡ length s
         size-3 = h₃ .kept .size ∙ size-2
 
-        body-held : HoldsGoals s₃ (item-places (atlas q .names) k) (clause-record k + 4) 0 (c .body)
+        body-held : HoldsGoals s₃ (item-places (atlas q .names) k) (clause-goals-from k) 0 (c .body)
         body-held =
             let z = sizes in
             rw (lies .names-are q)
@@ -344,7 +344,7 @@ module _ {s : List ℕ} {text : Bytes} {names : List Bytes} {j : Job} {figures :
         few-woken = omega (arith, h₃ .number, hits-number, length-those (wakes q given) (σ .goals .waiting), st .waiting .number)
 
         module _ (front body : ℕ) (front-inside : front < figures .goals) (body-is : body ≡ length (c .body)) where
-          pub adding : Adding s₃ x (clause-record k + 4) body P middle q (queue-region figures) (figures .goals) front (t .active - 1) (c .body)
+          pub adding : Adding s₃ x (clause-goals-from k) body P middle q (queue-region figures) (figures .goals) front (t .active - 1) (c .body)
           adding =
               let z = sizes in
               record {
@@ -379,7 +379,7 @@ module _ {s : List ℕ} {text : Bytes} {names : List Bytes} {j : Job} {figures :
                   ok = log-4;
                   number = h₃ .number;
                   places =
-                      listed-kept s₃ s₄ 40464 r (λ w a b. h₄ .kept .same w (inl (omega (arith, h₃ .few, z .behind)), inl (omega (arith, h₃ .few)))) ∙ h₃ .places;
+                      listed-kept s₃ s₄ woken-part r (λ w a b. h₄ .kept .same w (inl (omega (arith, h₃ .few, z .behind)), inl (omega (arith, h₃ .few)))) ∙ h₃ .places;
                   few = h₃ .few;
                   behind = omega arith;
                   ring-ok = record { inside = omega (arith, z .room, size-3, h₄ .kept .size); front-inside = front-inside };
@@ -401,14 +401,14 @@ module _ {s : List ℕ} {text : Bytes} {names : List Bytes} {j : Job} {figures :
               no-copy-4 w (inl h) = inl (omega arith)
               no-copy-4 w (inr h) = inr h
 
-              same-5 : (w : ℕ) → Apart (vals + P) (vals + P + c .pairs) w → Apart cells cells′ w → Apart vals (vals + P) w → Apart 40464 40656 w
+              same-5 : (w : ℕ) → Apart (vals + P) (vals + P + c .pairs) w → Apart cells cells′ w → Apart vals (vals + P) w → Apart woken-part followed-part w
                   → NotLogged (waiting-region figures) (waiters-region figures) (sets-region figures) (figures .pairs) (length slots) w
                   → Apart (queue-region figures) (queue-region figures + figures .goals) w → getD s₅ w 0 ≡ getD s w 0
               same-5 w a b d e f h =
                   h₅ .kept .same w (h, f) ∙ h₄ .kept .same w (no-copy-4 w b, h) ∙ h₃ .kept .same w (e, f) ∙ h₂ .kept .same w (no-copy-2 w b, d)
                   ∙ h₁ .kept .same w a
 
-              low-5 : (w : ℕ) → w < 40464 → getD s₅ w 0 ≡ getD s w 0
+              low-5 : (w : ℕ) → w < woken-part → getD s₅ w 0 ≡ getD s w 0
               low-5 w h =
                   same-5 w (inl (omega arith)) (inl (omega (arith, sizes .behind))) (inl (omega arith)) (inl h) (inl (omega arith), inl (omega arith))
                   (inl (omega arith))
@@ -419,20 +419,20 @@ module _ {s : List ℕ} {text : Bytes} {names : List Bytes} {j : Job} {figures :
               pub size-5 : length s₅ ≡ length s
               size-5 = h₅ .kept .size ∙ size-4
 
-              pub tries-few : getD s₅ (query-record q + 4) 0 ≤ 1000000
+              pub tries-few : getD s₅ (query-tries-word q) 0 ≤ 1000000
               tries-few =
-                  rw (low-5 (query-record q + 4) (omega (arith, sizes .few-queries)))
+                  rw (low-5 (query-tries-word q) (omega (arith, sizes .few-queries)))
                   (omega (arith, tries-below s text names j figures limit atlas slots t _ (taken .running) q here, taken .running .few-steps))
 
               abbrev s₆ : List ℕ
-              s₆ = set s₅ (query-record q + 4) (getD s₅ (query-record q + 4) 0 + 1)
+              s₆ = set s₅ (query-tries-word q) (getD s₅ (query-tries-word q) 0 + 1)
 
-              beyond : (w : ℕ) → 5120 ≤ w → getD s₆ w 0 ≡ getD s₅ w 0
+              beyond : (w : ℕ) → items-region ≤ w → getD s₆ w 0 ≡ getD s₅ w 0
               beyond w h =
-                  getD-set-other s₅ (query-record q + 4) w (getD s₅ (query-record q + 4) 0 + 1) 0 (λ e. omega (arith, sizes .few-queries))
+                  getD-set-other s₅ (query-tries-word q) w (getD s₅ (query-tries-word q) 0 + 1) 0 (λ e. omega (arith, sizes .few-queries))
 
               size-6 : length s₆ ≡ length s₅
-              size-6 = length-set s₅ (query-record q + 4) (getD s₅ (query-record q + 4) 0 + 1)
+              size-6 = length-set s₅ (query-tries-word q) (getD s₅ (query-tries-word q) 0 + 1)
 
               only-6 : RunOnly figures s s₆
               only-6 =
@@ -440,9 +440,9 @@ module _ {s : List ℕ} {text : Bytes} {names : List Bytes} {j : Job} {figures :
                   record {
                     size = size-6 ∙ size-5;
                     before = λ w h.
-                        getD-set-other s₅ (query-record q + 4) w (getD s₅ (query-record q + 4) 0 + 1) 0 (λ e. omega arith) ∙ low-5 w (omega arith);
+                        getD-set-other s₅ (query-tries-word q) w (getD s₅ (query-tries-word q) 0 + 1) 0 (λ e. omega arith) ∙ low-5 w (omega arith);
                     records = λ i w h l other.
-                        getD-set-other s₅ (query-record q + 4) (query-record i + w) (getD s₅ (query-record q + 4) 0 + 1) 0 (λ e. omega arith)
+                        getD-set-other s₅ (query-tries-word q) (query-record i + w) (getD s₅ (query-tries-word q) 0 + 1) 0 (λ e. omega arith)
                         ∙ low-5 (query-record i + w) (omega arith);
                     items = λ w a b. beyond w a ∙ low-5 w (omega arith);
                     behind = λ w a.
@@ -460,7 +460,7 @@ module _ {s : List ℕ} {text : Bytes} {names : List Bytes} {j : Job} {figures :
                   ∙ h₄ .kept .same w (inr (omega (arith, z .before)), inl (omega arith))
                   ∙ h₃ .kept .same w (inr (omega arith), (inl b, inl (omega arith)))
 
-              head-6 : (a : ℕ) → a < c .pairs → getD s₆ (vals + (P + a)) 0 ≡ getD s (39936 + a) 0
+              head-6 : (a : ℕ) → a < c .pairs → getD s₆ (vals + (P + a)) 0 ≡ getD s (trial-region + a) 0
               head-6 a h =
                   let z = sizes in
                   let e : vals + (P + a) ≡ vals + P + a = omega arith in
@@ -497,7 +497,7 @@ module _ {s : List ℕ} {text : Bytes} {names : List Bytes} {j : Job} {figures :
                   (λ w a b. h₄ .kept .same w (inr (omega (arith, z .before)), inl (omega (arith, z .pairs))))
                   (λ w a b. h₄ .kept .same w (inl b, inl (omega (arith, z .before)))) entries-3
 
-              since-4 : (w : ℕ) → 40704 ≤ w → w < waiters-region figures → getD s₆ w 0 ≡ getD s₄ w 0
+              since-4 : (w : ℕ) → compounds-region ≤ w → w < waiters-region figures → getD s₆ w 0 ≡ getD s₄ w 0
               since-4 w a b = beyond w (omega arith) ∙ h₅ .kept .same w (inl (omega arith), (inl b, inl (omega arith)))
 
               entries-6 : EntriesGiven s₆ (atlas q) places vals (length (unit .values)) (unit .compounds) list
@@ -542,11 +542,11 @@ module _ {s : List ℕ} {text : Bytes} {names : List Bytes} {j : Job} {figures :
                   record {
                     only = only-6;
                     tried =
-                        getD-set-same s₅ (query-record q + 4) (getD s₅ (query-record q + 4) 0 + 1) 0 (omega (arith, size-5, z .room, z .few-queries))
-                        ∙ ap (λ w. w + 1) (low-5 (query-record q + 4) (omega (arith, z .few-queries)));
+                        getD-set-same s₅ (query-tries-word q) (getD s₅ (query-tries-word q) 0 + 1) 0 (omega (arith, size-5, z .room, z .few-queries))
+                        ∙ ap (λ w. w + 1) (low-5 (query-tries-word q) (omega (arith, z .few-queries)));
                     tries = λ i h other.
-                        getD-set-other s₅ (query-record q + 4) (query-record i + 4) (getD s₅ (query-record q + 4) 0 + 1) 0 (λ e. other (omega arith))
-                        ∙ low-5 (query-record i + 4) (omega arith);
+                        getD-set-other s₅ (query-tries-word q) (query-tries-word i) (getD s₅ (query-tries-word q) 0 + 1) 0 (λ e. other (omega arith))
+                        ∙ low-5 (query-tries-word i) (omega arith);
                     copied = copied;
                     older = λ w a b.
                         beyond w (omega arith)

@@ -12,8 +12,8 @@ use Rattle.meaning.specs.Items.{job, reading}
 use Rattle.meaning.specs.State.{Room, QueryUnit, Goal, Waiting, unit-at}
 use Rattle.meaning.specs.Step.{without-front}
 use Rattle.meaning.specs.Run.{fits, choice-for, queries-fit, run}
-use Rattle.term.specs.Jobs.{query-record, HoldsJob}
-use Rattle.term.specs.Layout.{values-region, waiters-region, sets-region, marks-region, ends-region, waiting-region, need-of, InRange}
+use Rattle.term.specs.Jobs.{HoldsJob}
+use Rattle.term.specs.Layout.{values-region, waiters-region, sets-region, marks-region, ends-region, waiting-region, need-of, InRange, queries-region, items-region, trial-region, query-record}
 use Rattle.term.specs.Chains.{EndOf}
 use Rattle.term.specs.States.{Atlas, setting-at, goal-word, HoldsState}
 use Rattle.term.specs.declared.state.Standing.{Standing}
@@ -30,9 +30,9 @@ slot-of atlas w = waits (goal-word atlas (w .goal)) (gathered [] (map (λ p. atl
 -- What a run may change: of the queries' records the tries alone; the trial's region; and what the room has.
 pub record RunOnly (figures : Room) (s s′ : List ℕ) : Type 0 where
   pub size : length s′ ≡ length s
-  pub before : (k : ℕ) → k < 4608 → getD s′ k 0 ≡ getD s k 0
+  pub before : (k : ℕ) → k < queries-region → getD s′ k 0 ≡ getD s k 0
   pub records : (q i : ℕ) → q < 8 → i < 64 → i ≢ 4 → getD s′ (query-record q + i) 0 ≡ getD s (query-record q + i) 0
-  pub items : (k : ℕ) → 5120 ≤ k → k < 39936 → getD s′ k 0 ≡ getD s k 0
+  pub items : (k : ℕ) → items-region ≤ k → k < trial-region → getD s′ k 0 ≡ getD s k 0
   pub behind : (k : ℕ) → need-of figures ≤ k → getD s′ k 0 ≡ getD s k 0
 
 -- The word w is the end of a pair of some query's unit, whose place is p.

@@ -10,7 +10,7 @@ use Rattle.meaning.specs.Compare.{Assignment}
 use Rattle.meaning.specs.Trial.{reduces, joins-waiting, joins-failed}
 use Rattle.meaning.specs.Run.{choice-for, run}
 use Rattle.term.specs.Jobs.{ClauseAt}
-use Rattle.term.specs.Layout.{waiters-region, sets-region, waiting-region}
+use Rattle.term.specs.Layout.{waiters-region, sets-region, waiting-region, readers-part}
 use Rattle.term.specs.States.{Atlas, setting-at, goal-word, listed}
 use Rattle.term.specs.declared.state.Standing.{Standing}
 use Rattle.run_trial.specs.Choosing.{Succeeded, AllBelow}
@@ -38,7 +38,7 @@ pub record JoiningWaiting (s : List ℕ) (j : Job) (figures : Room) (limit : ℕ
   pub query-is : query ≡ g .query
   pub chosen : choice-for (j .clauses) (run j limit figures .state) g ≡ joins-waiting readers
   pub few : n ≤ 128
-  pub listed-are : listed s 40336 n ≡ map (λ p. atlas (g .query) .pair p) readers
+  pub listed-are : listed s readers-part n ≡ map (λ p. atlas (g .query) .pair p) readers
   pub inside : AllBelow (length (unit-at (g .query) (run j limit figures .state .units) .values)) readers
 
 -- It fails.

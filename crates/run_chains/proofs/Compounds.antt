@@ -8,10 +8,11 @@ use Rattle.meaning.specs.Terms.{Functor, cell, named, Term, Terms, end, more, c
 use Rattle.term.specs.Cells.{Places, functor-word, Known, AllKnown}
 use Rattle.term.specs.Holds.{Holds, HoldsFrom}
 use Rattle.term.specs.Setting.{Setting, Within, AllWithin, Ranged, AllRanged, UnitTerm, UnitTerms}
+use Rattle.term.specs.Words.{tag-in}
 use Rattle.run_chains.specs.Follow.{Chained, Reads}
 
 -- A functor's word has the number of arguments.
-pub first-count : (places : Places) (f : Functor) (k : ℕ) → k ≤ 6 → functor-word places f k % 8 ≡ k
+pub first-count : (places : Places) (f : Functor) (k : ℕ) → k ≤ 6 → tag-in (functor-word places f k) ≡ k
 first-count places cell k few = omega arith
 first-count places (named f) k few = omega arith
 
@@ -33,7 +34,7 @@ module _ {s : List ℕ} {x : Setting} {l : ℕ} {f : Functor} {ts : Terms} {plac
   unfolding Holds
   compound-wide = t .held .0 .wide
 
-  pub compound-count : {k : ℕ} → k ≡ getD s place 0 % 8 → k ≡ count ts
+  pub compound-count : {k : ℕ} → k ≡ tag-in (getD s place 0) → k ≡ count ts
   unfolding Holds
   compound-count e = e ∙ rw (at, t .held .0 .functor) (first-count (x .places) f (count ts) compound-few)
 

@@ -13,6 +13,8 @@ use Rattle.term.specs.Frames.{Only}
 use Rattle.term.specs.Setting.{Setting, UnitTerms}
 use Rattle.term.proofs.Frames.{only-same, only-set, only-then, only-wider}
 use Rattle.term.proofs.Units.{unit-term-alike, unit-terms-alike, unit-stands-alike, ends-stand-alike}
+use Rattle.term.specs.Layout.{followed-part, followed-from, followed-end}
+use Rattle.term.specs.Words.{tag-in}
 use Rattle.run_chains.specs.Follow.{Chained, FollowedTo, FollowedAt, Follows, ArgumentsFollowed}
 use Rattle.run_chains.proofs.Compounds.{
   compound-inside,
@@ -38,12 +40,12 @@ chained-alike s s′ x size alike from links own c = record {
 module _ (s s′ : List ℕ) (x : Setting) (size : length s ≤ length s′)
     (alike : (n : ℕ) → n < x .compounds → (k : ℕ) → x .places .compound n ≤ k → k < x .places .compound n + x .places .width n → getD s′ k 0 ≡ getD s k 0)
     (links : ℕ) where
-  pub followed-alike : (i : ℕ) (ts : Terms) → ((k : ℕ) → 40657 + i ≤ k → k < 40657 + i + count ts → getD s′ k 0 ≡ getD s k 0)
+  pub followed-alike : (i : ℕ) (ts : Terms) → ((k : ℕ) → followed-from + i ≤ k → k < followed-from + i + count ts → getD s′ k 0 ≡ getD s k 0)
       → FollowedAt s x links i ts → FollowedAt s′ x links i ts
   unfolding FollowedAt count
   followed-alike i end own f = tt
   followed-alike i (more t ts) own f = (
-    own (40657 + i) (omega arith) (omega arith) ∙ f .0,
+    own (followed-from + i) (omega arith) (omega arith) ∙ f .0,
     unit-term-alike s s′ x size alike (followed links (x .values) t) (f .1),
     followed-alike (i + 1) ts (λ k l h. own k (omega arith) (omega arith)) (f .2),
   )
@@ -52,23 +54,23 @@ module _ (s s′ : List ℕ) (x : Setting) (size : length s ≤ length s′)
 -- and it is followed, so is the whole.
 pub record Midway (s₀ s : List ℕ) (x : Setting) (from links l : ℕ) (ts : Terms) (k i : ℕ) : Type 0 where
   pub whole : k ≡ count ts
-  pub only : Only 40657 40663 s₀ s
+  pub only : Only followed-from followed-end s₀ s
   pub chained : Chained s x from links
   pub j : ℕ
   pub at : i ≡ j + 1
   pub rest : Terms
   pub terms : UnitTerms s x l j rest
   pub left : j + count rest ≡ count ts
-  pub on : (s′ : List ℕ) → Only (40657 + j) 40663 s s′ → FollowedAt s′ x links j rest → FollowedAt s′ x links 0 ts
+  pub on : (s′ : List ℕ) → Only (followed-from + j) followed-end s s′ → FollowedAt s′ x links j rest → FollowedAt s′ x links 0 ts
 
 module _ {s₀ : List ℕ} {x : Setting} {from links l : ℕ} {f : Functor} {ts : Terms} {goal : ℕ} (a : Follows s₀ x from links l f ts goal) where
   large : 40712 ≤ length s₀
   large = omega (arith, compound-inside (a .term) (a .place), a .place, a .compounds-behind l (compound-number (a .term) (a .place)))
 
-  pub first-midway : (k : ℕ) → k ≡ getD s₀ goal 0 % 8 → Midway s₀ s₀ x from links l ts k 1
+  pub first-midway : (k : ℕ) → k ≡ tag-in (getD s₀ goal 0) → Midway s₀ s₀ x from links l ts k 1
   first-midway k e = record {
     whole = compound-count (a .term) (a .place) e;
-    only = only-same 40657 40663 s₀;
+    only = only-same followed-from followed-end s₀;
     chained = a .chained;
     j = 0;
     at = refl;
@@ -79,7 +81,7 @@ module _ {s₀ : List ℕ} {x : Setting} {from links l : ℕ} {f : Functor} {ts 
   }
 
   -- The unit's words stay.
-  module _ (s s′ : List ℕ) (o : Only 40657 40663 s s′) where
+  module _ (s s′ : List ℕ) (o : Only followed-from followed-end s s′) where
     cells-stay : (n : ℕ) → n < x .compounds → (k : ℕ) → x .places .compound n ≤ k → k < x .places .compound n + x .places .width n
         → getD s′ k 0 ≡ getD s k 0
     cells-stay n h k b c = o .above k (omega (arith, a .compounds-behind n h))
@@ -94,7 +96,7 @@ module _ {s₀ : List ℕ} {x : Setting} {from links l : ℕ} {f : Functor} {ts 
     pub argument-inside : i ≤ k → goal + i < length s
     argument-inside h = omega (arith, compound-inside (a .term) (a .place), P .only .size, count-small)
 
-    pub word-inside : i ≤ k → 40656 + i < length s
+    pub word-inside : i ≤ k → followed-part + i < length s
     word-inside h = omega (arith, large, P .only .size, count-small)
 
     -- The argument at hand.
@@ -107,24 +109,24 @@ module _ {s₀ : List ℕ} {x : Setting} {from links l : ℕ} {f : Functor} {ts 
 
     module _ {w v : ℕ} (N : Now w) (to : FollowedTo s x from links (N .u) v) (h : i ≤ k) where
       abbrev after : List ℕ
-      after = set s (40656 + i) v
+      after = set s (followed-part + i) v
 
-      one : Only (40657 + P .j) 40663 s after
-      one = only-set (40657 + P .j) 40663 s (40656 + i) v (omega (arith, P .at)) (omega (arith, count-small))
+      one : Only (followed-from + P .j) followed-end s after
+      one = only-set (followed-from + P .j) followed-end s (followed-part + i) v (omega (arith, P .at)) (omega (arith, count-small))
 
-      one-wider : Only 40657 40663 s after
-      one-wider = only-wider (40657 + P .j) 40663 40657 40663 s after (omega arith) (omega arith) one
+      one-wider : Only followed-from followed-end s after
+      one-wider = only-wider (followed-from + P .j) followed-end followed-from followed-end s after (omega arith) (omega arith) one
 
-      onward : (s′ : List ℕ) → Only (40657 + (P .j + 1)) 40663 after s′ → FollowedAt s′ x links (P .j + 1) (N .us) → FollowedAt s′ x links 0 ts
+      onward : (s′ : List ℕ) → Only (followed-from + (P .j + 1)) followed-end after s′ → FollowedAt s′ x links (P .j + 1) (N .us) → FollowedAt s′ x links 0 ts
       unfolding FollowedAt
       onward s′ o stand =
-          let both : Only (40657 + P .j) 40663 s s′ =
-          only-then (40657 + P .j) 40663 s after s′ one
-          (only-wider (40657 + (P .j + 1)) 40663 (40657 + P .j) 40663 after s′ (omega arith) (omega arith) o) in
-          let wide-both = only-wider (40657 + P .j) 40663 40657 40663 s s′ (omega arith) (omega arith) both in
-          let same : 40657 + P .j ≡ 40656 + i = omega (arith, P .at) in
-          let here : getD s′ (40657 + P .j) 0 ≡ v =
-          o .below (40657 + P .j) (omega arith) ∙ ap (λ c. getD after c 0) same ∙ getD-set-same s (40656 + i) v 0 (word-inside h) in
+          let both : Only (followed-from + P .j) followed-end s s′ =
+          only-then (followed-from + P .j) followed-end s after s′ one
+          (only-wider (followed-from + (P .j + 1)) followed-end (followed-from + P .j) followed-end after s′ (omega arith) (omega arith) o) in
+          let wide-both = only-wider (followed-from + P .j) followed-end followed-from followed-end s s′ (omega arith) (omega arith) both in
+          let same : followed-from + P .j ≡ followed-part + i = omega (arith, P .at) in
+          let here : getD s′ (followed-from + P .j) 0 ≡ v =
+          o .below (followed-from + P .j) (omega arith) ∙ ap (λ c. getD after c 0) same ∙ getD-set-same s (followed-part + i) v 0 (word-inside h) in
           P .on s′ both
           (rw (N .rest-is) (
             here ∙ to .word,
@@ -135,7 +137,7 @@ module _ {s₀ : List ℕ} {x : Setting} {from links l : ℕ} {f : Functor} {ts 
       pub midway-more : Midway s₀ after x from links l ts k (i + 1)
       midway-more = record {
         whole = P .whole;
-        only = only-then 40657 40663 s₀ s after (P .only) one-wider;
+        only = only-then followed-from followed-end s₀ s after (P .only) one-wider;
         chained = chained-stays s after one-wider (P .chained);
         j = P .j + 1;
         at = omega (arith, P .at);
@@ -150,7 +152,7 @@ module _ {s₀ : List ℕ} {x : Setting} {from links l : ℕ} {f : Functor} {ts 
     unfolding FollowedAt count
     all-followed h = record {
       only = P .only;
-      stand = P .on s (only-same (40657 + P .j) 40663 s) (none-left (P .rest) (omega (arith, P .at, P .whole, P .left)));
+      stand = P .on s (only-same (followed-from + P .j) followed-end s) (none-left (P .rest) (omega (arith, P .at, P .whole, P .left)));
     }
       where
         none-left : (us : Terms) → count us ≡ 0 → FollowedAt s x links (P .j) us

@@ -18,6 +18,7 @@ use Rattle.term.specs.Holds.{value-word}
 use Rattle.term.specs.Setting.{Setting, UnitTerms}
 use Rattle.term.proofs.Chains.{value-leads}
 use Rattle.term.proofs.Units.{unit-terms-alike, unit-stands-alike, end-alike}
+use Rattle.term.specs.Words.{tag-in}
 use Rattle.run_chains.specs.Follow.{FollowedTo, PairAt, Keepable, KeepsOf, Keeps, EndsKept}
 use Rattle.run_chains.proofs.Following.{pair-inside}
 use Rattle.run_chains.proofs.Compounds.{
@@ -114,7 +115,7 @@ module _ (x : Setting) (from links : ℕ) where
 
   -- A pair whose value is a reader is assigned.
   pub kept-where : (s : List ℕ) (h : Half) (n w p e v : ℕ) → KeepsOf s x from links (Term.variable h n) w → PairAt s x from links n p
-      → FollowedTo s x from links (Term.variable h n) e → v ≡ getD s (from + p) 0 → v % 8 ≡ 2
+      → FollowedTo s x from links (Term.variable h n) e → v ≡ getD s (from + p) 0 → tag-in v ≡ 2
       → EndsKept s (set s (from + 4 * links + p) e) x from links
   kept-where s h n w p e v k a to is two =
       by (value (x .values) n) refl (is ∙ ap (λ m. getD s (from + m) 0) (a .place) ∙ a .chained .stands .held .stands n (a .inside))
@@ -134,7 +135,7 @@ pub record Upto (s₀ s : List ℕ) (x : Setting) (from links l : ℕ) (f : Func
   pub left : j + count rest ≡ count ts
 
 module _ {s₀ : List ℕ} {x : Setting} {from links l : ℕ} {f : Functor} {ts : Terms} {goal : ℕ} (a : Keeps s₀ x from links l f ts goal) where
-  pub first-upto : (k : ℕ) → k ≡ getD s₀ goal 0 % 8 → Upto s₀ s₀ x from links l f ts k 1
+  pub first-upto : (k : ℕ) → k ≡ tag-in (getD s₀ goal 0) → Upto s₀ s₀ x from links l f ts k 1
   first-upto k e = record {
     whole = compound-count (a .term) (a .place) e;
     kept = kept-same x from links s₀ (a .keepable);

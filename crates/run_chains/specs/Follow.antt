@@ -12,6 +12,7 @@ use Rattle.term.specs.Cells.{term-word}
 use Rattle.term.specs.Frames.{Only}
 use Rattle.term.specs.Chains.{value-of, Leads, end-place, EndsStand}
 use Rattle.term.specs.Setting.{Setting, UnitTerm, UnitStands}
+use Rattle.term.specs.Layout.{compounds-region, followed-from, followed-end}
 
 -- The unit's values stand from a place on, and the ends behind them; a chain has no more links than the room has pairs.
 pub record Chained (s : List ℕ) (x : Setting) (from links : ℕ) : Type 0 where
@@ -33,7 +34,7 @@ FollowedTo s x from links t r = Reads s x from links (followed links (x .values)
 unfoldable pub FollowedAt : List ℕ → Setting → ℕ → ℕ → Terms → Type 0
 FollowedAt s x links i end = Unit {0}
 FollowedAt s x links i (more t ts) =
-    (getD s (40657 + i) 0 ≡ term-word (x .places) (followed links (x .values) t)) × UnitTerm s x (followed links (x .values) t)
+    (getD s (followed-from + i) 0 ≡ term-word (x .places) (followed links (x .values) t)) × UnitTerm s x (followed links (x .values) t)
     × FollowedAt s x links (i + 1) ts
 
 -- The arguments of the compound l, a goal at a place, can be followed: the unit's compounds and values stand behind the trial's region.
@@ -41,12 +42,12 @@ pub record Follows (s : List ℕ) (x : Setting) (from links l : ℕ) (f : Functo
   pub chained : Chained s x from links
   pub term : UnitTerm s x (Term.compound l f ts)
   pub place : goal ≡ x .places .compound l
-  pub compounds-behind : (n : ℕ) → n < x .compounds → 40704 ≤ x .places .compound n
-  pub values-behind : 40704 ≤ from
+  pub compounds-behind : (n : ℕ) → n < x .compounds → compounds-region ≤ x .places .compound n
+  pub values-behind : compounds-region ≤ from
 
 -- They are followed: only the words for them have changed.
 pub record ArgumentsFollowed (s s′ : List ℕ) (x : Setting) (links : ℕ) (ts : Terms) : Type 0 where
-  pub only : Only 40657 40663 s s′
+  pub only : Only followed-from followed-end s s′
   pub stand : FollowedAt s′ x links 0 ts
 
 -- A term leads on to the word r: that of its value, or of a term further on; 0 if it is no assigned variable.

@@ -4,12 +4,10 @@ ghost use Rattle.meaning.specs.Terms.{Functor, Terms};
 ghost use Rattle.term.specs.Setting.{Setting};
 ghost use Rattle.run_chains.specs.Follow.{Follows, ArgumentsFollowed};
 use crate::follow::follow;
+use term::layout::FOLLOWED;
 use term::scratch::argument;
 use term::scratch::count;
 use term::scratch::set_at;
-
-// Where the goal's arguments stand, followed, from the next word on: in the trial's region behind the woken goals' places.
-pub const FOLLOWED: usize = 40656;
 
 // The arguments of the goal at a place, followed.
 pub fn follow_arguments(s: &mut [u64], values: usize, links: usize, goal: usize)

@@ -8,6 +8,8 @@ use term::scratch::argument;
 use term::scratch::count;
 use term::scratch::set_at;
 use term::scratch::word_at;
+use term::word::READER;
+use term::word::TAGS;
 use term::word::View;
 use term::word::look;
 
@@ -18,7 +20,7 @@ fn keep(s: &mut [u64], values: usize, links: usize, w: u64, p: usize)
         → EndsKept (now (s .entry)) (now (s .exit)) x values links) ⌝ }
 {
     let v = word_at(s, values, p);
-    if v % 8 != 2 {
+    if v % TAGS != READER {
         return;
     }
     let e = follow(s, values, links, w);

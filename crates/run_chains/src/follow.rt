@@ -4,6 +4,8 @@ ghost use Rattle.meaning.specs.Terms.{Half, Term, variable};
 ghost use Rattle.term.specs.Setting.{Setting};
 ghost use Rattle.run_chains.specs.Follow.{Reads, FollowedTo, PairAt, Ahead};
 use term::scratch::word_at;
+use term::word::READER;
+use term::word::TAGS;
 use term::word::View;
 use term::word::look;
 
@@ -44,7 +46,7 @@ fn led(s: &[u64], values: usize, links: usize, p: usize) -> u64
         → (h : Half) → Ahead (now (s .entry)) x values links (variable h n) r) ⌝ }
 {
     let v = word_at(s, values, p);
-    if v % 8 != 2 {
+    if v % TAGS != READER {
         return v;
     }
     let e = word_at(s, values + 4 * links, p);

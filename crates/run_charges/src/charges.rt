@@ -1,5 +1,7 @@
 // A try counted, and whether what a reduction charges fits the room.
 use term::layout::QUERIES;
+use term::layout::QUERY_STRIDE;
+use term::layout::QUERY_TRIES;
 use term::layout::Room;
 use term::scratch::word_at;
 use term::state::Standing;
@@ -7,17 +9,16 @@ ghost use mathlib.Core.Path.{_≡_};
 ghost use Prim.Native.Nat.{_+_, _-_, _≤_, _<_};
 ghost use lib.ListN.{length, getD, set};
 ghost use Rattle.meaning.specs.Run.{within};
-ghost use Rattle.term.specs.Jobs.{query-record};
-ghost use Rattle.term.specs.Layout.{figures};
+ghost use Rattle.term.specs.Layout.{figures, items-region, query-tries-word};
 ghost use Rattle.run_charges.specs.Counted.{Counted};
 
 // "Its query's number of tries rises by one."
 pub fn count_try(s: &mut [u64], query: usize)
-    requires { ⌜ (query < 8) × (5120 ≤ length (now s)) × (getD (now s) (query-record query + 4) 0 ≤ 1000000) ⌝ }
-    ensures { λ r. ⌜ now (s .exit) ≡ set (now (s .entry)) (query-record query + 4) (getD (now (s .entry)) (query-record query + 4) 0 + 1) ⌝ }
+    requires { ⌜ (query < 8) × (items-region ≤ length (now s)) × (getD (now s) (query-tries-word query) 0 ≤ 1000000) ⌝ }
+    ensures { λ r. ⌜ now (s .exit) ≡ set (now (s .entry)) (query-tries-word query) (getD (now (s .entry)) (query-tries-word query) 0 + 1) ⌝ }
 {
-    let tries = word_at(s, QUERIES + 64 * query, 4);
-    s[QUERIES + 64 * query + 4] = tries + 1;
+    let tries = word_at(s, QUERIES + QUERY_STRIDE * query, QUERY_TRIES);
+    s[QUERIES + QUERY_STRIDE * query + QUERY_TRIES] = tries + 1;
 }
 
 // "Pairs or compounds charged would pass their figure, or active, waiting and failed goals together would number more than the goal figure."

@@ -13,6 +13,8 @@ use lib.ListN.{length, getD, set, length-set}
 use borrow.Author.Tests.{ne-eqb}
 use Rattle.meaning.specs.Terms.{Term}
 use Rattle.meaning.specs.State.{value}
+use Rattle.term.specs.Layout.{trial-region, gift-term}
+use Rattle.term.specs.Words.{tag-in, rest-in}
 use Rattle.run_circle.specs.Ground.{Ground, GroundAt}
 use Rattle.run_circle.specs.Search.{
   Scene,
@@ -208,13 +210,13 @@ module _ (s₀ : List ℕ) (values marks place stamp : ℕ) (b : Bool) (w first 
   Walking s q k i later state = (x : Scene) (z : ℕ) (v : Option Term) → Searching s₀ x values marks place stamp z → Told x b w v
       → Walked s₀ s x marks stamp z b q k i later v first state
 
-  module _ (q : ℕ) (at : q ≡ w / 8) (six : w % 8 ≡ 6) where
+  module _ (q : ℕ) (at : q ≡ rest-in w) (six : tag-in w ≡ 6) where
     pub count-at : TermAsks s₀ values marks place stamp b w → q < length s₀
     count-at (x, z, v, h, told) =
-        let (c, all) = enter x values marks place stamp z b s₀ w v h told six q (getD s₀ q 0 % 8) at refl in
+        let (c, all) = enter x values marks place stamp z b s₀ w v h told six q (tag-in (getD s₀ q 0)) at refl in
         omega (arith, c .inside, whole-length s₀ x values marks place stamp z h)
 
-    pub walking-first : (k : ℕ) → k ≡ getD s₀ q 0 % 8 → Walking s₀ q k 1 0 first
+    pub walking-first : (k : ℕ) → k ≡ tag-in (getD s₀ q 0) → Walking s₀ q k 1 0 first
     walking-first k counted x z v h told = walk-first x values marks place stamp z b s₀ w v h told six q k at counted first
 
   module _ (s : List ℕ) (q k i later state : ℕ) (walking : Walking s q k i later state) where
@@ -313,16 +315,16 @@ module _ (s₀ : List ℕ) (values marks place stamp : ℕ) (b : Bool) (w first 
   pub nothing-finds : LeadsIs w false → TermFinds s₀ values marks place stamp b w s₀ false
   nothing-finds idle x z v h told = no-pairs x values marks place stamp z b s₀ w v told idle
 
-  pub nothing-is-firm : LeadsIs w false → (w % 8 ≡ 0 → ⊥) → TermFirm s₀ values marks place stamp b w
+  pub nothing-is-firm : LeadsIs w false → (tag-in w ≡ 0 → ⊥) → TermFirm s₀ values marks place stamp b w
   nothing-is-firm idle d x z v h told = idle-firm x values marks place stamp z b w v told idle d
 
 -- At a variable of pair p.
-module _ (s : List ℕ) (values marks place stamp w p : ℕ) (at : p ≡ w / 8) (c : w % 8 ≡ 6 → ⊥) (d : w % 8 ≡ 0 → ⊥) (le : w % 8 ≤ 2) where
+module _ (s : List ℕ) (values marks place stamp w p : ℕ) (at : p ≡ rest-in w) (c : tag-in w ≡ 6 → ⊥) (d : tag-in w ≡ 0 → ⊥) (le : tag-in w ≤ 2) where
   pair-of : (x : Scene) (z : ℕ) (b : Bool) (v : Option Term) → Told x b w v → Variable x marks stamp z b w v
   pair-of x z b v told = variable-of x marks stamp z b w v told c d le
 
   -- The head's: on to what it is given.
-  pub given-at : TermAsks s values marks place stamp true w → 39936 + p < length s
+  pub given-at : TermAsks s values marks place stamp true w → trial-region + p < length s
   given-at (x, z, v, h, told) =
       let u = pair-of x z true v told in
       given-inside x values marks place stamp z s h (u .pair) p (u .on) (at ∙ u .place)
@@ -332,7 +334,7 @@ module _ (s : List ℕ) (values marks place stamp w p : ℕ) (at : p ≡ w / 8) 
   given-lighter (x, z, v, h, told) w′ =
       omega (arith, falls-to-given x values marks place stamp z s h (visited stamp) w′, falls-to-pair s marks (visited stamp) true w)
 
-  pub given-going : (w′ state : ℕ) → w′ ≡ getD s (39936 + p) 0 → Going s values marks place stamp true w state s false w′ state
+  pub given-going : (w′ state : ℕ) → w′ ≡ getD s (trial-region + p) 0 → Going s values marks place stamp true w state s false w′ state
   given-going w′ state reads x z v h told =
       let u = pair-of x z true v told in
       record {
@@ -399,7 +401,7 @@ module _ (s : List ℕ) (values marks place stamp w p : ℕ) (at : p ≡ w / 8) 
       read : v ≡ getD (set s (marks + p) stamp) (values + p) 0
       read = reads ∙ ap (λ l. getD l (values + p) 0) marked
 
-      pub head-at : (i : ℕ) → i ≡ v / 8 → v % 8 ≡ 7 → TermAsks s values marks place stamp false w → 39953 + 2 * i < length s₁
+      pub head-at : (i : ℕ) → i ≡ rest-in v → tag-in v ≡ 7 → TermAsks s values marks place stamp false w → gift-term i < length s₁
       head-at i number seven (x, z, o, h, told) =
           let u = pair-of x z false o told in
           omega (
@@ -412,7 +414,7 @@ module _ (s : List ℕ) (values marks place stamp w p : ℕ) (at : p ≡ w / 8) 
         new : Visited stamp (getD s (marks + p) 0) → ⊥
         new e = true≢false (sym e ∙ not-visited stamp (getD s (marks + p) 0) unfirm fresh)
 
-        pub unit-going : (v % 8 ≡ 7 → ⊥) → (state state′ : ℕ) → SinceIs state p state′
+        pub unit-going : (tag-in v ≡ 7 → ⊥) → (state state′ : ℕ) → SinceIs state p state′
             → Going s values marks place stamp false w state s₁ false v state′
         unit-going seven state state′ since x z o h told =
             let u = pair-of x z false o told in
@@ -432,11 +434,11 @@ module _ (s : List ℕ) (values marks place stamp w p : ℕ) (at : p ≡ w / 8) 
                   }) k;
             })
 
-        pub head-going : (i w′ : ℕ) → i ≡ v / 8 → w′ ≡ getD s₁ (39953 + 2 * i) 0 → v % 8 ≡ 7 → (state : ℕ)
+        pub head-going : (i w′ : ℕ) → i ≡ rest-in v → w′ ≡ getD s₁ (gift-term i) 0 → tag-in v ≡ 7 → (state : ℕ)
             → Going s values marks place stamp false w state s₁ true w′ 1
         head-going i w′ number gives seven state x z o h told =
             let u = pair-of x z false o told in
-            let word : w′ ≡ getD (set s (marks + p) stamp) (39953 + 2 * i) 0 = gives ∙ ap (λ l. getD l (39953 + 2 * i) 0) marked in
+            let word : w′ ≡ getD (set s (marks + p) stamp) (gift-term i) 0 = gives ∙ ap (λ l. getD l (gift-term i) 0) marked in
             rw marked (record {
               now = value (x .after) (u .pair);
               told = rw word (head-told x values marks place stamp z s h (u .pair) p (u .on) (at ∙ u .place) v i read seven number);

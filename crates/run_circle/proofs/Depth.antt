@@ -14,7 +14,7 @@ use Rattle.meaning.specs.Terms.{Half, writer, reader, Constant, Term, Terms, en
 use Rattle.laws.proofs.Lists.Among.{In, in-cons-cases, in-none}
 use Rattle.laws.proofs.Lists.Pigeonhole.{Distinct, pigeonhole}
 use Rattle.term.specs.Cells.{Places, term-word, constant-content}
-use Rattle.term.specs.Words.{word}
+use Rattle.term.specs.Words.{word, compound-word, tag-in, rest-in}
 use Rattle.term.specs.Holds.{Holds, HoldsFrom}
 
 unfoldable mutual
@@ -36,7 +36,7 @@ highest of front at (suc k) = max (of (getD front at 0)) (highest of front (at +
 unfoldable pub height : ℕ → List ℕ → ℕ → ℕ
 height zero front w = 0
 height (suc f) front w =
-    if eqb (w % 8) 6 then suc (highest (height f front) front (w / 8 + 1) (getD front (w / 8) 0 % 8)) else 0
+    if eqb (tag-in w) 6 then suc (highest (height f front) front (rest-in w + 1) (tag-in (getD front (rest-in w) 0))) else 0
 
 highest-within : (of : ℕ → ℕ) (m : ℕ) → ((w : ℕ) → of w ≤ m) → (front : List ℕ) (at k : ℕ) → highest of front at k ≤ m
 unfolding highest
@@ -46,30 +46,30 @@ highest-within of m le front at (suc k) = omega (arith, le (getD front at 0), hi
 pub height-within : (f : ℕ) (front : List ℕ) (w : ℕ) → height f front w ≤ f
 unfolding height if_then_else_
 height-within zero front w = omega arith
-height-within (suc f) front w = go (eqb (w % 8) 6) (height-within f front)
+height-within (suc f) front w = go (eqb (tag-in w) 6) (height-within f front)
   where
     go : (b : Bool) → ((u : ℕ) → height f front u ≤ f)
-        → (if b then suc (highest (height f front) front (w / 8 + 1) (getD front (w / 8) 0 % 8)) else 0) ≤ suc f
+        → (if b then suc (highest (height f front) front (rest-in w + 1) (tag-in (getD front (rest-in w) 0))) else 0) ≤ suc f
     go true le =
-        omega (arith, highest-within (height f front) f le front (w / 8 + 1) (getD front (w / 8) 0 % 8))
+        omega (arith, highest-within (height f front) f le front (rest-in w + 1) (tag-in (getD front (rest-in w) 0)))
     go false le = omega arith
 
-pub flat : (f : ℕ) (front : List ℕ) (w : ℕ) → (w % 8 ≡ 6 → ⊥) → height f front w ≡ 0
+pub flat : (f : ℕ) (front : List ℕ) (w : ℕ) → (tag-in w ≡ 6 → ⊥) → height f front w ≡ 0
 unfolding height if_then_else_
 flat zero front w d = refl
-flat (suc f) front w d = rw (ne-eqb (w % 8) 6 d) refl
+flat (suc f) front w d = rw (ne-eqb (tag-in w) 6 d) refl
 
-tall : (f : ℕ) (front : List ℕ) (w : ℕ) → w % 8 ≡ 6
-    → height (suc f) front w ≡ suc (highest (height f front) front (w / 8 + 1) (getD front (w / 8) 0 % 8))
+tall : (f : ℕ) (front : List ℕ) (w : ℕ) → tag-in w ≡ 6
+    → height (suc f) front w ≡ suc (highest (height f front) front (rest-in w + 1) (tag-in (getD front (rest-in w) 0)))
 unfolding height if_then_else_
-tall f front w e = rw (eq-eqb (w % 8) 6 e) refl
+tall f front w e = rw (eq-eqb (tag-in w) 6 e) refl
 
-constant-flat : (places : Places) (k : Constant) → word (constant-content places k) % 8 ≡ 6 → ⊥
+constant-flat : (places : Places) (k : Constant) → tag-in (word (constant-content places k)) ≡ 6 → ⊥
 constant-flat places (Constant.integer i) e = omega arith
 constant-flat places (Constant.name f) e = omega arith
 constant-flat places Constant.empty e = omega arith
 
-variable-flat : (places : Places) (h : Half) (n : ℕ) → term-word places (Term.variable h n) % 8 ≡ 6 → ⊥
+variable-flat : (places : Places) (h : Half) (n : ℕ) → tag-in (term-word places (Term.variable h n)) ≡ 6 → ⊥
 variable-flat places writer n e = omega arith
 variable-flat places reader n e = omega arith
 
@@ -84,8 +84,8 @@ module _ (front : List ℕ) (places : Places) where
     height-is zero (Term.compound n g ts) held le = absurd (omega arith)
     height-is (suc f) (Term.compound n g ts) held le =
         let w = term-word places (Term.compound n g ts) in
-        let at : w / 8 ≡ places .compound n = omega arith in
-        let k : getD front (places .compound n) 0 % 8 ≡ count ts = omega (arith, held .0 .functor, held .0 .few) in
+        let at : rest-in w ≡ places .compound n = omega arith in
+        let k : tag-in (getD front (places .compound n) 0) ≡ count ts = omega (arith, held .0 .functor, held .0 .few) in
         let all = heights-are f n 0 ts (held .1) (omega arith) in
         let first : places .compound n + 1 ≡ places .compound n + 1 + 0 = omega arith in
         tall f front w (omega arith)
@@ -105,7 +105,7 @@ module _ (front : List ℕ) (places : Places) where
 
   -- The places met above a term: at each stands a deeper term.
   Above : List ℕ → ℕ → Type 0
-  Above met d = (m : ℕ) → In m met → (u : Term) × Holds front places u × (term-word places u ≡ 6 + 8 * m) × (d < depth u)
+  Above met d = (m : ℕ) → In m met → (u : Term) × Holds front places u × (term-word places u ≡ compound-word m) × (d < depth u)
 
   mutual
     unfolding Holds HoldsFrom depth depths Distinct Above

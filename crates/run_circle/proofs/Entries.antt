@@ -7,6 +7,7 @@ use native.Mathlib.Decide.{ℕ-discrete}
 use native.Mathlib.Omega.{arith}
 use lib.ListN.{getD, set, length-set}
 use lib.Seq.{getD-set-same, getD-set-other}
+use Rattle.term.specs.Layout.{gift-pair}
 use Rattle.run_circle.specs.Circle.{entry-pair, Entries, Held, held-word}
 
 pub held-none : (s : List ℕ) (values : ℕ) (testing : Bool) → Held s s values 0 testing
@@ -15,7 +16,7 @@ held-none s values testing = record { size = refl; entry = λ i h. absurd (omega
 module _ (s₀ s : List ℕ) (values n : ℕ) (testing : Bool) (entries : Entries s₀ values n) where
   -- The trial's region lies before the values.
   pub entry-stays : (m : ℕ) → m ≤ n → Held s₀ s values m testing → (i : ℕ) → i < n → entry-pair s i ≡ entry-pair s₀ i
-  entry-stays m le held i h = held .others (39952 + 2 * i) (λ j l e. omega (arith, entries .before))
+  entry-stays m le held i h = held .others (gift-pair i) (λ j l e. omega (arith, entries .before))
 
   pub held-next : (i : ℕ) → i < n → Held s₀ s values i testing
       → Held s₀ (set s (values + entry-pair s₀ i) (held-word testing i)) values (i + 1) testing

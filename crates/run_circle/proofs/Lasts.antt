@@ -6,10 +6,11 @@ use mathlib.Core.List.{List}
 use native.Mathlib.Decide.{ℕ-discrete}
 use native.Mathlib.Omega.{arith}
 use lib.ListN.{getD}
+use Rattle.term.specs.Words.{tag-in}
 use Rattle.run_circle.specs.Search.{LeadsIs, LastLeads}
 
 module _ (s : List ℕ) (q : ℕ) where
-  pub last-first : (k : ℕ) → k ≡ getD s q 0 % 8 → LastLeads s q k
+  pub last-first : (k : ℕ) → k ≡ tag-in (getD s q 0) → LastLeads s q k
   last-first k e = record { among = omega arith; idle = λ i l h. absurd (omega arith) }
 
   -- The argument at hand does not lead on.
@@ -19,7 +20,7 @@ module _ (s : List ℕ) (q : ℕ) where
       after : (i : ℕ) → k - 1 < i → (i ≡ k → ⊥) → k < i
       after i l d = omega arith
 
-      go : (i : ℕ) → k - 1 < i → i ≤ getD s q 0 % 8 → Dec (i ≡ k) → LeadsIs (getD s (q + i) 0) false
+      go : (i : ℕ) → k - 1 < i → i ≤ tag-in (getD s q 0) → Dec (i ≡ k) → LeadsIs (getD s (q + i) 0) false
       go i l m (yes f) =
           let here : LeadsIs (getD s (q + k) 0) false = subst (λ w. LeadsIs w false) e idle in
           subst (λ n. LeadsIs (getD s (q + n) 0) false) (sym f) here

@@ -14,6 +14,7 @@ use Rattle.meaning.specs.State.{value}
 use Rattle.laws.proofs.Trial.Values.{assigned-below}
 use Rattle.term.specs.Holds.{HoldsValue, value-word}
 use Rattle.term.specs.Setting.{Within}
+use Rattle.term.specs.Layout.{trial-region, gift-term}
 use Rattle.run_circle.specs.Circle.{entry-pair, entry-term, Held, Trial, old, Tried}
 use Rattle.run_circle.specs.Search.{Scene, whole, On, Told, Given, Shown}
 use Rattle.run_circle.proofs.Parts.{raised, within-stands, renamed-stands, raised-word, holds-part, holds-renamed}
@@ -78,7 +79,7 @@ module _ (s₀ s : List ℕ) (y : Trial) (values marks n stamp : ℕ) (tried : T
   pub entry-told : (i : ℕ) (h : i < n) → Told x true (entry-term (take marks s) i) (value (y .after) (tried .entry i h .pair))
   entry-told i h =
       let e = tried .entry i h in
-      let words : entry-term (take marks s) i ≡ entry-term s₀ i = before-same (39953 + 2 * i) (omega (arith, tried .entries-before)) in
+      let words : entry-term (take marks s) i ≡ entry-term s₀ i = before-same (gift-term i) (omega (arith, tried .entries-before)) in
       rw (e .given) (record {
         word = words ∙ e .word ∙ sym (raised-word (y .item) (old y) (y .unit .compounds) (e .term));
         held =
@@ -90,20 +91,20 @@ module _ (s₀ s : List ℕ) (y : Trial) (values marks n stamp : ℕ) (tried : T
       })
 
   -- What a pair of the clause is given.
-  clause-place : (j : ℕ) → old y ≤ j → 39936 + x .clause .pair j ≡ 39936 + (j - old y)
-  clause-place j l = ap (λ k. 39936 + k) (tried .item-pair (j - old y))
+  clause-place : (j : ℕ) → old y ≤ j → trial-region + x .clause .pair j ≡ trial-region + (j - old y)
+  clause-place j l = ap (λ k. trial-region + k) (tried .item-pair (j - old y))
 
-  clause-told : (j : ℕ) → On x true j → Told x false (getD (take marks s) (39936 + x .clause .pair j) 0) (value (y .after) j)
+  clause-told : (j : ℕ) → On x true j → Told x false (getD (take marks s) (trial-region + x .clause .pair j) 0) (value (y .after) j)
   clause-told j on =
       let m = j - old y in
       let h : m < y .pairs = omega (arith, on .0, on .1, tried .after-length) in
       let is : old y + m ≡ j = omega (arith, on .0) in
       let g = tried .given m h in
-      let words : getD (take marks s) (39936 + x .clause .pair j) 0 ≡ getD s₀ (39936 + m) 0 =
+      let words : getD (take marks s) (trial-region + x .clause .pair j) 0 ≡ getD s₀ (trial-region + m) 0 =
       ap (λ k. getD (take marks s) k 0) (clause-place j (on .0))
-      ∙ before-same (39936 + m) (omega (arith, tried .few, tried .entries-before)) in
-      subst (λ k. Told x false (getD (take marks s) (39936 + x .clause .pair j) 0) (value (y .after) k)) is
-      (unit-told (getD (take marks s) (39936 + x .clause .pair j) 0) (value (y .after) (old y + m)) (words ∙ g .word)
+      ∙ before-same (trial-region + m) (omega (arith, tried .few, tried .entries-before)) in
+      subst (λ k. Told x false (getD (take marks s) (trial-region + x .clause .pair j) 0) (value (y .after) k)) is
+      (unit-told (getD (take marks s) (trial-region + x .clause .pair j) 0) (value (y .after) (old y + m)) (words ∙ g .word)
       (holds-value (value (y .after) (old y + m)) (g .held)) (g .within))
 
   -- A pair of the unit, an entry's or not.

@@ -7,6 +7,7 @@ use mathlib.Core.List.{List}
 use native.Mathlib.Omega.{arith}
 use lib.ListN.{getD}
 use Rattle.term.specs.Holds.{value-word}
+use Rattle.term.specs.Layout.{gift-pair}
 use Rattle.run_circle.specs.Circle.{entry-pair, Entries, Held, Trial, Tried, Answered, Tested}
 use Rattle.run_circle.proofs.Grounds.{new-then, new-same}
 use Rattle.run_circle.proofs.Through.{one-or-none}
@@ -27,8 +28,8 @@ module _ (s₀ : List ℕ) (y : Trial) (values marks n stamp : ℕ) (tried : Tri
     -- Neither the entries nor what stands before the marks is changed by the search.
     entry-kept : (i : ℕ) → i < n → entry-pair s₂ i ≡ entry-pair s₀ i
     entry-kept i h =
-        answered .only .below (39952 + 2 * i) (omega (arith, tried .entries-before, tried .marks-behind))
-        ∙ held .others (39952 + 2 * i) (λ j l e. omega (arith, tried .entries-before))
+        answered .only .below (gift-pair i) (omega (arith, tried .entries-before, tried .marks-behind))
+        ∙ held .others (gift-pair i) (λ j l e. omega (arith, tried .entries-before))
 
     pub entries-still : Entries s₂ values n
     entries-still = record {

@@ -15,6 +15,7 @@ use Rattle.meaning.specs.Terms.{writer, Term}
 use Rattle.meaning.specs.State.{value}
 use Rattle.laws.proofs.Terms.Standing.{Stands}
 use Rattle.term.specs.Holds.{Holds}
+use Rattle.term.specs.Words.{tag-in, rest-in}
 use Rattle.run_circle.specs.Ground.{Ground, ground, GroundAt}
 use Rattle.run_circle.specs.Search.{Scene, Told, StandsAt, LeadsIs, LastLeads, Searching, visited, Searched, Settled}
 use Rattle.run_circle.proofs.Grounds.{ground-value, ground-leans}
@@ -114,12 +115,12 @@ module _ (s₀ : List ℕ) (values marks stamp pair : ℕ) where
       here = searching-on x marks stamp goal s₀ s (at-hand .settled .stamped) values place h
 
     -- At a compound: on to the last argument that leads on.
-    module _ (six : t % 8 ≡ 6) (q : ℕ) (at : q ≡ t / 8) where
+    module _ (six : tag-in t ≡ 6) (q : ℕ) (at : q ≡ rest-in t) where
       settle-rest : (x : Scene) (place goal : ℕ) (h : Searching s₀ x values marks place stamp goal) (g : GroundAt (x .unit) (x .before) pair)
-          → Rest x false q (getD s q 0 % 8) 1 (settling x place goal h g .now)
+          → Rest x false q (tag-in (getD s q 0)) 1 (settling x place goal h g .now)
       settle-rest x place goal h g =
           enter x values marks place stamp goal false s t (settling x place goal h g .now) (here x place goal h g) (settling x place goal h g .told) six q
-          (getD s q 0 % 8) at refl .0
+          (tag-in (getD s q 0)) at refl .0
 
       pub settle-count : SettleAsks → q + 7 < length s
       settle-count (x, place, goal, h, g) =
@@ -129,7 +130,7 @@ module _ (s₀ : List ℕ) (values marks stamp pair : ℕ) where
         settle-argument : (x : Scene) (place goal : ℕ) (h : Searching s₀ x values marks place stamp goal) (g : GroundAt (x .unit) (x .before) pair)
             → Argument x false a (settling x place goal h g .now)
         settle-argument x place goal h g =
-            argument-of x values marks place stamp goal false t (settling x place goal h g .now) (settling x place goal h g .told) q (getD s q 0 % 8) 1
+            argument-of x values marks place stamp goal false t (settling x place goal h g .now) (settling x place goal h g .told) q (tag-in (getD s q 0)) 1
             (settle-rest x place goal h g) s (here x place goal h g) k a (omega arith) (last .among) reads
 
         pub settling-argument : Settling s a
@@ -149,7 +150,7 @@ module _ (s₀ : List ℕ) (values marks stamp pair : ℕ) where
             (settling x place goal h g .now) (u .value) (settling x place goal h g .told) (u .told) (u .lower)
 
     -- At a variable: its pair is marked as ground, and on to its value.
-    module _ (six : t % 8 ≡ 6 → ⊥) (leads : LeadsIs t true) (p : ℕ) (at : p ≡ t / 8) where
+    module _ (six : tag-in t ≡ 6 → ⊥) (leads : LeadsIs t true) (p : ℕ) (at : p ≡ rest-in t) where
       settle-pair : (x : Scene) (place goal : ℕ) (h : Searching s₀ x values marks place stamp goal) (g : GroundAt (x .unit) (x .before) pair)
           → Variable x marks stamp goal false t (settling x place goal h g .now)
       settle-pair x place goal h g =

@@ -13,6 +13,7 @@ use Rattle.meaning.specs.State.{value}
 use Rattle.laws.proofs.Circle.Leaning.{Links}
 use Rattle.laws.proofs.Circle.Search.{circle-says, no-circle-says}
 use Rattle.term.specs.Frames.{Only}
+use Rattle.term.specs.Layout.{gift-pair, gift-term}
 use Rattle.run_circle.specs.Circle.{entry-pair, entry-term, Held, Trial, old, Tried, Answered}
 use Rattle.run_circle.specs.Ground.{Ground, Grounds, NewGrounds}
 use Rattle.run_circle.specs.Search.{Scene, Told, StandsAt, Searching, Visited, Stamped, Searched}
@@ -90,7 +91,7 @@ module _ (s₀ s₁ : List ℕ) (y : Trial) (values marks n stamp : ℕ) (tried 
           sym (getD-take marks s k 0 (omega (arith, tried .marks-behind))) ∙ ap (λ l. getD l k 0) (passed .front)
           ∙ before-same s₀ s₁ y values marks n stamp tried held k l
 
-      pub entry-inside : 39953 + 2 * i < length s
+      pub entry-inside : gift-term i < length s
       entry-inside = omega (arith, tried .entries-before, tried .marks-behind, tried .room, held .size, passed .size)
 
       grounds-now : Grounds (y .unit .places) (y .unit .values) marks s
@@ -104,7 +105,7 @@ module _ (s₀ s₁ : List ℕ) (y : Trial) (values marks n stamp : ℕ) (tried 
         values-at = refl;
         room = omega (arith, tried .room, held .size, passed .size);
         unit-pair = tried .entry i h .of-unit;
-        place-at = region (39952 + 2 * i) (omega (arith, tried .entries-before)) ∙ tried .entry i h .place;
+        place-at = region (gift-pair i) (omega (arith, tried .entries-before)) ∙ tried .entry i h .place;
         unassigned = tried .entry i h .unassigned;
         stamp-above = omega (arith, tried .stamp-above);
         grounds = grounds-now;
@@ -113,8 +114,8 @@ module _ (s₀ s₁ : List ℕ) (y : Trial) (values marks n stamp : ℕ) (tried 
       pub told : Told x true (entry-term s i) (value (y .after) goal)
       told =
           let words : entry-term s i ≡ entry-term (take marks s₁) i =
-          region (39953 + 2 * i) (omega (arith, tried .entries-before))
-          ∙ sym (before-same s₀ s₁ y values marks n stamp tried held (39953 + 2 * i) (omega (arith, tried .entries-before))) in
+          region (gift-term i) (omega (arith, tried .entries-before))
+          ∙ sym (before-same s₀ s₁ y values marks n stamp tried held (gift-term i) (omega (arith, tried .entries-before))) in
           rw words (entry-told s₀ s₁ y values marks n stamp tried held i h)
 
       module _ (s′ : List ℕ) (stamped : Stamped x marks (stamp + i) s s′) where
@@ -184,7 +185,7 @@ module _ (s₁ : List ℕ) (values marks n stamp : ℕ) where
   Tells s′ r = (y : Trial) (s₀ : List ℕ) → Tried s₀ y values marks n stamp → Held s₀ s₁ values n true → Answered s₀ s₁ s′ y marks n stamp r
 
   module _ (s : List ℕ) (i : ℕ) (passing : Passing s i) (h : i < n) where
-    pub entry-at : Asks → 39953 + 2 * i < length s
+    pub entry-at : Asks → gift-term i < length s
     entry-at (y, s₀, tried, held) = entry-inside s₀ s₁ y values marks n stamp tried held s i (passing y s₀ tried held) h
 
     pub stamp-fits : Asks → stamp + i < 2 ^ 64

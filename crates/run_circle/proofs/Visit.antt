@@ -13,6 +13,8 @@ use Rattle.meaning.specs.Terms.{writer, reader, Constant, Term}
 use Rattle.meaning.specs.State.{Values, value}
 use Rattle.laws.proofs.Terms.Standing.{Stands}
 use Rattle.laws.proofs.Circle.Leaning.{Leans, Links, one, first}
+use Rattle.term.specs.Layout.{trial-region, gift-term}
+use Rattle.term.specs.Words.{tag-in, rest-in}
 use Rattle.run_circle.specs.Ground.{Ground, ground}
 use Rattle.run_circle.specs.Search.{Scene, side, On, Told, Given, StandsAt, Searching, visited, Visited, Stamped, Seen, Reaches, Searched, Firm}
 use Rattle.run_circle.proofs.Stamps.{
@@ -48,14 +50,14 @@ link x z i j s (inr l) = first (leans-of (x .after) i j s) l
 pub record Variable (x : Scene) (marks stamp z : ℕ) (b : Bool) (w : ℕ) (v : Option Term) : Type 0 where
   pub pair : ℕ
   pub on : On x b pair
-  pub place : w / 8 ≡ side x b .pair pair
+  pub place : rest-in w ≡ side x b .pair pair
   pub answer : (s s′ : List ℕ) (r : Bool) → Searched s s′ x marks stamp z (λ i. i ≡ pair) r
       → Searched s s′ x marks stamp z (λ j. StandsAt j v) r
   pub firm : Ground (x .before) pair → Firm x v
   pub stands : StandsAt pair v
 
 pub variable-of : (x : Scene) (marks stamp z : ℕ) (b : Bool) (w : ℕ) (v : Option Term) → Told x b w v
-    → (w % 8 ≡ 6 → ⊥) → (w % 8 ≡ 0 → ⊥) → w % 8 ≤ 2 → Variable x marks stamp z b w v
+    → (tag-in w ≡ 6 → ⊥) → (tag-in w ≡ 0 → ⊥) → tag-in w ≤ 2 → Variable x marks stamp z b w v
 unfolding Stands
 variable-of x marks stamp z b w none told c d le = absurd (d (omega (arith, told .word)))
 variable-of x marks stamp z b w (some (Term.variable writer n)) told c d le =
@@ -76,7 +78,7 @@ ground-of x n same firm = go (value (x .before) n) refl (rw same at firm)
     go (some t) e f = ground t e f
 
 -- No term's word has the tag 7.
-pub told-tag : (x : Scene) (b : Bool) (w : ℕ) (v : Option Term) → Told x b w v → w % 8 ≡ 7 → ⊥
+pub told-tag : (x : Scene) (b : Bool) (w : ℕ) (v : Option Term) → Told x b w v → tag-in w ≡ 7 → ⊥
 told-tag x b w none told e = omega (arith, told .word)
 told-tag x b w (some (Term.variable writer n)) told e = omega (arith, told .word)
 told-tag x b w (some (Term.variable reader n)) told e = omega (arith, told .word)
@@ -87,14 +89,14 @@ told-tag x b w (some (Term.compound n f ts)) told e = omega (arith, told .word)
 
 module _ (x : Scene) (values marks place stamp z : ℕ) (s : List ℕ) (h : Searching s x values marks place stamp z) where
   -- A pair of the clause: the word that it was given.
-  pub given-inside : (j p : ℕ) → On x true j → p ≡ x .clause .pair j → 39936 + p < length s
+  pub given-inside : (j p : ℕ) → On x true j → p ≡ x .clause .pair j → trial-region + p < length s
   given-inside j p on e =
       omega (arith, h .shown .clause-inside j on, front-length s x values marks place stamp z h, h .room)
 
-  pub given-told : (j p : ℕ) → On x true j → p ≡ x .clause .pair j → Told x false (getD s (39936 + p) 0) (value (x .after) j)
+  pub given-told : (j p : ℕ) → On x true j → p ≡ x .clause .pair j → Told x false (getD s (trial-region + p) 0) (value (x .after) j)
   given-told j p on e =
-      let words : getD s (39936 + x .clause .pair j) 0 ≡ getD (x .front) (39936 + x .clause .pair j) 0 =
-      front-word s x values marks place stamp z h (39936 + x .clause .pair j) (h .shown .clause-inside j on) in
+      let words : getD s (trial-region + x .clause .pair j) 0 ≡ getD (x .front) (trial-region + x .clause .pair j) 0 =
+      front-word s x values marks place stamp z h (trial-region + x .clause .pair j) (h .shown .clause-inside j on) in
       rw (e, words) (h .shown .clause-value j on)
 
   pub given-answer : (j : ℕ) → On x true j → (s′ : List ℕ) (r : Bool)
@@ -163,30 +165,30 @@ module _ (x : Scene) (values marks place stamp z : ℕ) (s : List ℕ) (h : Sear
         words ∙ ap (λ k. getD (x .front) k 0) (omega (arith, h .values-at))
 
     -- Its value, a term of the unit or one of the head.
-    pub unit-told : (v : ℕ) → v ≡ getD (set s (marks + p) stamp) (values + p) 0 → (v % 8 ≡ 7 → ⊥) → Told x false v (value (x .after) j)
+    pub unit-told : (v : ℕ) → v ≡ getD (set s (marks + p) stamp) (values + p) 0 → (tag-in v ≡ 7 → ⊥) → Told x false v (value (x .after) j)
     unit-told v f d = ⊎-elim (λ (same, t). rw (f ∙ value-word-at) t)
         (λ (none-before, g). absurd (d (omega (arith, g .word, f ∙ value-word-at)))) (h .shown .unit-value j on)
 
-    head-given : (v : ℕ) → v ≡ getD (set s (marks + p) stamp) (values + p) 0 → v % 8 ≡ 7 → Given x v (value (x .after) j)
+    head-given : (v : ℕ) → v ≡ getD (set s (marks + p) stamp) (values + p) 0 → tag-in v ≡ 7 → Given x v (value (x .after) j)
     head-given v f d = ⊎-elim (λ (same, t). absurd (told-tag x false v (value (x .after) j) (rw (f ∙ value-word-at) t) d))
         (λ (none-before, g). rw (f ∙ value-word-at) g) (h .shown .unit-value j on)
 
-    pub head-inside : (v i : ℕ) → v ≡ getD (set s (marks + p) stamp) (values + p) 0 → v % 8 ≡ 7 → i ≡ v / 8 → 39953 + 2 * i < length s
+    pub head-inside : (v i : ℕ) → v ≡ getD (set s (marks + p) stamp) (values + p) 0 → tag-in v ≡ 7 → i ≡ rest-in v → gift-term i < length s
     head-inside v i f d at =
         let g = head-given v f d in
         omega (arith, g .word, g .inside, front-length s x values marks place stamp z h, h .room)
 
-    pub head-told : (v i : ℕ) → v ≡ getD (set s (marks + p) stamp) (values + p) 0 → v % 8 ≡ 7 → i ≡ v / 8
-        → Told x true (getD (set s (marks + p) stamp) (39953 + 2 * i) 0) (value (x .after) j)
+    pub head-told : (v i : ℕ) → v ≡ getD (set s (marks + p) stamp) (values + p) 0 → tag-in v ≡ 7 → i ≡ rest-in v
+        → Told x true (getD (set s (marks + p) stamp) (gift-term i) 0) (value (x .after) j)
     head-told v i f d at =
         let g = head-given v f d in
         let is : i ≡ g .number = omega (arith, g .word) in
-        let words : getD (set s (marks + p) stamp) (39953 + 2 * g .number) 0 ≡ getD (x .front) (39953 + 2 * g .number) 0 =
-        front-word (set s (marks + p) stamp) x values marks place stamp z marked-searching (39953 + 2 * g .number) (g .inside) in
+        let words : getD (set s (marks + p) stamp) (gift-term (g .number)) 0 ≡ getD (x .front) (gift-term (g .number)) 0 =
+        front-word (set s (marks + p) stamp) x values marks place stamp z marked-searching (gift-term (g .number)) (g .inside) in
         rw (is, words) (g .told)
 
     -- A pair whose value is a term of the unit had it before the trial.
-    pub unit-same : (v : ℕ) → v ≡ getD (set s (marks + p) stamp) (values + p) 0 → (v % 8 ≡ 7 → ⊥) → value (x .after) j ≡ value (x .before) j
+    pub unit-same : (v : ℕ) → v ≡ getD (set s (marks + p) stamp) (values + p) 0 → (tag-in v ≡ 7 → ⊥) → value (x .after) j ≡ value (x .before) j
     unit-same v f d = ⊎-elim (λ (same, t). same)
         (λ (none-before, g). absurd (d (omega (arith, g .word, f ∙ value-word-at)))) (h .shown .unit-value j on)
 

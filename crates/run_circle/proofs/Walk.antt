@@ -11,7 +11,7 @@ use lib.ListN.{length, getD}
 use Rattle.meaning.specs.Terms.{writer, reader, Constant, Term, Terms, end, more, count}
 use Rattle.laws.proofs.Terms.Standing.{Stands, StandsIn}
 use Rattle.term.specs.Cells.{Places, term-word, functor-word}
-use Rattle.term.specs.Words.{word}
+use Rattle.term.specs.Words.{word, tag-in, rest-in}
 use Rattle.term.specs.Holds.{Holds, HoldsFrom, value-word}
 use Rattle.run_circle.specs.Ground.{Ground}
 use Rattle.run_circle.specs.Search.{
@@ -126,8 +126,8 @@ no-filling places (some (Term.compound n f ts)) e = omega arith
 
 module _ (x : Scene) (values marks place stamp z : ℕ) (b : Bool) where
   -- The search enters a compound.
-  pub enter : (s : List ℕ) (w : ℕ) (v : Option Term) → Searching s x values marks place stamp z → Told x b w v → w % 8 ≡ 6
-      → (q k : ℕ) → q ≡ w / 8 → k ≡ getD s q 0 % 8 → (c : Rest x b q k 1 v) × ((j : ℕ) → StandsAt j v → StandsIn j (c .terms))
+  pub enter : (s : List ℕ) (w : ℕ) (v : Option Term) → Searching s x values marks place stamp z → Told x b w v → tag-in w ≡ 6
+      → (q k : ℕ) → q ≡ rest-in w → k ≡ tag-in (getD s q 0) → (c : Rest x b q k 1 v) × ((j : ℕ) → StandsAt j v → StandsIn j (c .terms))
   unfolding Holds HoldsFrom Stands depth
   enter s w none h told e q k at counted = absurd (omega (arith, told .word))
   enter s w (some (Term.variable writer n)) h told e q k at counted = absurd (omega (arith, told .word))
@@ -236,13 +236,13 @@ module _ (x : Scene) (values marks place stamp z : ℕ) (b : Bool) where
     closed = λ f. closed-same x marks stamp z s;
   }
 
-  pub idle-firm : (w : ℕ) (v : Option Term) → Told x b w v → LeadsIs w false → (w % 8 ≡ 0 → ⊥) → Firm x v
+  pub idle-firm : (w : ℕ) (v : Option Term) → Told x b w v → LeadsIs w false → (tag-in w ≡ 0 → ⊥) → Firm x v
   idle-firm w none told idle d = absurd (d (omega (arith, told .word)))
   idle-firm w (some t) told idle d = λ j r. absurd (none-stands (side x b) t w (told .word) idle j r)
 
   -- Through the arguments of a compound.
-  pub walk-first : (s : List ℕ) (w : ℕ) (v : Option Term) → Searching s x values marks place stamp z → Told x b w v → w % 8 ≡ 6
-      → (q k : ℕ) → q ≡ w / 8 → k ≡ getD s q 0 % 8 → (first : ℕ) → Walked s s x marks stamp z b q k 1 0 v first first
+  pub walk-first : (s : List ℕ) (w : ℕ) (v : Option Term) → Searching s x values marks place stamp z → Told x b w v → tag-in w ≡ 6
+      → (q k : ℕ) → q ≡ rest-in w → k ≡ tag-in (getD s q 0) → (first : ℕ) → Walked s s x marks stamp z b q k 1 0 v first first
   walk-first s w v h told six q k at counted first =
       let (c, all) = enter s w v h told six q k at counted in
       record {

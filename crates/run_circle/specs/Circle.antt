@@ -12,24 +12,26 @@ use Rattle.term.specs.Cells.{Places, term-word}
 use Rattle.term.specs.Holds.{Holds, value-word}
 use Rattle.term.specs.Frames.{Only}
 use Rattle.term.specs.Setting.{Setting, Within, UnitStands}
+use Rattle.term.specs.Layout.{trial-region, gift-pair, gift-term}
+use Rattle.term.specs.Words.{probe-word}
 use Rattle.run_circle.specs.Ground.{Grounds, NewGrounds}
 
 -- The place of the pair of the i-th entry, and the word of its term of the head.
 abbrev pub entry-pair : List ℕ → ℕ → ℕ
-entry-pair s i = getD s (39952 + 2 * i) 0
+entry-pair s i = getD s (gift-pair i) 0
 
 abbrev pub entry-term : List ℕ → ℕ → ℕ
-entry-term s i = getD s (39953 + 2 * i) 0
+entry-term s i = getD s (gift-term i) 0
 
 -- The n entries stand before the values, and their pairs are among them and all different.
 pub record Entries (s : List ℕ) (values n : ℕ) : Type 0 where
-  pub before : 39952 + 2 * n ≤ values
+  pub before : gift-pair n ≤ values
   pub inside : (i : ℕ) → i < n → values + entry-pair s i < length s
   pub apart : (i j : ℕ) → i < n → j < n → entry-pair s i ≡ entry-pair s j → i ≡ j
 
 -- What an entry's pair holds while the trial is tested: 7 and eight times its number; and before and after: nothing.
 abbrev pub held-word : Bool → ℕ → ℕ
-held-word true i = 7 + 8 * i
+held-word true i = probe-word i
 held-word false i = 0
 
 -- The values of the entries' pairs are set, and all else is as it was.
@@ -63,7 +65,7 @@ pub record Entry (s : List ℕ) (y : Trial) (i : ℕ) : Type 0 where
 
 -- What a variable of the head is given: nothing, or a term of the unit.
 pub record GivenTo (s : List ℕ) (y : Trial) (m : ℕ) : Type 0 where
-  pub word : getD s (39936 + m) 0 ≡ value-word (y .unit .places) (value (y .after) (old y + m))
+  pub word : getD s (trial-region + m) 0 ≡ value-word (y .unit .places) (value (y .after) (old y + m))
   pub held : (t : Term) → value (y .after) (old y + m) ≡ some t → Holds s (y .unit .places) t
   pub within : (t : Term) → value (y .after) (old y + m) ≡ some t → Within (old y) (y .unit .compounds) t
 
@@ -75,7 +77,7 @@ pub record Tried (s : List ℕ) (y : Trial) (values marks n stamp : ℕ) : Type 
   pub item-before : (m : ℕ) → m < y .compounds → y .item .compound m + y .item .width m ≤ values
   pub item-pair : (m : ℕ) → y .item .pair m ≡ m
   pub few : y .pairs ≤ 16
-  pub entries-before : 39952 + 2 * n ≤ values
+  pub entries-before : gift-pair n ≤ values
   pub marks-behind : values + y .unit .pairs ≤ marks
   pub room : marks + y .unit .pairs ≤ length s
   pub entry : (i : ℕ) → i < n → Entry s y i

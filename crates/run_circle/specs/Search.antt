@@ -15,6 +15,8 @@ use Rattle.laws.proofs.Terms.Standing.{Stands}
 use Rattle.laws.proofs.Circle.Leaning.{Leans, Links}
 use Rattle.term.specs.Cells.{Places}
 use Rattle.term.specs.Holds.{value-word, HoldsValue}
+use Rattle.term.specs.Layout.{trial-region, gift-term}
+use Rattle.term.specs.Words.{probe-word, tag-in}
 use Rattle.run_circle.specs.Ground.{Ground, GroundAt, Grounds, NewGrounds}
 
 -- A pair stands in a value.
@@ -24,13 +26,13 @@ StandsAt j (some t) = Stands j t
 
 -- From a word no pair is reached, or a pair may be: a compound's has the tag 6, a pair's 1 or 2.
 abbrev pub LeadsIs : ℕ → Bool → Type 0
-LeadsIs w true = (w % 8 ≡ 6) ⊎ ((w % 8 ≡ 0 → ⊥) × (w % 8 ≤ 2))
-LeadsIs w false = (w % 8 ≡ 6 → ⊥) × ((w % 8 ≡ 0) ⊎ (2 < w % 8))
+LeadsIs w true = (tag-in w ≡ 6) ⊎ ((tag-in w ≡ 0 → ⊥) × (tag-in w ≤ 2))
+LeadsIs w false = (tag-in w ≡ 6 → ⊥) × ((tag-in w ≡ 0) ⊎ (2 < tag-in w))
 
 -- The last argument of the compound at place q from which a pair may be reached is none behind the k-th.
 pub record LastLeads (s : List ℕ) (q k : ℕ) : Type 0 where
-  pub among : k ≤ getD s q 0 % 8
-  pub idle : (i : ℕ) → k < i → i ≤ getD s q 0 % 8 → LeadsIs (getD s (q + i) 0) false
+  pub among : k ≤ tag-in (getD s q 0)
+  pub idle : (i : ℕ) → k < i → i ≤ tag-in (getD s q 0) → LeadsIs (getD s (q + i) 0) false
 
 -- The values before and after a trial, how many pairs the unit had before, how many pairs the scratch has room for, and each side's places.
 -- `front` is the part of the scratch before the marks, which a search leaves as it is; `size` is how many words the scratch has.
@@ -69,17 +71,17 @@ pub record Told (x : Scene) (b : Bool) (w : ℕ) (v : Option Term) : Type 0 wher
 -- A pair of the goal that the trial gives a term of the head: its word has 7 and eight times its number in the trial.
 pub record Given (x : Scene) (w : ℕ) (v : Option Term) : Type 0 where
   pub number : ℕ
-  pub word : w ≡ 7 + 8 * number
-  pub inside : 39953 + 2 * number < length (x .front)
-  pub told : Told x true (getD (x .front) (39953 + 2 * number) 0) v
+  pub word : w ≡ probe-word number
+  pub inside : gift-term number < length (x .front)
+  pub told : Told x true (getD (x .front) (gift-term number) 0) v
 
 -- Each pair of the scene has its value's word: the clause's in the trial's region, the unit's among the values.
 pub record Shown (x : Scene) : Type 0 where
   pub room : x .values + x .pairs ≤ length (x .front)
   pub place : (j : ℕ) → j < x .old → x .unit .pair j < x .pairs
   pub apart : (i j : ℕ) → i < x .old → j < x .old → x .unit .pair i ≡ x .unit .pair j → i ≡ j
-  pub clause-inside : (j : ℕ) → On x true j → 39936 + x .clause .pair j < length (x .front)
-  pub clause-value : (j : ℕ) → On x true j → Told x false (getD (x .front) (39936 + x .clause .pair j) 0) (value (x .after) j)
+  pub clause-inside : (j : ℕ) → On x true j → trial-region + x .clause .pair j < length (x .front)
+  pub clause-value : (j : ℕ) → On x true j → Told x false (getD (x .front) (trial-region + x .clause .pair j) 0) (value (x .after) j)
   pub old-is : x .old ≡ length (x .before)
   pub stays : (j : ℕ) (t : Term) → value (x .before) j ≡ some t → value (x .after) j ≡ some t
   pub unit-value : (j : ℕ) → j < x .old

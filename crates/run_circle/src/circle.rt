@@ -1,9 +1,14 @@
 // The circle test. While a trial is tested, each of the goal's pairs that it gives a term holds 7 and eight times its number in the trial.
+use term::layout::GIFTS;
 use term::layout::TRIAL;
 use term::scratch::argument;
 use term::scratch::count;
 use term::scratch::set_at;
 use term::scratch::word_at;
+use term::word::COMPOUND;
+use term::word::PROBE;
+use term::word::READER;
+use term::word::TAGS;
 use term::word::index;
 use term::word::word;
 ghost use mathlib.Core.Path.{_≡_};
@@ -13,6 +18,8 @@ ghost use mathlib.Core.Bool.{true, false};
 ghost use mathlib.Core.List.{List};
 ghost use lib.ListN.{length, getD};
 ghost use Rattle.meaning.specs.Terms.{Term};
+ghost use Rattle.term.specs.Layout.{gift-pair, gift-term};
+ghost use Rattle.term.specs.Words.{probe-word};
 ghost use Rattle.run_circle.specs.Circle.{Entries, Held, held-word, entry-pair, Trial, Tried, Tested, Answered};
 ghost use Rattle.run_circle.specs.Ground.{GroundAt};
 ghost use Rattle.run_circle.specs.Search.{Scene, Told, Searching, LeadsIs, LastLeads, Settled, Names, begun-state, JoinedIs, SinceIs, SearchedFrom};
@@ -22,24 +29,24 @@ const GROUND: u64 = 1;
 
 // The term of the head that the trial gives the i-th of its pairs.
 fn given_term(s: &[u64], i: usize) -> u64
-    requires { ⌜ 39953 + 2 * i < length (now s) ⌝ }
-    ensures { λ r. ⌜ r ≡ getD (now (s .entry)) (39953 + 2 * i) 0 ⌝ }
+    requires { ⌜ gift-term i < length (now s) ⌝ }
+    ensures { λ r. ⌜ r ≡ getD (now (s .entry)) (gift-term i) 0 ⌝ }
 {
-    s[TRIAL + 17 + 2 * i]
+    s[GIFTS + 1 + 2 * i]
 }
 
 // Whether a term is a compound or a variable: from any other no pair is reached.
 fn leads(w: u64) -> bool
     ensures { λ r. ⌜ LeadsIs w r ⌝ }
 {
-    let tag = w % 8;
-    if tag == 6 {
+    let tag = w % TAGS;
+    if tag == COMPOUND {
         return true;
     }
     if tag == 0 {
         return false;
     }
-    if tag > 2 {
+    if tag > READER {
         return false;
     }
     true
@@ -69,8 +76,8 @@ fn settle(s: &mut [u64], values: usize, marks: usize, stamp: u64, pair: usize)
 {
     let mut t = word(8 * pair + 1);
     while leads(t) {
-        let q = index(t / 8);
-        if t % 8 == 6 {
+        let q = index(t / TAGS);
+        if t % TAGS == COMPOUND {
             let k = last(s, q);
             if k == 0 {
                 return;
@@ -148,9 +155,9 @@ fn from_term(
     let mut state = begun(head);
     let mut t = w;
     loop {
-        let tag = t % 8;
-        let p = index(t / 8);
-        if tag == 6 {
+        let tag = t % TAGS;
+        let p = index(t / TAGS);
+        if tag == COMPOUND {
             let k = count(s, p);
             let mut later = 0;
             let mut i = 1;
@@ -177,7 +184,7 @@ fn from_term(
         if tag == 0 {
             return 1;
         }
-        if tag > 2 {
+        if tag > READER {
             return ended(s, values, marks, stamp, state);
         }
         if side {
@@ -198,9 +205,9 @@ fn from_term(
         set_at(s, marks, p, stamp);
         state = since(state, p);
         t = word_at(s, values, p);
-        let kind = t % 8;
-        if kind == 7 {
-            let i = index(t / 8);
+        let kind = t % TAGS;
+        if kind == PROBE {
+            let i = index(t / TAGS);
             t = given_term(s, i);
             side = true;
             state = 1;
@@ -210,7 +217,7 @@ fn from_term(
 
 // What an entry's pair holds while the trial is tested, and what before and after.
 fn held(testing: bool, i: usize) -> u64
-    requires { ⌜ 7 + 8 * i < 2 ^ 64 ⌝ }
+    requires { ⌜ probe-word i < 2 ^ 64 ⌝ }
     ensures { λ r. ⌜ r ≡ held-word testing i ⌝ }
 {
     if testing { word(7 + 8 * i) } else { 0 }
@@ -218,10 +225,10 @@ fn held(testing: bool, i: usize) -> u64
 
 // The place of the pair of the i-th entry.
 fn entry_pair(s: &[u64], i: usize) -> usize
-    requires { ⌜ 39952 + 2 * i < length (now s) ⌝ }
+    requires { ⌜ gift-pair i < length (now s) ⌝ }
     ensures { λ r. ⌜ r ≡ entry-pair (now (s .entry)) i ⌝ }
 {
-    index(s[TRIAL + 16 + 2 * i])
+    index(s[GIFTS + 2 * i])
 }
 
 // Sets the values of the entries' pairs to what they hold while the trial is tested, or back to nothing.

@@ -14,6 +14,8 @@ use Rattle.term.proofs.Cells.{numbered-order, all-numbered-order}
 use Rattle.term.proofs.Frames.{only-same, only-then}
 use Rattle.run_compare.specs.declared.compare.CompareResult.the-variants.{Agrees, Waits, Fails}
 use Rattle.term.specs.Setting.{Setting, AllWithin, AllRanged}
+use Rattle.term.specs.Layout.{trial-region, readers-part, item-place, clause-base}
+use Rattle.term.specs.Words.{tag-in}
 use Rattle.run_chains.specs.Follow.{Reads}
 use Rattle.run_chains.proofs.Compounds.{first-count}
 use Rattle.run_compare.specs.Gifts.{Gift, assignments, entries, recorded}
@@ -30,7 +32,7 @@ pub record Facing (s : List ℕ) (x : Setting) (y : Template) (m j lo hi : ℕ) 
   pub mid : ℕ
   pub heads-are : heads ≡ more t us
   pub goals-are : goals ≡ more u ts
-  pub head-word : getD s (8 * (640 + 32 * y .number + m) + 1 + j) 0 ≡ term-word (item x y) t
+  pub head-word : getD s (item-place (clause-base (y .number)) m + 1 + j) 0 ≡ term-word (item x y) t
   pub head : HeadTerm s x y lo mid t
   pub heads-left : HeadTerms s x y m (j + 1) mid hi us
   pub low : lo ≤ mid
@@ -87,7 +89,7 @@ pub record Partly (G : List ℕ → ℕ → Terms → Type 0) (s₀ s : List ℕ
   pub goals : Terms
   pub low : ℕ
   pub gifts : List Gift
-  pub only : Only 39936 40336 s₀ s
+  pub only : Only trial-region readers-part s₀ s
   pub scratch : s ≡ recorded (item x y) (x .places) n gifts s₀
   pub counted : given ≡ n + entries gifts
   pub held : AllGiven s₀ x y lo low gifts
@@ -105,10 +107,10 @@ module _ (links : ℕ) {s₀ : List ℕ} {x : Setting} {y : Template} {from m : 
   pub head-inside : p + 8 ≤ length s₀
   head-inside = omega (arith, a .cell .inside, a .place)
 
-  pub head-count : getD s₀ p 0 % 8 ≡ count us
+  pub head-count : tag-in (getD s₀ p 0) ≡ count us
   head-count = rw (a .place, a .cell .functor) (first-count (item x y) g (count us) (a .cell .few))
 
-  pub first-partly : (G : List ℕ → ℕ → Terms → Type 0) (ts : Terms) → G s₀ 0 ts → count us ≡ count ts → (k : ℕ) → k ≡ getD s₀ p 0 % 8
+  pub first-partly : (G : List ℕ → ℕ → Terms → Type 0) (ts : Terms) → G s₀ 0 ts → count us ≡ count ts → (k : ℕ) → k ≡ tag-in (getD s₀ p 0)
       → Partly G s₀ s₀ x y from links m us lo hi ts n k n 1
   unfolding assignments entries recorded AllGiven
   first-partly G ts goals counts k e = record {
@@ -119,7 +121,7 @@ module _ (links : ℕ) {s₀ : List ℕ} {x : Setting} {y : Template} {from m : 
     goals = ts;
     low = lo;
     gifts = [];
-    only = only-same 39936 40336 s₀;
+    only = only-same trial-region readers-part s₀;
     scratch = refl;
     counted = omega arith;
     held = omega arith;
@@ -148,7 +150,7 @@ module _ (links : ℕ) {s₀ : List ℕ} {x : Setting} {y : Template} {from m : 
     module _ (F : Facing s x y m (P .j) (P .low) hi (P .heads) (P .goals)) where
       pub head-read : {h : ℕ} → h ≡ getD s (p + i) 0 → h ≡ term-word (item x y) (F .t)
       head-read e =
-          let same : p + i ≡ 8 * (640 + 32 * y .number + m) + 1 + P .j = omega (arith, a .place, P .at) in
+          let same : p + i ≡ item-place (clause-base (y .number)) m + 1 + P .j = omega (arith, a .place, P .at) in
           e ∙ ap (λ c. getD s c 0) same ∙ F .head-word
 
       pub goals-here : G s (P .j) (more (F .u) (F .ts))
@@ -211,12 +213,12 @@ module _ (links : ℕ) {s₀ : List ℕ} {x : Setting} {y : Template} {from m : 
           goals = F .ts;
           low = F .mid;
           gifts = P .gifts ++ more-gifts;
-          only = only-then 39936 40336 s₀ s s′ (P .only) (r .only);
+          only = only-then trial-region readers-part s₀ s s′ (P .only) (r .only);
           scratch = recorded-on;
           counted = omega (arith, P .counted, r .told .1 .counted, entries-append (P .gifts) more-gifts);
           held =
               given-append s₀ x y lo (P .low) (F .mid) (P .gifts) more-gifts (P .held)
-              (all-given-kept s s₀ (only-back 39936 40336 s₀ s (P .only)) x y from links (P .trial) (P .low) (F .mid) more-gifts (r .told .1 .given));
+              (all-given-kept s s₀ (only-back trial-region readers-part s₀ s (P .only)) x y from links (P .trial) (P .low) (F .mid) more-gifts (r .told .1 .given));
           trial = trial-kept s s′ (r .only) x y from links (P .trial);
           head =
               head-terms-kept s s′ (r .only) x y (a .trial .number) (a .trial .compounds) m (P .j + 1) (F .mid) hi (F .us)
@@ -260,7 +262,7 @@ module _ (links : ℕ) {s₀ : List ℕ} {x : Setting} {y : Template} {from m : 
           → Answers s₀ s′ x y n lo hi (count us) (places-outcome x links us ts) (Waits z)
       unfolding and-then with-assignments waits-on
       waits-here {s′} r = record {
-        only = only-then 39936 40336 s₀ s s′ (P .only) (r .only);
+        only = only-then trial-region readers-part s₀ s s′ (P .only) (r .only);
         told = record {
           pair = r .told .pair;
           outcome = rw (r .told .outcome) at split;
@@ -273,7 +275,7 @@ module _ (links : ℕ) {s₀ : List ℕ} {x : Setting} {y : Template} {from m : 
           → Answers s₀ s′ x y n lo hi (count us) (places-outcome x links us ts) Fails
       unfolding and-then with-assignments
       fails-here {s′} r = record {
-        only = only-then 39936 40336 s₀ s s′ (P .only) (r .only);
+        only = only-then trial-region readers-part s₀ s s′ (P .only) (r .only);
         told = rw (r .told) at split;
       }
 

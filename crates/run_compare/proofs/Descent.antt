@@ -16,6 +16,7 @@ use Rattle.term.specs.Holds.{Holds}
 use Rattle.run_compare.specs.declared.compare.CompareResult.{CompareResult}
 use Rattle.run_compare.specs.declared.compare.CompareResult.the-variants.{Agrees, Waits, Fails}
 use Rattle.term.specs.Setting.{Setting, Within, Ranged}
+use Rattle.term.specs.Layout.{item-place, clause-base}
 use Rattle.run_compare.specs.Compare.{Template, item, Against, AllAgainst, Answers, place-outcome, places-outcome}
 use Rattle.run_compare.proofs.Gifts.{given-wider}
 use Rattle.run_compare.proofs.Equal.{functors-equal}
@@ -54,11 +55,11 @@ module _ (s : List ℕ) (x : Setting) (y : Template) (from lo hi h w n links m :
   unfoldable test : Bool
   test = same-functor g f && eqb (count us) (count ts)
 
-  pub cells-inside : (8 * (640 + 32 * y .number + m) + 8 ≤ length s) × (x .places .compound l + 8 ≤ length s)
+  pub cells-inside : (item-place (clause-base (y .number)) m + 8 ≤ length s) × (x .places .compound l + 8 ≤ length s)
   unfolding Holds
   cells-inside = (k .head .held .0 .inside, k .goal .held .0 .inside)
 
-  first-words : eqb (getD s (8 * (640 + 32 * y .number + m)) 0) (getD s (x .places .compound l) 0) ≡ test
+  first-words : eqb (getD s (item-place (clause-base (y .number)) m) 0) (getD s (x .places .compound l) 0) ≡ test
   unfolding Holds Known test
   first-words =
       rw (k .head .held .0 .functor, k .goal .held .0 .functor)
@@ -69,7 +70,7 @@ module _ (s : List ℕ) (x : Setting) (y : Template) (from lo hi h w n links m :
   unfolding place renamed test
   tested = rw (count-renamed (length (x .values)) (x .compounds) us)
 
-  pub differing : (b : Bool) → b ≡ not (eqb (getD s (8 * (640 + 32 * y .number + m)) 0) (getD s (x .places .compound l) 0)) → b ≡ true
+  pub differing : (b : Bool) → b ≡ not (eqb (getD s (item-place (clause-base (y .number)) m) 0) (getD s (x .places .compound l) 0)) → b ≡ true
       → place-outcome x links (Term.compound m g us) (Term.compound l f ts) ≡ fails
   unfolding if_then_else_
   differing b e c = go test refl
@@ -81,7 +82,7 @@ module _ (s : List ℕ) (x : Setting) (y : Template) (from lo hi h w n links m :
           absurd (omega arith)
       go false q = rw q at tested
 
-  agreeing : (b : Bool) → b ≡ not (eqb (getD s (8 * (640 + 32 * y .number + m)) 0) (getD s (x .places .compound l) 0)) → b ≡ false
+  agreeing : (b : Bool) → b ≡ not (eqb (getD s (item-place (clause-base (y .number)) m) 0) (getD s (x .places .compound l) 0)) → b ≡ false
       → test ≡ true
   agreeing b e c = go test refl
     where
@@ -92,8 +93,8 @@ module _ (s : List ℕ) (x : Setting) (y : Template) (from lo hi h w n links m :
           let z : _≡_ {A = ℕ} 0 1 = cc in
           absurd (omega arith)
 
-  pub deeper : (b : Bool) → b ≡ not (eqb (getD s (8 * (640 + 32 * y .number + m)) 0) (getD s (x .places .compound l) 0)) → b ≡ false
-      → AllAgainst s x y from links m g us (lo + 1) hi l f ts (8 * (640 + 32 * y .number + m)) (x .places .compound l) n
+  pub deeper : (b : Bool) → b ≡ not (eqb (getD s (item-place (clause-base (y .number)) m) 0) (getD s (x .places .compound l) 0)) → b ≡ false
+      → AllAgainst s x y from links m g us (lo + 1) hi l f ts (item-place (clause-base (y .number)) m) (x .places .compound l) n
   unfolding Holds Within Known Ranged Numbered test
   deeper b e c = record {
     head = record {
@@ -123,7 +124,7 @@ module _ (s : List ℕ) (x : Setting) (y : Template) (from lo hi h w n links m :
     goal-place = refl;
   }
 
-  pub deeper-answers : (b : Bool) → b ≡ not (eqb (getD s (8 * (640 + 32 * y .number + m)) 0) (getD s (x .places .compound l) 0)) → b ≡ false
+  pub deeper-answers : (b : Bool) → b ≡ not (eqb (getD s (item-place (clause-base (y .number)) m) 0) (getD s (x .places .compound l) 0)) → b ≡ false
       → (s′ : List ℕ) (r : CompareResult) → Answers s s′ x y n (lo + 1) hi (count us) (places-outcome x links us ts) r
       → Answers s s′ x y n lo hi 1 (place-outcome x links (Term.compound m g us) (Term.compound l f ts)) r
   unfolding Holds if_then_else_

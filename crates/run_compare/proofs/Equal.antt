@@ -12,6 +12,7 @@ use Rattle.meaning.specs.Terms.{Integer, plus, minus, Constant, Functor, cell, 
 use Rattle.laws.proofs.Lists.Tests.{same-answer, and-left, and-right, same-refl}
 use Rattle.term.specs.Cells.{Places, bits, number-of, term-word, functor-word, KnownName, KnownConstant, KnownFunctor}
 use Rattle.term.specs.Setting.{RangedInteger, RangedConstant}
+use Rattle.term.specs.Words.{integer-word, name-word, compound-word, packed}
 
 -- Two spellings that are the same are equal.
 pub same-true : (f g : Bytes) → same f g ≡ true → f ≡ g
@@ -50,19 +51,19 @@ eqb-as : (a b c d : ℕ) → (a ≡ b → c ≡ d) → (c ≡ d → a ≡ b) →
 eqb-as a b c d there back =
     same-answer (eqb a b) (eqb c d) (λ e. eq-eqb c d (there (eqb-true a b e))) (λ e. eq-eqb a b (back (eqb-true c d e)))
 
-integers-equal : (i j : Integer) → RangedInteger i → RangedInteger j → eqb (3 + 8 * bits i) (3 + 8 * bits j) ≡ same-integer i j
+integers-equal : (i j : Integer) → RangedInteger i → RangedInteger j → eqb (integer-word (bits i)) (integer-word (bits j)) ≡ same-integer i j
 unfolding same-integer
-integers-equal (plus m) (plus n) a b = eqb-as (3 + 8 * m) (3 + 8 * n) m n (λ e. omega arith) (λ e. omega arith)
-integers-equal (plus m) (minus n) a b = ne-eqb (3 + 8 * m) (3 + 8 * (4294967296 - n)) (λ e. omega (arith, b .0, b .1))
-integers-equal (minus m) (plus n) a b = ne-eqb (3 + 8 * (4294967296 - m)) (3 + 8 * n) (λ e. omega (arith, a .0, a .1))
+integers-equal (plus m) (plus n) a b = eqb-as (integer-word m) (integer-word n) m n (λ e. omega arith) (λ e. omega arith)
+integers-equal (plus m) (minus n) a b = ne-eqb (integer-word m) (integer-word (4294967296 - n)) (λ e. omega (arith, b .0, b .1))
+integers-equal (minus m) (plus n) a b = ne-eqb (integer-word (4294967296 - m)) (integer-word n) (λ e. omega (arith, a .0, a .1))
 integers-equal (minus m) (minus n) a b =
-    eqb-as (3 + 8 * (4294967296 - m)) (3 + 8 * (4294967296 - n)) m n (λ e. omega (arith, a .1, b .1)) (λ e. omega arith)
+    eqb-as (integer-word (4294967296 - m)) (integer-word (4294967296 - n)) m n (λ e. omega (arith, a .1, b .1)) (λ e. omega arith)
 
 names-equal : (names : List Bytes) (f g : Bytes) → KnownName names f → KnownName names g
-    → eqb (4 + 8 * number-of f names) (4 + 8 * number-of g names) ≡ same f g
+    → eqb (name-word (number-of f names)) (name-word (number-of g names)) ≡ same f g
 names-equal names f g k l =
-    let a = 4 + 8 * number-of f names in
-    let b = 4 + 8 * number-of g names in
+    let a = name-word (number-of f names) in
+    let b = name-word (number-of g names) in
     same-answer (eqb a b) (same f g)
     (λ e. number-alike names f g k l (omega (arith, eqb-true a b e)))
     (λ e. eq-eqb a b (omega (arith, same-number names f g e)))
@@ -74,21 +75,21 @@ pub constants-equal : (p q : Places) → q .names ≡ p .names → (c k : Consta
 unfolding same-constant
 constants-equal p q n (Constant.integer i) (Constant.integer j) a b r s = integers-equal i j r s
 constants-equal p q n (Constant.integer i) (Constant.name g) a b r s =
-    ne-eqb (3 + 8 * bits i) (4 + 8 * number-of g (p .names)) (λ e. omega arith)
-constants-equal p q n (Constant.integer i) Constant.empty a b r s = ne-eqb (3 + 8 * bits i) 5 (λ e. omega arith)
+    ne-eqb (integer-word (bits i)) (name-word (number-of g (p .names))) (λ e. omega arith)
+constants-equal p q n (Constant.integer i) Constant.empty a b r s = ne-eqb (integer-word (bits i)) 5 (λ e. omega arith)
 constants-equal p q n (Constant.name f) (Constant.integer j) a b r s =
-    ne-eqb (4 + 8 * number-of f (q .names)) (3 + 8 * bits j) (λ e. omega arith)
+    ne-eqb (name-word (number-of f (q .names))) (integer-word (bits j)) (λ e. omega arith)
 constants-equal p q n (Constant.name f) (Constant.name g) a b r s = rw n (names-equal (p .names) f g a b)
-constants-equal p q n (Constant.name f) Constant.empty a b r s = ne-eqb (4 + 8 * number-of f (q .names)) 5 (λ e. omega arith)
-constants-equal p q n Constant.empty (Constant.integer j) a b r s = ne-eqb 5 (3 + 8 * bits j) (λ e. omega arith)
-constants-equal p q n Constant.empty (Constant.name g) a b r s = ne-eqb 5 (4 + 8 * number-of g (p .names)) (λ e. omega arith)
+constants-equal p q n (Constant.name f) Constant.empty a b r s = ne-eqb (name-word (number-of f (q .names))) 5 (λ e. omega arith)
+constants-equal p q n Constant.empty (Constant.integer j) a b r s = ne-eqb 5 (integer-word (bits j)) (λ e. omega arith)
+constants-equal p q n Constant.empty (Constant.name g) a b r s = ne-eqb 5 (name-word (number-of g (p .names))) (λ e. omega arith)
 constants-equal p q n Constant.empty Constant.empty a b r s = eq-eqb 5 5 refl
 
 -- A constant's word is never a compound's.
-pub constant-no-compound : (q : Places) (c : Constant) (n : ℕ) → eqb (term-word q (Term.constant c)) (6 + 8 * n) ≡ false
-constant-no-compound q (Constant.integer i) n = ne-eqb (3 + 8 * bits i) (6 + 8 * n) (λ e. omega arith)
-constant-no-compound q (Constant.name f) n = ne-eqb (4 + 8 * number-of f (q .names)) (6 + 8 * n) (λ e. omega arith)
-constant-no-compound q Constant.empty n = ne-eqb 5 (6 + 8 * n) (λ e. omega arith)
+pub constant-no-compound : (q : Places) (c : Constant) (n : ℕ) → eqb (term-word q (Term.constant c)) (compound-word n) ≡ false
+constant-no-compound q (Constant.integer i) n = ne-eqb (integer-word (bits i)) (compound-word n) (λ e. omega arith)
+constant-no-compound q (Constant.name f) n = ne-eqb (name-word (number-of f (q .names))) (compound-word n) (λ e. omega arith)
+constant-no-compound q Constant.empty n = ne-eqb 5 (compound-word n) (λ e. omega arith)
 
 and-both : (a b : Bool) → a ≡ true → b ≡ true → (a && b) ≡ true
 and-both a b p q = rw (p, q)
@@ -98,11 +99,11 @@ pub functors-equal : (p q : Places) → q .names ≡ p .names → (g f : Functor
     → KnownFunctor (p .names) g → KnownFunctor (p .names) f
     → eqb (functor-word q g k) (functor-word p f j) ≡ (same-functor g f && eqb k j)
 unfolding same-functor
-functors-equal p q n cell cell k j few least a b = eqb-as (k + 8 * 0) (j + 8 * 0) k j (λ e. omega arith) (λ e. omega arith)
-functors-equal p q n cell (named f) k j few least a b = ne-eqb (k + 8 * 0) (j + 8 * (number-of f (p .names) + 1)) (λ e. omega arith)
-functors-equal p q n (named g) cell k j few least a b = ne-eqb (k + 8 * (number-of g (q .names) + 1)) (j + 8 * 0) (λ e. omega arith)
+functors-equal p q n cell cell k j few least a b = eqb-as (packed k 0) (j + 8 * 0) k j (λ e. omega arith) (λ e. omega arith)
+functors-equal p q n cell (named f) k j few least a b = ne-eqb (packed k 0) (j + 8 * (number-of f (p .names) + 1)) (λ e. omega arith)
+functors-equal p q n (named g) cell k j few least a b = ne-eqb (packed k (number-of g (q .names) + 1)) (j + 8 * 0) (λ e. omega arith)
 functors-equal p q n (named g) (named f) k j few least a b =
-    let u = k + 8 * (number-of g (p .names) + 1) in
+    let u = packed k (number-of g (p .names) + 1) in
     let v = j + 8 * (number-of f (p .names) + 1) in
     rw n
     (same-answer (eqb u v) (same g f && eqb k j)

@@ -20,6 +20,7 @@ use Rattle.term.specs.Cells.{Places, term-word}
 use Rattle.term.specs.Holds.{value-word}
 use Rattle.run_compare.specs.declared.compare.CompareResult.the-variants.{Agrees}
 use Rattle.term.specs.Setting.{Setting}
+use Rattle.term.specs.Layout.{trial-region, gifts-part, gift-pair, gift-term, readers-part}
 use Rattle.run_table.specs.Rows.{head-written, goal-written}
 use Rattle.run_compare.specs.Gifts.{Gift, to-head, to-goal, assignments, entries, recorded, entries-of, EntriesAt, renamed-entries, head-gift}
 use Rattle.run_compare.specs.Compare.{Template, item, HeadArguments, AllGiven, AllEntries, Agreed, Answers, Gave, places-outcome}
@@ -33,72 +34,72 @@ entries-length (to-goal z t ∷ gs) = omega (arith, entries-length gs)
 module _ (item unit : Places) where
   -- Gifts to come leave the entries before them as they are, and head's words that they do not give.
   recorded-below : (gs : List Gift) (s : List ℕ) (x : Setting) (y : Template) (lo hi : ℕ) (n k : ℕ) (s₀ : List ℕ) → y .pairs ≤ 16 → AllGiven s₀ x y lo hi gs
-      → 39952 ≤ k → k < 39952 + 2 * n → getD (recorded item unit n gs s) k 0 ≡ getD s k 0
+      → gifts-part ≤ k → k < gift-pair n → getD (recorded item unit n gs s) k 0 ≡ getD s k 0
   unfolding recorded AllGiven
   recorded-below [] s x y lo hi n k s₀ few g low h = refl
   recorded-below (to-head a u ∷ gs) s x y lo hi n k s₀ few g low h =
       recorded-below gs (head-written a (term-word unit u) s) x y lo hi n k s₀ few (g .1) low h
-      ∙ getD-set-other s (39936 + a) k (term-word unit u) 0 (λ e. omega (arith, g .0 .0))
+      ∙ getD-set-other s (trial-region + a) k (term-word unit u) 0 (λ e. omega (arith, g .0 .0))
   recorded-below (to-goal z t ∷ gs) s x y lo hi n k s₀ few g low h =
-      let mid = set s (39952 + 2 * n) (unit .pair z) in
+      let mid = set s (gift-pair n) (unit .pair z) in
       recorded-below gs (goal-written n (unit .pair z) (term-word item t) s) x y (g .2) hi (n + 1) k s₀ few (g .5) low (omega arith)
-      ∙ getD-set-other mid (39953 + 2 * n) k (term-word item t) 0 (λ e. omega arith)
-      ∙ getD-set-other s (39952 + 2 * n) k (unit .pair z) 0 (λ e. omega arith)
+      ∙ getD-set-other mid (gift-term n) k (term-word item t) 0 (λ e. omega arith)
+      ∙ getD-set-other s (gift-pair n) k (unit .pair z) 0 (λ e. omega arith)
 
   -- The entries stand in order.
   pub entries-at : (gs : List Gift) (s : List ℕ) (x : Setting) (y : Template) (lo hi : ℕ) (n : ℕ) (s₀ : List ℕ) → y .pairs ≤ 16 → AllGiven s₀ x y lo hi gs
-      → 40336 ≤ length s → n + entries gs ≤ 192 → EntriesAt (recorded item unit n gs s) item unit n (entries-of gs)
+      → readers-part ≤ length s → n + entries gs ≤ 192 → EntriesAt (recorded item unit n gs s) item unit n (entries-of gs)
   unfolding recorded AllGiven entries entries-of EntriesAt
   entries-at [] s x y lo hi n s₀ few g large room = tt
   entries-at (to-head a u ∷ gs) s x y lo hi n s₀ few g large room =
       entries-at gs (head-written a (term-word unit u) s) x y lo hi n s₀ few (g .1)
-      (omega (arith, length-set s (39936 + a) (term-word unit u))) room
+      (omega (arith, length-set s (trial-region + a) (term-word unit u))) room
   entries-at (to-goal z t ∷ gs) s x y lo hi n s₀ few g large room =
       let p = unit .pair z in
       let w = term-word item t in
-      let mid = set s (39952 + 2 * n) p in
+      let mid = set s (gift-pair n) p in
       let after = goal-written n p w s in
-      let long : length mid ≡ length s = length-set s (39952 + 2 * n) p in
-      let longer : length after ≡ length mid = length-set mid (39953 + 2 * n) w in (
-        recorded-below gs after x y (g .2) hi (n + 1) (39952 + 2 * n) s₀ few (g .5) (omega arith) (omega arith)
-            ∙ getD-set-other mid (39953 + 2 * n) (39952 + 2 * n) w 0 (λ e. omega arith)
-            ∙ getD-set-same s (39952 + 2 * n) p 0 (omega arith),
-        recorded-below gs after x y (g .2) hi (n + 1) (39953 + 2 * n) s₀ few (g .5) (omega arith) (omega arith)
-            ∙ getD-set-same mid (39953 + 2 * n) w 0 (omega arith),
+      let long : length mid ≡ length s = length-set s (gift-pair n) p in
+      let longer : length after ≡ length mid = length-set mid (gift-term n) w in (
+        recorded-below gs after x y (g .2) hi (n + 1) (gift-pair n) s₀ few (g .5) (omega arith) (omega arith)
+            ∙ getD-set-other mid (gift-term n) (gift-pair n) w 0 (λ e. omega arith)
+            ∙ getD-set-same s (gift-pair n) p 0 (omega arith),
+        recorded-below gs after x y (g .2) hi (n + 1) (gift-term n) s₀ few (g .5) (omega arith) (omega arith)
+            ∙ getD-set-same mid (gift-term n) w 0 (omega arith),
         entries-at gs after x y (g .2) hi (n + 1) s₀ few (g .5) (omega arith) (omega arith),
       )
 
-  one-head : (s : List ℕ) (a n : ℕ) (u : Term) (o : Option Term) → a < 16 → n < 16 → 40336 ≤ length s
-      → getD s (39936 + a) 0 ≡ value-word unit o
-      → getD (head-written n (term-word unit u) s) (39936 + a) 0 ≡ value-word unit (if eqb a n then some u else o)
+  one-head : (s : List ℕ) (a n : ℕ) (u : Term) (o : Option Term) → a < 16 → n < 16 → readers-part ≤ length s
+      → getD s (trial-region + a) 0 ≡ value-word unit o
+      → getD (head-written n (term-word unit u) s) (trial-region + a) 0 ≡ value-word unit (if eqb a n then some u else o)
   unfolding if_then_else_
   one-head s a n u o small few large e = go (eqb a n) refl
     where
-      go : (b : Bool) → eqb a n ≡ b → getD (head-written n (term-word unit u) s) (39936 + a) 0 ≡ value-word unit (if b then some u else o)
+      go : (b : Bool) → eqb a n ≡ b → getD (head-written n (term-word unit u) s) (trial-region + a) 0 ≡ value-word unit (if b then some u else o)
       go true q =
           let same : a ≡ n = eqb-true a n q in
-          rw same (getD-set-same s (39936 + n) (term-word unit u) 0 (omega arith))
+          rw same (getD-set-same s (trial-region + n) (term-word unit u) 0 (omega arith))
       go false q =
-          getD-set-other s (39936 + n) (39936 + a) (term-word unit u) 0 (λ k. eqb-false a n q (omega arith)) ∙ e
+          getD-set-other s (trial-region + n) (trial-region + a) (term-word unit u) 0 (λ k. eqb-false a n q (omega arith)) ∙ e
 
   -- The word of a head's writer.
   pub head-word-at : (gs : List Gift) (s : List ℕ) (x : Setting) (y : Template) (lo hi : ℕ) (n a : ℕ) (o : Option Term) (s₀ : List ℕ) → y .pairs ≤ 16
-      → AllGiven s₀ x y lo hi gs → 40336 ≤ length s → a < 16 → getD s (39936 + a) 0 ≡ value-word unit o
-      → getD (recorded item unit n gs s) (39936 + a) 0 ≡ value-word unit (head-gift gs a o)
+      → AllGiven s₀ x y lo hi gs → readers-part ≤ length s → a < 16 → getD s (trial-region + a) 0 ≡ value-word unit o
+      → getD (recorded item unit n gs s) (trial-region + a) 0 ≡ value-word unit (head-gift gs a o)
   unfolding recorded AllGiven head-gift
   head-word-at [] s x y lo hi n a o s₀ few g large small e = e
   head-word-at (to-head b u ∷ gs) s x y lo hi n a o s₀ few g large small e =
       head-word-at gs (head-written b (term-word unit u) s) x y lo hi n a (if eqb a b then some u else o) s₀ few (g .1)
-      (omega (arith, length-set s (39936 + b) (term-word unit u))) small
+      (omega (arith, length-set s (trial-region + b) (term-word unit u))) small
       (one-head s a b u o small (omega (arith, g .0 .0)) large e)
   head-word-at (to-goal z t ∷ gs) s x y lo hi n a o s₀ few g large small e =
       let p = unit .pair z in
       let w = term-word item t in
-      let mid = set s (39952 + 2 * n) p in
+      let mid = set s (gift-pair n) p in
       head-word-at gs (goal-written n p w s) x y (g .2) hi (n + 1) a o s₀ few (g .5)
-      (omega (arith, length-set mid (39953 + 2 * n) w, length-set s (39952 + 2 * n) p)) small
-      (getD-set-other mid (39953 + 2 * n) (39936 + a) w 0 (λ k. omega arith)
-      ∙ getD-set-other s (39952 + 2 * n) (39936 + a) p 0 (λ k. omega arith)
+      (omega (arith, length-set mid (gift-term n) w, length-set s (gift-pair n) p)) small
+      (getD-set-other mid (gift-term n) (trial-region + a) w 0 (λ k. omega arith)
+      ∙ getD-set-other s (gift-pair n) (trial-region + a) p 0 (λ k. omega arith)
       ∙ e)
 
 not-eqb : (a b : ℕ) → (a ≡ b → ⊥) → eqb a b ≡ false
@@ -177,7 +178,7 @@ entries-held (to-goal z t ∷ gs) s x y lo hi g = (g .0, g .1, g .2, g .3, g .4,
 
 -- What a trial gave can be read from its region, where the clause's words were 0 before it. Its highest number is that of the head's terms compared.
 pub gave : (s s′ : List ℕ) (x : Setting) (y : Template) (lo hi : ℕ) (given : List Assignment) (m : ℕ) → Agreed s s′ x y 0 lo hi (succeeds given) m
-    → 40336 ≤ length s → m ≤ 192 → y .pairs ≤ 16 → ((a : ℕ) → a < y .pairs → getD s (39936 + a) 0 ≡ 0)
+    → readers-part ≤ length s → m ≤ 192 → y .pairs ≤ 16 → ((a : ℕ) → a < y .pairs → getD s (trial-region + a) 0 ≡ 0)
     → (g : Gave s s′ x y given m) × (g .high ≡ hi)
 unfolding with-pairs value
 gave s s′ x y lo hi given m k large room few cleared = (
@@ -225,7 +226,7 @@ gave s s′ x y lo hi given m k large room few cleared = (
 pub answers-gave : {s s′ : List ℕ} {x : Setting} {y : Template} {from links h : ℕ} {g : Functor} {us : Terms} {lo hi p m : ℕ} {o : Result}
     → HeadArguments s x y from links h g us lo hi p 0
     → Answers s s′ x y 0 lo hi (count us) o (Agrees m)
-    → ((a : ℕ) → a < y .pairs → getD s (39936 + a) 0 ≡ 0)
+    → ((a : ℕ) → a < y .pairs → getD s (trial-region + a) 0 ≡ 0)
     → (given : List Assignment) × (o ≡ succeeds given) × (k : Gave s s′ x y given m) × (k .high ≡ hi)
 answers-gave {s} {s′} {x} {y} {lo = lo} {hi = hi} {m = m} {o = o} a k cleared =
     let given = assignments (length (x .values)) (x .compounds) (k .told .1 .gifts) in

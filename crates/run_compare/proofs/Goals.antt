@@ -11,6 +11,7 @@ use Rattle.term.specs.Cells.{AllKnown}
 use Rattle.term.specs.Holds.{HoldsFrom}
 use Rattle.term.specs.Frames.{Only}
 use Rattle.term.specs.Setting.{Setting, AllWithin, AllRanged, UnitTerms}
+use Rattle.term.specs.Layout.{trial-region, readers-part, followed-part, followed-from}
 use Rattle.run_chains.specs.Follow.{Reads, FollowedAt}
 use Rattle.run_compare.specs.Compare.{Template, AllAgainst, HeadAgainst}
 use Rattle.run_compare.proofs.Kept.{unit-terms-kept, followed-kept}
@@ -38,7 +39,7 @@ module _ (links : ℕ) {s₀ : List ℕ} {x : Setting} {y : Template} {from m : 
           word = e ∙ ap (λ c. getD s c 0) same ∙ here .held .0;
         }
 
-    pub goals-left : {s′ : List ℕ} → Only 39936 40336 s s′ → UnitTerms s′ x l (P .j + 1) (F .ts)
+    pub goals-left : {s′ : List ℕ} → Only trial-region readers-part s s′ → UnitTerms s′ x l (P .j + 1) (F .ts)
     unfolding HoldsFrom AllWithin AllKnown AllRanged
     goals-left {s′} o =
         let here = goals-here links (a .head) P F in
@@ -53,17 +54,17 @@ Behind x links s j ts = FollowedAt s x links j ts
 module _ (links : ℕ) {s₀ : List ℕ} {x : Setting} {y : Template} {from m : ℕ} {g : Functor} {us : Terms} {lo hi : ℕ} {ts : Terms} {p : ℕ}
     (a : HeadAgainst s₀ x y from links m g us lo hi ts p)
     {s : List ℕ} {k given i : ℕ} (P : Partly (Behind x links) s₀ s x y from links m us lo hi ts 0 k given i) where
-  pub followed-inside : i ≤ k → 40656 + i < length s
+  pub followed-inside : i ≤ k → followed-part + i < length s
   followed-inside h = omega (arith, a .large, P .only .size, count-small links (a .head) P)
 
   module _ (F : Facing s x y m (P .j) (P .low) hi (P .heads) (P .goals)) where
-    pub followed-read : {w : ℕ} → w ≡ getD s (40656 + i) 0 → Reads s x from links (followed links (x .values) (F .u)) w
+    pub followed-read : {w : ℕ} → w ≡ getD s (followed-part + i) 0 → Reads s x from links (followed links (x .values) (F .u)) w
     unfolding FollowedAt
     followed-read e =
-        let same : 40656 + i ≡ 40657 + P .j = omega (arith, P .at) in
+        let same : followed-part + i ≡ followed-from + P .j = omega (arith, P .at) in
         let here = goals-here links (a .head) P F in
         record { chained = P .trial .unit; term = here .1; word = e ∙ ap (λ c. getD s c 0) same ∙ here .0 }
 
-    pub followed-left : {s′ : List ℕ} → Only 39936 40336 s s′ → FollowedAt s′ x links (P .j + 1) (F .ts)
+    pub followed-left : {s′ : List ℕ} → Only trial-region readers-part s s′ → FollowedAt s′ x links (P .j + 1) (F .ts)
     unfolding FollowedAt
     followed-left {s′} o = followed-kept s s′ o x (P .trial .outside) links (P .j + 1) (F .ts) (goals-here links (a .head) P F .2)

@@ -15,6 +15,8 @@ use Rattle.run_table.specs.Rows.{row, Done}
 use Rattle.run_table.proofs.Seen.{seen}
 use Rattle.term.specs.Setting.{Setting}
 use Rattle.term.proofs.Cells.{all-numbered-order}
+use Rattle.term.specs.Layout.{trial-region, item-place, clause-base}
+use Rattle.term.specs.Words.{tag-in}
 use Rattle.run_chains.specs.Follow.{Reads}
 use Rattle.run_compare.specs.declared.compare.CompareResult.{CompareResult}
 use Rattle.run_compare.specs.declared.compare.CompareResult.the-variants.{Agrees, Waits, Fails}
@@ -79,7 +81,7 @@ module _ (links : ℕ) {s : List ℕ} {x : Setting} {y : Template} {from m : ℕ
   both-inside = (head-inside links (a .head), omega (arith, a .goal-cell .inside, a .goal-place))
 
   -- It begins with two compounds.
-  pub begins : {k : ℕ} → SameBehind s p q (getD s p 0 % 8) k → {s₀ : List ℕ} {first n₀ lo₀ hi₀ size : ℕ} {o : Result} → length s ≡ length s₀ → first ≤ p
+  pub begins : {k : ℕ} → SameBehind s p q (tag-in (getD s p 0)) k → {s₀ : List ℕ} {first n₀ lo₀ hi₀ size : ℕ} {o : Result} → length s ≡ length s₀ → first ≤ p
       → ((s′ : List ℕ) (r : CompareResult) → Answers s s′ x y n lo hi (count us) (places-outcome x links us ts) r → Answers s₀ s′ x y n₀ lo₀ hi₀ size o r)
       → Going s₀ s x y from links first n₀ lo₀ hi₀ size o p q k n 1
   begins b long later back = record {
@@ -120,11 +122,11 @@ module _ (links : ℕ) {s₀ s : List ℕ} {x : Setting} {y : Template} {from fi
 
   -- The arguments that are left are the same constants.
   rest-same : k < i → (j : ℕ) → G .partly .j ≤ j → j < G .partly .j + count (G .partly .heads)
-      → SameConstant (getD s (8 * (640 + 32 * y .number + G .m) + 1 + j) 0) (getD s (x .places .compound (G .l) + 1 + j) 0)
+      → SameConstant (getD s (item-place (clause-base (y .number)) (G .m) + 1 + j) 0) (getD s (x .places .compound (G .l) + 1 + j) 0)
   rest-same h j a b =
       let A = G .against in
       let P = G .partly in
-      let at-head = 8 * (640 + 32 * y .number + G .m) + 1 + j in
+      let at-head = item-place (clause-base (y .number)) (G .m) + 1 + j in
       let at-goal = x .places .compound (G .l) + 1 + j in
       let up-to : j + 1 ≤ count (G .us) = omega (arith, P .left) in
       let ordered = all-numbered-order (G .low) (G .high) (G .us) (A .head .terms .numbered) in
@@ -222,7 +224,7 @@ module _ (links : ℕ) {s₀ s : List ℕ} {x : Setting} {y : Template} {from fi
         turn-cells = place-cells links turn-against done e
 
         -- The head's compound lies behind the one that it is an argument of.
-        pub turn-later : (p < b) × (b < 39936)
+        pub turn-later : (p < b) × (b < trial-region)
         turn-later =
             let lower = place-lower links turn-against done e in
             let A = G .against .head in (
@@ -258,7 +260,7 @@ module _ (links : ℕ) {s₀ s : List ℕ} {x : Setting} {y : Template} {from fi
           pub turn-inside : differ ≡ false → (b + 8 ≤ length s′) × (c + 8 ≤ length s′)
           turn-inside v = both-inside links (turn-deeper v .against)
 
-          pub turn-on : differ ≡ false → i ≡ k → {k′ : ℕ} → SameBehind s′ b c (getD s′ b 0 % 8) k′
+          pub turn-on : differ ≡ false → i ≡ k → {k′ : ℕ} → SameBehind s′ b c (tag-in (getD s′ b 0)) k′
               → Going s₀ s′ x y from links first n lo hi size o b c k′ given 1
           turn-on v last behind =
               begins links (turn-deeper v .against) behind (place-only links turn-against done .size ∙ same-size links G)

@@ -11,6 +11,7 @@ use Rattle.term.specs.Holds.{CellAt, Holds, HoldsFrom}
 use Rattle.term.specs.Frames.{Only}
 use Rattle.term.specs.Setting.{Setting, Within, AllWithin, UnitTerm, UnitTerms}
 use Rattle.term.proofs.Units.{unit-term-alike, unit-terms-alike}
+use Rattle.term.specs.Layout.{trial-region, readers-part}
 use Rattle.run_chains.specs.Follow.{Chained, FollowedAt}
 use Rattle.run_chains.proofs.Followed.{chained-alike, followed-alike}
 use Rattle.run_compare.specs.Gifts.{Gift, to-head, to-goal}
@@ -20,7 +21,7 @@ use Rattle.run_compare.specs.Compare.{Template, item, HeadTerm, HeadTerm
 pub only-back : (lo hi : ℕ) (s s′ : List ℕ) → Only lo hi s s′ → Only lo hi s′ s
 only-back lo hi s s′ o = record { size = sym (o .size); below = λ k h. sym (o .below k h); above = λ k h. sym (o .above k h) }
 
-module _ (s s′ : List ℕ) (o : Only 39936 40336 s s′) where
+module _ (s s′ : List ℕ) (o : Only trial-region readers-part s s′) where
   cell-kept : (places : Places) (n k : ℕ) → Outside places n → places .compound n ≤ k → k < places .compound n + places .width n
       → getD s′ k 0 ≡ getD s k 0
   cell-kept places n k (inl low) a b = o .below k (omega arith)
@@ -67,7 +68,7 @@ module _ (s s′ : List ℕ) (o : Only 39936 40336 s s′) where
     pub followed-kept : (links i : ℕ) (ts : Terms) → FollowedAt s x links i ts → FollowedAt s′ x links i ts
     followed-kept links i ts = followed-alike s s′ x (omega (arith, o .size)) words-kept links i ts (λ k l h. o .above k (omega arith))
 
-    chained-kept : (from links : ℕ) → 40336 ≤ from → Chained s x from links → Chained s′ x from links
+    chained-kept : (from links : ℕ) → readers-part ≤ from → Chained s x from links → Chained s′ x from links
     chained-kept from links b = chained-alike s s′ x (omega (arith, o .size)) words-kept from links (λ k l. o .above k (omega arith))
 
   module _ (x : Setting) (y : Template) (small : y .number < 128) (few : y .compounds ≤ 32) where

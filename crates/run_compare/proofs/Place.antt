@@ -17,6 +17,8 @@ use Rattle.run_table.specs.declared.table.PlaceResult.the-variants as met
 use Rattle.run_compare.specs.declared.compare.CompareResult.{CompareResult}
 use Rattle.run_compare.specs.declared.compare.CompareResult.the-variants.{Agrees, Waits, Fails}
 use Rattle.term.specs.Setting.{Setting}
+use Rattle.term.specs.Layout.{trial-region, readers-part, item-place, clause-base}
+use Rattle.term.specs.Words.{compound-word}
 use Rattle.run_table.specs.Rows.{row, Done}
 use Rattle.run_compare.specs.Compare.{Template, Against, AllAgainst, Answers, place-outcome, places-outcome}
 use Rattle.run_table.proofs.Seen.{seen}
@@ -43,7 +45,7 @@ pub record Compounds (s s′ : List ℕ) (x : Setting) (y : Template) (from link
   pub l : ℕ
   pub f : Functor
   pub ts : Terms
-  pub against : Against s′ x y from links lo hi (Term.compound m g us) (Term.compound l f ts) (6 + 8 * p) (6 + 8 * q) n
+  pub against : Against s′ x y from links lo hi (Term.compound m g us) (Term.compound l f ts) (compound-word p) (compound-word q) n
   pub back : (s₂ : List ℕ) (r : CompareResult) → Answers s′ s₂ x y n lo hi 1 (place-outcome x links (Term.compound m g us) (Term.compound l f ts)) r
       → Answers s s₂ x y n lo hi 1 (place-outcome x links t u) r
 
@@ -59,7 +61,7 @@ module _ (s s′ : List ℕ) (x : Setting) (y : Template) (from links lo hi n h 
       (omega (arith, c .0, D .head-place, ap length same), omega (arith, c .1, D .goal-place, ap length same))
 
   -- The head's compound has the number lo.
-  two-lower : (p ≡ 8 * (640 + 32 * y .number + lo)) × (lo < hi)
+  two-lower : (p ≡ item-place (clause-base (y .number)) lo) × (lo < hi)
   unfolding Numbered
   two-lower =
       let numbered = terms .head .numbered in
@@ -87,7 +89,7 @@ module _ (s s′ : List ℕ) (x : Setting) (y : Template) (from links lo hi n h 
   }
 
   module _ (b : Bool) (c : b ≡ not (eqb (getD s′ p 0) (getD s′ q 0))) where
-    words : b ≡ not (eqb (getD s (8 * (640 + 32 * y .number + D .m)) 0) (getD s (x .places .compound (D .l)) 0))
+    words : b ≡ not (eqb (getD s (item-place (clause-base (y .number)) (D .m)) 0) (getD s (x .places .compound (D .l)) 0))
     words = rw (same, D .head-place, D .goal-place) at c
 
     two-differ : b ≡ true → place-outcome x links t u ≡ fails
@@ -116,7 +118,7 @@ module _ (links : ℕ) {s s′ : List ℕ} {x : Setting} {y : Template} {from lo
   found : Found s s′ x y n lo hi (place-outcome x links t u) t u a
   found = table-found s s′ x y from links lo hi n h w (followed links (x .values)) a t u k d
 
-  pub place-only : Only 39936 40336 s s′
+  pub place-only : Only trial-region readers-part s s′
   place-only = found .0
 
   pub place-agrees : {m : ℕ} → a ≡ met.Agrees m → Answers s s′ x y n lo hi 1 (place-outcome x links t u) (Agrees m)
@@ -141,7 +143,7 @@ module _ (links : ℕ) {s s′ : List ℕ} {x : Setting} {y : Template} {from lo
     pub place-cells : (p < length s′) × (q < length s′)
     place-cells = two-cells s s′ x y from links lo hi n h w t u p q k (two .0) (two .1)
 
-    pub place-lower : (p ≡ 8 * (640 + 32 * y .number + lo)) × (lo < hi)
+    pub place-lower : (p ≡ item-place (clause-base (y .number)) lo) × (lo < hi)
     place-lower = two-lower s s′ x y from links lo hi n h w t u p q k (two .0) (two .1)
 
     pub place-compounds : Compounds s s′ x y from links lo hi n t u p q
@@ -157,7 +159,7 @@ module _ (links : ℕ) {s s′ : List ℕ} {x : Setting} {y : Template} {from lo
 
 -- Two compounds by themselves.
 module _ (links : ℕ) {s : List ℕ} {x : Setting} {y : Template} {from lo hi m : ℕ} {g : Functor} {us : Terms} {l : ℕ} {f : Functor} {ts : Terms} {n : ℕ}
-    (p q : ℕ) (k : Against s x y from links lo hi (Term.compound m g us) (Term.compound l f ts) (6 + 8 * p) (6 + 8 * q) n) where
+    (p q : ℕ) (k : Against s x y from links lo hi (Term.compound m g us) (Term.compound l f ts) (compound-word p) (compound-word q) n) where
   itself : Descends x y (Term.compound m g us) (Term.compound l f ts) p q
   itself = record {
     m = m;
@@ -173,12 +175,12 @@ module _ (links : ℕ) {s : List ℕ} {x : Setting} {y : Template} {from lo hi m
   }
 
   pub compounds-cells : (p < length s) × (q < length s)
-  compounds-cells = two-cells s s x y from links lo hi n (6 + 8 * p) (6 + 8 * q) _ _ p q k itself refl
+  compounds-cells = two-cells s s x y from links lo hi n (compound-word p) (compound-word q) _ _ p q k itself refl
 
   module _ (b : Bool) (c : b ≡ not (eqb (getD s p 0) (getD s q 0))) where
     pub compounds-differ : b ≡ true → Answers s s x y n lo hi 1 (place-outcome x links (Term.compound m g us) (Term.compound l f ts)) Fails
     compounds-differ v =
-        record { only = only-same 39936 40336 s; told = two-differ s s x y from links lo hi n (6 + 8 * p) (6 + 8 * q) _ _ p q k itself refl b c v }
+        record { only = only-same trial-region readers-part s; told = two-differ s s x y from links lo hi n (compound-word p) (compound-word q) _ _ p q k itself refl b c v }
 
     pub compounds-deeper : b ≡ false → Deeper s s x y from links lo hi n (Term.compound m g us) (Term.compound l f ts) p q
-    compounds-deeper v = two-deeper s s x y from links lo hi n (6 + 8 * p) (6 + 8 * q) _ _ p q k itself refl b c v
+    compounds-deeper v = two-deeper s s x y from links lo hi n (compound-word p) (compound-word q) _ _ p q k itself refl b c v

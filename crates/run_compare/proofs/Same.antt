@@ -22,6 +22,7 @@ use Rattle.term.proofs.word.View.{the-type}
 use Rattle.term.specs.Cells.{Places, term-word, Known, AllKnown}
 use Rattle.term.specs.Holds.{HoldsFrom}
 use Rattle.term.specs.Setting.{Setting, Ranged, AllRanged}
+use Rattle.term.specs.Layout.{item-place, clause-base}
 use Rattle.run_table.proofs.Seen.{seen, seen-term}
 use Rattle.run_compare.specs.Compare.{Template, item, place-outcome, places-outcome}
 use Rattle.run_compare.specs.Same.{is-constant, same-word, SameConstant, SameBehind}
@@ -121,7 +122,7 @@ module _ (x : Setting) (y : Template) (links : ℕ) where
   pub ends-agree : (s : List ℕ) (m l j : ℕ) (heads goals : Terms) → HoldsFrom s (item x y) m j heads → HoldsFrom s (x .places) l j goals
       → AllKnown (x .places .names) heads → AllKnown (x .places .names) goals → AllRanged heads → AllRanged goals → count heads ≡ count goals
       → ((i : ℕ) → j ≤ i → i < j + count heads
-      → SameConstant (getD s (8 * (640 + 32 * y .number + m) + 1 + i) 0) (getD s (x .places .compound l + 1 + i) 0))
+      → SameConstant (getD s (item-place (clause-base (y .number)) m + 1 + i) 0) (getD s (x .places .compound l + 1 + i) 0))
       → places-outcome x links heads goals ≡ succeeds []
   unfolding HoldsFrom AllKnown AllRanged count places all-renamed and-then with-assignments
   ends-agree s m l j end end a b known goal-known ranged goal-ranged e same = refl
@@ -129,7 +130,7 @@ module _ (x : Setting) (y : Template) (links : ℕ) where
   ends-agree s m l j (more t us) end a b known goal-known ranged goal-ranged e same = absurd (omega arith)
   ends-agree s m l j (more t us) (more u ts) a b known goal-known ranged goal-ranged e same =
       rw (
-        same-agrees t u (getD s (8 * (640 + 32 * y .number + m) + 1 + j) 0) (getD s (x .places .compound l + 1 + j) 0) (a .0) (b .0)
+        same-agrees t u (getD s (item-place (clause-base (y .number)) m + 1 + j) 0) (getD s (x .places .compound l + 1 + j) 0) (a .0) (b .0)
             (same j (omega arith) (omega arith)) (known .0) (goal-known .0) (ranged .0) (goal-ranged .0),
         ends-agree s m l (j + 1) us ts (a .2) (b .2) (known .1) (goal-known .1) (ranged .1) (goal-ranged .1) (omega arith)
             (λ i low high. same i (omega arith) (omega arith)),

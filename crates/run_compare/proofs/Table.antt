@@ -19,6 +19,7 @@ use Rattle.term.proofs.Frames.{only-same, only-set, only-then}
 use Rattle.run_table.specs.declared.table.PlaceResult.{PlaceResult}
 use Rattle.run_table.specs.declared.table.PlaceResult.the-variants.{Agrees, Waits, Fails, Below}
 use Rattle.term.specs.Setting.{Setting, Within, Ranged, UnitTerm}
+use Rattle.term.specs.Layout.{trial-region, gift-pair, gift-term, readers-part, item-place, clause-base}
 use Rattle.run_compare.specs.Gifts.{to-head, to-goal, assignments, entries, recorded}
 use Rattle.run_table.specs.Rows.{
   head-written,
@@ -54,7 +55,7 @@ pub record Descends (x : Setting) (y : Template) (t u : Term) (p q : ℕ) : Type
   pub ts : Terms
   pub head : t ≡ Term.compound m g us
   pub goal : u ≡ Term.compound l f ts
-  pub head-place : p ≡ 8 * (640 + 32 * y .number + m)
+  pub head-place : p ≡ item-place (clause-base (y .number)) m
   pub goal-place : q ≡ x .places .compound l
 
 abbrev pub Meets : List ℕ → List ℕ → Setting → Template → ℕ → ℕ → ℕ → Result → Term → Term → PlaceResult → Type 0
@@ -101,25 +102,25 @@ in-order : {s : List ℕ} {x : Setting} {y : Template} {from links lo hi : ℕ} 
 in-order {lo = lo} {hi = hi} {t = t} k = numbered-order lo hi t (k .head .numbered)
 
 -- Only the trial's region changes.
-only-head : (s : List ℕ) (x w : ℕ) → x < 16 → Only 39936 40336 s (head-written x w s)
-only-head s x w h = only-set 39936 40336 s (39936 + x) w (omega arith) (omega arith)
+only-head : (s : List ℕ) (x w : ℕ) → x < 16 → Only trial-region readers-part s (head-written x w s)
+only-head s x w h = only-set trial-region readers-part s (trial-region + x) w (omega arith) (omega arith)
 
-only-goal : (s : List ℕ) (n z h : ℕ) → n < 192 → Only 39936 40336 s (goal-written n z h s)
+only-goal : (s : List ℕ) (n z h : ℕ) → n < 192 → Only trial-region readers-part s (goal-written n z h s)
 only-goal s n z h b =
-    let mid = lib.ListN.set s (39952 + 2 * n) z in
-    only-then 39936 40336 s mid (goal-written n z h s)
-    (only-set 39936 40336 s (39952 + 2 * n) z (omega arith) (omega arith))
-    (only-set 39936 40336 mid (39953 + 2 * n) h (omega arith) (omega arith))
+    let mid = lib.ListN.set s (gift-pair n) z in
+    only-then trial-region readers-part s mid (goal-written n z h s)
+    (only-set trial-region readers-part s (gift-pair n) z (omega arith) (omega arith))
+    (only-set trial-region readers-part mid (gift-term n) h (omega arith) (omega arith))
 
 abbrev pub Found : List ℕ → List ℕ → Setting → Template → ℕ → ℕ → ℕ → Result → Term → Term → PlaceResult → Type 0
-Found s s′ x y n lo hi o t u met = Only 39936 40336 s s′ × Meets s s′ x y n lo hi o t u met
+Found s s′ x y n lo hi o t u met = Only trial-region readers-part s s′ × Meets s s′ x y n lo hi o t u met
 
 module _ (s s′ : List ℕ) (x : Setting) (y : Template) (n lo hi : ℕ) (order : lo ≤ hi) (h w : ℕ) (t u : Term) (met : PlaceResult) (o : Result) where
   none-given : Done s s′ n h w agrees met → o ≡ succeeds [] → Found s s′ x y n lo hi o t u met
   unfolding answer behind assignments entries recorded AllGiven
   none-given d e =
       rw (d .answers, d .scratch) (
-        only-same 39936 40336 s,
+        only-same trial-region readers-part s,
         (omega arith, record { gifts = []; outcome = e; scratch = refl; counted = omega arith; given = order }),
       )
 
@@ -164,11 +165,11 @@ module _ (s s′ : List ℕ) (x : Setting) (y : Template) (n lo hi : ℕ) (order
       → Found s s′ x y n lo hi o t u met
   unfolding answer behind
   waits-found z d inside e =
-      rw (d .answers, d .scratch) (only-same 39936 40336 s, record { pair = z; outcome = e; inside = inside; place = refl })
+      rw (d .answers, d .scratch) (only-same trial-region readers-part s, record { pair = z; outcome = e; inside = inside; place = refl })
 
   fails-found : Done s s′ n h w fails-row met → o ≡ fails → Found s s′ x y n lo hi o t u met
   unfolding answer behind
-  fails-found d e = rw (d .answers, d .scratch) (only-same 39936 40336 s, e)
+  fails-found d e = rw (d .answers, d .scratch) (only-same trial-region readers-part s, e)
 
   equal-found : (same : Bool) → Done s s′ n h w (equal-row same) met → o ≡ (if same then succeeds [] else fails) → Found s s′ x y n lo hi o t u met
   unfolding equal-row if_then_else_
@@ -176,12 +177,12 @@ module _ (s s′ : List ℕ) (x : Setting) (y : Template) (n lo hi : ℕ) (order
   equal-found false d e = fails-found d e
 
 below-found : (s s′ : List ℕ) (x : Setting) (y : Template) (n lo hi h w : ℕ) (m : ℕ) (g : Functor) (us : Terms) (l : ℕ) (f : Functor) (ts : Terms) (met : PlaceResult) (o : Result)
-    → Done s s′ n h w (below (8 * (640 + 32 * y .number + m)) (x .places .compound l)) met
+    → Done s s′ n h w (below (item-place (clause-base (y .number)) m) (x .places .compound l)) met
     → Found s s′ x y n lo hi o (Term.compound m g us) (Term.compound l f ts) met
 unfolding answer behind
 below-found s s′ x y n lo hi h w m g us l f ts met o d =
     rw (d .answers, d .scratch) (
-      only-same 39936 40336 s,
+      only-same trial-region readers-part s,
       (
         record { m = m; g = g; us = us; l = l; f = f; ts = ts; head = refl; goal = refl; head-place = refl; goal-place = refl },
         refl,
@@ -243,7 +244,7 @@ table-found s s′ x y from links lo hi n h w look met t u k d =
 
 -- What the code's table asks: a head's writer is one of the clause's pairs.
 pub table-asks : (s : List ℕ) (x : Setting) (y : Template) (from links lo hi n h w : ℕ) (t u : Term) → Against s x y from links lo hi t u h w n
-    → (40336 ≤ length s) × (n < 192) × ((a : ℕ) → seen h ≡ Writer a → a < 16)
+    → (readers-part ≤ length s) × (n < 192) × ((a : ℕ) → seen h ≡ Writer a → a < 16)
 unfolding Within
 table-asks s x y from links lo hi n h w t u k = (k .trial .large, against-room k, λ a e. go t k (seen-writer (item x y) t h a (k .head-word) e))
   where

@@ -18,11 +18,12 @@ use Rattle.run_compare.specs.declared.compare.CompareResult.{CompareResu
 use Rattle.run_compare.specs.declared.compare.CompareResult.the-variants.{Agrees, Waits, Fails}
 use Rattle.run_compare.specs.Gifts.{Gift, to-head, to-goal, assignments, entries, recorded, Entry, entries-of, EntriesAt, renamed-entries}
 use Rattle.term.specs.Setting.{Setting, Within, AllWithin, Ranged, AllRanged, UnitTerm, UnitTerms}
+use Rattle.term.specs.Layout.{trial-region, readers-part, followed-end, item-place, clause-base}
 use Rattle.run_chains.specs.Follow.{Chained, FollowedAt}
 
 -- Where the terms of clause k lie: pairs by their own numbers, compounds 32 a clause, each with eight words.
 abbrev pub item-places : List Bytes → ℕ → Places
-item-places names k = record { names = names; pair = λ n. n; compound = λ n. 8 * (640 + 32 * k + n); width = λ n. 8 }
+item-places names k = record { names = names; pair = λ n. n; compound = λ n. item-place (clause-base k) n; width = λ n. 8 }
 
 -- A clause: its number, and how many pairs and compounds it has.
 pub record Template : Type 0 where
@@ -53,13 +54,13 @@ pub record HeadTerms (s : List ℕ) (x : Setting) (y : Template) (m i lo hi : �
 
 -- A compound's own words are none of the trial's region.
 abbrev pub Outside : Places → ℕ → Type 0
-Outside at n = (at .compound n + at .width n ≤ 39936) ⊎ (40336 ≤ at .compound n)
+Outside at n = (at .compound n + at .width n ≤ trial-region) ⊎ (readers-part ≤ at .compound n)
 
 -- The scratch of a trial: the unit's values and ends stand behind the trial's region, and its compounds outside it.
 pub record TrialStands (s : List ℕ) (x : Setting) (y : Template) (from links : ℕ) : Type 0 where
-  pub large : 40336 ≤ length s
+  pub large : readers-part ≤ length s
   pub unit : Chained s x from links
-  pub behind : 40336 ≤ from
+  pub behind : readers-part ≤ from
   pub outside : (n : ℕ) → n < x .compounds → Outside (x .places) n
   pub number : y .number < 128
   pub pairs : y .pairs ≤ 16
@@ -80,7 +81,7 @@ pub record HeadArguments (s : List ℕ) (x : Setting) (y : Template) (from links
   pub trial : TrialStands s x y from links
   pub cell : CellAt s (item x y) m g (count us)
   pub terms : HeadTerms s x y m 0 lo hi us
-  pub place : p ≡ 8 * (640 + 32 * y .number + m)
+  pub place : p ≡ item-place (clause-base (y .number)) m
   pub room : n + 6 * hi + count us ≤ 192 + 6 * lo
 
 -- The arguments of two compounds, m of the head at p and l of the goal at q, of the same number.
@@ -96,7 +97,7 @@ pub record AllAgainst (s : List ℕ) (x : Setting) (y : Template) (from links m 
 -- The arguments of the head's compound m at p, and as many of a goal, which stand followed; no entry is made.
 pub record HeadAgainst (s : List ℕ) (x : Setting) (y : Template) (from links m : ℕ) (g : Functor) (us : Terms) (lo hi : ℕ) (ts : Terms) (p : ℕ)
     : Type 0 where
-  pub large : 40663 ≤ length s
+  pub large : followed-end ≤ length s
   pub head : HeadArguments s x y from links m g us lo hi p 0
   pub goal : FollowedAt s x links 0 ts
   pub counts : count us ≡ count ts
@@ -132,7 +133,7 @@ Told s s′ x y n lo hi k o Fails = o ≡ fails
 
 -- The answer r to the outcome o of k terms of the head, their compounds numbered from lo up to hi: only the trial's region has changed.
 pub record Answers (s s′ : List ℕ) (x : Setting) (y : Template) (n lo hi k : ℕ) (o : Result) (r : CompareResult) : Type 0 where
-  pub only : Only 39936 40336 s s′
+  pub only : Only trial-region readers-part s s′
   pub told : Told s s′ x y n lo hi k o r
 
 -- The outcome of the table on the clause renamed apart.
@@ -166,6 +167,6 @@ pub record Gave (s s′ : List ℕ) (x : Setting) (y : Template) (given : List A
       → value (assigned given (with-pairs (y .pairs) (x .values))) z
       ≡ value (assigned (renamed-entries (length (x .values)) (x .compounds) list) (with-pairs (y .pairs) (x .values))) z
   pub clause-values : (a : ℕ) → a < y .pairs
-      → getD s′ (39936 + a) 0
+      → getD s′ (trial-region + a) 0
       ≡ value-word (x .places) (value (assigned given (with-pairs (y .pairs) (x .values))) (length (x .values) + a))
   pub pairs-are : (z : ℕ) → z < length (x .values) → any (λ a. eqb z (a .pair)) given ≡ any (λ e. eqb z (e .pair)) list

@@ -10,6 +10,7 @@ use Rattle.meaning.specs.Bytes.{if_then_else_}
 use Rattle.meaning.specs.Terms.{Term, renamed}
 use Rattle.meaning.specs.Compare.{Assignment}
 use Rattle.term.specs.Cells.{Places, term-word}
+use Rattle.term.specs.Layout.{gift-pair, gift-term}
 use Rattle.run_table.specs.Rows.{head-written, goal-written}
 
 -- A head's writer is given a goal's term; a goal's pair is given a head's term, as the clause has it.
@@ -51,7 +52,7 @@ entries-of (to-goal z t ∷ gs) = record { pair = z; term = t } ∷ entries-of g
 unfoldable pub EntriesAt : List ℕ → Places → Places → ℕ → List Entry → Type 0
 EntriesAt s item unit n [] = Unit {0}
 EntriesAt s item unit n (e ∷ es) =
-    (getD s (39952 + 2 * n) 0 ≡ unit .pair (e .pair)) × (getD s (39953 + 2 * n) 0 ≡ term-word item (e .term)) × EntriesAt s item unit (n + 1) es
+    (getD s (gift-pair n) 0 ≡ unit .pair (e .pair)) × (getD s (gift-term n) 0 ≡ term-word item (e .term)) × EntriesAt s item unit (n + 1) es
 
 -- The entries as assignments.
 unfoldable pub renamed-entries : ℕ → ℕ → List Entry → List Assignment

@@ -5,7 +5,7 @@ use mathlib.Core.Bool.{Bool, true, false, _&&_}
 use mathlib.Core.List.{List}
 use lib.Dec.{eqb}
 use lib.ListN.{getD}
-use Rattle.term.specs.Words.{view}
+use Rattle.term.specs.Words.{view, tag-in, rest-in}
 use Rattle.term.specs.declared.word.View.{View}
 use Rattle.term.specs.declared.word.View.the-variants.{Nothing, Writer, Reader, Integer, Name, Empty, Compound}
 
@@ -21,12 +21,12 @@ is-constant (Compound p) = false
 
 -- Whether the words are equal, and that of a constant.
 unfoldable pub same-word : ℕ → ℕ → Bool
-same-word h a = eqb h a && is-constant (view (h % 8) (h / 8))
+same-word h a = eqb h a && is-constant (view (tag-in h) (rest-in h))
 
 -- The words are equal, and that of a constant.
 pub record SameConstant (h a : ℕ) : Type 0 where
   pub equal : h ≡ a
-  pub constant : is-constant (view (h % 8) (h / 8)) ≡ true
+  pub constant : is-constant (view (tag-in h) (rest-in h)) ≡ true
 
 -- Of two compounds at p and q, the first of which has n arguments, those behind the k-th are the same constants.
 pub record SameBehind (s : List ℕ) (p q n k : ℕ) : Type 0 where

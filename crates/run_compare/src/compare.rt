@@ -4,6 +4,7 @@ ghost use Prim.Native.Nat.{ℕ, _+_, _*_, _%_, _≤_};
 ghost use lib.ListN.{length, getD};
 ghost use Rattle.meaning.specs.Terms.{Functor, compound, Terms, count as size};
 ghost use Rattle.term.specs.Setting.{Setting};
+ghost use Rattle.term.specs.Words.{compound-word, tag-in};
 ghost use Rattle.run_compare.specs.Compare.{Template, Against, AllAgainst, Answers, place-outcome, places-outcome};
 ghost use Rattle.run_compare.specs.Same.{same-word, LastOpen};
 use run_chains::follow::follow;
@@ -32,9 +33,9 @@ fn compounds(
     n: usize,
 ) -> CompareResult
     requires { ⌜ ((x : Setting) × (y : Template) × (lo : ℕ) × (hi : ℕ) × (m : ℕ) × (g : Functor) × (us : Terms) × (l : ℕ) × (f : Functor) × (ts : Terms)
-        × Against (now s) x y values links lo hi (compound m g us) (compound l f ts) (6 + 8 * p) (6 + 8 * q) n) ⌝ }
+        × Against (now s) x y values links lo hi (compound m g us) (compound l f ts) (compound-word p) (compound-word q) n) ⌝ }
     ensures { λ r. ⌜ ((x : Setting) (y : Template) (lo hi m : ℕ) (g : Functor) (us : Terms) (l : ℕ) (f : Functor) (ts : Terms)
-        → Against (now (s .entry)) x y values links lo hi (compound m g us) (compound l f ts) (6 + 8 * p) (6 + 8 * q) n
+        → Against (now (s .entry)) x y values links lo hi (compound m g us) (compound l f ts) (compound-word p) (compound-word q) n
         → Answers (now (s .entry)) (now (s .exit)) x y n lo hi 1 (place-outcome x links (compound m g us) (compound l f ts)) r) ⌝ }
 {
     if differ(s, p, q) {
@@ -61,7 +62,7 @@ fn same(h: u64, a: u64) -> bool
 // How many arguments of two compounds are to be compared: those at the end that are the same constants agree and give nothing.
 fn open(s: &[u64], p: usize, q: usize) -> usize
     requires { ⌜ (p + 8 ≤ length (now s)) × (q + 8 ≤ length (now s)) ⌝ }
-    ensures { λ r. ⌜ LastOpen (now (s .entry)) p q (getD (now (s .entry)) p 0 % 8) r ⌝ }
+    ensures { λ r. ⌜ LastOpen (now (s .entry)) p q (tag-in (getD (now (s .entry)) p 0)) r ⌝ }
 {
     let mut k = count(s, p);
     while 0 < k {

@@ -10,6 +10,8 @@ use Rattle.term.specs.Cells.{Places}
 use Rattle.term.specs.Jobs.{HoldsGoals}
 use Rattle.term.specs.Setting.{Within}
 use Rattle.term.specs.States.{ring}
+use Rattle.term.specs.Layout.{trial-region, compounds-region}
+use Rattle.term.specs.Words.{compound-word, packed, rest-in}
 use Rattle.run_effects.specs.Build as Build
 use Rattle.run_effects.specs.Build.{Item, Copies, Spread, total, ListSpread, Original, Moved, Laid}
 use Rattle.run_queues.specs.Ring.{Pushed}
@@ -22,7 +24,7 @@ use Rattle.run_queues.proofs.Ring.{ring-kept}
 
 -- The word of a goal's copy.
 abbrev pub copy-word : ℕ → Places → ℕ → Named → ℕ
-copy-word query places c g = query + 8 * places .compound (c + g .number)
+copy-word query places c g = packed query (places .compound (c + g .number))
 
 -- The first i goals have joined, the rest is left.
 pub record Partly (s₀ s : List ℕ) (x : Item) (from n pair to query queue size front active : ℕ) (goals : List Named) (i free : ℕ) (rest : List Named)
@@ -77,7 +79,7 @@ module _ (s₀ : List ℕ) (x : Item) (from n pair to query queue size front act
     all-added (d ∷ rest) g h = absurd (omega (arith, g .left))
 
     -- The words before the copies stay as they were.
-    below : (rest : List Named) → Partly s₀ s x from n pair to query queue size front active goals i free rest → (k : ℕ) → k < 39936
+    below : (rest : List Named) → Partly s₀ s x from n pair to query queue size front active goals i free rest → (k : ℕ) → k < trial-region
         → getD s k 0 ≡ getD s₀ k 0
     below rest g k h = g .kept .same k (inl (omega (arith, a .behind)), inl (omega (arith, a .behind, a .before)))
 
@@ -90,15 +92,15 @@ module _ (s₀ : List ℕ) (x : Item) (from n pair to query queue size front act
 
     -- A goal of the item has joined; it is still there, to be copied.
     pub next-goal : (rest : List Named) → Partly s₀ s x from n pair to query queue size front active goals i free rest → i < n
-        → (s₁ : List ℕ) (v : ℕ) → Pushed s s₁ queue size front (active + i) v → (q : ℕ) → q ≡ getD s (from + i) 0 / 8
+        → (s₁ : List ℕ) (v : ℕ) → Pushed s s₁ queue size front (active + i) v → (q : ℕ) → q ≡ rest-in (getD s (from + i) 0)
         → (d : Named) × (others : List Named) × (rest ≡ d ∷ others)
-        × Original s₁ x pair free (6 + 8 * q) (compound (d .number) (named (d .name)) (d .arguments))
+        × Original s₁ x pair free (compound-word q) (compound (d .number) (named (d .name)) (d .arguments))
     unfolding HoldsGoals GoalsWithin as-term total
     next-goal [] g h s₁ v f q e = absurd (omega (arith, g .left))
     next-goal (d ∷ others) g h s₁ v f q e =
-        let word : getD s (from + i) 0 ≡ 6 + 8 * x .places .compound (d .number) =
+        let word : getD s (from + i) 0 ≡ compound-word (x .places .compound (d .number)) =
         below (d ∷ others) g (from + i) (omega (arith, a .from-before)) ∙ g .words .0 in
-        let behind-low : 40704 ≤ queue = omega (arith, a .behind, a .before) in (
+        let behind-low : compounds-region ≤ queue = omega (arith, a .behind, a .before) in (
           d,
           others,
           refl,
@@ -115,7 +117,7 @@ module _ (s₀ : List ℕ) (x : Item) (from n pair to query queue size front act
         )
 
     module _ (d : Named) (others : List Named) (g : Partly s₀ s x from n pair to query queue size front active goals i free (d ∷ others)) (h : i < n)
-        (s₁ : List ℕ) (v : ℕ) (v-is : v ≡ query + 8 * free) (f : Pushed s s₁ queue size front (active + i) v)
+        (s₁ : List ℕ) (v : ℕ) (v-is : v ≡ packed query free) (f : Pushed s s₁ queue size front (active + i) v)
         (s₂ : List ℕ) (r : ℕ) (e : Laid s₁ s₂ x pair free (as-term d) r) where
       -- Where the copy ends.
       last : free + Build.size (as-term d) ≤ to + total (goal-terms goals)
@@ -185,8 +187,8 @@ module _ (s₀ : List ℕ) (x : Item) (from n pair to query queue size front act
 
     -- The next goal pushed and copied, as the code reads and writes it.
     pub again : (rest : List Named) → Partly s₀ s x from n pair to query queue size front active goals i free rest → i < n → (s₁ : List ℕ) (v : ℕ)
-        → v ≡ query + 8 * free → Pushed s s₁ queue size front (active + i) v → (q : ℕ) → q ≡ getD s (from + i) 0 / 8 → (s₂ : List ℕ) (r : ℕ)
-        → ((x : Item) (m : ℕ) (f : Functor) (ts : Terms) → Original s₁ x pair free (6 + 8 * q) (compound m f ts)
+        → v ≡ packed query free → Pushed s s₁ queue size front (active + i) v → (q : ℕ) → q ≡ rest-in (getD s (from + i) 0) → (s₂ : List ℕ) (r : ℕ)
+        → ((x : Item) (m : ℕ) (f : Functor) (ts : Terms) → Original s₁ x pair free (compound-word q) (compound m f ts)
         → Laid s₁ s₂ x pair free (compound m f ts) r)
         → (rest′ : List Named) × Partly s₀ s₂ x from n pair to query queue size front active goals (i + 1) r rest′
     unfolding as-term

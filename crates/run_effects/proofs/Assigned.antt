@@ -12,6 +12,7 @@ use lib.Seq.{getD-set-same, getD-set-other}
 use borrow.Author.Tests.{eqb-true, eqb-false}
 use Rattle.meaning.specs.Terms.{Term}
 use Rattle.term.specs.Cells.{Places}
+use Rattle.term.specs.Layout.{trial-region, compounds-region, gift-pair, gift-term}
 use Rattle.run_compare.specs.Gifts.{Entry, EntriesAt}
 use Rattle.run_effects.specs.Build.{Item, size, Copies, total, ListSpread, Original, Aside, Moved, Copied}
 use Rattle.run_effects.specs.Reducing.{Apart, KeptWhere, EntryTerms, entry-terms, Assigning, EntriesGiven, NoEntry, GoalAssigned}
@@ -23,7 +24,7 @@ use Rattle.run_effects.proofs.Spreading.{copy-stays}
 pub record Begun (s₀ s : List ℕ) (values pair pairs x : ℕ) : Type 0 where
   pub few : x ≤ pairs
   pub kept : KeptWhere (Apart (values + pair) (values + pair + pairs)) s₀ s
-  pub given : (a : ℕ) → a < x → getD s (values + pair + a) 0 ≡ getD s₀ (39936 + a) 0
+  pub given : (a : ℕ) → a < x → getD s (values + pair + a) 0 ≡ getD s₀ (trial-region + a) 0
 
 pub none-given : (s : List ℕ) (values pair pairs : ℕ) → Begun s s values pair pairs 0
 none-given s values pair pairs = record {
@@ -32,8 +33,8 @@ none-given s values pair pairs = record {
   given = λ a h. absurd (omega arith);
 }
 
-pub one-given : (s₀ s : List ℕ) (values pair pairs x w : ℕ) → pairs ≤ 16 → 40704 ≤ values → values + pair + pairs ≤ length s₀
-    → Begun s₀ s values pair pairs x → x < pairs → w ≡ getD s (39936 + x) 0 → Begun s₀ (set s (values + pair + x) w) values pair pairs (x + 1)
+pub one-given : (s₀ s : List ℕ) (values pair pairs x w : ℕ) → pairs ≤ 16 → compounds-region ≤ values → values + pair + pairs ≤ length s₀
+    → Begun s₀ s values pair pairs x → x < pairs → w ≡ getD s (trial-region + x) 0 → Begun s₀ (set s (values + pair + x) w) values pair pairs (x + 1)
 one-given s₀ s values pair pairs x w small behind inside b h e = record {
   few = omega arith;
   kept =
@@ -48,10 +49,10 @@ one-given s₀ s values pair pairs x w small behind inside b h e = record {
     P : ℕ → Type 0
     P = Apart (values + pair) (values + pair + pairs)
 
-    go : (a : ℕ) → a < x + 1 → (t : Bool) → eqb a x ≡ t → getD (set s (values + pair + x) w) (values + pair + a) 0 ≡ getD s₀ (39936 + a) 0
+    go : (a : ℕ) → a < x + 1 → (t : Bool) → eqb a x ≡ t → getD (set s (values + pair + x) w) (values + pair + a) 0 ≡ getD s₀ (trial-region + a) 0
     go a l true z =
         rw (eqb-true a x z)
-        (getD-set-same s (values + pair + x) w 0 (omega (arith, b .kept .size)) ∙ e ∙ b .kept .same (39936 + x) (inl (omega arith)))
+        (getD-set-same s (values + pair + x) w 0 (omega (arith, b .kept .size)) ∙ e ∙ b .kept .same (trial-region + x) (inl (omega arith)))
     go a l false z =
         let other = eqb-false a x z in
         getD-set-other s (values + pair + x) (values + pair + a) w 0 (λ y. other (omega arith)) ∙ b .given a (below a x l other)
@@ -81,7 +82,7 @@ pub record Partly (s₀ s : List ℕ) (x : Item) (unit : Places) (values bound p
   pub spread : (y : Copies) → ListSpread y to (entry-terms list) → ListSpread y free (entry-terms rest)
   pub whole : (places : Places) (y : Copies) (p c : ℕ) → Moved x places pair y p c → ListSpread y to (entry-terms list)
       → (s′ : List ℕ) → length s ≤ length s′ → ((k : ℕ) → to ≤ k → k < free → getD s′ k 0 ≡ getD s k 0)
-      → ((k : ℕ) → k < i → getD s′ (values + getD s₀ (39952 + 2 * k) 0) 0 ≡ getD s (values + getD s₀ (39952 + 2 * k) 0) 0)
+      → ((k : ℕ) → k < i → getD s′ (values + getD s₀ (gift-pair k) 0) 0 ≡ getD s (values + getD s₀ (gift-pair k) 0) 0)
       → EntriesGiven s′ unit places values p c rest → EntriesGiven s′ unit places values p c list
 
 module _ (s₀ : List ℕ) (x : Item) (unit : Places) (values bound pair to n : ℕ) (list : List Entry)
@@ -118,26 +119,26 @@ module _ (s₀ : List ℕ) (x : Item) (unit : Places) (values bound pair to n : 
     all-assigned (e ∷ rest) g h = absurd (omega (arith, g .left))
 
     -- The trial's words and the item's terms stay as they were.
-    trial-word : (rest : List Entry) → Partly s₀ s x unit values bound pair to n list i free rest → (k : ℕ) → k < 40704 → getD s k 0 ≡ getD s₀ k 0
+    trial-word : (rest : List Entry) → Partly s₀ s x unit values bound pair to n list i free rest → (k : ℕ) → k < compounds-region → getD s k 0 ≡ getD s₀ k 0
     trial-word rest g k h = g .kept .same k (inl (omega (arith, a .behind)), inl (omega (arith, a .behind, a .before)))
 
-    pub inside : (rest : List Entry) → Partly s₀ s x unit values bound pair to n list i free rest → i < n → 39953 + 2 * i < length s
+    pub inside : (rest : List Entry) → Partly s₀ s x unit values bound pair to n list i free rest → i < n → gift-term i < length s
     inside rest g h = omega (arith, g .kept .size, a .few, a .behind, a .before, a .inside)
 
     -- The next entry.
     pub next-entry : (rest : List Entry) → Partly s₀ s x unit values bound pair to n list i free rest → i < n
-        → (e : Entry) × (others : List Entry) × (rest ≡ e ∷ others) × (getD s (39952 + 2 * i) 0 ≡ unit .pair (e .pair))
-        × Original s x pair free (getD s (39953 + 2 * i) 0) (e .term) × Aside s (values + unit .pair (e .pair)) free (e .term)
+        → (e : Entry) × (others : List Entry) × (rest ≡ e ∷ others) × (getD s (gift-pair i) 0 ≡ unit .pair (e .pair))
+        × Original s x pair free (getD s (gift-term i) 0) (e .term) × Aside s (values + unit .pair (e .pair)) free (e .term)
     unfolding EntriesAt EntryTerms total
     next-entry [] g h = absurd (omega (arith, g .left))
     next-entry (e ∷ others) g h = (
       e,
       others,
       refl,
-      trial-word (e ∷ others) g (39952 + 2 * i) (omega (arith, a .few)) ∙ g .stand .0,
+      trial-word (e ∷ others) g (gift-pair i) (omega (arith, a .few)) ∙ g .stand .0,
       record {
         goes = a .goes;
-        word = trial-word (e ∷ others) g (39953 + 2 * i) (omega (arith, a .few)) ∙ g .stand .1;
+        word = trial-word (e ∷ others) g (gift-term i) (omega (arith, a .few)) ∙ g .stand .1;
         term =
             item-term-on x pair (a .goes) s₀ s (omega (arith, g .kept .size)) (λ k l. trial-word (e ∷ others) g k (omega arith)) (e .term) (g .terms .0 .1);
         behind = omega (arith, a .behind, g .beyond);
@@ -156,7 +157,7 @@ module _ (s₀ : List ℕ) (x : Item) (unit : Places) (values bound pair to n : 
       place : ℕ
       place = unit .pair (e .pair)
 
-      place-is : getD s₀ (39952 + 2 * i) 0 ≡ place
+      place-is : getD s₀ (gift-pair i) 0 ≡ place
       unfolding EntriesAt place
       place-is = g .stand .0
 
@@ -187,12 +188,12 @@ module _ (s₀ : List ℕ) (x : Item) (unit : Places) (values bound pair to n : 
       earlier : (k : ℕ) → k < free → getD s₁ k 0 ≡ getD s k 0
       earlier k l = d .same k (λ y. omega (arith, a .before, last)) (inl l)
 
-      earlier-apart : (k : ℕ) → k < i → getD s₀ (39952 + 2 * k) 0 ≡ place → ⊥
+      earlier-apart : (k : ℕ) → k < i → getD s₀ (gift-pair k) 0 ≡ place → ⊥
       earlier-apart k l z = let same : k ≡ i = a .apart k i (omega arith) h (z ∙ sym place-is) in omega arith
 
       entry-assigned : (places : Places) (y : Copies) (p c : ℕ) → Moved x places pair y p c → ListSpread y to (entry-terms list)
           → (s′ : List ℕ) → length s₁ ≤ length s′ → ((k : ℕ) → to ≤ k → k < r → getD s′ k 0 ≡ getD s₁ k 0)
-          → ((k : ℕ) → k < i + 1 → getD s′ (values + getD s₀ (39952 + 2 * k) 0) 0 ≡ getD s₁ (values + getD s₀ (39952 + 2 * k) 0) 0)
+          → ((k : ℕ) → k < i + 1 → getD s′ (values + getD s₀ (gift-pair k) 0) 0 ≡ getD s₁ (values + getD s₀ (gift-pair k) 0) 0)
           → EntriesGiven s′ unit places values p c others → EntriesGiven s′ unit places values p c list
       unfolding EntriesGiven EntryTerms ListSpread place
       entry-assigned places y p c moved all s′ more same first rest =
@@ -200,7 +201,7 @@ module _ (s₀ : List ℕ) (x : Item) (unit : Places) (values bound pair to n : 
           let ends : r ≡ free + size (e .term) = d .behind in
           let value : getD s′ (values + place) 0 ≡ getD s₁ (values + place) 0 = rw place-is at (first i (omega arith)) in
           g .whole places y p c moved all s′ (omega (arith, d .size-kept)) (λ k l u. same k l (omega arith) ∙ earlier k u)
-          (λ k l. first k (omega arith) ∙ other-value (getD s₀ (39952 + 2 * k) 0) (earlier-apart k l)) (
+          (λ k l. first k (omega arith) ∙ other-value (getD s₀ (gift-pair k) 0) (earlier-apart k l)) (
             (
               value ∙ d .word places y p c moved own,
               copy-stays x places pair y p c moved s₁ s′ more free (e .term) (λ k l u. same k (omega (arith, g .beyond)) (omega arith))
@@ -228,7 +229,7 @@ module _ (s₀ : List ℕ) (x : Item) (unit : Places) (values bound pair to n : 
 
     -- The next entry assigned, as the code reads and writes it.
     pub again : (rest : List Entry) → Partly s₀ s x unit values bound pair to n list i free rest → i < n → (s₁ : List ℕ) (r h z : ℕ)
-        → z ≡ getD s (39952 + 2 * i) 0 → h ≡ getD s (39953 + 2 * i) 0
+        → z ≡ getD s (gift-pair i) 0 → h ≡ getD s (gift-term i) 0
         → ((x : Item) (t : Term) → Original s x pair free h t → Aside s (values + z) free t → Copied s s₁ x pair (values + z) free t r)
         → (rest′ : List Entry) × Partly s₀ s₁ x unit values bound pair to n list (i + 1) r rest′
     again rest g taken s₁ r h z place word told =

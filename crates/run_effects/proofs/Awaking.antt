@@ -9,6 +9,7 @@ use native.Mathlib.Numerals.{add-one}
 use lib.ListN.{length, getD, set}
 use Rattle.meaning.specs.Bytes.{among, any, if_then_else_}
 use Rattle.term.specs.States.{listed}
+use Rattle.term.specs.Layout.{gift-pair, woken-part, followed-part}
 use Rattle.run_queues.specs.Log.{Slot, gone, waits, pairs-in, slot, LogOk, LogOnly, At, LogNow}
 use Rattle.run_effects.specs.Reducing.{Apart, KeptWhere, NotLogged, entry-places, hit, hits, quieted, inserted, Inserts, Inserted, Wakes, Waked}
 use Rattle.run_queues.proofs.Listed.{listed-kept}
@@ -23,13 +24,13 @@ log-only-kept log waiters sets pairs used s s′ o k h =
     ⊎-elim (o .below k) (λ u. ⊎-elim (o .between k u) (o .behind k) (h .1)) (h .0)
 
 abbrev pub Elsewhere : ℕ → ℕ → ℕ → ℕ → List Slot → ℕ → Type 0
-Elsewhere log waiters sets pairs slots k = Apart 40464 40656 k × NotLogged log waiters sets pairs (length slots) k
+Elsewhere log waiters sets pairs slots k = Apart woken-part followed-part k × NotLogged log waiters sets pairs (length slots) k
 
 -- After the first i entries.
 pub record Awake (s₀ s : List ℕ) (log waiters sets pairs : ℕ) (slots : List Slot) (i woken : ℕ) : Type 0 where
   pub ok : LogOk s log waiters sets pairs (quieted (entry-places s₀ i) slots)
   pub number : woken ≡ length (hits (entry-places s₀ i) 0 slots)
-  pub places : listed s 40464 woken ≡ hits (entry-places s₀ i) 0 slots
+  pub places : listed s woken-part woken ≡ hits (entry-places s₀ i) 0 slots
   pub few : woken ≤ i
   pub kept : KeptWhere (Elsewhere log waiters sets pairs slots) s₀ s
 
@@ -60,17 +61,17 @@ module _ (s₀ : List ℕ) (log waiters sets pairs : ℕ) (slots : List Slot) (n
   abbrev pub zs : List ℕ
   zs = entry-places s₀ i
 
-  pub entry-inside : 39952 + 2 * i < length s
+  pub entry-inside : gift-pair i < length s
   entry-inside = omega (arith, w .few, w .behind, a .ok .waiters-first, a .ok .sets-next, a .ok .inside)
 
-  low-kept : (k : ℕ) → k < 40464 → getD s k 0 ≡ getD s₀ k 0
+  low-kept : (k : ℕ) → k < woken-part → getD s k 0 ≡ getD s₀ k 0
   low-kept k h =
       a .kept .same k
       (inl h, (inl (omega (arith, w .behind)), inl (omega (arith, w .behind, a .ok .waiters-first, a .ok .sets-next))))
 
-  module _ (z : ℕ) (read : z ≡ getD s (39952 + 2 * i) 0) where
-    first-read : z ≡ getD s₀ (39952 + 2 * i) 0
-    first-read = read ∙ low-kept (39952 + 2 * i) (omega (arith, w .few))
+  module _ (z : ℕ) (read : z ≡ getD s (gift-pair i) 0) where
+    first-read : z ≡ getD s₀ (gift-pair i) 0
+    first-read = read ∙ low-kept (gift-pair i) (omega (arith, w .few))
 
     small : z < pairs
     small = rw first-read (w .small i less)
@@ -145,24 +146,24 @@ module _ (s₀ : List ℕ) (log waiters sets pairs : ℕ) (slots : List Slot) (n
         below₁ : (k : ℕ) → k < waiters → getD s₁ k 0 ≡ getD s k 0
         below₁ k h = now .only .below k h
 
-        listed₁ : listed s₁ 40464 woken ≡ hits zs 0 slots
+        listed₁ : listed s₁ woken-part woken ≡ hits zs 0 slots
         listed₁ =
-            listed-kept s s₁ 40464 woken (λ x l u. below₁ x (omega (arith, a .few, w .few, w .behind))) ∙ a .places
+            listed-kept s s₁ woken-part woken (λ x l u. below₁ x (omega (arith, a .few, w .few, w .behind))) ∙ a .places
 
         pub inserting : Inserts s₁ j woken
         inserting =
             record {
               few = omega (arith, a .few, w .few);
               inside = omega (arith, size₁, w .behind, a .ok .waiters-first, a .ok .sets-next, a .ok .inside);
-              rises = listed-rises zs s₁ 40464 woken slots listed₁;
+              rises = listed-rises zs s₁ woken-part woken slots listed₁;
             }
 
         -- and its place is listed.
         pub awake-one : (s₂ : List ℕ) → Inserted s₁ s₂ j woken → Awake s₀ s₂ log waiters sets pairs slots (i + 1) (woken + 1)
         awake-one s₂ d =
-            let few₂ : 40464 + woken + 1 ≤ 40656 = omega (arith, a .few, w .few) in
+            let few₂ : woken-part + woken + 1 ≤ followed-part = omega (arith, a .few, w .few) in
             let e : 0 + j ≡ j = omega arith in
-            let listed₂ : listed s₂ 40464 (woken + 1) ≡ hits (zs ++ (z ∷ [])) 0 slots =
+            let listed₂ : listed s₂ woken-part (woken + 1) ≡ hits (zs ++ (z ∷ [])) 0 slots =
             d .places
             ∙ ap (inserted j) listed₁
             ∙ ap (λ p. inserted p (hits zs 0 slots)) (sym e)
@@ -174,7 +175,7 @@ module _ (s₀ : List ℕ) (log waiters sets pairs : ℕ) (slots : List Slot) (n
                   (log-kept s₁ s₂ log waiters sets pairs (quieted (zs ++ (z ∷ [])) slots) left (d .kept .size)
                   (λ x l u. d .kept .same x (inr (omega (arith, w .behind))))
                   (λ x l u. d .kept .same x (inr (omega (arith, w .behind, a .ok .waiters-first, a .ok .sets-next)))));
-              number = rw more-places (sym (listed-length s₂ 40464 (woken + 1)) ∙ ap length listed₂);
+              number = rw more-places (sym (listed-length s₂ woken-part (woken + 1)) ∙ ap length listed₂);
               places = rw more-places listed₂;
               few = omega (arith, a .few);
               kept = record {

@@ -8,6 +8,7 @@ use Rattle.meaning.specs.Terms.{Constant, Functor, cell, named, Term, Terms, va
 use Rattle.term.specs.Cells.{Places, term-word, functor-word, number-of}
 use Rattle.term.specs.Holds.{Holds, HoldsFrom}
 use Rattle.term.specs.Setting.{Within, AllWithin}
+use Rattle.term.specs.Layout.{trial-region}
 use Rattle.run_effects.specs.Build.{Item, Goes, ItemTerm}
 
 pub count-renamed : (p c : ℕ) (ts : Terms) → count (all-renamed p c ts) ≡ count ts
@@ -27,7 +28,7 @@ same-functor-word item places (named f) k e = ap (λ names. k + 8 * (number-of f
 
 -- The item's terms stay where they are.
 module _ (x : Item) (pair : ℕ) (goes : Goes x pair) (s s′ : List ℕ) (size-kept : length s ≤ length s′)
-    (same : (k : ℕ) → k < 39936 → getD s′ k 0 ≡ getD s k 0) where
+    (same : (k : ℕ) → k < trial-region → getD s′ k 0 ≡ getD s k 0) where
   mutual
     unfolding Holds HoldsFrom Within AllWithin count
 

@@ -28,7 +28,7 @@ use Rattle.meaning.specs.Terms.{
   renamed,
   all-renamed,
 }
-use Rattle.term.specs.Words.{view}
+use Rattle.term.specs.Words.{view, writer-word, reader-word, compound-word, tag-in, rest-in}
 use Rattle.term.specs.declared.word.View.{View}
 use Rattle.term.proofs.word.View.{the-type}
 use Rattle.term.specs.declared.word.View.the-variants.{Writer, Reader, Compound}
@@ -37,6 +37,7 @@ use Rattle.term.specs.Holds.{Holds, HoldsFrom}
 use Rattle.term.specs.Setting.{Within, AllWithin}
 use Rattle.term.specs.Frames.{Only}
 use Rattle.term.proofs.Frames.{only-set}
+use Rattle.term.specs.Layout.{trial-region, compounds-region}
 use Rattle.run_table.proofs.Seen.{seen-term, seen-writer, seen-reader}
 use Rattle.run_circle.proofs.Depth.{depth, depths, height, height-is, shallow}
 use Rattle.run_effects.specs.Build.{
@@ -63,14 +64,14 @@ NoCompound v = OneOf (0 ∷ 1 ∷ 2 ∷ 3 ∷ 4 ∷ 5 ∷ []) (tagOf the-type v)
 
 module _ (s : List ℕ) (x : Item) (pair to h : ℕ) where
   -- A writer or a reader is one of the item's pairs.
-  pub writer-few : (t : Term) → Original s x pair to h t → (m : ℕ) → view (h % 8) (h / 8) ≡ Writer m → m < x .pairs
+  pub writer-few : (t : Term) → Original s x pair to h t → (m : ℕ) → view (tag-in h) (rest-in h) ≡ Writer m → m < x .pairs
   unfolding Within
   writer-few t o m e =
       let (n, is, place) = seen-writer (x .places) t h m (o .word) e in
       let within : Within (x .pairs) (x .compounds) (variable writer n) = rw is at (o .term .within) in
       omega (arith, o .goes .own n)
 
-  pub reader-few : (t : Term) → Original s x pair to h t → (m : ℕ) → view (h % 8) (h / 8) ≡ Reader m → m < x .pairs
+  pub reader-few : (t : Term) → Original s x pair to h t → (m : ℕ) → view (tag-in h) (rest-in h) ≡ Reader m → m < x .pairs
   unfolding Within
   reader-few t o m e =
       let (n, is, place) = seen-reader (x .places) t h m (o .word) e in
@@ -101,16 +102,16 @@ module _ (s : List ℕ) (x : Item) (pair to h : ℕ) where
       leaf at h (constant k) refl (a .inside) (λ places y p c moved. o .word ∙ same-constant-word (x .places) places k (moved .names)) (λ places p c. tt)
 
   -- A variable or a constant is copied by its word moved.
-  pub moved-copied : (at : ℕ) (t : Term) → Original s x pair to h t → Aside s at to t → NoCompound (view (h % 8) (h / 8))
-      → Copied s (set s at (moved-word pair h (view (h % 8) (h / 8)))) x pair at to t to
+  pub moved-copied : (at : ℕ) (t : Term) → Original s x pair to h t → Aside s at to t → NoCompound (view (tag-in h) (rest-in h))
+      → Copied s (set s at (moved-word pair h (view (tag-in h) (rest-in h)))) x pair at to t to
   unfolding size Holds renamed
   moved-copied at (variable writer n) o a k =
       rw (seen-term (x .places) (variable writer n) h (o .word))
-      (leaf at (1 + 8 * (pair + x .places .pair n)) (variable writer n) refl (a .inside)
+      (leaf at (writer-word (pair + x .places .pair n)) (variable writer n) refl (a .inside)
       (λ places y p c moved. omega (arith, variable-word writer n o places y p c moved)) (λ places p c. tt))
   moved-copied at (variable reader n) o a k =
       rw (seen-term (x .places) (variable reader n) h (o .word))
-      (leaf at (2 + 8 * (pair + x .places .pair n)) (variable reader n) refl (a .inside)
+      (leaf at (reader-word (pair + x .places .pair n)) (variable reader n) refl (a .inside)
       (λ places y p c moved. omega (arith, variable-word reader n o places y p c moved)) (λ places p c. tt))
   moved-copied at (constant (Constant.integer i)) o a k =
       rw (seen-term (x .places) (constant (Constant.integer i)) h (o .word)) (constant-copied at (Constant.integer i) o a)
@@ -122,7 +123,7 @@ module _ (s : List ℕ) (x : Item) (pair to h : ℕ) where
       absurd (miss (0 ∷ 1 ∷ 2 ∷ 3 ∷ 4 ∷ 5 ∷ []) 6 tt (rw (seen-term (x .places) (compound n f ts) h (o .word)) at k))
 
   -- A compound at its place p.
-  compound-seen : (t : Term) → Original s x pair to h t → (p : ℕ) → view (h % 8) (h / 8) ≡ Compound p
+  compound-seen : (t : Term) → Original s x pair to h t → (p : ℕ) → view (tag-in h) (rest-in h) ≡ Compound p
       → (n : ℕ) × (f : Functor) × (ts : Terms) × (t ≡ compound n f ts) × (p ≡ x .places .compound n)
   compound-seen (compound n f ts) o p e =
       let k = seen-term (x .places) (compound n f ts) h (o .word) in
@@ -138,8 +139,8 @@ module _ (s : List ℕ) (x : Item) (pair to h : ℕ) where
   compound-seen (constant Constant.empty) o p e =
       let k = seen-term (x .places) (constant Constant.empty) h (o .word) in let z : _≡_ {A = ℕ} 0 1 = cc in absurd (omega arith)
 
-  pub compound-original : (t : Term) → Original s x pair to h t → (p : ℕ) → view (h % 8) (h / 8) ≡ Compound p
-      → (n : ℕ) × (f : Functor) × (ts : Terms) × (t ≡ compound n f ts) × Original s x pair to (6 + 8 * p) (compound n f ts)
+  pub compound-original : (t : Term) → Original s x pair to h t → (p : ℕ) → view (tag-in h) (rest-in h) ≡ Compound p
+      → (n : ℕ) × (f : Functor) × (ts : Terms) × (t ≡ compound n f ts) × Original s x pair to (compound-word p) (compound n f ts)
   compound-original t o p e =
       let (n, f, ts, is, place) = compound-seen t o p e in
       let o′ : Original s x pair to h (compound n f ts) = rw is at o in (
@@ -158,7 +159,7 @@ module _ (s : List ℕ) (x : Item) (pair to h : ℕ) where
       )
 
   -- Where a word behind the trial's region is put, the term is still there.
-  pub original-put : (at w : ℕ) (t : Term) → Original s x pair to h t → 40704 ≤ at → Original (set s at w) x pair to h t
+  pub original-put : (at w : ℕ) (t : Term) → Original s x pair to h t → compounds-region ≤ at → Original (set s at w) x pair to h t
   original-put at w t o far = record {
     goes = o .goes;
     word = o .word;
@@ -170,11 +171,11 @@ module _ (s : List ℕ) (x : Item) (pair to h : ℕ) where
   }
 
   -- A compound's word put and its compounds copied.
-  pub laid-copied : (at : ℕ) (s₁ s₂ : List ℕ) (r n : ℕ) (f : Functor) (ts : Terms) → s₁ ≡ set s at (6 + 8 * to) → Aside s at to (compound n f ts)
+  pub laid-copied : (at : ℕ) (s₁ s₂ : List ℕ) (r n : ℕ) (f : Functor) (ts : Terms) → s₁ ≡ set s at (compound-word to) → Aside s at to (compound n f ts)
       → Within (x .pairs) (x .compounds) (compound n f ts) → Laid s₁ s₂ x pair to (compound n f ts) r → Copied s s₂ x pair at to (compound n f ts) r
   unfolding Within Spread renamed
   laid-copied at s₁ s₂ r n f ts put a within d =
-      let w = 6 + 8 * to in
+      let w = compound-word to in
       let end-at = to + size (compound n f ts) in
       record {
         behind = d .behind;
@@ -194,12 +195,12 @@ module _ (s : List ℕ) (x : Item) (pair to h : ℕ) where
   original-height t o = rw (o .word) (height-is s (x .places) (length s) t (o .term .held) (shallow s (x .places) t (o .term .held)))
 
 -- It is the same in the scratch in which the copy's word is put.
-pub height-put : (s : List ℕ) (x : Item) (pair to h at w : ℕ) (t : Term) → Original s x pair to h t → 40704 ≤ at
+pub height-put : (s : List ℕ) (x : Item) (pair to h at w : ℕ) (t : Term) → Original s x pair to h t → compounds-region ≤ at
     → height (length (set s at w)) (set s at w) h ≡ height (length s) s h
 height-put s x pair to h at w t o far =
     original-height (set s at w) x pair to h t (original-put s x pair to h at w t o far) ∙ sym (original-height s x pair to h t o)
 
-functor-count : (places : Places) (f : Functor) (k : ℕ) → k ≤ 6 → functor-word places f k % 8 ≡ k
+functor-count : (places : Places) (f : Functor) (k : ℕ) → k ≤ 6 → tag-in (functor-word places f k) ≡ k
 functor-count places cell k h = omega arith
 functor-count places (named f) k h = omega arith
 
@@ -227,7 +228,7 @@ pub record Progress (s₀ s : List ℕ) (x : Item) (pair to k i free n : ℕ) (f
       → (s′ : List ℕ) → Later s s′ (to + i) (to + 1 + k) free
       → HoldsFrom s′ places (c + n) j (all-renamed p c rest) → HoldsFrom s′ places (c + n) 0 (all-renamed p c ts)
 
-module _ (s₀ : List ℕ) (x : Item) (pair to p n : ℕ) (f : Functor) (ts : Terms) (o : Original s₀ x pair to (6 + 8 * p) (compound n f ts)) where
+module _ (s₀ : List ℕ) (x : Item) (pair to p n : ℕ) (f : Functor) (ts : Terms) (o : Original s₀ x pair to (compound-word p) (compound n f ts)) where
   place : p ≡ x .places .compound n
   place = omega (arith, o .word)
 
@@ -236,7 +237,7 @@ module _ (s₀ : List ℕ) (x : Item) (pair to p n : ℕ) (f : Functor) (ts : Te
   known = o .term .within .0
 
   -- Where the compound stands.
-  pub there : p + 8 ≤ 39936
+  pub there : p + 8 ≤ trial-region
   there = omega (arith, place, o .goes .before n known)
 
   -- Where its copy ends.
@@ -248,11 +249,11 @@ module _ (s₀ : List ℕ) (x : Item) (pair to p n : ℕ) (f : Functor) (ts : Te
   unfolding Holds
   first-word = rw place (o .term .held .0 .functor)
 
-  pub number-is : (k : ℕ) → k ≡ getD s₀ p 0 % 8 → k ≡ count ts
+  pub number-is : (k : ℕ) → k ≡ tag-in (getD s₀ p 0) → k ≡ count ts
   unfolding Holds
-  number-is k e = e ∙ ap (λ w. w % 8) first-word ∙ functor-count (x .places) f (count ts) (o .term .held .0 .few)
+  number-is k e = e ∙ ap (λ w. tag-in w) first-word ∙ functor-count (x .places) f (count ts) (o .term .held .0 .few)
 
-  pub begin : (k : ℕ) → k ≡ getD s₀ p 0 % 8 → (s : List ℕ) → s ≡ set s₀ to (getD s₀ p 0)
+  pub begin : (k : ℕ) → k ≡ tag-in (getD s₀ p 0) → (s : List ℕ) → s ≡ set s₀ to (getD s₀ p 0)
       → Progress s₀ s x pair to k 1 (to + 1 + k) n f ts 0 ts
   unfolding Holds Within
   begin k e s put =
@@ -276,10 +277,10 @@ module _ (s₀ : List ℕ) (x : Item) (pair to p n : ℕ) (f : Functor) (ts : Te
 
   -- The measure falls from a compound to an argument.
   pub argument-falls : (s : List ℕ) (free a : ℕ) (u : Term) → depth u ≤ depths ts → Original s x pair free a u → (t : ℕ)
-      → 2 * height (length s₀) s₀ (6 + 8 * p) ≡ t → 2 * height (length s) s a + 1 < t
+      → 2 * height (length s₀) s₀ (compound-word p) ≡ t → 2 * height (length s) s a + 1 < t
   unfolding depth
   argument-falls s free a u deep b t e =
-      omega (arith, original-height s₀ x pair to (6 + 8 * p) (compound n f ts) o, original-height s x pair free a u b)
+      omega (arith, original-height s₀ x pair to (compound-word p) (compound n f ts) o, original-height s x pair free a u b)
 
   module _ (s : List ℕ) (k i free j : ℕ) where
     -- All arguments are copied.

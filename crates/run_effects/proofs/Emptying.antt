@@ -10,6 +10,7 @@ use lib.ListN.{length, getD, set, take}
 use lib.Seq.{take-suc, take-all}
 use Rattle.meaning.specs.Bytes.{if_then_else_}
 use Rattle.term.specs.States.{ring}
+use Rattle.term.specs.Layout.{woken-part}
 use Rattle.run_queues.specs.Ring.{RingOk, Pushed}
 use Rattle.run_queues.specs.Log.{Slot, gone, waits, slot, LogOk, LogOnly, At, LogNow}
 use Rattle.run_effects.specs.Reducing.{Apart, KeptWhere, NotLogged, hit, hits, goal-in, woken, quiet, quieted, emptied, AddsWoken, WokenAdded}
@@ -207,23 +208,23 @@ module _ (s₀ : List ℕ) (log waiters sets pairs : ℕ) (slots : List Slot) (z
       }
 
   module _ (s : List ℕ) (i : ℕ) (r : Rejoined s₀ s log waiters sets pairs slots zs queue size front active i) (less : i < n) where
-    pub place-inside : 40464 + i < length s
+    pub place-inside : woken-part + i < length s
     place-inside = omega (arith, a .few, a .behind, r .ok .waiters-first, r .ok .sets-next, r .ok .inside)
 
     the-next : (j : ℕ) × NextAt zs slots 0 i j
     the-next = next zs 0 slots i (omega (arith, a .number))
 
-    module _ (p : ℕ) (read : p ≡ getD s (40464 + i) 0) where
+    module _ (p : ℕ) (read : p ≡ getD s (woken-part + i) 0) where
       is-next : p ≡ the-next .0
       is-next =
-          let same : getD s (40464 + i) 0 ≡ getD s₀ (40464 + i) 0 =
-          r .kept .same (40464 + i) (
+          let same : getD s (woken-part + i) 0 ≡ getD s₀ (woken-part + i) 0 =
+          r .kept .same (woken-part + i) (
             inl (omega (arith, a .few, a .behind, r .ok .waiters-first, a .queue-behind)),
             (inl (omega (arith, a .few, a .behind)), inl (omega (arith, a .few, a .behind, r .ok .waiters-first, r .ok .sets-next))),
           )
           in
-          let listed-is : getD (hits zs 0 slots) i 0 ≡ getD s₀ (40464 + i) 0 =
-          ap (λ l. getD l i 0) (sym (a .places)) ∙ listed-at s₀ 40464 n i less
+          let listed-is : getD (hits zs 0 slots) i 0 ≡ getD s₀ (woken-part + i) 0 =
+          ap (λ l. getD l i 0) (sym (a .places)) ∙ listed-at s₀ woken-part n i less
           in
           omega (arith, the-next .1 .at)
 

@@ -7,6 +7,7 @@ use native.Mathlib.Omega.{arith}
 use lib.ListN.{length, getD, set, length-set, length-append, List·getD-append}
 use lib.Seq.{getD-set-same, getD-set-other, getD-at}
 use Rattle.term.specs.States.{listed}
+use Rattle.term.specs.Layout.{woken-part}
 use Rattle.run_effects.specs.Reducing.{inserted, Inserts, Inserted}
 use Rattle.run_queues.proofs.Deciding.{if-below, if-beyond}
 use Rattle.run_queues.proofs.Log.{by-place}
@@ -71,10 +72,10 @@ inserted-between p (x ∷ xs) ys low high =
 pub record Opened (s₀ s : List ℕ) (place n i : ℕ) : Type 0 where
   pub size : length s ≡ length s₀
   pub before : i ≤ n
-  pub below : (k : ℕ) → k < 40464 + i → getD s k 0 ≡ getD s₀ k 0
-  pub above : (k : ℕ) → 40464 + n + 1 ≤ k → getD s k 0 ≡ getD s₀ k 0
-  pub moved : (k : ℕ) → i ≤ k → k < n → getD s (40464 + k + 1) 0 ≡ getD s₀ (40464 + k) 0
-  pub greater : (k : ℕ) → i ≤ k → k < n → place ≤ getD s₀ (40464 + k) 0
+  pub below : (k : ℕ) → k < woken-part + i → getD s k 0 ≡ getD s₀ k 0
+  pub above : (k : ℕ) → woken-part + n + 1 ≤ k → getD s k 0 ≡ getD s₀ k 0
+  pub moved : (k : ℕ) → i ≤ k → k < n → getD s (woken-part + k + 1) 0 ≡ getD s₀ (woken-part + k) 0
+  pub greater : (k : ℕ) → i ≤ k → k < n → place ≤ getD s₀ (woken-part + k) 0
 
 pub opened-begins : (s : List ℕ) (place n : ℕ) → Opened s s place n n
 opened-begins s place n =
@@ -88,68 +89,68 @@ opened-begins s place n =
     }
 
 module _ (s₀ s : List ℕ) (place n i : ℕ) (a : Inserts s₀ place n) (o : Opened s₀ s place n i) where
-  pub opened-on : (j : ℕ) → i ≡ j + 1 → place ≤ getD s (40464 + j) 0 → Opened s₀ (set s (40464 + i) (getD s (40464 + j) 0)) place n j
+  pub opened-on : (j : ℕ) → i ≡ j + 1 → place ≤ getD s (woken-part + j) 0 → Opened s₀ (set s (woken-part + i) (getD s (woken-part + j) 0)) place n j
   opened-on j e h =
-      let v = getD s (40464 + j) 0 in
-      let was : v ≡ getD s₀ (40464 + j) 0 = o .below (40464 + j) (omega arith) in
+      let v = getD s (woken-part + j) 0 in
+      let was : v ≡ getD s₀ (woken-part + j) 0 = o .below (woken-part + j) (omega arith) in
       record {
-        size = length-set s (40464 + i) v ∙ o .size;
+        size = length-set s (woken-part + i) v ∙ o .size;
         before = omega (arith, o .before);
-        below = λ k l. getD-set-other s (40464 + i) k v 0 (λ f. omega arith) ∙ o .below k (omega arith);
-        above = λ k l. getD-set-other s (40464 + i) k v 0 (λ f. omega (arith, o .before)) ∙ o .above k l;
+        below = λ k l. getD-set-other s (woken-part + i) k v 0 (λ f. omega arith) ∙ o .below k (omega arith);
+        above = λ k l. getD-set-other s (woken-part + i) k v 0 (λ f. omega (arith, o .before)) ∙ o .above k l;
         moved = λ k l u. by-place k j
             (λ f.
-            let same : 40464 + k + 1 ≡ 40464 + i = omega arith in
-            rw (same, f) (getD-set-same s (40464 + i) v 0 (omega (arith, o .size, o .before, a .few, a .inside)) ∙ was))
-            (λ f. getD-set-other s (40464 + i) (40464 + k + 1) v 0 (λ g. omega arith) ∙ o .moved k (omega arith) u);
+            let same : woken-part + k + 1 ≡ woken-part + i = omega arith in
+            rw (same, f) (getD-set-same s (woken-part + i) v 0 (omega (arith, o .size, o .before, a .few, a .inside)) ∙ was))
+            (λ f. getD-set-other s (woken-part + i) (woken-part + k + 1) v 0 (λ g. omega arith) ∙ o .moved k (omega arith) u);
         greater = λ k l u. by-place k j
             (λ f. rw f (omega arith))
             (λ f. o .greater k (omega arith) u);
       }
 
   -- All before are less: the place takes the word that is free.
-  module _ (low : (k : ℕ) → k < i → getD s₀ (40464 + k) 0 < place) where
+  module _ (low : (k : ℕ) → k < i → getD s₀ (woken-part + k) 0 < place) where
     abbrev last : List ℕ
-    last = set s (40464 + i) place
+    last = set s (woken-part + i) place
 
-    other : (k : ℕ) → (k ≡ 40464 + i → ⊥) → getD last k 0 ≡ getD s k 0
-    other k h = getD-set-other s (40464 + i) k place 0 h
+    other : (k : ℕ) → (k ≡ woken-part + i → ⊥) → getD last k 0 ≡ getD s k 0
+    other k h = getD-set-other s (woken-part + i) k place 0 h
 
-    places-after : (m : ℕ) → n ≡ i + m → listed last 40464 (n + 1) ≡ inserted place (listed s₀ 40464 n)
+    places-after : (m : ℕ) → n ≡ i + m → listed last woken-part (n + 1) ≡ inserted place (listed s₀ woken-part n)
     places-after m e =
         let f : n + 1 ≡ i + (1 + m) = omega arith in
-        let rest = listed s₀ (40464 + i) m in
-        let first : listed last 40464 i ≡ listed s₀ 40464 i =
-        listed-alike s₀ last 40464 40464 i (λ k h. other (40464 + k) (λ g. omega arith) ∙ o .below (40464 + k) (omega arith))
+        let rest = listed s₀ (woken-part + i) m in
+        let first : listed last woken-part i ≡ listed s₀ woken-part i =
+        listed-alike s₀ last woken-part woken-part i (λ k h. other (woken-part + k) (λ g. omega arith) ∙ o .below (woken-part + k) (omega arith))
         in
-        let it : getD last (40464 + i) 0 ≡ place = getD-set-same s (40464 + i) place 0 (omega (arith, o .size, o .before, a .few, a .inside)) in
-        let later : listed last (40464 + i + 1) m ≡ rest =
-        listed-alike s₀ last (40464 + i) (40464 + i + 1) m
+        let it : getD last (woken-part + i) 0 ≡ place = getD-set-same s (woken-part + i) place 0 (omega (arith, o .size, o .before, a .few, a .inside)) in
+        let later : listed last (woken-part + i + 1) m ≡ rest =
+        listed-alike s₀ last (woken-part + i) (woken-part + i + 1) m
         (λ k h.
-        let g : 40464 + i + 1 + k ≡ 40464 + (i + k) + 1 = omega arith in
-        let g₂ : 40464 + i + k ≡ 40464 + (i + k) = omega arith in
-        rw (g, g₂) (other (40464 + (i + k) + 1) (λ q. omega arith) ∙ o .moved (i + k) (omega arith) (omega arith)))
+        let g : woken-part + i + 1 + k ≡ woken-part + (i + k) + 1 = omega arith in
+        let g₂ : woken-part + i + k ≡ woken-part + (i + k) = omega arith in
+        rw (g, g₂) (other (woken-part + (i + k) + 1) (λ q. omega arith) ∙ o .moved (i + k) (omega arith) (omega arith)))
         in
-        let one : listed last (40464 + i) 1 ≡ place ∷ [] = one-listed last (40464 + i) ∙ ap (λ w. w ∷ []) it in
+        let one : listed last (woken-part + i) 1 ≡ place ∷ [] = one-listed last (woken-part + i) ∙ ap (λ w. w ∷ []) it in
         let high : 0 < length rest → place ≤ getD rest 0 0 = λ h.
-        let h₂ : 0 < m = omega (arith, listed-length s₀ (40464 + i) m) in
-        let w : getD rest 0 0 ≡ getD s₀ (40464 + i + 0) 0 = listed-at s₀ (40464 + i) m 0 h₂ in
-        let z : 40464 + i + 0 ≡ 40464 + i = omega arith in
+        let h₂ : 0 < m = omega (arith, listed-length s₀ (woken-part + i) m) in
+        let w : getD rest 0 0 ≡ getD s₀ (woken-part + i + 0) 0 = listed-at s₀ (woken-part + i) m 0 h₂ in
+        let z : woken-part + i + 0 ≡ woken-part + i = omega arith in
         rw (w, z) (o .greater i (omega arith) (omega arith))
         in
-        rw (f, listed-split last 40464 i (1 + m), listed-split last (40464 + i) 1 m, first, one, later, e, listed-split s₀ 40464 i m)
+        rw (f, listed-split last woken-part i (1 + m), listed-split last (woken-part + i) 1 m, first, one, later, e, listed-split s₀ woken-part i m)
         (sym
-        (inserted-between place (listed s₀ 40464 i) rest
+        (inserted-between place (listed s₀ woken-part i) rest
         (λ k h.
-        let h₂ : k < i = omega (arith, listed-length s₀ 40464 i) in
-        rw (listed-at s₀ 40464 i k h₂) (low k h₂))
+        let h₂ : k < i = omega (arith, listed-length s₀ woken-part i) in
+        rw (listed-at s₀ woken-part i k h₂) (low k h₂))
         high))
 
     pub opened-ends : Inserted s₀ last place n
     opened-ends =
         record {
           kept = record {
-            size = length-set s (40464 + i) place ∙ o .size;
+            size = length-set s (woken-part + i) place ∙ o .size;
             same = λ k h.
                 ⊎-elim
                 (λ l. other k (λ g. omega arith) ∙ o .below k (omega arith))
@@ -160,12 +161,12 @@ module _ (s₀ s : List ℕ) (place n i : ℕ) (a : Inserts s₀ place n) (o : O
         }
 
   -- Those before are less if the last of them is.
-  pub lower : (i ≡ 0) → (k : ℕ) → k < i → getD s₀ (40464 + k) 0 < place
+  pub lower : (i ≡ 0) → (k : ℕ) → k < i → getD s₀ (woken-part + k) 0 < place
   lower e k h = absurd (omega arith)
 
-  pub lower-than : (j : ℕ) → i ≡ j + 1 → getD s (40464 + j) 0 < place → (k : ℕ) → k < i → getD s₀ (40464 + k) 0 < place
+  pub lower-than : (j : ℕ) → i ≡ j + 1 → getD s (woken-part + j) 0 < place → (k : ℕ) → k < i → getD s₀ (woken-part + k) 0 < place
   lower-than j e h k l =
-      let last-less : getD s₀ (40464 + j) 0 < place = rw (o .below (40464 + j) (omega arith)) at h in
+      let last-less : getD s₀ (woken-part + j) 0 < place = rw (o .below (woken-part + j) (omega arith)) at h in
       by-place k j
       (λ f. rw f last-less)
       (λ f. omega (arith, a .rises k j (omega arith) (omega (arith, o .before)), last-less))

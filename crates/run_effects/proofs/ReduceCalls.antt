@@ -6,6 +6,8 @@ use native.Mathlib.Omega.{arith}
 use lib.ListN.{length, getD}
 use Rattle.meaning.specs.Terms.{Named, named}
 use Rattle.term.specs.Cells.{Places}
+use Rattle.term.specs.Layout.{gift-pair, gift-term}
+use Rattle.term.specs.Words.{packed, rest-in}
 use Rattle.run_compare.specs.Gifts.{Entry}
 use Rattle.run_effects.specs.Build.{Item, Aside}
 use Rattle.run_queues.specs.Ring.{RingOk, Pushed}
@@ -32,12 +34,12 @@ module _ (s₀ : List ℕ) (values pair to n : ℕ) where
     pub assigns-size : AsksEntries s₀ values pair to n → (length s ≡ length s₀) × (n ≤ 192)
     assigns-size (x, unit, bound, list, a) = let (rest, g) = walk x unit bound list a in (g .kept .size, a .few)
 
-    pub assigns-inside : AsksEntries s₀ values pair to n → i < n → 39953 + 2 * i < length s
+    pub assigns-inside : AsksEntries s₀ values pair to n → i < n → gift-term i < length s
     assigns-inside (x, unit, bound, list, a) h =
         let (rest, g) = walk x unit bound list a in
         assigned.inside s₀ x unit values bound pair to n list a s i free rest g h
 
-    pub assigns-asks : AsksEntries s₀ values pair to n → i < n → (h z : ℕ) → z ≡ getD s (39952 + 2 * i) 0 → h ≡ getD s (39953 + 2 * i) 0
+    pub assigns-asks : AsksEntries s₀ values pair to n → i < n → (h z : ℕ) → z ≡ getD s (gift-pair i) 0 → h ≡ getD s (gift-term i) 0
         → AsksTerm s pair (values + z) free h
     assigns-asks (x, unit, bound, list, a) less h z place read =
         let (rest, g) = walk x unit bound list a in
@@ -46,13 +48,13 @@ module _ (s₀ : List ℕ) (values pair to n : ℕ) where
         let aside′ : Aside s (values + z) free (e .term) = rw where-it-is aside in
         (x, e .term, rw read b, aside′)
 
-    pub assigns-place : AsksEntries s₀ values pair to n → i < n → (z : ℕ) → z ≡ getD s (39952 + 2 * i) 0 → values + z < length s
+    pub assigns-place : AsksEntries s₀ values pair to n → i < n → (z : ℕ) → z ≡ getD s (gift-pair i) 0 → values + z < length s
     assigns-place (x, unit, bound, list, a) less z read =
         let (rest, g) = walk x unit bound list a in
         let (e, others, is, at, b, aside) = assigned.next-entry s₀ x unit values bound pair to n list a s i free rest g less in
         omega (arith, aside .inside)
 
-    pub assigns-on : i < n → (s₁ : List ℕ) (r h z : ℕ) → z ≡ getD s (39952 + 2 * i) 0 → h ≡ getD s (39953 + 2 * i) 0
+    pub assigns-on : i < n → (s₁ : List ℕ) (r h z : ℕ) → z ≡ getD s (gift-pair i) 0 → h ≡ getD s (gift-term i) 0
         → TellsTerm s pair (values + z) free h s₁ r → Assigns s₀ values pair to n s₁ r (i + 1)
     assigns-on less s₁ r h z place read told x unit bound list a =
         let (rest, g) = walk x unit bound list a in
@@ -95,8 +97,8 @@ module _ (s₀ : List ℕ) (from n pair to query queue size front active : ℕ) 
         let (rest, g) = walk x goals a in
         record { inside = omega (arith, a .ring-ok .inside, g .kept .size); front-inside = a .ring-ok .front-inside }
 
-    module _ (less : i < n) (s₁ : List ℕ) (v : ℕ) (is : v ≡ query + 8 * free) (pushed : Pushed s s₁ queue size front (active + i) v)
-        (q : ℕ) (read : q ≡ getD s (from + i) 0 / 8) where
+    module _ (less : i < n) (s₁ : List ℕ) (v : ℕ) (is : v ≡ packed query free) (pushed : Pushed s s₁ queue size front (active + i) v)
+        (q : ℕ) (read : q ≡ rest-in (getD s (from + i) 0)) where
       pub adds-asks : AsksGoals → AsksCompound s₁ pair free q
       adds-asks (x, goals, a) =
           let (rest, g) = walk x goals a in

@@ -11,6 +11,8 @@ use Rattle.term.specs.Cells.{Places, Numbered, term-word}
 use Rattle.term.specs.Holds.{Holds}
 use Rattle.term.specs.Setting.{Within}
 use Rattle.term.specs.Frames.{Only}
+use Rattle.term.specs.Layout.{trial-region, compounds-region}
+use Rattle.term.specs.Words.{writer-word, reader-word}
 
 -- An item: its own places, how many pairs and compounds it has.
 pub record Item : Type 0 where
@@ -62,7 +64,7 @@ Rising lo hi (t ∷ ts) = (a : ℕ) × (b : ℕ) × (lo ≤ a) × Numbered a b t
 -- The item's pairs have their own numbers, its compounds lie before the trial's region, and the pairs' copies have places.
 pub record Goes (x : Item) (pair : ℕ) : Type 0 where
   pub own : (n : ℕ) → x .places .pair n ≡ n
-  pub before : (n : ℕ) → n < x .compounds → x .places .compound n + 8 ≤ 39936
+  pub before : (n : ℕ) → n < x .compounds → x .places .compound n + 8 ≤ trial-region
   pub pairs-fit : pair + x .pairs ≤ 4294967296
 
 -- A term of the item in the scratch.
@@ -75,14 +77,14 @@ pub record Original (s : List ℕ) (x : Item) (pair to h : ℕ) (t : Term) : Typ
   pub goes : Goes x pair
   pub word : h ≡ term-word (x .places) t
   pub term : ItemTerm s x t
-  pub behind : 40704 ≤ to
+  pub behind : compounds-region ≤ to
   pub inside : to + size t ≤ length s
   pub room : 1 ≤ size t → to + size t + 7 ≤ length s
 
 -- The word of the copy of a term that is no compound, by what its own word says: a variable's pair comes from a pair on, any other word stays.
 abbrev pub moved-word : ℕ → ℕ → View → ℕ
-moved-word pair h (Writer m) = 1 + 8 * (pair + m)
-moved-word pair h (Reader m) = 2 + 8 * (pair + m)
+moved-word pair h (Writer m) = writer-word (pair + m)
+moved-word pair h (Reader m) = reader-word (pair + m)
 moved-word pair h Nothing = h
 moved-word pair h (Integer bits) = h
 moved-word pair h (Name number) = h
@@ -95,7 +97,7 @@ PairFits pair v = ((m : ℕ) → v ≡ Writer m → pair + m < 4294967296) × ((
 
 -- A word for the copy's word, none of those of its compounds.
 pub record Aside (s : List ℕ) (at to : ℕ) (t : Term) : Type 0 where
-  pub behind : 40704 ≤ at
+  pub behind : compounds-region ≤ at
   pub inside : at < length s
   pub apart : (at < to) ⊎ (to + size t ≤ at)
 

@@ -13,6 +13,7 @@ use Rattle.term.specs.Holds.{Holds}
 use Rattle.term.specs.Jobs.{HoldsGoals}
 use Rattle.term.specs.Setting.{Within}
 use Rattle.term.specs.States.{ring, listed}
+use Rattle.term.specs.Layout.{trial-region, compounds-region, gift-pair, woken-part, followed-part}
 use Rattle.run_compare.specs.Gifts.{Entry, EntriesAt}
 use Rattle.run_effects.specs.Build.{Item, Copies, total, ListSpread, Goes, ItemTerm, Moved}
 use Rattle.run_queues.specs.Ring.{RingOk}
@@ -30,7 +31,7 @@ pub record KeptWhere (P : ℕ → Type 0) (s s′ : List ℕ) : Type 0 where
 -- X := what the head's writers were given: the clause's pairs lie from a pair on.
 pub record HeadAssigned (s s′ : List ℕ) (values pair pairs : ℕ) : Type 0 where
   pub kept : KeptWhere (Apart (values + pair) (values + pair + pairs)) s s′
-  pub given : (x : ℕ) → x < pairs → getD s′ (values + pair + x) 0 ≡ getD s (39936 + x) 0
+  pub given : (x : ℕ) → x < pairs → getD s′ (values + pair + x) 0 ≡ getD s (trial-region + x) 0
 
 -- The trial's entries, n of them, for pairs of a unit whose places are below a bound, with terms of the item that are copied.
 unfoldable pub EntryTerms : List ℕ → Item → Places → ℕ → List Entry → Type 0
@@ -42,7 +43,7 @@ entry-terms list = map (λ e. e .term) list
 
 pub record Assigning (s : List ℕ) (x : Item) (unit : Places) (values bound pair to n : ℕ) (list : List Entry) : Type 0 where
   pub goes : Goes x pair
-  pub behind : 40704 ≤ to
+  pub behind : compounds-region ≤ to
   pub before : to + total (entry-terms list) ≤ values
   pub room : 1 ≤ total (entry-terms list) → to + total (entry-terms list) + 7 ≤ length s
   pub inside : values + bound ≤ length s
@@ -50,7 +51,7 @@ pub record Assigning (s : List ℕ) (x : Item) (unit : Places) (values bound pai
   pub number : length list ≡ n
   pub stand : EntriesAt s (x .places) unit 0 list
   pub terms : EntryTerms s x unit bound list
-  pub apart : (i k : ℕ) → i < n → k < n → getD s (39952 + 2 * i) 0 ≡ getD s (39952 + 2 * k) 0 → i ≡ k
+  pub apart : (i k : ℕ) → i < n → k < n → getD s (gift-pair i) 0 ≡ getD s (gift-pair k) 0 → i ≡ k
 
 -- Z := the head's term, renamed: each entry's pair holds the word of its copy, which is held.
 unfoldable pub EntriesGiven : List ℕ → Places → Places → ℕ → ℕ → ℕ → List Entry → Type 0
@@ -81,11 +82,11 @@ goal-terms goals = map as-term goals
 
 pub record Adding (s : List ℕ) (x : Item) (from n pair to query queue size front active : ℕ) (goals : List Named) : Type 0 where
   pub goes : Goes x pair
-  pub behind : 40704 ≤ to
+  pub behind : compounds-region ≤ to
   pub number : n ≡ length goals
   pub words : HoldsGoals s (x .places) from 0 goals
   pub within : GoalsWithin (x .pairs) (x .compounds) goals
-  pub from-before : from + n ≤ 39936
+  pub from-before : from + n ≤ trial-region
   pub before : to + total (goal-terms goals) ≤ queue
   pub room : 1 ≤ total (goal-terms goals) → to + total (goal-terms goals) + 7 ≤ length s
   pub ring-ok : RingOk s queue size front
@@ -106,7 +107,7 @@ pub record Added (s s′ : List ℕ) (x : Item) (n pair to query queue size fron
 -- The places of the pairs that the trial's first n entries give a term.
 unfoldable pub entry-places : List ℕ → ℕ → List ℕ
 entry-places s zero = []
-entry-places s (suc n) = entry-places s n ++ (getD s (39952 + 2 * n) 0 ∷ [])
+entry-places s (suc n) = entry-places s n ++ (getD s (gift-pair n) 0 ∷ [])
 
 -- A waiting goal is hit if it waits on one of these pairs.
 unfoldable pub hit : List ℕ → Slot → Bool
@@ -153,34 +154,34 @@ Rises s from n = (a b : ℕ) → a < b → b < n → getD s (from + a) 0 < getD 
 
 pub record Inserts (s : List ℕ) (place n : ℕ) : Type 0 where
   pub few : n < 192
-  pub inside : 40656 ≤ length s
-  pub rises : Rises s 40464 n
+  pub inside : followed-part ≤ length s
+  pub rises : Rises s woken-part n
 
 pub record Inserted (s s′ : List ℕ) (place n : ℕ) : Type 0 where
-  pub kept : KeptWhere (Apart 40464 (40464 + n + 1)) s s′
-  pub places : listed s′ 40464 (n + 1) ≡ inserted place (listed s 40464 n)
+  pub kept : KeptWhere (Apart woken-part (woken-part + n + 1)) s s′
+  pub places : listed s′ woken-part (n + 1) ≡ inserted place (listed s woken-part n)
 
 -- The goals that wait on the entries' pairs are found: their places stand in order from word 40464 on.
 pub record Wakes (s : List ℕ) (log waiters sets pairs : ℕ) (slots : List Slot) (n : ℕ) : Type 0 where
   pub ok : LogOk s log waiters sets pairs slots
   pub few : n ≤ 192
-  pub behind : 40704 ≤ waiters
-  pub small : (i : ℕ) → i < n → getD s (39952 + 2 * i) 0 < pairs
+  pub behind : compounds-region ≤ waiters
+  pub small : (i : ℕ) → i < n → getD s (gift-pair i) 0 < pairs
 
 pub record Waked (s s′ : List ℕ) (log waiters sets pairs : ℕ) (slots : List Slot) (n r : ℕ) : Type 0 where
   pub ok : LogOk s′ log waiters sets pairs (quieted (entry-places s n) slots)
   pub number : r ≡ length (hits (entry-places s n) 0 slots)
-  pub places : listed s′ 40464 r ≡ hits (entry-places s n) 0 slots
+  pub places : listed s′ woken-part r ≡ hits (entry-places s n) 0 slots
   pub few : r ≤ 192
-  pub kept : KeptWhere (λ k. Apart 40464 40656 k × NotLogged log waiters sets pairs (length slots) k) s s′
+  pub kept : KeptWhere (λ k. Apart woken-part followed-part k × NotLogged log waiters sets pairs (length slots) k) s s′
 
 -- Then they join the queue, and their places are emptied.
 pub record AddsWoken (s : List ℕ) (log waiters sets pairs : ℕ) (slots : List Slot) (zs : List ℕ) (n queue size front active : ℕ) : Type 0 where
   pub ok : LogOk s log waiters sets pairs (quieted zs slots)
   pub number : n ≡ length (hits zs 0 slots)
-  pub places : listed s 40464 n ≡ hits zs 0 slots
+  pub places : listed s woken-part n ≡ hits zs 0 slots
   pub few : n ≤ 192
-  pub behind : 40704 ≤ waiters
+  pub behind : compounds-region ≤ waiters
   pub ring-ok : RingOk s queue size front
   pub space : active + n ≤ size
   pub queue-behind : sets + pairs ≤ queue

@@ -1,21 +1,25 @@
 // A clause's terms renamed apart: its pairs come next, and its compounds are copied one behind the other.
 use term::scratch::argument;
 use term::scratch::count;
+use term::word::COMPOUND;
+use term::word::READER;
+use term::word::TAGS;
 use term::word::View;
+use term::word::WRITER;
 use term::word::look;
 ghost use mathlib.Core.Path.{_≡_};
 ghost use Prim.Native.Nat.{ℕ, _+_, _*_, _/_, _%_, _≤_, _<_};
 ghost use lib.ListN.{length, getD, set};
 ghost use Rattle.meaning.specs.Terms.{Term, compound, Functor, Terms};
-ghost use Rattle.term.specs.Words.{view};
+ghost use Rattle.term.specs.Words.{view, compound-word, packed, tag-in, rest-in};
 ghost use Rattle.run_effects.specs.Build.{PairFits, moved-word, Item, Original, Aside, Laid, Copied};
 
 // The word of one half of a pair, or of a compound, by its tag and place.
 fn placed(tag: u64, place: usize) -> u64
     requires { ⌜ (tag < 8) × (place ≤ 1152921504606846976) ⌝ }
-    ensures { λ r. ⌜ r ≡ tag + 8 * place ⌝ }
+    ensures { λ r. ⌜ r ≡ packed tag place ⌝ }
 {
-    tag + 8 * (place as u64)
+    tag + TAGS * (place as u64)
 }
 
 // The first word of the compound at a place, copied.
@@ -37,12 +41,12 @@ fn put(s: &mut [u64], at: usize, w: u64)
 
 // The word of the copy of a term that is no compound.
 fn moved(pair: usize, h: u64) -> u64
-    requires { ⌜ PairFits pair (view (h % 8) (h / 8)) ⌝ }
-    ensures { λ r. ⌜ r ≡ moved-word pair h (view (h % 8) (h / 8)) ⌝ }
+    requires { ⌜ PairFits pair (view (tag-in h) (rest-in h)) ⌝ }
+    ensures { λ r. ⌜ r ≡ moved-word pair h (view (tag-in h) (rest-in h)) ⌝ }
 {
     match look(h) {
-        View::Writer(x) => placed(1, pair + x),
-        View::Reader(x) => placed(2, pair + x),
+        View::Writer(x) => placed(WRITER, pair + x),
+        View::Reader(x) => placed(READER, pair + x),
         _ => h,
     }
 }
@@ -64,19 +68,19 @@ pub fn copy(s: &mut [u64], pair: usize, at: usize, to: usize, h: u64) -> usize
 
 // A compound: its word, and then its arguments' copies.
 fn copy_compound(s: &mut [u64], pair: usize, at: usize, to: usize, p: usize) -> usize
-    requires { ⌜ ((x : Item) × (n : ℕ) × (f : Functor) × (ts : Terms) × Original (now s) x pair to (6 + 8 * p) (compound n f ts)
+    requires { ⌜ ((x : Item) × (n : ℕ) × (f : Functor) × (ts : Terms) × Original (now s) x pair to (compound-word p) (compound n f ts)
         × Aside (now s) at to (compound n f ts)) ⌝ }
-    ensures { λ r. ⌜ ((x : Item) (n : ℕ) (f : Functor) (ts : Terms) → Original (now (s .entry)) x pair to (6 + 8 * p) (compound n f ts)
+    ensures { λ r. ⌜ ((x : Item) (n : ℕ) (f : Functor) (ts : Terms) → Original (now (s .entry)) x pair to (compound-word p) (compound n f ts)
         → Aside (now (s .entry)) at to (compound n f ts) → Copied (now (s .entry)) (now (s .exit)) x pair at to (compound n f ts) r) ⌝ }
 {
-    put(s, at, placed(6, to));
+    put(s, at, placed(COMPOUND, to));
     copy_arguments(s, pair, to, p)
 }
 
 // A compound with its list of arguments.
 pub fn copy_arguments(s: &mut [u64], pair: usize, to: usize, p: usize) -> usize
-    requires { ⌜ ((x : Item) × (n : ℕ) × (f : Functor) × (ts : Terms) × Original (now s) x pair to (6 + 8 * p) (compound n f ts)) ⌝ }
-    ensures { λ r. ⌜ ((x : Item) (n : ℕ) (f : Functor) (ts : Terms) → Original (now (s .entry)) x pair to (6 + 8 * p) (compound n f ts)
+    requires { ⌜ ((x : Item) × (n : ℕ) × (f : Functor) × (ts : Terms) × Original (now s) x pair to (compound-word p) (compound n f ts)) ⌝ }
+    ensures { λ r. ⌜ ((x : Item) (n : ℕ) (f : Functor) (ts : Terms) → Original (now (s .entry)) x pair to (compound-word p) (compound n f ts)
         → Laid (now (s .entry)) (now (s .exit)) x pair to (compound n f ts) r) ⌝ }
 {
     let k = count(s, p);

@@ -4,9 +4,12 @@ use crate::build::copy_arguments;
 use run_queues::goals::leave;
 use run_queues::goals::push;
 use run_queues::goals::take;
+use term::layout::GIFTS;
 use term::layout::TRIAL;
+use term::layout::WOKEN;
 use term::scratch::set_at;
 use term::scratch::word_at;
+use term::word::TAGS;
 use term::word::index;
 use term::word::word;
 ghost use mathlib.Core.Path.{_≡_};
@@ -15,17 +18,16 @@ ghost use Prim.Native.Nat.{ℕ, _+_, _*_, _/_, _≤_, _<_};
 ghost use lib.ListN.{length};
 ghost use Rattle.meaning.specs.Terms.{Named};
 ghost use Rattle.term.specs.Cells.{Places};
+ghost use Rattle.term.specs.Layout.{compounds-region};
+ghost use Rattle.term.specs.Words.{packed};
 ghost use Rattle.run_compare.specs.Gifts.{Entry};
 ghost use Rattle.run_effects.specs.Build.{Item};
 ghost use Rattle.run_queues.specs.Log.{Slot};
 ghost use Rattle.run_effects.specs.Reducing.{HeadAssigned, Assigning, GoalAssigned, Adding, Added, Wakes, Waked, AddsWoken, WokenAdded, Inserts, Inserted};
 
-// Where the places of the woken goals in the log stand, in the trial's region behind the waiting readers.
-pub const WOKEN: usize = 40464;
-
 // X := what the head's writers were given, the clause's pairs lying from a pair on.
 pub fn assign_head(s: &mut [u64], values: usize, pair: usize, pairs: usize)
-    requires { ⌜ (pairs ≤ 16) × (40704 ≤ values) × (values + pair + pairs ≤ length (now s)) ⌝ }
+    requires { ⌜ (pairs ≤ 16) × (compounds-region ≤ values) × (values + pair + pairs ≤ length (now s)) ⌝ }
     ensures { λ r. ⌜ HeadAssigned (now (s .entry)) (now (s .exit)) values pair pairs ⌝ }
 {
     let mut x = 0;
@@ -45,8 +47,8 @@ pub fn assign_goal(s: &mut [u64], values: usize, pair: usize, to: usize, n: usiz
     let mut free = to;
     let mut i = 0;
     while i < n {
-        let z = index(word_at(s, TRIAL + 16, 2 * i));
-        let h = word_at(s, TRIAL + 17, 2 * i);
+        let z = index(word_at(s, GIFTS, 2 * i));
+        let h = word_at(s, GIFTS + 1, 2 * i);
         free = copy(s, pair, values + z, free, h);
         i += 1;
     }
@@ -79,7 +81,7 @@ pub fn wake(s: &mut [u64], log: usize, waiters: usize, sets: usize, n: usize) ->
     let mut woken = 0;
     let mut i = 0;
     while i < n {
-        let z = index(word_at(s, TRIAL + 16, 2 * i));
+        let z = index(word_at(s, GIFTS, 2 * i));
         let waiter = index(word_at(s, waiters, z));
         if waiter != 0 {
             leave(s, log, waiters, sets, waiter - 1);
@@ -94,9 +96,9 @@ pub fn wake(s: &mut [u64], log: usize, waiters: usize, sets: usize, n: usize) ->
 // The word of a goal of a query, by its compound's place.
 fn goal_of(place: usize, query: usize) -> u64
     requires { ⌜ (place ≤ 1152921504606846976) × (query < 8) ⌝ }
-    ensures { λ r. ⌜ r ≡ query + 8 * place ⌝ }
+    ensures { λ r. ⌜ r ≡ packed query place ⌝ }
 {
-    8 * word(place) + word(query)
+    TAGS * word(place) + word(query)
 }
 
 // Goals of an item, whose words stand from a place on, are copied and join the queue in order. The place behind the copies.
@@ -121,7 +123,7 @@ pub fn add_goals(
     while i < n {
         let h = word_at(s, from, i);
         push(s, queue, size, front, active + i, goal_of(free, query));
-        free = copy_arguments(s, pair, free, index(h / 8));
+        free = copy_arguments(s, pair, free, index(h / TAGS));
         i += 1;
     }
     free

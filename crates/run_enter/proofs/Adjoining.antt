@@ -12,8 +12,8 @@ use Rattle.laws.proofs.Lists.EachOf.{Each}
 use Rattle.laws.proofs.Trial.Values.{value-replicate}
 use Rattle.term.specs.Cells.{Places, Known}
 use Rattle.term.specs.Holds.{Holds}
-use Rattle.term.specs.Jobs.{query-record, EachFrom, GoalsKnown}
-use Rattle.term.specs.Layout.{values-region}
+use Rattle.term.specs.Jobs.{EachFrom, GoalsKnown}
+use Rattle.term.specs.Layout.{values-region, compounds-region, query-first-pair-word, query-tries-word}
 use Rattle.term.specs.Setting.{Within, Ranged, OfUnit, UnitStands}
 use Rattle.term.specs.States.{Atlas, setting, setting-at, goal-word, Lies, UnitsStand, FirstPair, GoalStands, AllStand}
 use Rattle.term.proofs.Jobs.{each-map}
@@ -22,6 +22,7 @@ use Rattle.run_effects.specs.Build.{Copies}
 use Rattle.run_effects.specs.Reducing.{GoalsWithin}
 use Rattle.run_between.proofs.Enlarging.{CopiedTo, replaced-there, replaced-elsewhere}
 use Rattle.term.proofs.Units.{unit-term-alike}
+use Rattle.term.specs.Words.{packed}
 use Rattle.run_between.proofs.Frames.{unit-stands-kept}
 use Rattle.run_queues.proofs.Log.{by-place}
 use Rattle.run_enter.proofs.Starting.{units-number, unit-older, unit-newest}
@@ -39,13 +40,13 @@ pub record Adjoins (s s′ : List ℕ) (names : List Bytes) (figures : Room) (at
   pub inside : values-region figures + figures .pairs ≤ length s′
   pub size : length s′ ≡ length s
   pub copied : CopiedTo y cells cells′ (C + x .compounds)
-  pub older : (k : ℕ) → 40704 ≤ k → k < cells → getD s′ k 0 ≡ getD s k 0
+  pub older : (k : ℕ) → compounds-region ≤ k → k < cells → getD s′ k 0 ≡ getD s k 0
   pub values : (k : ℕ) → values-region figures ≤ k → k < values-region figures + figures .pairs → getD s′ k 0 ≡ getD s k 0
   pub zero : (k : ℕ) → values-region figures ≤ k → k < values-region figures + figures .pairs → getD s k 0 ≡ 0
-  pub records : (k : ℕ) → k < length done → getD s′ (query-record k + 3) 0 ≡ getD s (query-record k + 3) 0
-  pub first : getD s′ (query-record (length done) + 3) 0 ≡ P
-  pub tries : (k : ℕ) → k < 8 → getD s′ (query-record k + 4) 0 ≡ getD s (query-record k + 4) 0
-  pub untried : getD s (query-record (length done) + 4) 0 ≡ 0
+  pub records : (k : ℕ) → k < length done → getD s′ (query-first-pair-word k) 0 ≡ getD s (query-first-pair-word k) 0
+  pub first : getD s′ (query-first-pair-word (length done)) 0 ≡ P
+  pub tries : (k : ℕ) → k < 8 → getD s′ (query-tries-word k) 0 ≡ getD s (query-tries-word k) 0
+  pub untried : getD s (query-tries-word (length done)) 0 ≡ 0
 
 each-append : {A : Type 0} (Q : ℕ → A → Type 0) (k : ℕ) (l m : List A) → EachFrom Q k l → EachFrom Q (k + length l) m → EachFrom Q k (l ++ m)
 unfolding EachFrom
@@ -150,7 +151,7 @@ module _ (s s′ : List ℕ) (names : List Bytes) (figures : Room) (atlas : Atla
   apart k l n m (newer-pair h b e) (older-pair i d f) same = absurd (omega (arith, r .lies .pair-below l m (omega (arith, as-many)) d))
   apart k l n m (newer-pair h b e) (newer-pair i d f) same = (h ∙ sym i, omega arith)
 
-  behind-first : (k n : ℕ) → CompoundAt k n → 40704 ≤ atlas′ k .compound n
+  behind-first : (k n : ℕ) → CompoundAt k n → compounds-region ≤ atlas′ k .compound n
   behind-first k n (older-compound h b e f) = omega (arith, r .lies .compound-behind k n (omega (arith, as-many)) b)
   behind-first k n (newer-compound e f) = omega (arith, r .copied .behind, r .copied .at n .0)
 
@@ -202,7 +203,7 @@ module _ (s s′ : List ℕ) (names : List Bytes) (figures : Room) (atlas : Atla
       never : (t : Term) → _≡_ {A = Option Term} none (some t) → OfUnit (setting figures (next-places names P y) (first-unit x)) t
       never t e = let z : _≡_ {A = ℕ} 0 1 = cc in absurd (omega arith)
 
-  tries-now : UnitsStand s figures atlas units → (k : ℕ) → k < length units′ → getD s′ (query-record k + 4) 0 ≡ unit-at k units′ .tries
+  tries-now : UnitsStand s figures atlas units → (k : ℕ) → k < length units′ → getD s′ (query-tries-word k) 0 ≡ unit-at k units′ .tries
   unfolding first-unit
   tries-now u k h =
       by-place k q
@@ -298,6 +299,6 @@ module _ (s s′ : List ℕ) (names : List Bytes) (figures : Room) (atlas : Atla
       let there : atlas′ q .compound (g .number) ≡ y .at (0 + g .number) =
       ap (λ (z : Places). z .compound (g .number)) (replaced-there atlas q (next-places names P y)) ∙ ap (y .at) (sym plain)
       in
-      let first : q + 8 * atlas′ q .compound (g .number) ≡ q + 8 * y .at (0 + g .number) = ap (λ w. q + 8 * w) there in
+      let first : packed q (atlas′ q .compound (g .number)) ≡ packed q (y .at (0 + g .number)) = ap (λ w. q + 8 * w) there in
       let later = words-newer gs in
       cc

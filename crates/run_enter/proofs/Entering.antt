@@ -14,8 +14,8 @@ use Rattle.laws.proofs.Reading.{accepted-keeps-the-figures}
 use Rattle.laws.proofs.Reading.Figures.{QueryFits}
 use Rattle.term.specs.Cells.{Places}
 use Rattle.term.specs.Holds.{Holds}
-use Rattle.term.specs.Jobs.{query-record, query-base, places-from, HoldsQuery, JobKept}
-use Rattle.term.specs.Layout.{values-region, queue-region}
+use Rattle.term.specs.Jobs.{places-from, HoldsQuery, JobKept}
+use Rattle.term.specs.Layout.{values-region, queue-region, queries-region, query-record, query-base, query-first-pair-word}
 use Rattle.term.specs.Setting.{Ranged}
 use Rattle.term.specs.States.{Atlas, goal-word, ring, listed, logged, AllStand, QueueStands, WaitingStand, FailedStand, HoldsState}
 use Rattle.term.specs.declared.state.Standing.{Standing}
@@ -175,7 +175,7 @@ module _ (s : List ℕ) (text : Bytes) (names : List Bytes) (j : Job) (figures :
       }
 
   module _ (n : ℕ) (number : n ≡ length (x .goals)) where
-    pub adding : Adding s item (4608 + 64 * length done + 8) n (t .pairs) (t .cells) (length done)
+    pub adding : Adding s item (queries-region + 64 * length done + 8) n (t .pairs) (t .cells) (length done)
         (queue-region figures) (figures .goals) 0 (t .active) (x .goals)
     adding =
         record {
@@ -198,21 +198,21 @@ module _ (s : List ℕ) (text : Bytes) (names : List Bytes) (j : Job) (figures :
 
     module _ (s₁ : List ℕ) (r : ℕ)
         (added : Added s s₁ item n (t .pairs) (t .cells) (length done) (queue-region figures) (figures .goals) 0 (t .active) (x .goals) r)
-        (s′ : List ℕ) (set-is : s′ ≡ set s₁ (4608 + 64 * length done + 3) (t .pairs)) where
+        (s′ : List ℕ) (set-is : s′ ≡ set s₁ (queries-region + 64 * length done + 3) (t .pairs)) where
       size : length s′ ≡ length s
-      size = ap length set-is ∙ length-set s₁ (query-record q + 3) P ∙ added .kept .size
+      size = ap length set-is ∙ length-set s₁ (query-first-pair-word q) P ∙ added .kept .size
 
-      set-same : (k : ℕ) → (k ≡ query-record q + 3 → ⊥) → getD s′ k 0 ≡ getD s₁ k 0
-      set-same k other = ap (λ l. getD l k 0) set-is ∙ getD-set-other s₁ (query-record q + 3) k P 0 other
+      set-same : (k : ℕ) → (k ≡ query-first-pair-word q → ⊥) → getD s′ k 0 ≡ getD s₁ k 0
+      set-same k other = ap (λ l. getD l k 0) set-is ∙ getD-set-other s₁ (query-first-pair-word q) k P 0 other
 
       same : (k : ℕ) → Apart cells cells′ k → Apart (queue-region figures) (queue-region figures + figures .goals) k
-          → (k ≡ query-record q + 3 → ⊥) → getD s′ k 0 ≡ getD s k 0
+          → (k ≡ query-first-pair-word q → ⊥) → getD s′ k 0 ≡ getD s k 0
       same k a b other = set-same k other ∙ added .kept .same k (a, b)
 
-      first : getD s′ (query-record (length done) + 3) 0 ≡ t .pairs
+      first : getD s′ (query-first-pair-word (length done)) 0 ≡ t .pairs
       first =
-          ap (λ l. getD l (query-record q + 3) 0) set-is
-          ∙ getD-set-same s₁ (query-record q + 3) P 0 (omega (arith, added .kept .size, e .inside, few))
+          ap (λ l. getD l (query-first-pair-word q) 0) set-is
+          ∙ getD-set-same s₁ (query-first-pair-word q) P 0 (omega (arith, added .kept .size, e .inside, few))
 
       -- A word of a record but where its own pairs begin.
       record-word : (k i : ℕ) → k < 8 → i < 64 → i ≢ 3 → getD s′ (query-record k + i) 0 ≡ getD s (query-record k + i) 0
@@ -244,7 +244,7 @@ module _ (s : List ℕ) (text : Bytes) (names : List Bytes) (j : Job) (figures :
             older = λ k h l. same k (inl l) (inl (omega (arith, before-values))) (λ f. omega (arith, f, few));
             values = λ k h l. only .pairs k h (omega arith);
             zero = λ k h l. e .room-zero k h (omega arith);
-            records = λ k h. same (query-record k + 3) (inl (omega (arith, few, e .cells))) (inl (omega (arith, few))) (λ f. omega (arith, f));
+            records = λ k h. same (query-first-pair-word k) (inl (omega (arith, few, e .cells))) (inl (omega (arith, few))) (λ f. omega (arith, f));
             first = first;
             tries = λ k h. record-word k 4 h (omega arith) (λ f. omega (arith, f));
             untried = e .tries-zero q few;

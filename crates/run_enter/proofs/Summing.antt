@@ -11,7 +11,8 @@ use Rattle.meaning.specs.Bytes.{Bytes}
 use Rattle.meaning.specs.Terms.{Query, Job}
 use Rattle.meaning.specs.State.{Room, query-pairs, query-compounds, goals-at, all-goals, start, number-of}
 use Rattle.meaning.specs.Run.{within, queries-fit}
-use Rattle.term.specs.Jobs.{query-record, EachFrom, HoldsQuery, HoldsJob}
+use Rattle.term.specs.Jobs.{EachFrom, HoldsQuery, HoldsJob}
+use Rattle.term.specs.Layout.{query-record, query-pairs-word, query-compounds-word}
 use Rattle.run_enter.specs.Entering.{record-sum}
 
 -- From query k on.
@@ -66,14 +67,14 @@ module _ (s : List ℕ) (names : List Bytes) where
 
   -- A query's counts are small.
   small-from : (k : ℕ) (qs : List Query) → EachFrom (HoldsQuery s names) k qs → (q : ℕ) → k ≤ q → q < k + length qs
-      → (getD s (query-record q) 0 ≤ 32) × (getD s (query-record q + 1) 0 ≤ 32) × (getD s (query-record q + 2) 0 ≤ 32)
+      → (getD s (query-record q) 0 ≤ 32) × (getD s (query-pairs-word q) 0 ≤ 32) × (getD s (query-compounds-word q) 0 ≤ 32)
   unfolding EachFrom
   small-from k [] h q l m = absurd (omega arith)
   small-from k (x ∷ qs) h q l m = go (leb q k) refl (λ below. small-from (k + 1) qs (h .1) q (omega arith) (omega arith))
     where
       go : (b : Bool) → leb q k ≡ b
-          → (k < q → (getD s (query-record q) 0 ≤ 32) × (getD s (query-record q + 1) 0 ≤ 32) × (getD s (query-record q + 2) 0 ≤ 32))
-          → (getD s (query-record q) 0 ≤ 32) × (getD s (query-record q + 1) 0 ≤ 32) × (getD s (query-record q + 2) 0 ≤ 32)
+          → (k < q → (getD s (query-record q) 0 ≤ 32) × (getD s (query-pairs-word q) 0 ≤ 32) × (getD s (query-compounds-word q) 0 ≤ 32))
+          → (getD s (query-record q) 0 ≤ 32) × (getD s (query-pairs-word q) 0 ≤ 32) × (getD s (query-compounds-word q) 0 ≤ 32)
       go true e further =
           let same : q ≡ k = omega (arith, leb-true q k e) in
           rw same (omega (arith, h .0 .goals, h .0 .laid .few-goals), omega (arith, h .0 .pairs, h .0 .laid .few-pairs), omega (arith, h .0 .compounds, h .0 .laid .few-compounds))
@@ -90,7 +91,7 @@ module _ (s : List ℕ) (names : List Bytes) (j : Job) (h : HoldsJob s names j) 
   sum-goals = sum-is s 0 (length (j .queries)) ∙ goals-from s names 0 0 (j .queries) (h .queries)
 
   pub small-counts : (q : ℕ) → q < length (j .queries)
-      → (getD s (query-record q) 0 ≤ 32) × (getD s (query-record q + 1) 0 ≤ 32) × (getD s (query-record q + 2) 0 ≤ 32)
+      → (getD s (query-record q) 0 ≤ 32) × (getD s (query-pairs-word q) 0 ≤ 32) × (getD s (query-compounds-word q) 0 ≤ 32)
   small-counts q l = small-from s names 0 (j .queries) (h .queries) q (omega arith) (omega arith)
 
 -- The test, figure by figure.

@@ -10,8 +10,8 @@ use Rattle.meaning.specs.Terms.{Query, Job}
 use Rattle.meaning.specs.Items.{job, reading}
 use Rattle.meaning.specs.State.{Room, start}
 use Rattle.meaning.specs.Run.{queries-fit}
-use Rattle.term.specs.Jobs.{query-record, HoldsJob}
-use Rattle.term.specs.Layout.{values-region, waiters-region, marks-region, queue-region, need-of, InRange}
+use Rattle.term.specs.Jobs.{HoldsJob}
+use Rattle.term.specs.Layout.{values-region, waiters-region, marks-region, queue-region, need-of, InRange, queries-region, items-region, compounds-region, query-record, query-tries-word}
 use Rattle.term.specs.States.{Atlas, HoldsState}
 use Rattle.term.specs.declared.state.Standing.{Standing}
 
@@ -23,9 +23,9 @@ record-sum s at (suc n) = record-sum s at n + getD s (query-record n + at) 0
 -- What entering may change: of the queries' records where their own pairs begin, and what the room has, but for waiters, sets, marks and ends.
 pub record EnterOnly (figures : Room) (s s′ : List ℕ) : Type 0 where
   pub size : length s′ ≡ length s
-  pub before : (k : ℕ) → k < 4608 → getD s′ k 0 ≡ getD s k 0
+  pub before : (k : ℕ) → k < queries-region → getD s′ k 0 ≡ getD s k 0
   pub records : (q i : ℕ) → q < 8 → i < 64 → i ≢ 3 → getD s′ (query-record q + i) 0 ≡ getD s (query-record q + i) 0
-  pub items : (k : ℕ) → 5120 ≤ k → k < 40704 → getD s′ k 0 ≡ getD s k 0
+  pub items : (k : ℕ) → items-region ≤ k → k < compounds-region → getD s′ k 0 ≡ getD s k 0
   pub pairs : (k : ℕ) → values-region figures ≤ k → k < queue-region figures → getD s′ k 0 ≡ getD s k 0
   pub behind : (k : ℕ) → need-of figures ≤ k → getD s′ k 0 ≡ getD s k 0
 
@@ -37,8 +37,8 @@ pub record Entered (s : List ℕ) (text : Bytes) (names : List Bytes) (j : Job) 
   pub fit : queries-fit figures (j .queries) ≡ true
   pub held : HoldsJob s names j
   pub state : HoldsState s names figures done atlas (start done) t
-  pub cells : 40704 ≤ t .cells
+  pub cells : compounds-region ≤ t .cells
   pub front : t .front ≡ 0
   pub log : t .log ≡ 0
   pub room-zero : (k : ℕ) → values-region figures ≤ k → k < queue-region figures → getD s k 0 ≡ 0
-  pub tries-zero : (q : ℕ) → q < 8 → getD s (query-record q + 4) 0 ≡ 0
+  pub tries-zero : (q : ℕ) → q < 8 → getD s (query-tries-word q) 0 ≡ 0

@@ -3,6 +3,12 @@ use run_effects::reduce::add_goals;
 use term::layout;
 use term::layout::COMPOUNDS;
 use term::layout::QUERIES;
+use term::layout::QUERY_BODY;
+use term::layout::QUERY_COMPOUNDS;
+use term::layout::QUERY_FIRST_PAIR;
+use term::layout::QUERY_GOALS;
+use term::layout::QUERY_PAIRS;
+use term::layout::QUERY_STRIDE;
 use term::layout::Room;
 use term::scratch::set_at;
 use term::scratch::word_at;
@@ -16,21 +22,21 @@ ghost use Prim.Native.Nat.{ℕ, _+_, _≤_, _<_};
 ghost use lib.ListN.{length, getD};
 ghost use Rattle.meaning.specs.Bytes.{Bytes};
 ghost use Rattle.meaning.specs.Terms.{Job, Query};
-ghost use Rattle.term.specs.Layout.{figures};
+ghost use Rattle.term.specs.Layout.{figures, items-region, query-record};
 ghost use Rattle.term.specs.States.{Ready, Atlas};
 ghost use Rattle.meaning.specs.Run.{queries-fit};
-ghost use Rattle.term.specs.Jobs.{query-record, HoldsJob};
+ghost use Rattle.term.specs.Jobs.{HoldsJob};
 ghost use Rattle.run_enter.specs.Entering.{record-sum, EnterOnly, Entered};
 
 // The queries' words at a place of their records, added up: 0 their goals, 1 their pairs, 2 their compounds.
 fn sum(s: &[u64], queries: usize, at: usize) -> usize
-    requires { ⌜ (queries ≤ 8) × (at < 64) × (5120 ≤ length (now s)) × ((q : ℕ) → q < queries → getD (now s) (query-record q + at) 0 ≤ 32) ⌝ }
+    requires { ⌜ (queries ≤ 8) × (at < 64) × (items-region ≤ length (now s)) × ((q : ℕ) → q < queries → getD (now s) (query-record q + at) 0 ≤ 32) ⌝ }
     ensures { λ r. ⌜ r ≡ record-sum (now (s .entry)) at queries ⌝ }
 {
     let mut all = 0;
     let mut q = 0;
     while q < queries {
-        all += index(word_at(s, QUERIES + 64 * q, at));
+        all += index(word_at(s, QUERIES + QUERY_STRIDE * q, at));
         q += 1;
     }
     all
@@ -60,12 +66,12 @@ fn enter(s: &mut [u64], room: Room, q: usize, t: Standing) -> Standing
         → EnterOnly (figures room) (now (s .entry)) (now (s .exit))
         × ((atlas′ : Atlas) × Entered (now (s .exit)) text names j (figures room) (done ++ x ∷ []) atlas′ r)) ⌝ }
 {
-    let goals = index(word_at(s, QUERIES + 64 * q, 0));
-    let pairs = index(word_at(s, QUERIES + 64 * q, 1));
-    let compounds = index(word_at(s, QUERIES + 64 * q, 2));
+    let goals = index(word_at(s, QUERIES + QUERY_STRIDE * q, QUERY_GOALS));
+    let pairs = index(word_at(s, QUERIES + QUERY_STRIDE * q, QUERY_PAIRS));
+    let compounds = index(word_at(s, QUERIES + QUERY_STRIDE * q, QUERY_COMPOUNDS));
     let cells = add_goals(
         s,
-        QUERIES + 64 * q + 8,
+        QUERIES + QUERY_STRIDE * q + QUERY_BODY,
         goals,
         t.pairs,
         t.cells,
@@ -75,7 +81,12 @@ fn enter(s: &mut [u64], room: Room, q: usize, t: Standing) -> Standing
         0,
         t.active,
     );
-    set_at(s, QUERIES + 64 * q, 3, word(t.pairs));
+    set_at(
+        s,
+        QUERIES + QUERY_STRIDE * q,
+        QUERY_FIRST_PAIR,
+        word(t.pairs),
+    );
     Standing {
         pairs: t.pairs + pairs,
         compounds: t.compounds + compounds,

@@ -13,8 +13,7 @@ use Rattle.meaning.specs.Trial.{reduces}
 use Rattle.meaning.specs.Step.{without-front}
 use Rattle.meaning.specs.Run.{within, fits, run}
 use Rattle.term.specs.Cells.{Places}
-use Rattle.term.specs.Jobs.{query-record}
-use Rattle.term.specs.Layout.{values-region, waiters-region, sets-region, queue-region, waiting-region}
+use Rattle.term.specs.Layout.{values-region, waiters-region, sets-region, queue-region, waiting-region, clauses-region, items-region, compounds-region, query-tries-word}
 use Rattle.term.specs.States.{Atlas}
 use Rattle.term.specs.declared.state.Standing.{Standing}
 use Rattle.run_between.specs.declared.stepped.Stepped.the-variants.{Next, NoRoom}
@@ -141,7 +140,7 @@ module _ {s : List ℕ} {text : Bytes} {names : List Bytes} {j : Job} {figures :
     (red : Reducing s names j figures limit atlas g query k n c given)
     (fit : fits figures (reduces c given) (run j limit figures .state) (without-front others (run j limit figures .state .goals)) ≡ true) where
   pub asks-1 : {values pairs : ℕ} → values ≡ values-region figures → pairs ≡ c .pairs
-      → (pairs ≤ 16) × (40704 ≤ values) × (values + t .pairs + pairs ≤ length s)
+      → (pairs ≤ 16) × (compounds-region ≤ values) × (values + t .pairs + pairs ≤ length s)
   asks-1 a b = (
     omega (arith, red .at .held .laid .few-pairs),
     omega arith,
@@ -173,7 +172,7 @@ module _ {s : List ℕ} {text : Bytes} {names : List Bytes} {j : Job} {figures :
             module _ {front active body queue₁ : ℕ} (passed : Passed (figures .goals) (t .front) front) (e₈ : active ≡ t .active - 1) (e₉ : body ≡ length (c .body))
                 (d₁ : queue₁ ≡ queue-region figures) where
               pub asks-4 : (x : Item) × (goals : List Named)
-                  × Adding s₃ x (2560 + 16 * k + 4) body (t .pairs) r₂ query queue₁ (figures .goals) front active goals
+                  × Adding s₃ x (clauses-region + 16 * k + 4) body (t .pairs) r₂ query queue₁ (figures .goals) front active goals
               asks-4 = (
                 clause-item (atlas (g .query) .names) k c,
                 c .body,
@@ -181,7 +180,7 @@ module _ {s : List ℕ} {text : Bytes} {names : List Bytes} {j : Job} {figures :
               )
 
               module _ {s₄ : List ℕ} {r₄ : ℕ} (raw₄ : (x : Item) (goals : List Named)
-                  → Adding s₃ x (2560 + 16 * k + 4) body (t .pairs) r₂ query queue₁ (figures .goals) front active goals
+                  → Adding s₃ x (clauses-region + 16 * k + 4) body (t .pairs) r₂ query queue₁ (figures .goals) front active goals
                   → Added s₃ s₄ x body (t .pairs) r₂ query queue₁ (figures .goals) front active goals r₄) where
                 h₄ : Added s₃ s₄ (clause-item (atlas (g .query) .names) k c) body (t .pairs) (t .cells + total (entry-terms (red .gave .gave .list)))
                     (g .query) (queue-region figures) (figures .goals) front (t .active - 1) (c .body) r₄
@@ -207,7 +206,7 @@ module _ {s : List ℕ} {text : Bytes} {names : List Bytes} {j : Job} {figures :
                     size-5 : length s₅ ≡ length s
                     size-5 = parts.size-5 taken red fit s₁ h₁ s₂ r₂ h₂ s₃ r h₃ front body (passed .front-inside) e₉ s₄ r₄ h₄ s₅ h₅
 
-                    pub asks-6 : (query < 8) × (5120 ≤ length s₅) × (getD s₅ (query-record query + 4) 0 ≤ 1000000)
+                    pub asks-6 : (query < 8) × (items-region ≤ length s₅) × (getD s₅ (query-tries-word query) 0 ≤ 1000000)
                     asks-6 =
                         rw (red .query-is) (
                           parts.few-query taken red fit,
@@ -221,9 +220,9 @@ module _ {s : List ℕ} {text : Bytes} {names : List Bytes} {j : Job} {figures :
                       parts.few-woken taken red fit s₁ h₁ s₂ r₂ h₂ s₃ r h₃,
                     )
 
-                    module _ (s₆ : List ℕ) (raw₆ : s₆ ≡ set s₅ (query-record query + 4) (getD s₅ (query-record query + 4) 0 + 1)) where
+                    module _ (s₆ : List ℕ) (raw₆ : s₆ ≡ set s₅ (query-tries-word query) (getD s₅ (query-tries-word query) 0 + 1)) where
                       pub size-6 : length s₆ ≡ length s
-                      size-6 = ap length raw₆ ∙ length-set s₅ (query-record query + 4) (getD s₅ (query-record query + 4) 0 + 1) ∙ size-5
+                      size-6 = ap length raw₆ ∙ length-set s₅ (query-tries-word query) (getD s₅ (query-tries-word query) 0 + 1) ∙ size-5
 
                       pub ends : (u : Standing) → StandingAfter t u c r₄ front r → StepIs s s₆ text names j figures limit atlas g others t (Next u)
                       ends u after =

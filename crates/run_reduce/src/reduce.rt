@@ -9,6 +9,11 @@ use run_effects::reduce::assign_head;
 use run_effects::reduce::wake;
 use run_queues::goals::behind;
 use term::layout;
+use term::layout::CLAUSE_BODY;
+use term::layout::CLAUSE_COMPOUNDS;
+use term::layout::CLAUSE_GOALS;
+use term::layout::CLAUSE_PAIRS;
+use term::layout::CLAUSE_STRIDE;
 use term::layout::CLAUSES;
 use term::layout::Room;
 use term::scratch::word_at;
@@ -36,9 +41,9 @@ pub fn reduce(s: &mut [u64], room: Room, t: Standing, query: usize, k: usize, n:
         → Reducing (now (s .entry)) names j (figures room) limit atlas g query k n c given
         → StepIs (now (s .entry)) (now (s .exit)) text names j (figures room) limit atlas g others t r) ⌝ }
 {
-    let pairs = index(word_at(s, CLAUSES + 16 * k, 1));
-    let compounds = index(word_at(s, CLAUSES + 16 * k, 2));
-    let body = index(word_at(s, CLAUSES + 16 * k, 3));
+    let pairs = index(word_at(s, CLAUSES + CLAUSE_STRIDE * k, CLAUSE_PAIRS));
+    let compounds = index(word_at(s, CLAUSES + CLAUSE_STRIDE * k, CLAUSE_COMPOUNDS));
+    let body = index(word_at(s, CLAUSES + CLAUSE_STRIDE * k, CLAUSE_GOALS));
     if !fits(room, t, pairs, compounds, body) {
         return Stepped::NoRoom;
     }
@@ -55,7 +60,7 @@ pub fn reduce(s: &mut [u64], room: Room, t: Standing, query: usize, k: usize, n:
     );
     let cells = add_goals(
         s,
-        CLAUSES + 16 * k + 4,
+        CLAUSES + CLAUSE_STRIDE * k + CLAUSE_BODY,
         body,
         t.pairs,
         free,

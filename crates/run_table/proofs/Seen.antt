@@ -6,7 +6,7 @@ use native.Mathlib.Omega.{arith}
 use denote.Enum.Declared.{tagOf}
 use types.Run.{OneOf, miss}
 use Rattle.meaning.specs.Terms.{Half, writer, reader, Constant, Term}
-use Rattle.term.specs.Words.{Content, view, view-of}
+use Rattle.term.specs.Words.{Content, view, view-of, tag-in, rest-in}
 use Rattle.term.specs.Cells.{Places, content, term-word}
 use Rattle.term.specs.declared.word.View.{View}
 use Rattle.term.proofs.word.View.{the-type}
@@ -15,7 +15,7 @@ use Rattle.term.proofs.Words.{view-word}
 
 -- What a look at a word says.
 abbrev pub seen : ℕ → View
-seen w = view (w % 8) (w / 8)
+seen w = view (tag-in w) (rest-in w)
 
 pub seen-term : (places : Places) (t : Term) (w : ℕ) → w ≡ term-word places t → seen w ≡ view-of (content places t)
 seen-term places t w e = rw e (view-word (content places t))

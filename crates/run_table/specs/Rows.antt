@@ -6,6 +6,7 @@ use mathlib.Core.List.{List}
 use lib.ListN.{set}
 use Rattle.term.specs.declared.word.View.{View}
 use Rattle.term.specs.declared.word.View.the-variants.{Nothing, Writer, Reader, Integer, Name, Empty, Compound}
+use Rattle.term.specs.Layout.{trial-region, gift-pair, gift-term}
 use Rattle.run_table.specs.declared.table.PlaceResult.{PlaceResult}
 use Rattle.run_table.specs.declared.table.PlaceResult.the-variants.{Agrees, Waits, Fails, Below}
 
@@ -70,10 +71,10 @@ row same (Compound p) v = compound-row p v
 
 -- What is given, written into the trial's region: a word of a head's writer; or the n-th entry, a goal's pair with the word of a head's term.
 abbrev pub head-written : ℕ → ℕ → List ℕ → List ℕ
-head-written n w s = set s (39936 + n) w
+head-written n w s = set s (trial-region + n) w
 
 abbrev pub goal-written : ℕ → ℕ → ℕ → List ℕ → List ℕ
-goal-written n z h s = set (set s (39952 + 2 * n) z) (39953 + 2 * n) h
+goal-written n z h s = set (set s (gift-pair n) z) (gift-term n) h
 
 -- What a row answers, n entries being made, and the scratch behind it.
 unfoldable pub answer : ℕ → Row → PlaceResult

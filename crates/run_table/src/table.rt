@@ -5,9 +5,11 @@ ghost use mathlib.Core.Bool.{not};
 ghost use Prim.Native.Nat.{ℕ, _+_, _*_, _/_, _%_, _≤_, _<_};
 ghost use lib.ListN.{length, getD};
 ghost use lib.Dec.{eqb};
-ghost use Rattle.term.specs.Words.{view};
+ghost use Rattle.term.specs.Words.{view, tag-in, rest-in};
 ghost use Rattle.term.specs.declared.word.View.the-variants.{Writer};
+ghost use Rattle.term.specs.Layout.{readers-part};
 ghost use Rattle.run_table.specs.Rows.{head-written, goal-written, Done, writer-row, reader-row, constant-row, compound-row, row};
+use term::layout::GIFTS;
 use term::layout::TRIAL;
 use term::word::View;
 use term::word::look;
@@ -24,18 +26,18 @@ pub enum PlaceResult {
 
 // Z := the head's term.
 fn give(s: &mut [u64], n: usize, z: usize, h: u64) -> usize
-    requires { ⌜ (40336 ≤ length (now s)) × (n < 192) ⌝ }
+    requires { ⌜ (readers-part ≤ length (now s)) × (n < 192) ⌝ }
     ensures { λ r. ⌜ (r ≡ n + 1) × (now (s .exit) ≡ goal-written n z h (now (s .entry))) ⌝ }
 {
     let v = word(z);
-    s[TRIAL + 16 + 2 * n] = v;
-    s[TRIAL + 17 + 2 * n] = h;
+    s[GIFTS + 2 * n] = v;
+    s[GIFTS + 1 + 2 * n] = h;
     n + 1
 }
 
 // X := the goal's term.
 fn take(s: &mut [u64], n: usize, x: usize, w: u64) -> usize
-    requires { ⌜ (40336 ≤ length (now s)) × (x < 16) ⌝ }
+    requires { ⌜ (readers-part ≤ length (now s)) × (x < 16) ⌝ }
     ensures { λ r. ⌜ (r ≡ n) × (now (s .exit) ≡ head-written x w (now (s .entry))) ⌝ }
 {
     s[TRIAL + x] = w;
@@ -44,8 +46,8 @@ fn take(s: &mut [u64], n: usize, x: usize, w: u64) -> usize
 
 // A head's writer against a goal's term: X := it, unless it is a writer.
 fn against_writer(s: &mut [u64], x: usize, h: u64, w: u64, n: usize) -> PlaceResult
-    requires { ⌜ (40336 ≤ length (now s)) × (x < 16) ⌝ }
-    ensures { λ r. ⌜ Done (now (s .entry)) (now (s .exit)) n h w (writer-row x (view (w % 8) (w / 8))) r ⌝ }
+    requires { ⌜ (readers-part ≤ length (now s)) × (x < 16) ⌝ }
+    ensures { λ r. ⌜ Done (now (s .entry)) (now (s .exit)) n h w (writer-row x (view (tag-in w) (rest-in w))) r ⌝ }
 {
     match look(w) {
         View::Writer(_) => PlaceResult::Fails,
@@ -55,8 +57,8 @@ fn against_writer(s: &mut [u64], x: usize, h: u64, w: u64, n: usize) -> PlaceRes
 
 // A head's reader: only a goal's writer agrees.
 fn against_reader(s: &mut [u64], h: u64, w: u64, n: usize) -> PlaceResult
-    requires { ⌜ (40336 ≤ length (now s)) × (n < 192) ⌝ }
-    ensures { λ r. ⌜ Done (now (s .entry)) (now (s .exit)) n h w (reader-row (view (w % 8) (w / 8))) r ⌝ }
+    requires { ⌜ (readers-part ≤ length (now s)) × (n < 192) ⌝ }
+    ensures { λ r. ⌜ Done (now (s .entry)) (now (s .exit)) n h w (reader-row (view (tag-in w) (rest-in w))) r ⌝ }
 {
     match look(w) {
         View::Writer(z) => PlaceResult::Agrees(give(s, n, z, h)),
@@ -66,8 +68,8 @@ fn against_reader(s: &mut [u64], h: u64, w: u64, n: usize) -> PlaceResult
 
 // A head's constant.
 fn against_constant(s: &mut [u64], h: u64, w: u64, n: usize) -> PlaceResult
-    requires { ⌜ (40336 ≤ length (now s)) × (n < 192) ⌝ }
-    ensures { λ r. ⌜ Done (now (s .entry)) (now (s .exit)) n h w (constant-row (eqb h w) (view (w % 8) (w / 8))) r ⌝ }
+    requires { ⌜ (readers-part ≤ length (now s)) × (n < 192) ⌝ }
+    ensures { λ r. ⌜ Done (now (s .entry)) (now (s .exit)) n h w (constant-row (eqb h w) (view (tag-in w) (rest-in w))) r ⌝ }
 {
     match look(w) {
         View::Writer(z) => PlaceResult::Agrees(give(s, n, z, h)),
@@ -83,8 +85,8 @@ fn against_constant(s: &mut [u64], h: u64, w: u64, n: usize) -> PlaceResult
 
 // A head's compound.
 fn against_compound(s: &mut [u64], p: usize, h: u64, w: u64, n: usize) -> PlaceResult
-    requires { ⌜ (40336 ≤ length (now s)) × (n < 192) ⌝ }
-    ensures { λ r. ⌜ Done (now (s .entry)) (now (s .exit)) n h w (compound-row p (view (w % 8) (w / 8))) r ⌝ }
+    requires { ⌜ (readers-part ≤ length (now s)) × (n < 192) ⌝ }
+    ensures { λ r. ⌜ Done (now (s .entry)) (now (s .exit)) n h w (compound-row p (view (tag-in w) (rest-in w))) r ⌝ }
 {
     match look(w) {
         View::Writer(z) => PlaceResult::Agrees(give(s, n, z, h)),
@@ -96,8 +98,8 @@ fn against_compound(s: &mut [u64], p: usize, h: u64, w: u64, n: usize) -> PlaceR
 
 // One place of the table.
 pub fn table(s: &mut [u64], h: u64, w: u64, n: usize) -> PlaceResult
-    requires { ⌜ (40336 ≤ length (now s)) × (n < 192) × ((x : ℕ) → view (h % 8) (h / 8) ≡ Writer x → x < 16) ⌝ }
-    ensures { λ r. ⌜ Done (now (s .entry)) (now (s .exit)) n h w (row (eqb h w) (view (h % 8) (h / 8)) (view (w % 8) (w / 8))) r ⌝ }
+    requires { ⌜ (readers-part ≤ length (now s)) × (n < 192) × ((x : ℕ) → view (tag-in h) (rest-in h) ≡ Writer x → x < 16) ⌝ }
+    ensures { λ r. ⌜ Done (now (s .entry)) (now (s .exit)) n h w (row (eqb h w) (view (tag-in h) (rest-in h)) (view (tag-in w) (rest-in w))) r ⌝ }
 {
     match look(h) {
         View::Writer(x) => against_writer(s, x, h, w, n),

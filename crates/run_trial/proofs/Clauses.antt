@@ -19,10 +19,11 @@ use Rattle.meaning.specs.Trial.{reduces, joins-waiting, joins-failed, procedure
 use Rattle.laws.proofs.Lists.Filters.{length-those}
 use Rattle.term.specs.Cells.{Places, Known, KnownName, number-of}
 use Rattle.term.specs.Holds.{Holds}
-use Rattle.term.specs.Jobs.{clause-record, ClauseAt, Linked, procedure-place}
+use Rattle.term.specs.Jobs.{ClauseAt, Linked, procedure-place}
 use Rattle.term.specs.States.{listed}
 use Rattle.term.proofs.Held.{linked-none-left, linked-next}
 use Rattle.term.proofs.Numbers.{number-below}
+use Rattle.term.specs.Layout.{compounds-region, readers-part, woken-part, procedure-slot, clause-record}
 use Rattle.run_circle.specs.Ground.{NewGrounds}
 use Rattle.run_circle.proofs.Grounds.{new-none, new-then, new-same}
 use Rattle.run_trial.specs.declared.choice.TrialResult.{TrialResult}
@@ -81,16 +82,16 @@ listed-behind s from n v h =
 -- A trial that does not succeed: its reader is noted behind the others, or it fails.
 abbrev pub Noted : List ℕ → ℕ → TrialResult → List ℕ → ℕ → Type 0
 Noted s readers r s′ readers′ =
-    ((p : ℕ) × (r ≡ Waits p) × (s′ ≡ set s (40336 + readers) p) × (readers′ ≡ readers + 1))
+    ((p : ℕ) × (r ≡ Waits p) × (s′ ≡ set s (readers-part + readers) p) × (readers′ ≡ readers + 1))
     ⊎ ((r ≡ Fails) × (s′ ≡ s) × (readers′ ≡ readers))
 
 pub noted-length : (s : List ℕ) (readers : ℕ) (r : TrialResult) (s′ : List ℕ) (readers′ : ℕ) → Noted s readers r s′ readers′ → length s′ ≡ length s
-noted-length s readers r s′ readers′ (inl (p, e, is, more)) = ap length is ∙ length-set s (40336 + readers) p
+noted-length s readers r s′ readers′ (inl (p, e, is, more)) = ap length is ∙ length-set s (readers-part + readers) p
 noted-length s readers r s′ readers′ (inr (e, is, more)) = ap length is
 
-pub noted-at : {s′ s″ : List ℕ} {v p : ℕ} (s : List ℕ) (readers : ℕ) → s′ ≡ s″ → s″ ≡ set s (40336 + readers) v → v ≡ p
-    → s′ ≡ set s (40336 + readers) p
-noted-at s readers e f g = e ∙ f ∙ ap (λ w. set s (40336 + readers) w) g
+pub noted-at : {s′ s″ : List ℕ} {v p : ℕ} (s : List ℕ) (readers : ℕ) → s′ ≡ s″ → s″ ≡ set s (readers-part + readers) v → v ≡ p
+    → s′ ≡ set s (readers-part + readers) p
+noted-at s readers e f g = e ∙ f ∙ ap (λ w. set s (readers-part + readers) w) g
 
 pub neither : (r : TrialResult) → OneOf (1 ∷ 2 ∷ []) (tagOf the-type r) → OneOf (0 ∷ 2 ∷ []) (tagOf the-type r) → r ≡ Fails
 neither (Succeeds n) a b = absurd (miss (1 ∷ 2 ∷ []) 0 tt a)
@@ -104,11 +105,11 @@ pub record Walk (s₀ s : List ℕ) (names : List Bytes) (j : Job) (limit : ℕ)
   pub passed : List Clause
   pub rest : List Clause
   pub whole : procedure (j .clauses) (g .goal) ≡ passed ++ rest
-  pub only : TrialOnly 40464 marks (figures .pairs) s₀ s
+  pub only : TrialOnly woken-part marks (figures .pairs) s₀ s
   pub linked : Linked s (ClauseAt s names) next rest
   pub stamp-is : stamp ≡ first + 256 * length passed
   pub marks-now : MarksBelow s marks (figures .pairs) stamp
-  pub words : listed s 40336 readers ≡ map (λ p. at .pair p) waiting
+  pub words : listed s readers-part readers ≡ map (λ p. at .pair p) waiting
   pub below : AllBelow (length (unit-of j limit figures g .values)) waiting
   pub few : readers ≤ length passed
   pub same-choice : choice-from waiting rest (unit-of j limit figures g) (g .goal) ≡ choice (j .clauses) (unit-of j limit figures g) (g .goal)
@@ -138,7 +139,7 @@ module _ {s : List ℕ} {text : Bytes} {names : List Bytes} {j : Job} {limit : �
   unfolding Holds as-term
   goal-inside = omega (arith, t .goal-held .held .0 .inside, t .goal-place)
 
-  functor-is : 504 + getD s goal 0 ≡ procedure-place names (g .goal)
+  functor-is : procedure-slot (getD s goal 0) ≡ procedure-place names (g .goal)
   unfolding Holds as-term
   functor-is =
       let is : getD s goal 0 ≡ count (g .goal .arguments) + 8 * (number-of (g .goal .name) names + 1) =
@@ -146,12 +147,12 @@ module _ {s : List ℕ} {text : Bytes} {names : List Bytes} {j : Job} {limit : �
       ∙ ap (λ l. count (g .goal .arguments) + 8 * (number-of (g .goal .name) l + 1)) (t .names-are) in
       omega arith
 
-  pub procedure-inside : 504 + getD s goal 0 < length s
+  pub procedure-inside : procedure-slot (getD s goal 0) < length s
   procedure-inside =
       omega (arith, functor-is, few-arguments, number-below (g .goal .name) names known, t .held .few-names, t .held .inside)
 
   -- Before the first clause.
-  pub walk-first : (first next : ℕ) → MarksBelow s marks (figures .pairs) first → next ≡ getD s (504 + getD s goal 0) 0
+  pub walk-first : (first next : ℕ) → MarksBelow s marks (figures .pairs) first → next ≡ getD s (procedure-slot (getD s goal 0)) 0
       → Walk s s names j limit figures at g marks first 0 first next
   unfolding choice listed
   walk-first first next new e = record {
@@ -159,7 +160,7 @@ module _ {s : List ℕ} {text : Bytes} {names : List Bytes} {j : Job} {limit : �
     passed = [];
     rest = procedure (j .clauses) (g .goal);
     whole = refl;
-    only = trial-only-same 40464 marks (figures .pairs) s;
+    only = trial-only-same woken-part marks (figures .pairs) s;
     linked =
         subst (λ w. Linked s (ClauseAt s names) w (procedure (j .clauses) (g .goal))) (sym (e ∙ ap (λ p. getD s p 0) functor-is))
         (t .held .procedures (g .goal) known few-arguments);
@@ -183,8 +184,8 @@ module _ {s₀ s : List ℕ} {text : Bytes} {names : List Bytes} {j : Job} {limi
       let test : Clause → Bool = λ d. same (d .head .name) (g .goal .name) && eqb (count (d .head .arguments)) (count (g .goal .arguments)) in
       omega (arith, length-those test (j .clauses), ap length (w .whole), length-append (w .passed) (w .rest), t .held .few-clauses)
 
-  walked : TrialOnly 40704 marks (figures .pairs) s₀ s
-  walked = trial-only-wider 40704 (omega arith) (w .only)
+  walked : TrialOnly compounds-region marks (figures .pairs) s₀ s
+  walked = trial-only-wider compounds-region (omega arith) (w .only)
 
   pub walk-trying : Trying s text names j limit figures at g others values marks links goal
   walk-trying = trying-stays walked (w .grounds) t
@@ -215,12 +216,12 @@ module _ {s₀ s : List ℕ} {text : Bytes} {names : List Bytes} {j : Job} {limi
     pub turn-stamp : stamp + 256 ≤ first + 32768
     turn-stamp = omega (arith, turn-few, w .stamp-is)
 
-    behind : 40704 ≤ marks
+    behind : compounds-region ≤ marks
     behind = omega (arith, t .values-behind, t .marks-behind)
 
     module _ {s₃ : List ℕ} {r : TrialResult} (told : TrialIs s s₃ j limit figures at g marks stamp (next - 1) (turn .0) r) where
-      tried-frame : TrialOnly 40464 marks (figures .pairs) s₀ s₃
-      tried-frame = trial-only-then (w .only) (trial-only-wider 40464 (omega arith) (told .only))
+      tried-frame : TrialOnly woken-part marks (figures .pairs) s₀ s₃
+      tried-frame = trial-only-then (w .only) (trial-only-wider woken-part (omega arith) (told .only))
 
       grounds-tried : NewGrounds at (unit-of j limit figures g .values) marks s₀ s₃
       grounds-tried = new-then at (unit-of j limit figures g .values) marks s₀ s s₃ (w .grounds) (told .grounds)
@@ -241,13 +242,13 @@ module _ {s₀ s : List ℕ} {text : Bytes} {names : List Bytes} {j : Job} {limi
           go : TrialIs s s₃ j limit figures at g marks stamp (next - 1) (turn .0) (Succeeds n)
               → ChoiceIs s₀ s₃ names j limit figures at g marks first (Reduces (next - 1) n)
           go is = record {
-            only = trial-only-wider 40704 (omega arith) tried-frame;
+            only = trial-only-wider compounds-region (omega arith) tried-frame;
             marks-now = marks-tried;
             told = (
               turn .0,
               is .told .0,
               taken (is .told .0) (is .told .1),
-              clause-stays marks (figures .pairs) s s₃ (trial-only-wider 40704 (omega arith) (told .only)) behind names (next - 1) (turn .0) (turn .3),
+              clause-stays marks (figures .pairs) s s₃ (trial-only-wider compounds-region (omega arith) (told .only)) behind names (next - 1) (turn .0) (turn .3),
               is .told .2,
             );
             grounds = grounds-tried;
@@ -267,16 +268,16 @@ module _ {s₀ s : List ℕ} {text : Bytes} {names : List Bytes} {j : Job} {limi
       whole-more : procedure (j .clauses) (g .goal) ≡ (w .passed ++ (turn .0 ∷ [])) ++ turn .1
       whole-more = w .whole ∙ ap (λ l. w .passed ++ l) (turn .2) ∙ sym (append-assoc (w .passed) (turn .0 ∷ []) (turn .1))
 
-      linked-more : (s′ : List ℕ) → TrialOnly 40704 marks (figures .pairs) s s′
+      linked-more : (s′ : List ℕ) → TrialOnly compounds-region marks (figures .pairs) s s′
           → Linked s′ (ClauseAt s′ names) (getD s′ (clause-record (next - 1)) 0) (turn .1)
       linked-more s′ o =
           subst (λ v. Linked s′ (ClauseAt s′ names) v (turn .1))
           (sym (low-stays marks (figures .pairs) s s′ o behind (clause-record (next - 1)) (omega (arith, turn .3 .number))))
           (linked-stays marks (figures .pairs) s s′ o behind names (getD s (clause-record (next - 1)) 0) (turn .1) (turn .4))
 
-      tried-words : listed s₃ 40336 readers ≡ map (λ p. at .pair p) (w .waiting)
+      tried-words : listed s₃ readers-part readers ≡ map (λ p. at .pair p) (w .waiting)
       tried-words =
-          listed-stays s s₃ 40336 readers
+          listed-stays s s₃ readers-part readers
           (λ k a b. told .only .same k (inr a) (inl (omega (arith, w .few, turn-few, behind)))) ∙ w .words
 
       pub turn-fails : r ≡ Fails → Walk s₀ s₃ names j limit figures at g marks first readers (stamp + 256) (getD s₃ (clause-record (next - 1)) 0)
@@ -288,7 +289,7 @@ module _ {s₀ s : List ℕ} {text : Bytes} {names : List Bytes} {j : Job} {limi
             rest = turn .1;
             whole = whole-more;
             only = tried-frame;
-            linked = linked-more s₃ (trial-only-wider 40704 (omega arith) (told .only));
+            linked = linked-more s₃ (trial-only-wider compounds-region (omega arith) (told .only));
             stamp-is = omega (arith, w .stamp-is, one-more);
             marks-now = told .marks-now;
             words = tried-words;
@@ -300,15 +301,15 @@ module _ {s₀ s : List ℕ} {text : Bytes} {names : List Bytes} {j : Job} {limi
           }
 
       pub turn-waits : (p : ℕ) → r ≡ Waits p
-          → Walk s₀ (set s₃ (40336 + readers) p) names j limit figures at g marks first (readers + 1) (stamp + 256)
-          (getD (set s₃ (40336 + readers) p) (clause-record (next - 1)) 0)
+          → Walk s₀ (set s₃ (readers-part + readers) p) names j limit figures at g marks first (readers + 1) (stamp + 256)
+          (getD (set s₃ (readers-part + readers) p) (clause-record (next - 1)) 0)
       unfolding waits-on
       turn-waits p e =
           let is : TrialIs s s₃ j limit figures at g marks stamp (next - 1) (turn .0) (Waits p) = rw e at told in
-          let v = 40336 + readers in
+          let v = readers-part + readers in
           let low : readers < 128 = omega (arith, w .few, turn-few) in
-          let write : TrialOnly 40464 marks (figures .pairs) s₃ (set s₃ v p)
-          = trial-only-set 40464 marks (figures .pairs) v p s₃ (omega arith) (omega arith) in
+          let write : TrialOnly woken-part marks (figures .pairs) s₃ (set s₃ v p)
+          = trial-only-set woken-part marks (figures .pairs) v p s₃ (omega arith) (omega arith) in
           let pair = is .told .0 in
           record {
             waiting = w .waiting ++ (pair ∷ []);
@@ -317,11 +318,11 @@ module _ {s₀ s : List ℕ} {text : Bytes} {names : List Bytes} {j : Job} {limi
             whole = whole-more;
             only = trial-only-then tried-frame write;
             linked = linked-more (set s₃ v p)
-                (trial-only-then (trial-only-wider 40704 (omega arith) (told .only)) (trial-only-wider 40704 (omega arith) write));
+                (trial-only-then (trial-only-wider compounds-region (omega arith) (told .only)) (trial-only-wider compounds-region (omega arith) write));
             stamp-is = omega (arith, w .stamp-is, one-more);
             marks-now = λ k a b. rw (getD-set-other s₃ v k p 0 (λ q. omega (arith, behind))) (told .marks-now k a b);
             words =
-                listed-behind s₃ 40336 readers p (omega (arith, t .inside, behind, w .only .size, told .only .size))
+                listed-behind s₃ readers-part readers p (omega (arith, t .inside, behind, w .only .size, told .only .size))
                 ∙ rw (tried-words, is .told .3) (sym (map-append (λ q. at .pair q) (w .waiting) (pair ∷ [])));
             below = below-behind (length (unit-of j limit figures g .values)) (w .waiting) pair (w .below) (is .told .2);
             few = omega (arith, w .few, one-more);
@@ -352,7 +353,7 @@ module _ {s₀ s : List ℕ} {text : Bytes} {names : List Bytes} {j : Job} {limi
     marks-passed k a b = omega (arith, w .marks-now k a b, w .stamp-is, few-clauses)
 
     as-many : length (w .waiting) ≡ readers
-    as-many = sym (length-map (w .waiting) (λ p. at .pair p)) ∙ sym (ap length (w .words)) ∙ length-listed s 40336 readers
+    as-many = sym (length-map (w .waiting) (λ p. at .pair p)) ∙ sym (ap length (w .words)) ∙ length-listed s readers-part readers
 
     pub all-fail : readers ≡ 0 → ChoiceIs s₀ s names j limit figures at g marks first FailsAll
     unfolding none-succeeds
@@ -379,7 +380,7 @@ module _ {s₀ s : List ℕ} {text : Bytes} {names : List Bytes} {j : Job} {limi
 
 -- The numbers of a turn.
 pub record Turning (s₀ s : List ℕ) (first readers stamp next : ℕ) : Type 0 where
-  pub large : 40704 ≤ length s
+  pub large : compounds-region ≤ length s
   pub size : length s ≡ length s₀
   pub few-readers : readers < 128
   pub number : next - 1 < 128

@@ -10,6 +10,7 @@ use Rattle.term.specs.Frames.{Only}
 use Rattle.term.specs.Setting.{Setting}
 use Rattle.term.specs.States.{setting}
 use Rattle.term.proofs.Frames.{only-wider}
+use Rattle.term.specs.Layout.{trial-region, compounds-region, followed-from, followed-end}
 use Rattle.run_circle.specs.Ground.{NewGrounds}
 use Rattle.run_circle.proofs.Grounds.{new-then}
 use Rattle.run_chains.specs.Follow.{Follows, ArgumentsFollowed}
@@ -43,11 +44,11 @@ module _ {s : List ℕ} {text : Bytes} {names : List Bytes} {j : Job} {limit : �
     pub arguments-stand : ArgumentsStand s₀ j limit figures at g links
     arguments-stand = followed .stand
 
-    region : Only 39936 40704 s s₀
-    region = only-wider 40657 40663 39936 40704 s s₀ (omega arith) (omega arith) (followed .only)
+    region : Only trial-region compounds-region s s₀
+    region = only-wider followed-from followed-end trial-region compounds-region s s₀ (omega arith) (omega arith) (followed .only)
 
-    frame : TrialOnly 40704 marks (figures .pairs) s s₀
-    frame = trial-only-region 40704 marks (figures .pairs) (omega arith) region
+    frame : TrialOnly compounds-region marks (figures .pairs) s s₀
+    frame = trial-only-region compounds-region marks (figures .pairs) (omega arith) region
 
     same-grounds : NewGrounds at (unit-of j limit figures g .values) marks s s₀
     same-grounds = grounds-stay at (unit-of j limit figures g .values) marks (omega (arith, t .values-behind, t .marks-behind)) region

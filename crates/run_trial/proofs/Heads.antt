@@ -27,6 +27,7 @@ use Rattle.term.specs.Setting.{Within, AllWithin, Ranged, AllRanged, RangedCons
 use Rattle.term.specs.States.{setting}
 use Rattle.term.proofs.Held.{head-first}
 use Rattle.term.proofs.Jobs.{goals-numbered-order}
+use Rattle.term.specs.Layout.{clause-head}
 use Rattle.run_compare.specs.Compare.{HeadAgainst, TrialStands, places-outcome}
 use Rattle.run_trial.specs.Choosing.{unit-of, Trying, ArgumentsStand, Candidate, template}
 use Rattle.run_compare.proofs.Given.{compared-outcome}
@@ -118,7 +119,7 @@ module _ {s : List ℕ} {text : Bytes} {names : List Bytes} {j : Job} {limit : �
 
   pub against : ArgumentsStand s j limit figures at g links
       → HeadAgainst s (setting figures at (unit-of j limit figures g)) (template k c) values links
-      (c .head .number) (named (c .head .name)) (c .head .arguments) 1 head-end (g .goal .arguments) (5120 + 256 * k)
+      (c .head .number) (named (c .head .name)) (c .head .arguments) 1 head-end (g .goal .arguments) (clause-head k)
   unfolding GoalsNumbered GoalsKnown Numbered Known Holds as-term head-end
   against stand =
       let laid = clause-held .held .laid in

@@ -18,6 +18,7 @@ use Rattle.laws.proofs.Trial.Values.{value-assigned-other, value-set-same}
 use Rattle.term.specs.Cells.{Places, term-word}
 use Rattle.term.specs.Setting.{Setting, UnitTerm}
 use Rattle.term.proofs.Cells.{numbered-order}
+use Rattle.term.specs.Layout.{gift-pair, gift-term}
 use Rattle.run_compare.specs.Gifts.{Gift, to-head, to-goal, assignments, Entry, entries-of, EntriesAt}
 use Rattle.run_compare.specs.Compare.{Template, HeadTerm, AllGiven, AllEntries}
 
@@ -108,30 +109,30 @@ module _ (p c : ℕ) where
   -- What is given to the unit's pairs is an entry.
   pub to-unit : (s : List ℕ) (item unit : Places) (gs : List Gift) (n : ℕ) (a : Assignment) → EntriesAt s item unit n (entries-of gs)
       → In a (assignments p c gs) → a .pair < p
-      → (i : ℕ) × (i < n + length (entries-of gs)) × (unit .pair (a .pair) ≡ getD s (39952 + 2 * i) 0)
+      → (i : ℕ) × (i < n + length (entries-of gs)) × (unit .pair (a .pair) ≡ getD s (gift-pair i) 0)
   unfolding entries-of EntriesAt assignments
   to-unit s item unit [] n a k m h = absurd (in-none m)
   to-unit s item unit (to-head b u ∷ gs) n a k m h = go (in-cons-cases m) (to-unit s item unit gs n a k)
     where
       go : (a ≡ record { pair = p + b; value = u }) ⊎ In a (assignments p c gs)
           → (In a (assignments p c gs) → a .pair < p
-          → (i : ℕ) × (i < n + length (entries-of gs)) × (unit .pair (a .pair) ≡ getD s (39952 + 2 * i) 0))
-          → (i : ℕ) × (i < n + length (entries-of gs)) × (unit .pair (a .pair) ≡ getD s (39952 + 2 * i) 0)
+          → (i : ℕ) × (i < n + length (entries-of gs)) × (unit .pair (a .pair) ≡ getD s (gift-pair i) 0))
+          → (i : ℕ) × (i < n + length (entries-of gs)) × (unit .pair (a .pair) ≡ getD s (gift-pair i) 0)
       go (inl e) further = absurd (omega (arith, ap (λ (d : Assignment). d .pair) e))
       go (inr q) further = further q h
   to-unit s item unit (to-goal z t ∷ gs) n a k m h = go (in-cons-cases m) (to-unit s item unit gs (n + 1) a (k .2))
     where
       go : (a ≡ record { pair = z; value = renamed p c t }) ⊎ In a (assignments p c gs)
           → (In a (assignments p c gs) → a .pair < p
-          → (i : ℕ) × (i < n + 1 + length (entries-of gs)) × (unit .pair (a .pair) ≡ getD s (39952 + 2 * i) 0))
-          → (i : ℕ) × (i < n + length (entries-of (to-goal z t ∷ gs))) × (unit .pair (a .pair) ≡ getD s (39952 + 2 * i) 0)
+          → (i : ℕ) × (i < n + 1 + length (entries-of gs)) × (unit .pair (a .pair) ≡ getD s (gift-pair i) 0))
+          → (i : ℕ) × (i < n + length (entries-of (to-goal z t ∷ gs))) × (unit .pair (a .pair) ≡ getD s (gift-pair i) 0)
       go (inl e) further = (n, omega arith, ap (λ (d : Assignment). unit .pair (d .pair)) e ∙ sym (k .0))
       go (inr q) further = let r = further q h in (r .0, omega (arith, r .1), r .2)
 
 -- The i-th entry: its words, and what is held of it.
 pub entry-words : (s : List ℕ) (item unit : Places) (n : ℕ) (es : List Entry) (i : ℕ) → i < length es → EntriesAt s item unit n es
-    → (getD s (39952 + 2 * (n + i)) 0 ≡ unit .pair (getD es i no-entry .pair))
-    × (getD s (39953 + 2 * (n + i)) 0 ≡ term-word item (getD es i no-entry .term))
+    → (getD s (gift-pair (n + i)) 0 ≡ unit .pair (getD es i no-entry .pair))
+    × (getD s (gift-term (n + i)) 0 ≡ term-word item (getD es i no-entry .term))
 unfolding EntriesAt
 entry-words s item unit n [] i h k = absurd (omega arith)
 entry-words s item unit n (e ∷ es) zero h k = let is : n + 0 ≡ n = omega arith in rw is (k .0, k .1)

@@ -13,12 +13,13 @@ use Rattle.term.specs.Cells.{Places}
 use Rattle.term.specs.Chains.{end-place, EndsStand}
 use Rattle.term.specs.Frames.{Only}
 use Rattle.term.specs.Holds.{Holds}
-use Rattle.term.specs.Jobs.{clause-record, query-record, ClauseAt, Linked, JobKept}
+use Rattle.term.specs.Jobs.{ClauseAt, Linked, JobKept}
 use Rattle.term.specs.Setting.{Setting, Within, UnitTerm, UnitStands}
 use Rattle.term.specs.States.{setting, listed}
 use Rattle.term.proofs.Holds.{holds-alike}
 use Rattle.term.proofs.Jobs.{holds-clause-kept, holds-job-kept, linked-map}
 use Rattle.term.proofs.Units.{within-every, unit-stands-alike, ends-stand-alike}
+use Rattle.term.specs.Layout.{trial-region, compounds-region, gifts-part, gift-pair, gift-term, woken-part, clause-record, query-record}
 use Rattle.run_circle.specs.Ground.{NewGrounds}
 use Rattle.run_circle.proofs.Grounds.{new-same, grounds-on}
 use Rattle.run_compare.specs.Gifts.{Gift, to-head, to-goal, Entry, EntriesAt}
@@ -34,17 +35,17 @@ pub trial-only-then : {top marks pairs : ℕ} {s t u : List ℕ} → TrialOnly t
     → TrialOnly top marks pairs s u
 trial-only-then f g = record { size = g .size ∙ f .size; same = λ k a b. g .same k a b ∙ f .same k a b }
 
-above : (low high k : ℕ) → low ≤ high → (k < 39936) ⊎ (high ≤ k) → (k < 39936) ⊎ (low ≤ k)
+above : (low high k : ℕ) → low ≤ high → (k < trial-region) ⊎ (high ≤ k) → (k < trial-region) ⊎ (low ≤ k)
 above low high k h (inl a) = inl a
 above low high k h (inr a) = inr (omega arith)
 
 pub trial-only-wider : {top marks pairs : ℕ} {s t : List ℕ} (top′ : ℕ) → top ≤ top′ → TrialOnly top marks pairs s t → TrialOnly top′ marks pairs s t
 trial-only-wider {top} top′ h f = record { size = f .size; same = λ k a b. f .same k (above top top′ k h a) b }
 
-pub trial-only-region : {hi : ℕ} {s t : List ℕ} (top marks pairs : ℕ) → hi ≤ top → Only 39936 hi s t → TrialOnly top marks pairs s t
+pub trial-only-region : {hi : ℕ} {s t : List ℕ} (top marks pairs : ℕ) → hi ≤ top → Only trial-region hi s t → TrialOnly top marks pairs s t
 trial-only-region {hi} {s} {t} top marks pairs h f = record { size = f .size; same = λ k a b. go k a }
   where
-    go : (k : ℕ) → (k < 39936) ⊎ (top ≤ k) → getD t k 0 ≡ getD s k 0
+    go : (k : ℕ) → (k < trial-region) ⊎ (top ≤ k) → getD t k 0 ≡ getD s k 0
     go k (inl a) = f .below k a
     go k (inr a) = f .above k (omega arith)
 
@@ -55,22 +56,22 @@ trial-only-marks {marks} {pairs} {s} {t} top f = record { size = f .size; same =
     go k (inl a) = f .below k a
     go k (inr a) = f .above k a
 
-pub trial-only-set : (top marks pairs i v : ℕ) (s : List ℕ) → 39936 ≤ i → i < top → TrialOnly top marks pairs s (set s i v)
+pub trial-only-set : (top marks pairs i v : ℕ) (s : List ℕ) → trial-region ≤ i → i < top → TrialOnly top marks pairs s (set s i v)
 trial-only-set top marks pairs i v s l h = record { size = length-set s i v; same = λ k a b. go k a }
   where
-    go : (k : ℕ) → (k < 39936) ⊎ (top ≤ k) → getD (set s i v) k 0 ≡ getD s k 0
+    go : (k : ℕ) → (k < trial-region) ⊎ (top ≤ k) → getD (set s i v) k 0 ≡ getD s k 0
     go k (inl a) = getD-set-other s i k v 0 (λ e. omega arith)
     go k (inr a) = getD-set-other s i k v 0 (λ e. omega arith)
 
 -- A compound's own words are below the trial's region, or behind it and before the marks.
 abbrev pub Apart : ℕ → Places → ℕ → Type 0
-Apart marks at n = (at .compound n + at .width n ≤ 39936) ⊎ ((40704 ≤ at .compound n) × (at .compound n + at .width n ≤ marks))
+Apart marks at n = (at .compound n + at .width n ≤ trial-region) ⊎ ((compounds-region ≤ at .compound n) × (at .compound n + at .width n ≤ marks))
 
-module _ (marks pairs : ℕ) (s s′ : List ℕ) (o : TrialOnly 40704 marks pairs s s′) (behind : 40704 ≤ marks) where
-  pub low-stays : (k : ℕ) → k < 39936 → getD s′ k 0 ≡ getD s k 0
+module _ (marks pairs : ℕ) (s s′ : List ℕ) (o : TrialOnly compounds-region marks pairs s s′) (behind : compounds-region ≤ marks) where
+  pub low-stays : (k : ℕ) → k < trial-region → getD s′ k 0 ≡ getD s k 0
   low-stays k h = o .same k (inl h) (inl (omega arith))
 
-  pub high-stays : (k : ℕ) → 40704 ≤ k → k < marks → getD s′ k 0 ≡ getD s k 0
+  pub high-stays : (k : ℕ) → compounds-region ≤ k → k < marks → getD s′ k 0 ≡ getD s k 0
   high-stays k a b = o .same k (inr a) (inl b)
 
   place-stays : (at : Places) (n k : ℕ) → Apart marks at n → at .compound n ≤ k → k < at .compound n + at .width n → getD s′ k 0 ≡ getD s k 0
@@ -93,7 +94,7 @@ module _ (marks pairs : ℕ) (s s′ : List ℕ) (o : TrialOnly 40704 marks pair
     words-stay : (n : ℕ) → n < x .compounds → (k : ℕ) → x .places .compound n ≤ k → k < x .places .compound n + x .places .width n → getD s′ k 0 ≡ getD s k 0
     words-stay n l k = place-stays (x .places) n k (apart n l)
 
-    pub unit-stays : (from : ℕ) → 40704 ≤ from → from + x .pairs ≤ marks → UnitStands s x from → UnitStands s′ x from
+    pub unit-stays : (from : ℕ) → compounds-region ≤ from → from + x .pairs ≤ marks → UnitStands s x from → UnitStands s′ x from
     unit-stays from a b u =
         unit-stands-alike s s′ x (omega (arith, o .size)) words-stay from (λ k l h. high-stays k (omega arith) (omega arith)) u
 
@@ -163,13 +164,13 @@ compounds-apart t n h = inr (t .compound-behind n h, omega (arith, t .compound-b
 -- All that a trial leans on.
 pub trying-stays : {s s′ : List ℕ} {text : Bytes} {names : List Bytes} {j : Job} {limit : ℕ} {figures : Room} {at : Places}
     {g : Goal} {others : List Goal} {values marks links goal : ℕ}
-    → TrialOnly 40704 marks (figures .pairs) s s′
+    → TrialOnly compounds-region marks (figures .pairs) s s′
     → NewGrounds at (unit-of j limit figures g .values) marks s s′
     → Trying s text names j limit figures at g others values marks links goal
     → Trying s′ text names j limit figures at g others values marks links goal
 trying-stays {s} {s′} {names = names} {j} {limit} {figures} {at} {g} {values = values} {marks} o new t =
     let x = setting figures at (unit-of j limit figures g) in
-    let behind : 40704 ≤ marks = omega (arith, t .values-behind, t .marks-behind) in
+    let behind : compounds-region ≤ marks = omega (arith, t .values-behind, t .marks-behind) in
     record {
       reads = t .reads;
       front = t .front;
@@ -196,33 +197,33 @@ trying-stays {s} {s′} {names = names} {j} {limit} {figures} {at} {g} {values =
 pub arguments-stay : {s s′ : List ℕ} {text : Bytes} {names : List Bytes} {j : Job} {limit : ℕ} {figures : Room} {at : Places}
     {g : Goal} {others : List Goal} {values marks links goal : ℕ}
     → Trying s text names j limit figures at g others values marks links goal
-    → TrialOnly 40464 marks (figures .pairs) s s′
+    → TrialOnly woken-part marks (figures .pairs) s s′
     → ArgumentsStand s j limit figures at g links → ArgumentsStand s′ j limit figures at g links
 unfolding Holds as-term
 arguments-stay {s} {s′} {j = j} {limit} {figures} {at} {g} {marks = marks} {links} t o =
-    let behind : 40704 ≤ marks = omega (arith, t .values-behind, t .marks-behind) in
+    let behind : compounds-region ≤ marks = omega (arith, t .values-behind, t .marks-behind) in
     followed-alike s s′ (setting figures at (unit-of j limit figures g)) (omega (arith, o .size))
-    (words-stay marks (figures .pairs) s s′ (trial-only-wider 40704 (omega arith) o) behind (setting figures at (unit-of j limit figures g)) (compounds-apart t))
+    (words-stay marks (figures .pairs) s s′ (trial-only-wider compounds-region (omega arith) o) behind (setting figures at (unit-of j limit figures g)) (compounds-apart t))
     links 0 (g .goal .arguments) (λ k l h. o .same k (inr (omega arith)) (inl (omega (arith, t .goal-held .held .0 .few))))
 
 -- The marks, where only the trial's region has changed.
-pub grounds-stay : {hi : ℕ} {s s′ : List ℕ} (places : Places) (values : Values) (marks : ℕ) → hi ≤ marks → Only 39936 hi s s′
+pub grounds-stay : {hi : ℕ} {s s′ : List ℕ} (places : Places) (values : Values) (marks : ℕ) → hi ≤ marks → Only trial-region hi s s′
     → NewGrounds places values marks s s′
 grounds-stay {s = s} {s′} places values marks h o = new-same places values marks s s′ (λ p. o .above (marks + p) (omega arith))
 
-pub marks-stay : {hi : ℕ} {s s′ : List ℕ} (marks pairs stamp : ℕ) → hi ≤ marks → Only 39936 hi s s′
+pub marks-stay : {hi : ℕ} {s s′ : List ℕ} (marks pairs stamp : ℕ) → hi ≤ marks → Only trial-region hi s s′
     → MarksBelow s marks pairs stamp → MarksBelow s′ marks pairs stamp
 marks-stay marks pairs stamp h o m k a b = rw (o .above k (omega arith)) (m k a b)
 
 -- The entries, where the words from the first to the last stay.
 pub entries-stay : (s s′ : List ℕ) (item unit : Places) (n : ℕ) (es : List Entry)
-    → ((k : ℕ) → 39952 ≤ k → k < 39952 + 2 * (n + length es) → getD s′ k 0 ≡ getD s k 0)
+    → ((k : ℕ) → gifts-part ≤ k → k < gift-pair (n + length es) → getD s′ k 0 ≡ getD s k 0)
     → EntriesAt s item unit n es → EntriesAt s′ item unit n es
 unfolding EntriesAt
 entries-stay s s′ item unit n [] same k = tt
 entries-stay s s′ item unit n (e ∷ es) same k = (
-  same (39952 + 2 * n) (omega arith) (omega arith) ∙ k .0,
-  same (39953 + 2 * n) (omega arith) (omega arith) ∙ k .1,
+  same (gift-pair n) (omega arith) (omega arith) ∙ k .0,
+  same (gift-term n) (omega arith) (omega arith) ∙ k .1,
   entries-stay s s′ item unit (n + 1) es (λ m a b. same m a (omega arith)) (k .2),
 )
 

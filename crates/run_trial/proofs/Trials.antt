@@ -30,6 +30,7 @@ use Rattle.term.specs.Frames.{Only}
 use Rattle.term.specs.Jobs.{GoalsNumbered}
 use Rattle.term.specs.Setting.{Setting, UnitTerm}
 use Rattle.term.specs.States.{setting}
+use Rattle.term.specs.Layout.{trial-region, compounds-region, gifts-part, readers-part, woken-part, clause-head}
 use Rattle.run_compare.specs.declared.compare.CompareResult.{CompareResult}
 use Rattle.run_compare.specs.declared.compare.CompareResult.the-variants.{Agrees, Waits, Fails}
 use Rattle.run_trial.specs.declared.choice.TrialResult.the-variants.{Succeeds, Waits as WaitsOn, Fails as FailsAll}
@@ -63,11 +64,11 @@ use Rattle.run_trial.proofs.Staying.{
 module _ {s s₁ : List ℕ} {text : Bytes} {names : List Bytes} {j : Job} {limit : ℕ} {figures : Room} {at : Places} {g : Goal} {others : List Goal}
     {values marks links goal k : ℕ} {c : Clause}
     (t : Trying s text names j limit figures at g others values marks links goal) (f : ArgumentsStand s j limit figures at g links)
-    (m : Candidate s names j g k c) (begun : Only 39936 39952 s s₁) where
-  pub begun-frame : TrialOnly 40704 marks (figures .pairs) s s₁
-  begun-frame = trial-only-region 40704 marks (figures .pairs) (omega arith) begun
+    (m : Candidate s names j g k c) (begun : Only trial-region gifts-part s s₁) where
+  pub begun-frame : TrialOnly compounds-region marks (figures .pairs) s s₁
+  begun-frame = trial-only-region compounds-region marks (figures .pairs) (omega arith) begun
 
-  marks-high : 40336 ≤ marks
+  marks-high : readers-part ≤ marks
   marks-high = omega (arith, t .values-behind, t .marks-behind)
 
   begun-grounds : NewGrounds at (unit-of j limit figures g .values) marks s s₁
@@ -89,10 +90,10 @@ module _ {s s₁ : List ℕ} {text : Bytes} {names : List Bytes} {j : Job} {limi
   to = head-end begun-trying begun-candidate
 
   pub comparing : HeadAgainst s₁ (setting figures at (unit-of j limit figures g)) (template k c) values links
-      (c .head .number) (named (c .head .name)) (c .head .arguments) 1 to (g .goal .arguments) (5120 + 256 * k)
+      (c .head .number) (named (c .head .name)) (c .head .arguments) 1 to (g .goal .arguments) (clause-head k)
   comparing =
       against begun-trying begun-candidate
-      (arguments-stay t (trial-only-region 40464 marks (figures .pairs) (omega arith) begun) f)
+      (arguments-stay t (trial-only-region woken-part marks (figures .pairs) (omega arith) begun) f)
 
   -- What comparing tells.
   abbrev pub Comparison : List ℕ → CompareResult → Type 0
@@ -102,7 +103,7 @@ module _ {s s₁ : List ℕ} {text : Bytes} {names : List Bytes} {j : Job} {limi
 
   pub comparison : (s₂ : List ℕ) (r r′ : CompareResult)
       → ((x : Setting) (y : Template) (h : ℕ) (f : Functor) (us : Terms) (lo hi : ℕ) (ts : Terms)
-      → HeadAgainst s₁ x y values links h f us lo hi ts (5120 + 256 * k)
+      → HeadAgainst s₁ x y values links h f us lo hi ts (clause-head k)
       → Answers s₁ s₂ x y 0 lo hi (count us) (places-outcome x links us ts) r)
       → r ≡ r′ → Comparison s₂ r′
   comparison s₂ r r′ tells e =
@@ -111,12 +112,12 @@ module _ {s s₁ : List ℕ} {text : Bytes} {names : List Bytes} {j : Job} {limi
       (g .goal .arguments) comparing)
 
   -- The head's writers are given nothing before it.
-  pub cleared-all : ((a : ℕ) → a < 16 → getD s₁ (39936 + a) 0 ≡ 0) → (a : ℕ) → a < c .pairs → getD s₁ (39936 + a) 0 ≡ 0
+  pub cleared-all : ((a : ℕ) → a < 16 → getD s₁ (trial-region + a) 0 ≡ 0) → (a : ℕ) → a < c .pairs → getD s₁ (trial-region + a) 0 ≡ 0
   cleared-all cleared a h = cleared a (omega (arith, m .at .held .laid .few-pairs))
 
   -- Before the circle test, where all places agree.
   module _ {s₂ : List ℕ} {n stamp : ℕ} (new : MarksBelow s marks (figures .pairs) stamp) (fit : (1 < stamp) × (stamp + 256 < 2 ^ 64))
-      (cleared : (a : ℕ) → a < c .pairs → getD s₁ (39936 + a) 0 ≡ 0)
+      (cleared : (a : ℕ) → a < c .pairs → getD s₁ (trial-region + a) 0 ≡ 0)
       (told : Comparison s₂ (Agrees n)) where
     abbrev pub x : Setting
     x = setting figures at (unit-of j limit figures g)
@@ -142,7 +143,7 @@ module _ {s s₁ : List ℕ} {text : Bytes} {names : List Bytes} {j : Job} {limi
     pub few-entries : n ≤ 192
     few-entries = omega (arith, told .told .0, comparing .head .room)
 
-    large : 40336 ≤ length s₁
+    large : readers-part ≤ length s₁
     large = comparing .head .trial .large
 
     few : c .pairs ≤ 16
@@ -159,8 +160,8 @@ module _ {s s₁ : List ℕ} {text : Bytes} {names : List Bytes} {j : Job} {limi
     held : AllEntries s₁ x y 1 to list
     held = entries-held gifts s₁ x y 1 to (told .told .1 .given)
 
-    agreed-frame : TrialOnly 40704 marks (figures .pairs) s₁ s₂
-    agreed-frame = trial-only-region 40704 marks (figures .pairs) (omega arith) (told .only)
+    agreed-frame : TrialOnly compounds-region marks (figures .pairs) s₁ s₂
+    agreed-frame = trial-only-region compounds-region marks (figures .pairs) (omega arith) (told .only)
 
     agreed-grounds : NewGrounds at (unit-of j limit figures g .values) marks s₁ s₂
     agreed-grounds = grounds-stay at (unit-of j limit figures g .values) marks marks-high (told .only)
@@ -276,13 +277,13 @@ module _ {s s₁ : List ℕ} {text : Bytes} {names : List Bytes} {j : Job} {limi
 
     -- After the circle test.
     module _ {s₃ : List ℕ} {found : Bool} (answer : Tested s₂ s₃ tried-as marks n stamp found) where
-      tested-frame : TrialOnly 40336 marks (figures .pairs) s₂ s₃
-      tested-frame = trial-only-marks 40336 (answer .only)
+      tested-frame : TrialOnly readers-part marks (figures .pairs) s₂ s₃
+      tested-frame = trial-only-marks readers-part (answer .only)
 
-      whole-frame : TrialOnly 40336 marks (figures .pairs) s s₃
+      whole-frame : TrialOnly readers-part marks (figures .pairs) s s₃
       whole-frame =
-          trial-only-then (trial-only-region 40336 marks (figures .pairs) (omega arith) begun)
-          (trial-only-then (trial-only-region 40336 marks (figures .pairs) (omega arith) (told .only)) tested-frame)
+          trial-only-then (trial-only-region readers-part marks (figures .pairs) (omega arith) begun)
+          (trial-only-then (trial-only-region readers-part marks (figures .pairs) (omega arith) (told .only)) tested-frame)
 
       grounds-after : NewGrounds at (unit-of j limit figures g .values) marks s s₃
       grounds-after =
@@ -296,7 +297,7 @@ module _ {s s₁ : List ℕ} {text : Bytes} {names : List Bytes} {j : Job} {limi
       unfolding trial tested
       tested-is = rw (agrees, tested, answer .answer) refl
 
-      before-marks : (a : ℕ) → a < 40336 → getD s₃ a 0 ≡ getD s₂ a 0
+      before-marks : (a : ℕ) → a < readers-part → getD s₃ a 0 ≡ getD s₂ a 0
       before-marks a h = answer .only .below a (omega (arith, t .values-behind, t .marks-behind))
 
       pub circle-fails : found ≡ true → TrialIs s s₃ j limit figures at g marks stamp k c FailsAll
@@ -320,17 +321,17 @@ module _ {s s₁ : List ℕ} {text : Bytes} {names : List Bytes} {j : Job} {limi
                   size = all .size;
                   stand = entries-stay s₂ s₃ (item x y) at 0 (all .list) (λ a l h. before-marks a (omega (arith, all .size, few-entries))) (all .stand);
                   held = all-entries-stay marks (figures .pairs) s₁ s₃
-                      (trial-only-then agreed-frame (trial-only-wider 40704 (omega arith) tested-frame))
+                      (trial-only-then agreed-frame (trial-only-wider compounds-region (omega arith) tested-frame))
                       (omega (arith, t .values-behind, t .marks-behind)) x y (m .at .number) (m .at .held .laid .few-compounds) (all .low) (all .high) (all .list) (all .held);
                   unit-values = all .unit-values;
-                  clause-values = λ a h. before-marks (39936 + a) (omega (arith, few)) ∙ all .clause-values a h;
+                  clause-values = λ a h. before-marks (trial-region + a) (omega (arith, few)) ∙ all .clause-values a h;
                   gifts = all .gifts;
                   given-are = all .given-are;
                   low = all .low;
                   high = all .high;
                   list-is = all .list-is;
                   gifts-held = all-given-stay marks (figures .pairs) s₁ s₃
-                      (trial-only-then agreed-frame (trial-only-wider 40704 (omega arith) tested-frame))
+                      (trial-only-then agreed-frame (trial-only-wider compounds-region (omega arith) tested-frame))
                       (omega (arith, t .values-behind, t .marks-behind)) x y (m .at .number) (m .at .held .laid .few-compounds) (compounds-apart t)
                       (all .low) (all .high) (all .gifts) (all .gifts-held);
                   pairs-are = all .pairs-are;
@@ -343,10 +344,10 @@ module _ {s s₁ : List ℕ} {text : Bytes} {names : List Bytes} {j : Job} {limi
 
   -- Where a place waits or fails.
   module _ {s₂ : List ℕ} {stamp : ℕ} (new : MarksBelow s marks (figures .pairs) stamp) where
-    frame : (r : CompareResult) → Comparison s₂ r → TrialOnly 40336 marks (figures .pairs) s s₂
+    frame : (r : CompareResult) → Comparison s₂ r → TrialOnly readers-part marks (figures .pairs) s s₂
     frame r told =
-        trial-only-then (trial-only-region 40336 marks (figures .pairs) (omega arith) begun)
-        (trial-only-region 40336 marks (figures .pairs) (omega arith) (told .only))
+        trial-only-then (trial-only-region readers-part marks (figures .pairs) (omega arith) begun)
+        (trial-only-region readers-part marks (figures .pairs) (omega arith) (told .only))
 
     grounds-still : (r : CompareResult) → Comparison s₂ r → NewGrounds at (unit-of j limit figures g .values) marks s s₂
     grounds-still r told =

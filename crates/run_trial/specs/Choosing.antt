@@ -17,6 +17,7 @@ use Rattle.term.specs.Chains.{EndsStand}
 use Rattle.term.specs.Jobs.{GoalsNumbered, HoldsJob, ClauseAt}
 use Rattle.term.specs.Setting.{Setting, UnitTerm, UnitStands}
 use Rattle.term.specs.States.{setting, listed}
+use Rattle.term.specs.Layout.{trial-region, compounds-region, readers-part}
 use Rattle.run_chains.specs.Follow.{FollowedAt}
 use Rattle.run_compare.specs.Compare.{Template, Gave}
 use Rattle.run_circle.specs.Ground.{Grounds, NewGrounds}
@@ -41,9 +42,9 @@ pub record Trying (s : List ℕ) (text : Bytes) (names : List Bytes) (j : Job) (
   pub goal-place : goal ≡ places .compound (g .goal .number)
   pub apart : (n m : ℕ) → n < length (unit-of j limit figures g .values) → m < length (unit-of j limit figures g .values)
       → places .pair n ≡ places .pair m → n ≡ m
-  pub compound-behind : (n : ℕ) → n < unit-of j limit figures g .compounds → 40704 ≤ places .compound n
+  pub compound-behind : (n : ℕ) → n < unit-of j limit figures g .compounds → compounds-region ≤ places .compound n
   pub compound-before : (n : ℕ) → n < unit-of j limit figures g .compounds → places .compound n + places .width n ≤ values
-  pub values-behind : 40704 ≤ values
+  pub values-behind : compounds-region ≤ values
   pub marks-behind : values + figures .pairs ≤ marks
   pub inside : marks + figures .pairs ≤ length s
   pub enough : length (unit-of j limit figures g .values) ≤ links
@@ -64,7 +65,7 @@ MarksBelow s marks pairs stamp = (k : ℕ) → marks ≤ k → k < marks + pairs
 -- Only words of the trial's region below a top, and marks, differ.
 pub record TrialOnly (top marks pairs : ℕ) (s s′ : List ℕ) : Type 0 where
   pub size : length s′ ≡ length s
-  pub same : (k : ℕ) → (k < 39936) ⊎ (top ≤ k) → (k < marks) ⊎ (marks + pairs ≤ k) → getD s′ k 0 ≡ getD s k 0
+  pub same : (k : ℕ) → (k < trial-region) ⊎ (top ≤ k) → (k < marks) ⊎ (marks + pairs ≤ k) → getD s′ k 0 ≡ getD s k 0
 
 -- Clause k as comparing sees it.
 abbrev pub template : ℕ → Clause → Template
@@ -91,7 +92,7 @@ TrialTold s x k c o Fails = o ≡ fails
 
 -- The answer of a trial.
 pub record TrialIs (s s′ : List ℕ) (j : Job) (limit : ℕ) (figures : Room) (places : Places) (g : Goal) (marks stamp k : ℕ) (c : Clause) (r : TrialResult) : Type 0 where
-  pub only : TrialOnly 40336 marks (figures .pairs) s s′
+  pub only : TrialOnly readers-part marks (figures .pairs) s s′
   pub marks-now : MarksBelow s′ marks (figures .pairs) (stamp + 256)
   pub told : TrialTold s′ (setting figures places (unit-of j limit figures g)) k c (trial c (unit-of j limit figures g) (g .goal)) r
   pub grounds : NewGrounds places (unit-of j limit figures g .values) marks s s′
@@ -104,14 +105,14 @@ abbrev pub ChoiceTold : List ℕ → List Bytes → Setting → Choice → Choic
 ChoiceTold s names x o (Reduces k n) =
     (c : Clause) × (given : List Assignment) × (o ≡ reduces c given) × ClauseAt s names k c × Succeeded s x k c given n
 ChoiceTold s names x o (WaitsOn n) =
-    (readers : List ℕ) × (o ≡ joins-waiting readers) × (n ≤ 128) × (listed s 40336 n ≡ map (λ p. x .places .pair p) readers)
+    (readers : List ℕ) × (o ≡ joins-waiting readers) × (n ≤ 128) × (listed s readers-part n ≡ map (λ p. x .places .pair p) readers)
     × AllBelow (length (x .values)) readers
 ChoiceTold s names x o FailsAll = o ≡ joins-failed
 
 -- The answer of the choice.
 pub record ChoiceIs (s s′ : List ℕ) (names : List Bytes) (j : Job) (limit : ℕ) (figures : Room) (places : Places) (g : Goal) (marks stamp : ℕ) (r : ChoiceResult)
     : Type 0 where
-  pub only : TrialOnly 40704 marks (figures .pairs) s s′
+  pub only : TrialOnly compounds-region marks (figures .pairs) s s′
   pub marks-now : MarksBelow s′ marks (figures .pairs) (stamp + 32768)
   pub told : ChoiceTold s′ names (setting figures places (unit-of j limit figures g)) (choice (j .clauses) (unit-of j limit figures g) (g .goal)) r
   pub grounds : NewGrounds places (unit-of j limit figures g .values) marks s s′

@@ -3,8 +3,13 @@ use run_chains::arguments::follow_arguments;
 use run_circle::circle::circle;
 use run_compare::compare::CompareResult;
 use run_compare::heads::head;
+use term::layout::CLAUSE_NEXT;
+use term::layout::CLAUSE_STRIDE;
 use term::layout::CLAUSES;
+use term::layout::ITEM_WORDS;
+use term::layout::ITEMS;
 use term::layout::PROCEDURES;
+use term::layout::READERS;
 use term::layout::TRIAL;
 use term::scratch::set_at;
 use term::scratch::word_at;
@@ -19,10 +24,8 @@ ghost use Rattle.meaning.specs.Terms.{Clause, Job};
 ghost use Rattle.meaning.specs.State.{Room, Goal};
 ghost use Rattle.term.specs.Cells.{Places};
 ghost use Rattle.term.specs.Frames.{Only};
+ghost use Rattle.term.specs.Layout.{clauses-region, trial-region, compounds-region, gifts-part, procedure-slot};
 ghost use Rattle.run_trial.specs.Choosing.{Trying, ArgumentsStand, MarksBelow, Candidate, TrialIs, ChoiceIs};
-
-// Where the pairs of the waiting readers stand, in the trial's region behind what a trial has given.
-pub const READERS: usize = 40336;
 
 // "Each trial of a clause gives one of three results": it succeeds, with so many of the goal's pairs given a term; it waits on the reader of a
 // pair; it fails.
@@ -41,9 +44,9 @@ pub enum ChoiceResult {
 
 // The head's writers are given nothing yet. All 16 words are set, whatever the clause has: a number that the compiler knows.
 fn begin(s: &mut [u64])
-    requires { ⌜ 40704 ≤ length (now s) ⌝ }
-    ensures only { λ r. ⌜ Only 39936 39952 (now (s .entry)) (now (s .exit)) ⌝ }
-    ensures nothing { λ r. ⌜ ((x : ℕ) → x < 16 → getD (now (s .exit)) (39936 + x) 0 ≡ 0) ⌝ }
+    requires { ⌜ compounds-region ≤ length (now s) ⌝ }
+    ensures only { λ r. ⌜ Only trial-region gifts-part (now (s .entry)) (now (s .exit)) ⌝ }
+    ensures nothing { λ r. ⌜ ((x : ℕ) → x < 16 → getD (now (s .exit)) (trial-region + x) 0 ≡ 0) ⌝ }
 {
     let mut x = 0;
     while x < 16 {
@@ -74,7 +77,7 @@ fn trial(
         → TrialIs (now (s .entry)) (now (s .exit)) j limit figures at g marks stamp k c r) ⌝ }
 {
     begin(s);
-    match head(s, values, links, 5120 + 256 * k) {
+    match head(s, values, links, ITEMS + ITEM_WORDS * k) {
         CompareResult::Agrees(n) => {
             if circle(s, values, marks, n, stamp) {
                 return TrialResult::Fails;
@@ -88,8 +91,8 @@ fn trial(
 
 // "Name and number of arguments together select the procedure": the number of its first clause plus one, or 0.
 fn first_clause(s: &[u64], goal: usize) -> usize
-    requires { ⌜ (goal < length (now s)) × (504 + getD (now s) goal 0 < length (now s)) ⌝ }
-    ensures { λ r. ⌜ r ≡ getD (now (s .entry)) (504 + getD (now (s .entry)) goal 0) 0 ⌝ }
+    requires { ⌜ (goal < length (now s)) × (procedure-slot (getD (now s) goal 0) < length (now s)) ⌝ }
+    ensures { λ r. ⌜ r ≡ getD (now (s .entry)) (procedure-slot (getD (now (s .entry)) goal 0)) 0 ⌝ }
 {
     let functor = index(word_at(s, goal, 0));
     index(word_at(s, PROCEDURES - 8, functor))
@@ -97,10 +100,10 @@ fn first_clause(s: &[u64], goal: usize) -> usize
 
 // The number of the next clause of the same procedure plus one, or 0.
 fn next_clause(s: &[u64], k: usize) -> usize
-    requires { ⌜ 2560 + 16 * k < length (now s) ⌝ }
-    ensures { λ r. ⌜ r ≡ getD (now (s .entry)) (2560 + 16 * k) 0 ⌝ }
+    requires { ⌜ clauses-region + 16 * k < length (now s) ⌝ }
+    ensures { λ r. ⌜ r ≡ getD (now (s .entry)) (clauses-region + 16 * k) 0 ⌝ }
 {
-    index(word_at(s, CLAUSES + 16 * k, 0))
+    index(word_at(s, CLAUSES + CLAUSE_STRIDE * k, CLAUSE_NEXT))
 }
 
 // "The first clause that succeeds is taken, also when an earlier one waits." Stamps from this one on are unused.

@@ -12,8 +12,7 @@ use Rattle.meaning.specs.State.{Room, QueryUnit, Goal, unit-at}
 use Rattle.meaning.specs.Trial.{joins-failed}
 use Rattle.meaning.specs.Step.{unit-after, goals-after, without-front, step}
 use Rattle.meaning.specs.Run.{fits, choice-for, run}
-use Rattle.term.specs.Jobs.{query-record}
-use Rattle.term.specs.Layout.{waiters-region, sets-region, marks-region, waiting-region, failed-region}
+use Rattle.term.specs.Layout.{waiters-region, sets-region, marks-region, waiting-region, failed-region, items-region, query-tries-word}
 use Rattle.term.specs.States.{Atlas, goal-word, listed}
 use Rattle.term.specs.declared.state.Standing.{Standing}
 use Rattle.term.proofs.Jobs.{holds-job-kept}
@@ -41,7 +40,7 @@ module _ (s : List ℕ) (text : Bytes) (names : List Bytes) (j : Job) (figures :
   query-below =
       omega (arith, front-query, few-units s text names j figures limit atlas slots t (t .steps * 32768 + 32770) (k .running))
 
-  pub tries-small : getD s (query-record (g .query) + 4) 0 ≤ 1000000
+  pub tries-small : getD s (query-tries-word (g .query)) 0 ≤ 1000000
   tries-small =
       omega (
         arith,
@@ -79,12 +78,12 @@ module _ (s : List ℕ) (text : Bytes) (names : List Bytes) (j : Job) (figures :
 pub fails-tries : (s s₁ : List ℕ) (text : Bytes) (names : List Bytes) (j : Job) (figures : Room) (limit : ℕ) (atlas : Atlas) (slots : List Slot)
     (g : Goal) (others : List Goal) (t : Standing) (goal query : ℕ) → Taken s text names j figures limit atlas slots g others t
     → JoiningFailed j figures limit atlas g goal query → Failed s s₁ (failed-region figures) (t .failed) goal
-    → (query < 8) × (5120 ≤ length s₁) × (getD s₁ (query-record query + 4) 0 ≤ 1000000)
+    → (query < 8) × (items-region ≤ length s₁) × (getD s₁ (query-tries-word query) 0 ≤ 1000000)
 fails-tries s s₁ text names j figures limit atlas slots g others t goal query k joins failed =
     let few = query-below s text names j figures limit atlas slots g others t k in (
       omega (arith, joins .query-is),
       omega (arith, failed .only .size, k .running .held .inside),
-      rw (failed .only .below (query-record query + 4) (omega (arith, joins .query-is)))
+      rw (failed .only .below (query-tries-word query) (omega (arith, joins .query-is)))
           (rw (joins .query-is) (tries-small s text names j figures limit atlas slots g others t k)),
     )
 
@@ -92,7 +91,7 @@ fails-tries s s₁ text names j figures limit atlas slots g others t goal query 
 module _ (s s₁ s′ : List ℕ) (text : Bytes) (names : List Bytes) (j : Job) (figures : Room) (limit : ℕ) (atlas : Atlas) (slots : List Slot)
     (g : Goal) (others : List Goal) (t : Standing) (goal query front′ : ℕ) (k : Taken s text names j figures limit atlas slots g others t)
     (joins : JoiningFailed j figures limit atlas g goal query) (failed : Failed s s₁ (failed-region figures) (t .failed) goal)
-    (now : s′ ≡ set s₁ (query-record query + 4) (getD s₁ (query-record query + 4) 0 + 1)) (passed : Passed (figures .goals) (t .front) front′) where
+    (now : s′ ≡ set s₁ (query-tries-word query) (getD s₁ (query-tries-word query) 0 + 1)) (passed : Passed (figures .goals) (t .front) front′) where
   its-fits : fits figures (choice-for (j .clauses) (run j limit figures .state) g) (run j limit figures .state)
       (without-front others (run j limit figures .state .goals)) ≡ true
   unfolding fits
@@ -114,17 +113,17 @@ module _ (s s₁ s′ : List ℕ) (text : Bytes) (names : List Bytes) (j : Job) 
       (λ x a. failed .only .above x (omega arith))
       (rw (joins .query-is) at now)
 
-  other-words : (x : ℕ) → 5120 ≤ x → x < failed-region figures + t .failed + 1 → (x ≡ failed-region figures + t .failed → ⊥) → getD s′ x 0 ≡ getD s x 0
+  other-words : (x : ℕ) → items-region ≤ x → x < failed-region figures + t .failed + 1 → (x ≡ failed-region figures + t .failed → ⊥) → getD s′ x 0 ≡ getD s x 0
   other-words x a b d =
       let few = query-below s text names j figures limit atlas slots g others t k in
-      rw now (getD-set-other s₁ (query-record query + 4) x (getD s₁ (query-record query + 4) 0 + 1) 0 (λ e. omega (arith, joins .query-is)))
+      rw now (getD-set-other s₁ (query-tries-word query) x (getD s₁ (query-tries-word query) 0 + 1) 0 (λ e. omega (arith, joins .query-is)))
       ∙ failed .only .below x (omega arith)
 
   failed-words : listed s′ (failed-region figures) (t .failed + 1) ≡ listed s (failed-region figures) (t .failed) ++ (goal-word atlas g ∷ [])
   failed-words =
       let few = query-below s text names j figures limit atlas slots g others t k in
       listed-kept s₁ s′ (failed-region figures) (t .failed + 1)
-      (λ x a b. rw now (getD-set-other s₁ (query-record query + 4) x (getD s₁ (query-record query + 4) 0 + 1) 0 (λ e. omega (arith, joins .query-is))))
+      (λ x a b. rw now (getD-set-other s₁ (query-tries-word query) x (getD s₁ (query-tries-word query) 0 + 1) 0 (λ e. omega (arith, joins .query-is))))
       ∙ failed .items
       ∙ ap (λ w. listed s (failed-region figures) (t .failed) ++ (w ∷ [])) (joins .goal-is)
 

@@ -12,8 +12,8 @@ use Rattle.meaning.specs.State.{Room, QueryUnit, Goal, Waiting, State, unit-at,
 use Rattle.meaning.specs.Trial.{joins-waiting, joins-failed}
 use Rattle.meaning.specs.Step.{unit-after, goals-after, pairs-charged, compounds-charged, without-front, step}
 use Rattle.meaning.specs.Run.{fits}
-use Rattle.term.specs.Jobs.{query-record, EachFrom, JobKept}
-use Rattle.term.specs.Layout.{waiters-region, marks-region, queue-region, waiting-region, failed-region, need-of}
+use Rattle.term.specs.Jobs.{EachFrom, JobKept}
+use Rattle.term.specs.Layout.{waiters-region, marks-region, queue-region, waiting-region, failed-region, need-of, queries-region, items-region, query-record, query-tries-word}
 use Rattle.term.specs.States.{Atlas, goal-word, ring, listed, logged, Lies, UnitsStand, FirstPair, GoalStands, AllStand, QueueStands, HoldsState}
 use Rattle.term.specs.declared.state.Standing.{Standing}
 use Rattle.run_queues.specs.Ring.{Passed}
@@ -27,30 +27,30 @@ use Rattle.run_queues.proofs.Ring.{ring-kept}
 -- What stays: all but the query's tries, the pairs' waiters and sets, the waiting and the failed goals.
 pub record JoinKept (figures : Room) (q : ℕ) (s s′ : List ℕ) : Type 0 where
   pub size : length s′ ≡ length s
-  pub before : (k : ℕ) → k < 4608 → getD s′ k 0 ≡ getD s k 0
+  pub before : (k : ℕ) → k < queries-region → getD s′ k 0 ≡ getD s k 0
   pub records : (p i : ℕ) → p < 8 → i < 64 → i ≢ 4 → getD s′ (query-record p + i) 0 ≡ getD s (query-record p + i) 0
-  pub tries : (p : ℕ) → p < 8 → (p ≡ q → ⊥) → getD s′ (query-record p + 4) 0 ≡ getD s (query-record p + 4) 0
-  pub tried : getD s′ (query-record q + 4) 0 ≡ getD s (query-record q + 4) 0 + 1
-  pub words : (k : ℕ) → 5120 ≤ k → k < waiters-region figures → getD s′ k 0 ≡ getD s k 0
+  pub tries : (p : ℕ) → p < 8 → (p ≡ q → ⊥) → getD s′ (query-tries-word p) 0 ≡ getD s (query-tries-word p) 0
+  pub tried : getD s′ (query-tries-word q) 0 ≡ getD s (query-tries-word q) 0 + 1
+  pub words : (k : ℕ) → items-region ≤ k → k < waiters-region figures → getD s′ k 0 ≡ getD s k 0
   pub ring-words : (k : ℕ) → marks-region figures ≤ k → k < waiting-region figures → getD s′ k 0 ≡ getD s k 0
   pub behind : (k : ℕ) → need-of figures ≤ k → getD s′ k 0 ≡ getD s k 0
 
 -- Words of the log or of the failed goals changed, and then the try was counted.
-pub counted : (figures : Room) (q : ℕ) (s s₁ s′ : List ℕ) → q < 8 → 5120 ≤ length s → length s₁ ≡ length s
+pub counted : (figures : Room) (q : ℕ) (s s₁ s′ : List ℕ) → q < 8 → items-region ≤ length s → length s₁ ≡ length s
     → ((k : ℕ) → k < waiters-region figures → getD s₁ k 0 ≡ getD s k 0)
     → ((k : ℕ) → marks-region figures ≤ k → k < waiting-region figures → getD s₁ k 0 ≡ getD s k 0)
     → ((k : ℕ) → need-of figures ≤ k → getD s₁ k 0 ≡ getD s k 0)
-    → s′ ≡ set s₁ (query-record q + 4) (getD s₁ (query-record q + 4) 0 + 1)
+    → s′ ≡ set s₁ (query-tries-word q) (getD s₁ (query-tries-word q) 0 + 1)
     → JoinKept figures q s s′
 counted figures q s s₁ s′ few inside size low middle high e =
-    let at = query-record q + 4 in
+    let at = query-tries-word q in
     let v = getD s₁ at 0 + 1 in
     let other : (k : ℕ) → k ≢ at → getD s′ k 0 ≡ getD s₁ k 0 = λ k d. rw e (getD-set-other s₁ at k v 0 d) in
     record {
       size = rw e (length-set s₁ at v) ∙ size;
       before = λ k h. other k (λ f. omega arith) ∙ low k (omega arith);
       records = λ p i h m x. other (query-record p + i) (λ f. x (omega arith)) ∙ low (query-record p + i) (omega arith);
-      tries = λ p h d. other (query-record p + 4) (λ f. d (omega arith)) ∙ low (query-record p + 4) (omega arith);
+      tries = λ p h d. other (query-tries-word p) (λ f. d (omega arith)) ∙ low (query-tries-word p) (omega arith);
       tried = rw e (getD-set-same s₁ at v 0 (omega arith)) ∙ ap (λ n. n + 1) (low at (omega arith));
       words = λ k a b. other k (λ f. omega arith) ∙ low k b;
       ring-words = λ k a b. other k (λ f. omega arith) ∙ middle k a b;

@@ -9,11 +9,12 @@ use Rattle.meaning.specs.Bytes.{Bytes}
 use Rattle.meaning.specs.Terms.{Job, named, as-term}
 use Rattle.meaning.specs.State.{Room, QueryUnit, Goal}
 use Rattle.meaning.specs.Run.{run}
-use Rattle.term.specs.Jobs.{query-record, JobKept}
-use Rattle.term.specs.Layout.{values-region, ends-region, queue-region}
+use Rattle.term.specs.Jobs.{JobKept}
+use Rattle.term.specs.Layout.{values-region, ends-region, queue-region, readers-part, query-record, query-first-pair-word, query-tries-word}
 use Rattle.term.specs.Setting.{Setting}
 use Rattle.term.specs.States.{Atlas, setting-at}
 use Rattle.term.specs.declared.state.Standing.{Standing}
+use Rattle.term.specs.Words.{rest-in}
 use Rattle.run_chains.specs.Follow.{Keeps, EndsKept}
 use Rattle.run_queues.specs.Log.{Slot}
 use Rattle.run_queues.proofs.Listed.{listed-kept}
@@ -35,7 +36,7 @@ module _ {s : List ℕ} {text : Bytes} {names : List Bytes} {j : Job} {figures :
   here : g .query < length (run j limit figures .state .units)
   here = front-query s text names j figures limit atlas slots g others t k
 
-  pub keeps : (place : ℕ) → place ≡ goal / 8
+  pub keeps : (place : ℕ) → place ≡ rest-in goal
       → Keeps s x (values-region figures) (figures .pairs) (g .goal .number) (named (g .goal .name)) (g .goal .arguments) place
   unfolding as-term
   keeps place e =
@@ -51,7 +52,7 @@ module _ {s : List ℕ} {text : Bytes} {names : List Bytes} {j : Job} {figures :
           before = λ n a. omega (arith, h .lies .compound-below (g .query) n here a, cells-before (h .lies));
         };
         term = front-stands s names figures (j .queries) atlas (run j limit figures .state) t h g others (k .front) .term;
-        place = e ∙ ap (λ w. w / 8) (joins .goal-is)
+        place = e ∙ ap (λ w. rest-in w) (joins .goal-is)
             ∙ word-place (g .query) (atlas (g .query) .compound (g .goal .number)) (query-below s text names j figures limit atlas slots g others t k);
       }
 
@@ -68,8 +69,8 @@ module _ {s : List ℕ} {text : Bytes} {names : List Bytes} {j : Job} {figures :
     state-stays : StateKept figures s s′
     state-stays = record {
       size = kept .size;
-      first-pairs = λ q h. low (query-record q + 3) (omega arith);
-      tries = λ q h. low (query-record q + 4) (omega arith);
+      first-pairs = λ q h. low (query-first-pair-word q) (omega arith);
+      tries = λ q h. low (query-tries-word q) (omega arith);
       units = λ w a b. low w (omega arith);
       goals = λ w a b. high w a;
     }
@@ -125,7 +126,7 @@ module _ {s : List ℕ} {text : Bytes} {names : List Bytes} {j : Job} {figures :
       query-is = joins .query-is;
       chosen = joins .chosen;
       few = joins .few;
-      listed-are = listed-kept s s′ 40336 n (λ w a b. low w (omega (arith, joins .few))) ∙ joins .listed-are;
+      listed-are = listed-kept s s′ readers-part n (λ w a b. low w (omega (arith, joins .few))) ∙ joins .listed-are;
       inside = joins .inside;
     }
 

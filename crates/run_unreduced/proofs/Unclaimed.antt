@@ -20,6 +20,7 @@ use Rattle.laws.proofs.Runs.{run-placed}
 use Rattle.laws.proofs.Reading.{accepted-keeps-the-occurrence-rules}
 use Rattle.laws.proofs.Single.{single-occurrence, no-two-wait-on-one-pair}
 use Rattle.term.specs.States.{Atlas, listed, Lies, GoalStands, AllStand}
+use Rattle.term.specs.Layout.{readers-part}
 use Rattle.run_trial.specs.Choosing.{AllBelow}
 use Rattle.run_queues.specs.Log.{Slot, gone, waits, pairs-in, slot, present}
 use Rattle.run_between.specs.Running.{slot-of}
@@ -120,18 +121,18 @@ module _ (names : List Bytes) (figures : Room) (atlas : Atlas) (units : List Que
       let its = in-mapped (slot-of atlas) waiting (h goal ps refl) in
       ap (λ v. among (atlas (g .query) .pair r) (pairs-in v)) (its .2) ∙ none-waits (its .0) (its .1) r n
 
-  module _ (s : List ℕ) (n : ℕ) (words : listed s 40336 n ≡ map (λ p. atlas (g .query) .pair p) readers) where
-    pub reader-of : (k : ℕ) → k < n → (r : ℕ) × In r readers × (getD s (40336 + k) 0 ≡ atlas (g .query) .pair r)
-    reader-of k h = in-mapped (λ p. atlas (g .query) .pair p) readers (rw words at (in-listed s 40336 n k h))
+  module _ (s : List ℕ) (n : ℕ) (words : listed s readers-part n ≡ map (λ p. atlas (g .query) .pair p) readers) where
+    pub reader-of : (k : ℕ) → k < n → (r : ℕ) × In r readers × (getD s (readers-part + k) 0 ≡ atlas (g .query) .pair r)
+    reader-of k h = in-mapped (λ p. atlas (g .query) .pair p) readers (rw words at (in-listed s readers-part n k h))
 
-    pub reader-small : (k : ℕ) → k < n → getD s (40336 + k) 0 < figures .pairs
+    pub reader-small : (k : ℕ) → k < n → getD s (readers-part + k) 0 < figures .pairs
     reader-small k h =
         let its = reader-of k h in
         let below = all-below (length (unit-at (g .query) units .values)) readers (its .0) (a .own-readers) (its .1) in
         omega (arith, its .2, lies .pair-below (g .query) (its .0) (a .own-query) below, lies .pairs-fit)
 
     pub reader-unclaimed : (slots : List Slot) → present slots (length slots) ≡ map (slot-of atlas) waiting → (k : ℕ) → k < n
-        → (i : ℕ) → i < length slots → among (getD s (40336 + k) 0) (pairs-in (slot slots i)) ≡ false
+        → (i : ℕ) → i < length slots → among (getD s (readers-part + k) 0) (pairs-in (slot slots i)) ≡ false
     reader-unclaimed slots e k h i l =
         let its = reader-of k h in
         rw (its .2)

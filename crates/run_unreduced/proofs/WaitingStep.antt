@@ -12,8 +12,7 @@ use Rattle.meaning.specs.State.{Room, Goal, Waiting, unit-at}
 use Rattle.meaning.specs.Trial.{joins-waiting}
 use Rattle.meaning.specs.Step.{unit-after, goals-after, without-front, step}
 use Rattle.meaning.specs.Run.{fits, choice-for, run}
-use Rattle.term.specs.Jobs.{query-record}
-use Rattle.term.specs.Layout.{waiters-region, sets-region, marks-region, waiting-region, failed-region}
+use Rattle.term.specs.Layout.{waiters-region, sets-region, marks-region, waiting-region, failed-region, items-region, readers-part, query-tries-word}
 use Rattle.term.specs.States.{Atlas, goal-word, listed, logged}
 use Rattle.term.specs.declared.state.Standing.{Standing}
 use Rattle.term.proofs.Jobs.{holds-job-kept}
@@ -56,8 +55,8 @@ module _ (s s₁ : List ℕ) (text : Bytes) (names : List Bytes) (j : Job) (figu
     different = λ w m e p a b. none-other text j (k .running .reads) limit figures g others readers its-next w m e p a b;
   }
 
-  words : listed s₁ 40336 n ≡ map (λ p. atlas (g .query) .pair p) readers
-  words = listed-kept s s₁ 40336 n (λ x a b. free .only .below x (omega (arith, joins .few))) ∙ joins .listed-are
+  words : listed s₁ readers-part n ≡ map (λ p. atlas (g .query) .pair p) readers
+  words = listed-kept s s₁ readers-part n (λ x a b. free .only .below x (omega (arith, joins .few))) ∙ joins .listed-are
 
   goals-are : present (free .slots-now) (length (free .slots-now)) ≡ map (slot-of atlas) (run j limit figures .state .goals .waiting)
   goals-are = free .goals ∙ k .running .waiting
@@ -72,7 +71,7 @@ module _ (s s₁ : List ℕ) (text : Bytes) (names : List Bytes) (j : Job) (figu
         goals-fit s text names j figures limit atlas slots g others t k,
       ))
 
-  pub wait-asks : Waits s₁ (waiting-region figures) (waiters-region figures) (sets-region figures) (figures .pairs) (free .slots-now) place goal 40336 n
+  pub wait-asks : Waits s₁ (waiting-region figures) (waiters-region figures) (sets-region figures) (figures .pairs) (free .slots-now) place goal readers-part n
   wait-asks =
       let state = run j limit figures .state in
       record {
@@ -92,7 +91,7 @@ module _ (s s₁ : List ℕ) (text : Bytes) (names : List Bytes) (j : Job) (figu
       }
 
   module _ (s₂ : List ℕ) (waited : LogNow s₁ s₂ (waiting-region figures) (waiters-region figures) (sets-region figures) (figures .pairs) (place + 1)
-      (free .slots-now ++ (waits goal (gathered [] (listed s₁ 40336 n)) ∷ []))) where
+      (free .slots-now ++ (waits goal (gathered [] (listed s₁ readers-part n)) ∷ []))) where
     low : (x : ℕ) → x < waiters-region figures → getD s₂ x 0 ≡ getD s x 0
     low x a = waited .only .below x a ∙ free .only .below x a
 
@@ -104,16 +103,16 @@ module _ (s s₁ : List ℕ) (text : Bytes) (names : List Bytes) (j : Job) (figu
         waited .only .behind x (omega (arith, place-inside))
         ∙ free .only .behind x (omega (arith, k .running .log-number, k .running .state .waiting .fits))
 
-    pub waits-tries : (query < 8) × (5120 ≤ length s₂) × (getD s₂ (query-record query + 4) 0 ≤ 1000000)
+    pub waits-tries : (query < 8) × (items-region ≤ length s₂) × (getD s₂ (query-tries-word query) 0 ≤ 1000000)
     waits-tries =
         let few = query-below s text names j figures limit atlas slots g others t k in (
           omega (arith, joins .query-is),
           omega (arith, waited .only .size, free .only .size, k .running .held .inside),
-          rw (low (query-record query + 4) (omega (arith, joins .query-is)))
+          rw (low (query-tries-word query) (omega (arith, joins .query-is)))
               (rw (joins .query-is) (tries-small s text names j figures limit atlas slots g others t k)),
         )
 
-    newest : waits goal (gathered [] (listed s₁ 40336 n)) ≡ slot-of atlas (record { goal = g; readers = readers })
+    newest : waits goal (gathered [] (listed s₁ readers-part n)) ≡ slot-of atlas (record { goal = g; readers = readers })
     newest = ap₂ waits (joins .goal-is) (ap (gathered []) words)
 
     abbrev slots-next : List Slot
@@ -134,17 +133,17 @@ module _ (s s₁ : List ℕ) (text : Bytes) (names : List Bytes) (j : Job) (figu
         ∙ ap (λ l. l ++ (slot-of atlas w ∷ [])) goals-are
         ∙ sym (map-both (slot-of atlas) (run j limit figures .state .goals .waiting) (w ∷ []))
 
-    module _ (s′ : List ℕ) (front′ : ℕ) (now : s′ ≡ set s₂ (query-record query + 4) (getD s₂ (query-record query + 4) 0 + 1))
+    module _ (s′ : List ℕ) (front′ : ℕ) (now : s′ ≡ set s₂ (query-tries-word query) (getD s₂ (query-tries-word query) 0 + 1))
         (passed : Passed (figures .goals) (t .front) front′) where
       kept : JoinKept figures (g .query) s s′
       kept =
           counted figures (g .query) s s₂ s′ (query-below s text names j figures limit atlas slots g others t k) (omega (arith, k .running .held .inside))
           (waited .only .size ∙ free .only .size) low middle (λ x a. high x (omega arith)) (rw (joins .query-is) at now)
 
-      last-words : (x : ℕ) → 5120 ≤ x → getD s′ x 0 ≡ getD s₂ x 0
+      last-words : (x : ℕ) → items-region ≤ x → getD s′ x 0 ≡ getD s₂ x 0
       last-words x a =
           let few = query-below s text names j figures limit atlas slots g others t k in
-          rw now (getD-set-other s₂ (query-record query + 4) x (getD s₂ (query-record query + 4) 0 + 1) 0 (λ e. omega (arith, joins .query-is)))
+          rw now (getD-set-other s₂ (query-tries-word query) x (getD s₂ (query-tries-word query) 0 + 1) 0 (λ e. omega (arith, joins .query-is)))
 
       log-next : LogHere s′ figures slots-next
       log-next =

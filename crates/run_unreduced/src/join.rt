@@ -6,10 +6,11 @@ use run_queues::goals::behind;
 use run_queues::goals::close_up;
 use run_queues::goals::fail;
 use run_queues::goals::wait;
-use run_trial::choice::READERS;
 use term::layout;
+use term::layout::READERS;
 use term::layout::Room;
 use term::state::Standing;
+use term::word::TAGS;
 use term::word::index;
 ghost use mathlib.Core.Path.{_≡_};
 ghost use mathlib.Core.List.{List};
@@ -101,7 +102,7 @@ pub fn join_waiting(
         → JoiningWaiting (now (s .entry)) j (figures room) limit atlas g goal query readers rs
         → StepIs (now (s .entry)) (now (s .exit)) text names j (figures room) limit atlas g others t r) ⌝ }
 {
-    keep_ends(s, layout::values(room), room.pairs, index(goal / 8));
+    keep_ends(s, layout::values(room), room.pairs, index(goal / TAGS));
     add_waiting(s, room, t, goal, query, readers)
 }
 

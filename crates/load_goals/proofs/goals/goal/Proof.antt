@@ -2,6 +2,7 @@
 use Prim.Native.Nat.{ℕ, _+_, _*_, _≤_}
 use mathlib.Core.Path.{_≡_, refl, ap, sym, _∙_}
 use Rattle.term.proofs.Frames.{only-same}
+use Rattle.term.specs.Layout.{item-start, item-end}
 use Rattle.load_names.specs.Places.{with-place}
 use Rattle.load_goals.proofs.GoalRead.{goal-is}
 use native.Mathlib.Omega.{arith}
@@ -53,7 +54,7 @@ returns-2 c =
     let a = c .before .before .before .before .before .before .before .before .before .before .before .before .args in
     λ known vars st.
     let o = rw (c .before .a .given .1) at (c .before .before .before .before .before .goal-name .ensures known vars (a .item .now) st) in
-    (o .0, o .1, only-same (8 * a .base) (8 * (a .base + 32)) (a .s .now))
+    (o .0, o .1, only-same (item-start (a .base)) (item-end (a .base)) (a .s .now))
 
 same-length-5 : tie.Need-same-length-5
 same-length-5 c = search needs
@@ -63,7 +64,7 @@ returns-3 c =
     let a = c .before .before .before .before .before .before .before .before .before .before .before .args in
     λ known vars st.
     let o = rw (c .enum-told .given .1) at (c .before .before .before .before .goal-name .ensures known vars (a .item .now) st) in
-    (o, only-same (8 * a .base) (8 * (a .base + 32)) (a .s .now))
+    (o, only-same (item-start (a .base)) (item-end (a .base)) (a .s .now))
 
 pub goal-spec : {M : Type 1} → statement M
 goal-spec =

@@ -6,6 +6,7 @@ use mathlib.Core.List.{List, []}
 use lib.ListN.{length, length-set}
 use Rattle.meaning.specs.Terms.{Named}
 use Rattle.term.proofs.Frames.{only-then, only-wider}
+use Rattle.term.specs.Layout.{trial-region, item-start, item-end}
 use Rattle.load_names.specs.Places.{Place, Placed, names-over, variables-over}
 use Rattle.load_openings.specs.Reading.{Stands}
 use Rattle.load_goals.specs.Endings.{Partly}
@@ -179,7 +180,7 @@ returns-4 c =
     let t = l .inv .0 known vars st in
     let room : length (t .0) < 8 = omega (arith, t .2, c .before .before .before .before .before .before .before .before .before .before .before .before .before .loop-test .taken) in
     let bad = rw (c .before .a3 .given .1) at (c .before .before .before .before .before .before .before .before .before .goal .ensures (names-over (t .1) known) (variables-over (a .from) (t .1) vars) (t .3 .stands)) in
-    (partly-malformed (a .text .now) (a .rest .now) (a .from) (a .base) (a .place) known vars (a .c) (a .s .now) (a .item .now) (l .s) (l .names) (l .item) (l .d) (t .0) (t .1) (t .3) room (a .from + c .before .a3 .given .0 .0) (bad .0), bad .1, only-then 0 39936 (a .s .now) (l .s) (c .before .before .before .before .before .before .before .before .before .goal .last .1 .1 .1 .0) (t .3 .only) (only-wider (8 * a .base) (8 * (a .base + 32)) 0 39936 (l .s) (c .before .before .before .before .before .before .before .before .before .goal .last .1 .1 .1 .0) (omega arith) (omega (arith, c .before .before .before .before .before .before .before .before .before .before .before .before .before .before .before .before .before .before .before .before .pre .0 .0)) (bad .2)))
+    (partly-malformed (a .text .now) (a .rest .now) (a .from) (a .base) (a .place) known vars (a .c) (a .s .now) (a .item .now) (l .s) (l .names) (l .item) (l .d) (t .0) (t .1) (t .3) room (a .from + c .before .a3 .given .0 .0) (bad .0), bad .1, only-then 0 trial-region (a .s .now) (l .s) (c .before .before .before .before .before .before .before .before .before .goal .last .1 .1 .1 .0) (t .3 .only) (only-wider (item-start (a .base)) (item-end (a .base)) 0 trial-region (l .s) (c .before .before .before .before .before .before .before .before .before .goal .last .1 .1 .1 .0) (omega arith) (omega (arith, c .before .before .before .before .before .before .before .before .before .before .before .before .before .before .before .before .before .before .before .before .pre .0 .0)) (bad .2)))
 
 enum-told : tie.Need-enum-told Inv-loop μ-loop
 enum-told c = search needs
@@ -201,7 +202,7 @@ returns-5 c =
     let t = l .inv .0 known vars st in
     let room : length (t .0) < 8 = omega (arith, t .2, c .before .before .before .before .before .before .before .before .before .before .before .before .loop-test .taken) in
     let bad = rw (c .enum-told .given .1) at (c .before .before .before .before .before .before .before .before .goal .ensures (names-over (t .1) known) (variables-over (a .from) (t .1) vars) (t .3 .stands)) in
-    (partly-passed (a .text .now) (a .rest .now) (a .from) (a .base) (a .place) known vars (a .c) (a .s .now) (a .item .now) (l .s) (l .names) (l .item) (l .d) (t .0) (t .1) (t .3) room (bad .0), only-then 0 39936 (a .s .now) (l .s) (c .before .before .before .before .before .before .before .before .goal .last .1 .1 .1 .0) (t .3 .only) (only-wider (8 * a .base) (8 * (a .base + 32)) 0 39936 (l .s) (c .before .before .before .before .before .before .before .before .goal .last .1 .1 .1 .0) (omega arith) (omega (arith, c .before .before .before .before .before .before .before .before .before .before .before .before .before .before .before .before .before .before .before .pre .0 .0)) (bad .1)))
+    (partly-passed (a .text .now) (a .rest .now) (a .from) (a .base) (a .place) known vars (a .c) (a .s .now) (a .item .now) (l .s) (l .names) (l .item) (l .d) (t .0) (t .1) (t .3) room (bad .0), only-then 0 trial-region (a .s .now) (l .s) (c .before .before .before .before .before .before .before .before .goal .last .1 .1 .1 .0) (t .3 .only) (only-wider (item-start (a .base)) (item-end (a .base)) 0 trial-region (l .s) (c .before .before .before .before .before .before .before .before .goal .last .1 .1 .1 .0) (omega arith) (omega (arith, c .before .before .before .before .before .before .before .before .before .before .before .before .before .before .before .before .before .before .before .pre .0 .0)) (bad .1)))
 
 ninth-requires : tie.Need-ninth-requires Inv-loop μ-loop
 ninth-requires c κs =

@@ -5,6 +5,7 @@ use lib.ListN.{length, getD, take, drop, length-set}
 use Rattle.load_image.specs.Image.{linked, link-one}
 use Rattle.load_image.proofs.Links.{linked-none, linked-again}
 use native.Mathlib.Omega.{arith}
+use Rattle.term.specs.Layout.{procedure-slot}
 use borrow.Author.Needs.{needs}
 use Rattle.load_image.proofs.keep.link.Statement.{statement}
 use Rattle.load_image.proofs.keep.link.Tie as tie
@@ -76,7 +77,7 @@ loop-again c =
     let l = c .before .before .before .before .before .loop in
     let w = c .before .before .index in
     let low : l .k - 1 < a .clauses = omega arith in
-    let first : 512 + w .result - 8 ≡ 504 + getD (a .heads .now) (l .k - 1) 0 = omega (arith, start .pre .1 (l .k - 1) low, w .ensures) in (
+    let first : 512 + w .result - 8 ≡ procedure-slot (getD (a .heads .now) (l .k - 1) 0) = omega (arith, start .pre .1 (l .k - 1) low, w .ensures) in (
       linked-again (a .heads .now) (a .clauses) (l .k - 1) (l .k) (512 + w .result - 8) (c .word .result) (l .s) (a .s .now)
           (omega arith) (omega arith) (omega arith) first (c .word .ensures) (l .inv .0),
       omega arith,

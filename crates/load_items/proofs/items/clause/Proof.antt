@@ -6,6 +6,7 @@ use mathlib.Core.List.{[]}
 use lib.ListN.{length, length-set}
 use borrow.Author.Tests.{not-true, not-false}
 use Rattle.term.proofs.Frames.{only-same}
+use Rattle.term.specs.Layout.{trial-region}
 use Rattle.load_items.proofs.Starts.{begin-stands}
 use Rattle.load_items.proofs.Clauses.{clause-passes, clause-malformed, clause-passed, clause-twice, clause-apart, clause-took}
 use native.Mathlib.Omega.{arith}
@@ -18,7 +19,7 @@ returns : tie.Need-returns
 returns c =
     let a = c .before .before .before .before .before .before .before .args in
     let x = c .before .before .before .before .before .before .before .pre .1 .1 in
-    λ known queries b. (clause-passes (a .text .now) (a .rest .now) (a .from) (a .names .now) (a .item .now) (a .known) known b (a .k) queries (a .begins) (a .s .now) (a .heads .now) (x .0) (x .1) (x .3) (c .if1 .taken), x .2, only-same 0 39936 (a .s .now))
+    λ known queries b. (clause-passes (a .text .now) (a .rest .now) (a .from) (a .names .now) (a .item .now) (a .known) known b (a .k) queries (a .begins) (a .s .now) (a .heads .now) (x .0) (x .1) (x .3) (c .if1 .taken), x .2, only-same 0 trial-region (a .s .now))
 
 mul-record : tie.Need-mul-record
 mul-record c = search needs

@@ -6,6 +6,7 @@ use mathlib.Core.List.{[]}
 use lib.ListN.{length, length-set, length-drop}
 use borrow.Author.Tests.{not-true, not-false}
 use Rattle.term.proofs.Frames.{only-same}
+use Rattle.term.specs.Layout.{trial-region}
 use Rattle.load_names.specs.Places.{variables-over}
 use Rattle.load_items.proofs.Starts.{begin-stands}
 use Rattle.load_items.proofs.Queries.{query-passes, query-malformed, query-passed, query-twice, query-took}
@@ -19,7 +20,7 @@ returns : tie.Need-returns
 returns c =
     let a = c .before .before .before .before .before .before .before .args in
     let x = c .before .before .before .before .before .before .before .pre .1 .1 in
-    λ known clauses b. (query-passes (a .text .now) (a .rest .now) (a .from) (a .names .now) (a .item .now) (a .known) known b clauses (a .k) (a .begins) (a .s .now) (a .heads .now) (x .1) (c .if1 .taken), omega (arith, x .0), only-same 0 39936 (a .s .now))
+    λ known clauses b. (query-passes (a .text .now) (a .rest .now) (a .from) (a .names .now) (a .item .now) (a .known) known b clauses (a .k) (a .begins) (a .s .now) (a .heads .now) (x .1) (c .if1 .taken), omega (arith, x .0), only-same 0 trial-region (a .s .now))
 
 mul-record : tie.Need-mul-record
 mul-record c = search needs

@@ -7,6 +7,7 @@ use lib.ListN.{length, length-drop}
 use Rattle.meaning.specs.Items.{no-item, occurrence-rule, figure, line as line-of-place}
 use Rattle.meaning.specs.Call.{refusal, number, line-of}
 use Rattle.term.proofs.Frames.{only-then}
+use Rattle.term.specs.Layout.{trial-region}
 use Rattle.load_names.specs.Places.{Place}
 use Rattle.load_image.specs.Image.{Entry}
 use Rattle.loader.specs.Loading.{Reached}
@@ -161,7 +162,7 @@ returns c =
     let done = l .inv .0 .1 in
     let got = rw (c .before .a .given .1) at (c .before .before .before .before .before .before .before .before .before .item-at .ensures places (r .inside) (r .names-table) (r .count-is)) in
     let p = l .from + c .before .a .given .0 .0 in
-    (no-item p, stopped (a .text .now) (a .s .now) (l .s) (l .names) (l .heads) (l .from) (l .clauses) (l .queries) (l .known) places done r (no-item p) (got .0), refl, refl, only-then 0 39936 (a .s .now) (l .s) (c .before .before .before .before .before .before .before .before .before .item-at .last .1 .1 .0) (r .only) (got .2))
+    (no-item p, stopped (a .text .now) (a .s .now) (l .s) (l .names) (l .heads) (l .from) (l .clauses) (l .queries) (l .known) places done r (no-item p) (got .0), refl, refl, only-then 0 trial-region (a .s .now) (l .s) (c .before .before .before .before .before .before .before .before .before .item-at .last .1 .1 .0) (r .only) (got .2))
 
 enum-known-a-2 : tie.Need-enum-known-a-2 Inv-loop μ-loop
 enum-known-a-2 c = search needs
@@ -195,7 +196,7 @@ returns-2 c =
     let done = l .inv .0 .1 in
     let got = rw (c .before .a2 .given .1) at (c .before .before .before .before .before .before .before .before .before .item-at .ensures places (r .inside) (r .names-table) (r .count-is)) in
     let p = l .from + c .before .a2 .given .0 .0 in
-    (occurrence-rule p, stopped (a .text .now) (a .s .now) (l .s) (l .names) (l .heads) (l .from) (l .clauses) (l .queries) (l .known) places done r (occurrence-rule p) (got .0), refl, refl, only-then 0 39936 (a .s .now) (l .s) (c .before .before .before .before .before .before .before .before .before .item-at .last .1 .1 .0) (r .only) (got .2))
+    (occurrence-rule p, stopped (a .text .now) (a .s .now) (l .s) (l .names) (l .heads) (l .from) (l .clauses) (l .queries) (l .known) places done r (occurrence-rule p) (got .0), refl, refl, only-then 0 trial-region (a .s .now) (l .s) (c .before .before .before .before .before .before .before .before .before .item-at .last .1 .1 .0) (r .only) (got .2))
 
 enum-known-a-3 : tie.Need-enum-known-a-3 Inv-loop μ-loop
 enum-known-a-3 c = search needs
@@ -229,7 +230,7 @@ returns-3 c =
     let done = l .inv .0 .1 in
     let got = rw (c .before .a3 .given .1) at (c .before .before .before .before .before .before .before .before .before .item-at .ensures places (r .inside) (r .names-table) (r .count-is)) in
     let p = l .from + c .before .a3 .given .0 .0 in
-    (figure p, stopped (a .text .now) (a .s .now) (l .s) (l .names) (l .heads) (l .from) (l .clauses) (l .queries) (l .known) places done r (figure p) (got .0), refl, refl, only-then 0 39936 (a .s .now) (l .s) (c .before .before .before .before .before .before .before .before .before .item-at .last .1 .1 .0) (r .only) (got .2))
+    (figure p, stopped (a .text .now) (a .s .now) (l .s) (l .names) (l .heads) (l .from) (l .clauses) (l .queries) (l .known) places done r (figure p) (got .0), refl, refl, only-then 0 trial-region (a .s .now) (l .s) (c .before .before .before .before .before .before .before .before .before .item-at .last .1 .1 .0) (r .only) (got .2))
 
 enum-told : tie.Need-enum-told Inv-loop μ-loop
 enum-told c = search needs

@@ -4,6 +4,7 @@ use mathlib.Core.Path.{_≡_, _∙_, sym, ap}
 use native.Mathlib.Omega.{arith}
 use borrow.Author.Needs.{needs}
 use lib.ListN.{length, getD, set, length-set}
+use Rattle.term.specs.Layout.{trial-region, pair-facts}
 use Rattle.report_pairs.proofs.Chains.{fact-inside}
 use Rattle.report_count.proofs.Numbering.{number-had, number-missing, number-given-at}
 use Rattle.report_count.proofs.counting.number.Statement.{statement}
@@ -34,13 +35,13 @@ slice-write-s c = search needs
 set-fact-requires : tie.Need-set-fact-requires
 set-fact-requires c κs =
     let start = c .before .before .before .before .before .before in
-    omega (arith, fact-inside (start .args .s .now) (start .pre .0) (start .pre .1) (start .args .facts) (start .pre .4) (start .pre .3) (start .pre .7), start .pre .9, length-set (start .args .s .now) 39936 (getD (start .args .s .now) 39936 0 + 1))
+    omega (arith, fact-inside (start .args .s .now) (start .pre .0) (start .pre .1) (start .args .facts) (start .pre .4) (start .pre .3) (start .pre .7), start .pre .9, length-set (start .args .s .now) trial-region (getD (start .args .s .now) trial-region 0 + 1))
 
 same-length-2 : tie.Need-same-length-2
 same-length-2 c =
     let start = c .before .before .before .before .before .before .before .before .before in
-    let s = start .args .s .now in let v = getD s 39936 0 + 1 in
-    ap length (c .before .before .set-fact .ensures) ∙ length-set (set s 39936 v) (start .args .facts + 4 * start .args .p + 2) v ∙ length-set s 39936 v
+    let s = start .args .s .now in let v = getD s trial-region 0 + 1 in
+    ap length (c .before .before .set-fact .ensures) ∙ length-set (set s trial-region v) (start .args .facts + pair-facts * start .args .p + 2) v ∙ length-set s trial-region v
 
 returns-2 : tie.Need-returns-2
 returns-2 c text x seen n r k b e q h =

@@ -3,20 +3,21 @@ use Prim.Native.Nat.{ℕ, _+_, _*_, _-_, _≤_, _<_}
 use mathlib.Core.Path.{_≡_}
 use native.Mathlib.Omega.{arith}
 use lib.ListN.{length}
+use Rattle.term.specs.Layout.{pair-facts}
 use borrow.Author.Needs.{needs}
 use Rattle.report_pairs.proofs.Forgetting.{Zeroed, zeroed-none, zeroed-more, zeroed-all}
 use Rattle.report_pairs.proofs.ends.forget.Statement.{statement}
 use Rattle.report_pairs.proofs.ends.forget.Tie as tie
 
 abbrev Inv-loop : tie.InvT-loop
-Inv-loop s₀ facts pairs i₀ s i = (i ≤ 4 * pairs) × (facts + 4 * pairs ≤ length s₀) × Zeroed s₀ s facts (facts + 4 * pairs) i
+Inv-loop s₀ facts pairs i₀ s i = (i ≤ pair-facts * pairs) × (facts + pair-facts * pairs ≤ length s₀) × Zeroed s₀ s facts (facts + pair-facts * pairs) i
 
 abbrev μ-loop : tie.MeasureT-loop
-μ-loop s₀ facts pairs i₀ s i = 4 * pairs - i
+μ-loop s₀ facts pairs i₀ s i = pair-facts * pairs - i
 
 -- src/ends.rt:38:5
 loop-holds : tie.Need-loop-holds Inv-loop μ-loop
-loop-holds c = (omega arith, omega arith, zeroed-none (c .args .s .now) (c .args .facts) (c .args .facts + 4 * c .args .pairs))
+loop-holds c = (omega arith, omega arith, zeroed-none (c .args .s .now) (c .args .facts) (c .args .facts + pair-facts * c .args .pairs))
 
 -- src/ends.rt:38:15
 mul-loop : tie.Need-mul-loop Inv-loop μ-loop
@@ -49,7 +50,7 @@ loop-again c =
     let a = L .before .args in (
       omega arith,
       omega arith,
-      zeroed-more (a .s .now) (L .loop .s) (a .facts) (a .facts + 4 * a .pairs) (L .loop .i) (omega arith) (omega (arith, L .loop .inv .2 .only .size))
+      zeroed-more (a .s .now) (L .loop .s) (a .facts) (a .facts + pair-facts * a .pairs) (L .loop .i) (omega arith) (omega (arith, L .loop .inv .2 .only .size))
           (L .loop .inv .2),
     )
 
@@ -62,7 +63,7 @@ returns : tie.Need-returns Inv-loop μ-loop
 returns c =
     let L = c .before in
     let a = L .before .args in
-    let all : L .loop .i ≡ 4 * a .pairs = omega arith in
+    let all : L .loop .i ≡ pair-facts * a .pairs = omega arith in
     zeroed-all (a .s .now) (L .loop .s) (a .facts) (a .pairs) (rw all at (L .loop .inv .2))
 
 pub forget-spec : {M : Type 1} → statement M

@@ -3,6 +3,7 @@ use Prim.Native.Nat.{ℕ, _+_, _*_, _/_}
 use mathlib.Core.Path.{_≡_, refl, sym, ap, _∙_}
 use mathlib.Core.Bool.{Bool, true, false}
 use Rattle.laws.proofs.Lists.Tests.{false-not-true}
+use Rattle.term.specs.Words.{compound-word, rest-in}
 use Rattle.report_tallies.specs.Groups.{goal-in, own}
 use borrow.Author.Needs.{needs}
 use Rattle.report_sections.proofs.sections.count_goal.Statement.{statement}
@@ -32,8 +33,8 @@ count-line-requires c κs =
     let (text, x, seen, t, counts, inside, h, shows) = c .before .before .before .before .before .before .before .pre in
     let is : own (c .before .before .before .before .before .before .before .args .q) (goal-in (c .before .before .before .before .before .before .before .args .s .now) (c .before .before .before .before .before .before .before .args .g) (c .before .before .before .before .before .before .before .args .i)) ≡ true =
     sym (ap (own (c .before .before .before .before .before .before .before .args .q)) (c .before .before .before .before .goal-at .ensures)) ∙ sym (c .before .before .before .own .ensures) ∙ c .before .before .if1 .taken in
-    let word : c .before .goal-term .result ≡ 6 + 8 * (goal-in (c .before .before .before .before .before .before .before .args .s .now) (c .before .before .before .before .before .before .before .args .g) (c .before .before .before .before .before .before .before .args .i) / 8) =
-    c .before .goal-term .ensures ∙ ap (λ (w : ℕ). 6 + 8 * (w / 8)) (c .before .before .before .before .goal-at .ensures) in
+    let word : c .before .goal-term .result ≡ compound-word (rest-in (goal-in (c .before .before .before .before .before .before .before .args .s .now) (c .before .before .before .before .before .before .before .args .g) (c .before .before .before .before .before .before .before .args .i))) =
+    c .before .goal-term .ensures ∙ ap (λ (w : ℕ). 6 + 8 * (rest-in w)) (c .before .before .before .before .goal-at .ensures) in
     (text, x, seen, t, counts, rw word (shows is))
 
 -- src/sections.rt:131:9
@@ -45,8 +46,8 @@ returns : tie.Need-returns
 returns c =
     let is : own (c .before .before .before .before .before .before .before .before .before .before .args .q) (goal-in (c .before .before .before .before .before .before .before .before .before .before .args .s .now) (c .before .before .before .before .before .before .before .before .before .before .args .g) (c .before .before .before .before .before .before .before .before .before .before .args .i)) ≡ true =
     sym (ap (own (c .before .before .before .before .before .before .before .before .before .before .args .q)) (c .before .before .before .before .before .before .before .goal-at .ensures)) ∙ sym (c .before .before .before .before .before .before .own .ensures) ∙ c .before .before .before .before .before .if1 .taken in
-    let word : c .before .before .before .before .goal-term .result ≡ 6 + 8 * (goal-in (c .before .before .before .before .before .before .before .before .before .before .args .s .now) (c .before .before .before .before .before .before .before .before .before .before .args .g) (c .before .before .before .before .before .before .before .before .before .before .args .i) / 8) =
-    c .before .before .before .before .goal-term .ensures ∙ ap (λ (w : ℕ). 6 + 8 * (w / 8)) (c .before .before .before .before .before .before .before .goal-at .ensures) in (
+    let word : c .before .before .before .before .goal-term .result ≡ compound-word (rest-in (goal-in (c .before .before .before .before .before .before .before .before .before .before .args .s .now) (c .before .before .before .before .before .before .before .before .before .before .args .g) (c .before .before .before .before .before .before .before .before .before .before .args .i))) =
+    c .before .before .before .before .goal-term .ensures ∙ ap (λ (w : ℕ). 6 + 8 * (rest-in w)) (c .before .before .before .before .before .before .before .goal-at .ensures) in (
       λ e. absurd (false-not-true _ e is),
       λ text x seen t e counts shows. c .before .before .count-line .ensures text x seen t counts (rw word shows),
     )

@@ -46,6 +46,7 @@ use Rattle.run_compare.proofs.compare.+compounds+places.Lts-places as p
 use Rattle.run_chains.proofs.follow.follow.Reads as follow-reads
 use Rattle.run_compare.proofs.compare.open.Reads as open-reads
 use Rattle.term.proofs.scratch.argument.Reads as argument-reads
+use Rattle.term.specs.Layout.{trial-region}
 use Rattle.run_table.proofs.table.differ.Reads as differ-reads
 use Rattle.run_table.proofs.table.table.Reads as table-reads
 use Rattle.run_compare.proofs.compare.+compounds+places.{statement}
@@ -55,10 +56,10 @@ fall : (a b t : ℕ) → b ≡ t → a < b → a < t
 fall a b t e h = omega arith
 
 abbrev μ-compounds : Measures 1 compounds-kinds.ps ℕ
-μ-compounds κs a = 2 * (39936 - a .1 .1 .1 .0) + 1
+μ-compounds κs a = 2 * (trial-region - a .1 .1 .1 .0) + 1
 
 abbrev μ-places : Measures 1 places-kinds.ps ℕ
-μ-places κs a = 2 * (39936 - a .1 .1 .1 .0)
+μ-places κs a = 2 * (trial-region - a .1 .1 .1 .0)
 
 abbrev compounds-at : ℕ → In 1 compounds-kinds.ps
 compounds-at t = and 1 compounds-kinds.ps (is 1 compounds-kinds.ps μ-compounds t) compounds.Pre
@@ -81,7 +82,7 @@ places-Inv-loop s₀ values links first second n p₀ q₀ k₀ given₀ i₀ s 
 
 -- A compound that it goes on to lies behind, and has at most 6 arguments.
 abbrev places-μ-loop : places-lts.MeasureT-loop
-places-μ-loop s₀ values links first second n p₀ q₀ k₀ given₀ i₀ s p q k given i = 8 * (39936 - p) + (k + 1 - i)
+places-μ-loop s₀ values links first second n p₀ q₀ k₀ given₀ i₀ s p q k given i = 8 * (trial-region - p) + (k + 1 - i)
 
 pub +compounds+places-spec : {M : Type 1} → statement M
 +compounds+places-spec = close μ-compounds μ-places (λ t. compounds-lts.spec (
@@ -113,7 +114,7 @@ pub +compounds+places-spec : {M : Type 1} → statement M
     let pre = start .pre .1 in
     let differ-told = c .before .before .differ in
     let D = compounds-deeper (a .links) (a .p) (a .q) (pre .10) (differ-told .result) (differ-told .ensures) (c .before .if1 .left) in (
-      fall (2 * (39936 - a .p)) (2 * (39936 - a .p) + 1) t (start .pre .0) (omega arith),
+      fall (2 * (trial-region - a .p)) (2 * (trial-region - a .p) + 1) t (start .pre .0) (omega arith),
       (pre .0, pre .1, D .m, D .g, D .us, pre .2 + 1, pre .3, D .l, D .f, D .ts, D .against),
     ))
     -- compounds-same-length-2
@@ -359,7 +360,7 @@ pub +compounds+places-spec : {M : Type 1} → statement M
     let F = facing (a .links) G left in
     let later = turn-later (a .links) G left head goal leads done below in
     let D = turn-compounds (a .links) G left head goal leads done below in (
-      fall (2 * (39936 - c .before .before .before .b .given .0 .0) + 1) (2 * (39936 - a .first)) t (start .pre .0)
+      fall (2 * (trial-region - c .before .before .before .b .given .0 .0) + 1) (2 * (trial-region - a .first)) t (start .pre .0)
           (omega (arith, later .0, later .1, G .later)),
       (pre .0, pre .1, G .partly .low, F .mid, D .m, D .g, D .us, D .l, D .f, D .ts, D .against),
     ))

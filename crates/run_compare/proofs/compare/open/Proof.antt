@@ -3,6 +3,7 @@ use Prim.Native.Nat.{_%_}
 use mathlib.Core.Path.{sym, _∙_}
 use native.Mathlib.Omega.{arith}
 use lib.ListN.{getD}
+use Rattle.term.specs.Words.{tag-in}
 use borrow.Author.Tests.{not-true, not-false}
 use Rattle.run_compare.specs.Same.{SameBehind}
 use Rattle.run_compare.proofs.Same.{same-true, none-behind, one-more-same}
@@ -10,7 +11,7 @@ use Rattle.run_compare.proofs.compare.open.Statement.{statement}
 use Rattle.run_compare.proofs.compare.open.Tie as tie
 
 abbrev Inv-loop : tie.InvT-loop
-Inv-loop s p q k₀ k = SameBehind s p q (getD s p 0 % 8) k
+Inv-loop s p q k₀ k = SameBehind s p q (tag-in (getD s p 0)) k
 
 abbrev μ-loop : tie.MeasureT-loop
 μ-loop s p q k₀ k = k
@@ -21,7 +22,7 @@ count-requires c κs = omega arith
 loop-holds : tie.Need-loop-holds Inv-loop μ-loop
 loop-holds c =
     let a = c .before .before .args in
-    none-behind (a .s .now) (a .p) (a .q) (getD (a .s .now) (a .p) 0 % 8) (c .count .result) (c .count .ensures)
+    none-behind (a .s .now) (a .p) (a .q) (tag-in (getD (a .s .now) (a .p) 0)) (c .count .result) (c .count .ensures)
 
 argument-requires : tie.Need-argument-requires Inv-loop μ-loop
 argument-requires c κs = omega arith
@@ -51,7 +52,7 @@ loop-again c =
     let a = c .before .before .before .before .before .before .before .before .args in
     let k = c .before .before .before .before .before .loop .k in
     let told = same-true _ _ (sym (c .before .same .ensures) ∙ not-false (c .before .same .result) (c .if1 .left)) in
-    one-more-same (a .s .now) (a .p) (a .q) (getD (a .s .now) (a .p) 0 % 8) k (c .before .before .before .before .loop-test .taken)
+    one-more-same (a .s .now) (a .p) (a .q) (tag-in (getD (a .s .now) (a .p) 0)) k (c .before .before .before .before .loop-test .taken)
     (c .before .before .before .before .before .loop .inv)
     (rw (c .before .before .before .argument .ensures, c .before .before .argument2 .ensures) at told)
 

@@ -22,14 +22,15 @@ use Rattle.term.proofs.scratch.count.Reads as count-reads
 use Rattle.run_effects.proofs.build.placed.Reads as placed-reads
 use Rattle.run_effects.proofs.build.put.Reads as put-reads
 use Rattle.term.proofs.word.look.Reads as look-reads
+use Rattle.term.specs.Words.{compound-word}
 use Rattle.run_effects.proofs.build.+copy_arguments+copy_compound.{statement}
 use Rattle.run_effects.proofs.build.+copy_arguments+copy_compound.Tie.{close}
 
 abbrev μ-copy-arguments : Measures 1 copy-arguments-kinds.ps ℕ
-μ-copy-arguments κs a = 2 * height (length (a .0 .now)) (a .0 .now) (6 + 8 * a .1 .1 .1 .0)
+μ-copy-arguments κs a = 2 * height (length (a .0 .now)) (a .0 .now) (compound-word (a .1 .1 .1 .0))
 
 abbrev μ-copy-compound : Measures 1 copy-compound-kinds.ps ℕ
-μ-copy-compound κs a = 2 * height (length (a .0 .now)) (a .0 .now) (6 + 8 * a .1 .1 .1 .1 .0) + 1
+μ-copy-compound κs a = 2 * height (length (a .0 .now)) (a .0 .now) (compound-word (a .1 .1 .1 .1 .0)) + 1
 
 abbrev copy-arguments-at : ℕ → In 1 copy-arguments-kinds.ps
 copy-arguments-at t = and 1 copy-arguments-kinds.ps (is 1 copy-arguments-kinds.ps μ-copy-arguments t) copy-arguments.Pre

@@ -5,7 +5,7 @@ use mathlib.Core.List.{[], _∷_}
 use borrow.Author.Needs.{needs}
 use native.Mathlib.Omega.{arith}
 use types.Run.{miss}
-use Rattle.term.specs.Words.{view}
+use Rattle.term.specs.Words.{view, tag-in, rest-in}
 use Rattle.term.specs.declared.word.View.{View}
 use Rattle.term.specs.declared.word.View.the-variants.{Nothing, Writer, Reader, Integer, Name, Empty, Compound}
 use Rattle.run_table.proofs.Seen.{NoVariable}
@@ -65,7 +65,7 @@ returns-2 c = rw (sym (c .before .before .before .before .look .ensures) ∙ c .
 returns-3 : tie.Need-returns-3
 returns-3 c =
     let a = c .before .before .args in
-    other-stays (a .pair) (a .h) (view (a .h % 8) (a .h / 8)) (rw (c .before .look .ensures) at (c .match .keys3))
+    other-stays (a .pair) (a .h) (view (tag-in (a .h)) (rest-in (a .h))) (rw (c .before .look .ensures) at (c .match .keys3))
 
 pub moved-spec : {M : Type 1} → statement M
 moved-spec =

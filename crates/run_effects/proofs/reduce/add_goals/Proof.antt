@@ -2,6 +2,7 @@
 use Prim.Native.Nat.{_/_, _-_}
 use mathlib.Core.Path.{ap, _∙_}
 use native.Mathlib.Omega.{arith}
+use Rattle.term.specs.Words.{rest-in}
 use Rattle.run_effects.proofs.ReduceCalls as calls
 use Rattle.run_effects.proofs.reduce.add_goals.Statement.{statement}
 use Rattle.run_effects.proofs.reduce.add_goals.Tie as tie
@@ -70,7 +71,7 @@ copy-arguments-requires c κs =
     let G = c .before .before .before .before .before .goal-of in
     calls.adds-asks (a .s .now) (a .from) (a .n) (a .pair) (a .to) (a .query) (a .queue) (a .size) (a .front) (a .active)
     (L .s) (L .free) (L .i) (L .inv) (c .before .before .before .before .before .before .before .before .before .loop-test .taken) _ (G .result) (G .ensures) (c .before .before .before .before .push .ensures)
-    _ (c .index .ensures ∙ ap (λ w. w / 8) (c .before .before .before .before .before .before .before .word-at .ensures)) (S .pre)
+    _ (c .index .ensures ∙ ap (λ w. rest-in w) (c .before .before .before .before .before .before .before .word-at .ensures)) (S .pre)
 
 add-i : tie.Need-add-i Inv-loop μ-loop
 add-i c =
@@ -90,7 +91,7 @@ loop-again c =
     let G = c .before .before .before .before .before .before .before .before .goal-of in
     calls.adds-on (a .s .now) (a .from) (a .n) (a .pair) (a .to) (a .query) (a .queue) (a .size) (a .front) (a .active)
     (L .s) (L .free) (L .i) (L .inv) (c .before .before .before .before .before .before .before .before .before .before .before .before .loop-test .taken) _ (G .result) (G .ensures) (c .before .before .before .before .before .before .before .push .ensures)
-    _ (c .before .before .before .index .ensures ∙ ap (λ w. w / 8) (c .before .before .before .before .before .before .before .before .before .before .word-at .ensures)) _ _ (c .before .before .copy-arguments .ensures)
+    _ (c .before .before .before .index .ensures ∙ ap (λ w. rest-in w) (c .before .before .before .before .before .before .before .before .before .before .word-at .ensures)) _ _ (c .before .before .copy-arguments .ensures)
 
 same-length : tie.Need-same-length Inv-loop μ-loop
 same-length c =

@@ -4,6 +4,7 @@ use mathlib.Core.Path.{ap, _∙_}
 use mathlib.Core.Logic.{⊎-elim}
 use native.Mathlib.Omega.{arith}
 use lib.ListN.{length, length-set}
+use Rattle.term.specs.Layout.{woken-part}
 use borrow.Author.Needs.{needs}
 use Rattle.run_effects.proofs.Inserting.{Opened, opened-begins, opened-on, opened-ends, lower, lower-than}
 use Rattle.run_effects.proofs.reduce.insert.Statement.{statement}
@@ -66,7 +67,7 @@ same-length : tie.Need-same-length Inv-loop μ-loop
 same-length c =
     let S = c .before .before .before .before .before .before .before .before in
     let L = c .before .before .before .before .before .before .loop in
-    ap length (c .before .before .set-at2 .ensures) ∙ length-set (L .s) (40464 + L .i) _ ∙ L .inv .size
+    ap length (c .before .before .set-at2 .ensures) ∙ length-set (L .s) (woken-part + L .i) _ ∙ L .inv .size
 
 returns : tie.Need-returns Inv-loop μ-loop
 returns c =

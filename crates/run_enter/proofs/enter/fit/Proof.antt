@@ -5,8 +5,7 @@ use native.Mathlib.Omega.{arith}
 use lib.Dec.{leb}
 use lib.ListN.{length}
 use borrow.Author.Needs.{needs}
-use Rattle.term.specs.Layout.{figures}
-use Rattle.term.specs.Jobs.{query-record}
+use Rattle.term.specs.Layout.{figures, query-record}
 use Rattle.run_enter.proofs.Summing.{sum-pairs, sum-compounds, sum-goals, small-counts, fit-no-pairs, fit-no-compounds, fit-goals}
 use Rattle.run_enter.proofs.enter.fit.Statement.{statement}
 use Rattle.run_enter.proofs.enter.fit.Tie as tie

@@ -5,7 +5,6 @@ use native.Mathlib.Omega.{arith}
 use native.Mathlib.Numerals.{add-one}
 use lib.ListN.{length, getD}
 use borrow.Author.Needs.{needs}
-use Rattle.term.specs.Jobs.{query-record}
 use Rattle.run_enter.specs.Entering.{record-sum}
 use Rattle.run_enter.proofs.Summing.{sum-small}
 use Rattle.run_enter.proofs.enter.sum.Statement.{statement}
@@ -14,6 +13,7 @@ use Rattle.run_enter.proofs.enter.sum.Reads as reads
 use Rattle.run_enter.proofs.enter.sum.Lts as lts
 use Rattle.term.proofs.word.index.Reads as index-reads
 use Rattle.term.proofs.scratch.word_at.Reads as word-at-reads
+use Rattle.term.specs.Layout.{query-record}
 
 abbrev Inv-loop : tie.InvT-loop
 Inv-loop s queries at all₀ q₀ all q = (q ≤ queries) × (all ≡ record-sum s at q)

@@ -8,27 +8,28 @@ use lib.ListN.{length, getD, set}
 use lib.Seq.{getD-set-same, getD-set-other}
 use Rattle.term.specs.Frames.{Only}
 use Rattle.term.proofs.Frames.{only-same, only-set, only-then}
+use Rattle.term.specs.Layout.{trial-region, gifts-part}
 use Rattle.run_trial.proofs.choice.begin.Statement.{statement}
 use Rattle.run_trial.proofs.choice.begin.Tie as tie
 
 abbrev Inv-loop : tie.InvT-loop
-Inv-loop s₀ x₀ s x = Only 39936 39952 s₀ s × (x ≤ 16) × ((a : ℕ) → a < x → getD s (39936 + a) 0 ≡ 0)
+Inv-loop s₀ x₀ s x = Only trial-region gifts-part s₀ s × (x ≤ 16) × ((a : ℕ) → a < x → getD s (trial-region + a) 0 ≡ 0)
 
 abbrev μ-loop : tie.MeasureT-loop
 μ-loop s₀ x₀ s x = 16 - x
 
-zero-next : (s : List ℕ) (x : ℕ) → 39936 + x < length s → ((a : ℕ) → a < x → getD s (39936 + a) 0 ≡ 0)
-    → (a : ℕ) → a < x + 1 → getD (set s (39936 + x) 0) (39936 + a) 0 ≡ 0
+zero-next : (s : List ℕ) (x : ℕ) → trial-region + x < length s → ((a : ℕ) → a < x → getD s (trial-region + a) 0 ≡ 0)
+    → (a : ℕ) → a < x + 1 → getD (set s (trial-region + x) 0) (trial-region + a) 0 ≡ 0
 zero-next s x inside before a h = go (decLt a x)
   where
-    go : Dec (a < x) → getD (set s (39936 + x) 0) (39936 + a) 0 ≡ 0
-    go (yes l) = getD-set-other s (39936 + x) (39936 + a) 0 0 (λ e. omega arith) ∙ before a l
+    go : Dec (a < x) → getD (set s (trial-region + x) 0) (trial-region + a) 0 ≡ 0
+    go (yes l) = getD-set-other s (trial-region + x) (trial-region + a) 0 0 (λ e. omega arith) ∙ before a l
     go (no l) =
         let same : a ≡ x = omega arith in
-        rw same (getD-set-same s (39936 + x) 0 0 inside)
+        rw same (getD-set-same s (trial-region + x) 0 0 inside)
 
 loop-holds : tie.Need-loop-holds Inv-loop μ-loop
-loop-holds c = (only-same 39936 39952 (c .before .args .s .now), omega arith, λ a h. absurd (omega arith))
+loop-holds c = (only-same trial-region gifts-part (c .before .args .s .now), omega arith, λ a h. absurd (omega arith))
 
 set-at-requires : tie.Need-set-at-requires Inv-loop μ-loop
 set-at-requires c κs =
@@ -55,8 +56,8 @@ loop-again c =
     let x = L .loop .x in
     let i = L .loop .inv in (
       rw (W .set-at .ensures)
-          (only-then 39936 39952 s₀ s (set s (39936 + x) 0) (i .0)
-          (only-set 39936 39952 s (39936 + x) 0 (omega arith) (omega arith))),
+          (only-then trial-region gifts-part s₀ s (set s (trial-region + x) 0) (i .0)
+          (only-set trial-region gifts-part s (trial-region + x) 0 (omega arith) (omega arith))),
       omega arith,
       rw (W .set-at .ensures) (zero-next s x (omega (arith, S .pre, i .0 .size)) (i .2)),
     )

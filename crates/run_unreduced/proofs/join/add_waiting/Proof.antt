@@ -7,7 +7,7 @@ use borrow.Author.Needs.{needs}
 use Rattle.meaning.specs.Bytes.{Bytes}
 use Rattle.meaning.specs.Terms.{Job}
 use Rattle.meaning.specs.State.{Goal}
-use Rattle.term.specs.Layout.{figures, waiters-region, sets-region, waiting-region}
+use Rattle.term.specs.Layout.{figures, waiters-region, sets-region, waiting-region, readers-part}
 use Rattle.term.specs.States.{Atlas, listed}
 use Rattle.run_queues.specs.Log.{Slot, waits, gathered, Waits, LogNow}
 use Rattle.run_between.specs.Taking.{FreePlace, Taken, JoiningWaiting}
@@ -33,7 +33,7 @@ module _ (f : tie.After-free-place) (text : Bytes) (names : List Bytes) (j : Job
 
   asks : Waits (f .free-place .last .0) (waiting-region (figures (start f .args .room))) (waiters-region (figures (start f .args .room)))
       (sets-region (figures (start f .args .room)))
-      (start f .args .room .pairs) (free .slots-now) (f .free-place .result) (start f .args .goal) 40336 (start f .args .readers)
+      (start f .args .room .pairs) (free .slots-now) (f .free-place .result) (start f .args .goal) readers-part (start f .args .readers)
   asks =
       wait-asks (start f .args .s .now) (f .free-place .last .0) text names j (figures (start f .args .room)) limit atlas slots g others (start f .args .t)
       (start f .args .goal) (start f .args .query) (start f .args .readers) readers (f .free-place .result) k joins free
@@ -49,7 +49,7 @@ module _ (w : tie.After-wait) where
       → LogNow (found .free-place .last .0) (w .wait .last .0) (waiting-region (figures (start found .args .room))) (waiters-region (figures (start found .args .room)))
       (sets-region (figures (start found .args .room))) (start found .args .room .pairs) (found .free-place .result + 1)
       (free found text names j limit atlas slots g others readers k joins .slots-now
-      ++ (waits (start found .args .goal) (gathered [] (listed (found .free-place .last .0) 40336 (start found .args .readers))) ∷ []))
+      ++ (waits (start found .args .goal) (gathered [] (listed (found .free-place .last .0) readers-part (start found .args .readers))) ∷ []))
   waited text names j limit atlas slots g others readers k joins =
       (rw (w .before .sets .ensures, w .before .before .waiters .ensures, w .before .before .before .waiting .ensures) at (w .wait .ensures))
       (start found .args .room .pairs) (free found text names j limit atlas slots g others readers k joins .slots-now)

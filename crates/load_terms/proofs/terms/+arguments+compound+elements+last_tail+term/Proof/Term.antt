@@ -3,6 +3,7 @@ use Prim.Native.Nat.{_+_, _*_, _-_}
 use native.Mathlib.Omega.{arith}
 use Rattle.meaning.specs.Items.{term as term-reader, elements as elements-reader}
 use Rattle.term.proofs.Frames.{only-same}
+use Rattle.term.specs.Layout.{item-start, item-end}
 use Rattle.load_names.specs.Places.{names-over, variables-over}
 use Rattle.load_openings.specs.Reading.{round-of}
 use Rattle.load_openings.proofs.Given.{round-read, opened-read}
@@ -101,7 +102,7 @@ term-returns-4 t c known vars stands =
     let begun = c .before .before .before .before .before .before .before .begin in
     let a = entry .args in
     let b = rw (stop .given .1) at (begun .ensures known vars stands) in
-    (b .0, b .1, only-same (8 * a .base) (8 * (a .base + 32)) (a .s .now))
+    (b .0, b .1, only-same (item-start (a .base)) (item-end (a .base)) (a .s .now))
 
 pub term-returns-5 : (t : ℕ) → term-lts.Need-returns-5 (term-calls t) (term-at t) term.Post
 term-returns-5 t c known vars stands =
@@ -110,4 +111,4 @@ term-returns-5 t c known vars stands =
     let begun = c .before .before .before .before .before .before .begin in
     let a = entry .args in
     let b = rw (told .given .1) at (begun .ensures known vars stands) in
-    (b, only-same (8 * a .base) (8 * (a .base + 32)) (a .s .now))
+    (b, only-same (item-start (a .base)) (item-end (a .base)) (a .s .now))
