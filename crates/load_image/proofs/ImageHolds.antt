@@ -11,7 +11,7 @@ use Rattle.term.specs.Cells.{KnownName}
 use Rattle.term.specs.Frames.{Only}
 use Rattle.term.specs.Jobs.{HoldsClause, HoldsQuery, EachFrom, Linked, procedure-place, Distinct, ClauseAt, HoldsJob}
 use Rattle.term.proofs.Jobs.{each-map, linked-map, holds-clause-kept, holds-query-kept}
-use Rattle.term.specs.Layout.{clauses-region, queries-region, compounds-region, clause-record}
+use Rattle.term.specs.Layout.{clauses-region, queries-region, compounds-region, clause-record, query-record}
 use Rattle.load_names.specs.Places.{Place, spellings}
 use Rattle.load_image.specs.Image.{
   Entry,
@@ -100,7 +100,7 @@ module _ (names : List Place) (es : List Entry) (s : List ℕ) (few-names : leng
   query-in : (k : ℕ) (q : Query) → HoldsQuery items-in (spellings names) k q → HoldsQuery names-too (spellings names) k q
   query-in k q h =
       holds-query-kept items-in names-too (spellings names) k size-names q
-      (λ i m x y. last .above (queries-region + 64 * k + i) (omega arith) ∙ links .behind (queries-region + 64 * k + i) (omega arith))
+      (λ i m x y. last .above (query-record k + i) (omega arith) ∙ links .behind (query-record k + i) (omega arith))
       (λ i l m. last .above i (omega arith) ∙ links .behind i (omega arith)) h
 
   clauses-in : EachFrom (HoldsClause items-in (spellings names)) 0 (clauses-of es)

@@ -6,7 +6,7 @@ use native.Mathlib.Omega.{arith}
 use native.Mathlib.Numerals.{add-one}
 use lib.ListN.{length, getD, take, drop, set, length-take, drop-of-length-le}
 use lib.Seq.{drop-cons, getD-take}
-use Rattle.term.specs.Layout.{clauses-region, procedure-slot}
+use Rattle.term.specs.Layout.{clauses-region, procedure-slot, clause-record}
 use Rattle.load_image.specs.Image.{linked, link-one}
 use Rattle.load_image.specs.Kept.{pairs-kept}
 
@@ -24,7 +24,7 @@ linked-cons k w ws s = refl
 -- One clause more, in front of those that are linked.
 pub linked-again : (heads : List ℕ) (clauses j k first r : ℕ) (s s₀ : List ℕ) → j + 1 ≡ k → k ≤ clauses → clauses ≤ length heads
     → first ≡ procedure-slot (getD heads j 0) → r ≡ j + 1 → s ≡ linked k (drop k (take clauses heads)) s₀
-    → set (set s (clauses-region + 16 * j) (getD s first 0)) first r ≡ linked j (drop j (take clauses heads)) s₀
+    → set (set s (clause-record j) (getD s first 0)) first r ≡ linked j (drop j (take clauses heads)) s₀
 unfolding link-one
 linked-again heads clauses j k first r s s₀ e small inside f w h =
     let l = take clauses heads in

@@ -18,6 +18,7 @@ use Rattle.term.specs.Jobs.{ClauseLaid, GoalsNumbered, GoalsKnown, EachFrom, Li
 use Rattle.term.proofs.Numbers.{same-equal, number-below, number-apart}
 use Rattle.term.proofs.Jobs.{linked-map}
 use Rattle.term.specs.Layout.{clauses-region, queries-region, compounds-region, procedure-slot, clause-record}
+use Rattle.term.specs.Words.{packed}
 use Rattle.load_names.specs.Places.{Place, spellings, item-places}
 use Rattle.load_image.specs.Image.{head-word, head-words, link-one, linked}
 
@@ -35,14 +36,14 @@ alike : Named → Named → Bool
 alike g h = same (g .name) (h .name) && eqb (count (g .arguments)) (count (h .arguments))
 
 place-alike : (names : List Bytes) (m n : ℕ) (f g : Bytes) (a b : Bool) → same f g ≡ a → eqb m n ≡ b → (a && b) ≡ true
-    → procedure-slot (m + 8 * (number-of f names + 1)) ≡ procedure-slot (n + 8 * (number-of g names + 1))
+    → procedure-slot (packed m (number-of f names + 1)) ≡ procedure-slot (packed n (number-of g names + 1))
 place-alike names m n f g true true d e h = rw (same-equal f g d, eqb-true m n e)
 place-alike names m n f g true false d e h = let z : _≡_ {A = ℕ} 0 1 = cc in absurd (omega arith)
 place-alike names m n f g false b d e h = let z : _≡_ {A = ℕ} 0 1 = cc in absurd (omega arith)
 
 place-apart : (names : List Bytes) (m n : ℕ) (f g : Bytes) (a b : Bool) → m ≤ 6 → n ≤ 6 → KnownName names f → KnownName names g
     → same f g ≡ a → eqb m n ≡ b → (a && b) ≡ false
-    → procedure-slot (m + 8 * (number-of f names + 1)) ≢ procedure-slot (n + 8 * (number-of g names + 1))
+    → procedure-slot (packed m (number-of f names + 1)) ≢ procedure-slot (packed n (number-of g names + 1))
 place-apart names m n f g true true x y k l d e h p = let z : _≡_ {A = ℕ} 0 1 = cc in absurd (omega arith)
 place-apart names m n f g true false x y k l d e h p = eqb-false m n e (omega arith)
 place-apart names m n f g false b x y k l d e h p = number-apart f g names d k l (omega arith)

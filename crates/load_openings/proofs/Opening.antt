@@ -15,7 +15,7 @@ use Rattle.meaning.specs.Tokens.{Tokens, ends, token, name, variable, integer, 
 use Rattle.meaning.specs.Items.{Counted, read, is, count-name, term}
 use Rattle.term.specs.Cells.{term-word, stored, Numbered, Known}
 use Rattle.term.specs.Cells.{bits as cell-bits}
-use Rattle.term.specs.Words.{integer-word, packed}
+use Rattle.term.specs.Words.{integer-word, packed, name-word}
 use Rattle.load_tokens.specs.Fronts.{tokens-in, FrontIs, bits, behind}
 use Rattle.load_names.specs.Places.{Place, spellings, with-place, with-name, with-variable, item-places}
 use Rattle.load_names.specs.Answers.{NameIs}
@@ -138,7 +138,7 @@ module _ (left : ℕ) (text rest : Bytes) (from : ℕ) (known vars : List Place)
         λ base s. gave-by known vars (moves-token from rest (c .at) e a (integer i) known vars follows refl)
             (ap (term left so-far) p ∙ term-integer left so-far (from + a) i (piece (tokens-in from rest e)))
             (stands-moved e stands (f .2))
-            (ap (λ v. 3 + 8 * v) (f .5 ∙ same-bits i))
+            (ap (λ v. integer-word v) (f .5 ∙ same-bits i))
             refl
             (omega arith)
             tt
@@ -274,7 +274,7 @@ module _ (left : ℕ) (text rest : Bytes) (from : ℕ) (known vars : List Place)
                 (count-it (piece (tokens-in from rest e)))
                 (piece-stops (one-of 40 40 40) (from + b .2) (tokens-in from rest e) (b .3 from)))
                 stands-named
-                (b .0 ∙ ap (λ k. 4 + 8 * k) (sym (placed f (spellings known′) n (numbered .3) .number)))
+                (b .0 ∙ ap (λ k. name-word k) (sym (placed f (spellings known′) n (numbered .3) .number)))
                 refl
                 (omega arith)
                 (placed f (spellings known′) n (numbered .3) .among)

@@ -225,7 +225,7 @@ module _ (text rest : Bytes) (from base : ℕ) (known vars : List Place) (c : Cu
         let later = names-more p known in
         let number : number-of f (spellings (names-over p known)) ≡ name =
         ap (number-of f) (later .1) ∙ number-of-more f (spellings known) (later .0) (at .among) ∙ at .number in
-        let own : packed k (name + 1) ≡ count ts + 8 * (number-of f (spellings (names-over p known)) + 1) = omega (arith, number, g .count-is) in (
+        let own : packed k (name + 1) ≡ packed (count ts) (number-of f (spellings (names-over p known)) + 1) = omega (arith, number, g .count-is) in (
           record { number = c .compounds; name = f; arguments = ts },
           p,
           record {
@@ -234,7 +234,7 @@ module _ (text rest : Bytes) (from base : ℕ) (known vars : List Place) (c : Cu
             stands = g .stands;
             word-is = word;
             stored-is = kept ∙ ap (λ v. set s₁ (item-place base (c .compounds)) v) own
-                ∙ ap (λ l. set l (item-place base (c .compounds)) (count ts + 8 * (number-of f (spellings (names-over p known)) + 1))) (g .stored-is);
+                ∙ ap (λ l. set l (item-place base (c .compounds)) (packed (count ts) (number-of f (spellings (names-over p known)) + 1))) (g .stored-is);
             numbered = (refl, omega (arith, g .few), g .numbered);
             known-names = (rw (later .1) (known-name-more f (spellings known) (later .0) (at .among)), g .known-names);
             no-stop = g .no-stop;

@@ -22,14 +22,14 @@ ghost use Rattle.meaning.specs.Terms.{Term, as-term};
 ghost use Rattle.meaning.specs.Items.{place-of, compound-of};
 ghost use Rattle.meaning.specs.Items.{term as term-reader, arguments as arguments-reader, elements as elements-reader};
 ghost use Rattle.term.specs.Layout.{item-end, item-place};
-ghost use Rattle.term.specs.Words.{compound-word};
+ghost use Rattle.term.specs.Words.{compound-word, packed};
 ghost use Rattle.load_names.specs.Places.{Place, spellings};
 ghost use Rattle.load_openings.specs.Reading.{Stands, ReadIs, ArgumentsAre, closed};
 
 // A compound's own word: the number of its arguments, and eight times its functor: 0 for the list cell, else the name's number and one.
 fn functor(name: usize, count: u64) -> u64
     requires { ⌜ (name < 256) × (count ≤ 6) ⌝ }
-    ensures { λ r. ⌜ r ≡ count + 8 * (name + 1) ⌝ }
+    ensures { λ r. ⌜ r ≡ packed count (name + 1) ⌝ }
 {
     count + TAGS * word(name + 1)
 }

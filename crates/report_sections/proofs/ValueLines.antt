@@ -52,7 +52,7 @@ shows-variable s text x q xs v w vs h e =
     record {
       term = record { held = tt; of = record { within = omega (arith, vs .within); known = tt; ranged = tt } };
       sound = tt;
-      word = e ∙ ap (λ (k : ℕ). 1 + 8 * k) (sym (vs .pair v h));
+      word = e ∙ ap (λ (k : ℕ). writer-word k) (sym (vs .pair v h));
     }
 
 -- How long its name is.

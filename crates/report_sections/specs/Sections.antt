@@ -10,6 +10,7 @@ use Rattle.term.specs.Layout.{InRange, pair-facts, query-pairs-word, query-firs
 use Rattle.term.specs.declared.state.Standing.{Standing}
 use Rattle.term.specs.Setting.{Setting, UnitTerm}
 use Rattle.term.specs.Spellings.{HoldsSpellings}
+use Rattle.term.specs.Words.{packed}
 use Rattle.report_pairs.specs.Sound.{Sound}
 use Rattle.report_tallies.specs.Groups.{GroupInside, own-from, active-group, waiting-group, failed-group}
 use Rattle.report_tallies.specs.declared.groups.Group.{Group}
@@ -33,7 +34,7 @@ pub record Listed (s : List ℕ) (x : Setting) (facts : ℕ) (g : Group) (q : �
   pub small : q < 8
   pub inside : GroupInside s g
   pub behind : facts + pair-facts * x .pairs ≤ g .from
-  pub words : own-from s g q 0 (g .count) ≡ map (λ h. q + 8 * x .places .compound (h .goal .number)) gs
+  pub words : own-from s g q 0 (g .count) ≡ map (λ h. packed q (x .places .compound (h .goal .number))) gs
   pub held : GoalsHeld s x gs
 
 -- A query's section: its variables, and its goals in the three lists.

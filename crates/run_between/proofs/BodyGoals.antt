@@ -123,18 +123,18 @@ module _ (s s′ : List ℕ) (names : List Bytes) (figures : Room) (atlas : Atla
   body-goals-stand h f k = body-stand (c .body) h (f .within) k (f .ranged)
 
   body-words-of : (gs : List Named)
-      → map (goal-word (atlas-after atlas units q P y)) (goals-at q (map (renamed-goal p c₀) gs)) ≡ map (λ g. q + 8 * places .compound (c₀ + g .number)) gs
+      → map (goal-word (atlas-after atlas units q P y)) (goals-at q (map (renamed-goal p c₀) gs)) ≡ map (λ g. packed q (places .compound (c₀ + g .number))) gs
   unfolding goals-at renamed-goal
   body-words-of [] = refl
   body-words-of (g ∷ gs) =
       let e : replaced-at atlas q places q .compound (c₀ + g .number) ≡ places .compound (c₀ + g .number) =
       ap (λ (x : Places). x .compound (c₀ + g .number)) (replaced-there atlas q places)
       in
-      let first : packed q (replaced-at atlas q places q .compound (c₀ + g .number)) ≡ packed q (places .compound (c₀ + g .number)) = ap (λ n. q + 8 * n) e in
+      let first : packed q (replaced-at atlas q places q .compound (c₀ + g .number)) ≡ packed q (places .compound (c₀ + g .number)) = ap (λ n. packed q n) e in
       let later = body-words-of gs in
       cc
 
   pub body-words : map (goal-word (atlas-after atlas units q P y)) (body-goals c (unit-at q units) q)
-      ≡ map (λ g. q + 8 * places .compound (c₀ + g .number)) (c .body)
+      ≡ map (λ g. packed q (places .compound (c₀ + g .number))) (c .body)
   unfolding body-goals next-pair
   body-words = body-words-of (c .body)

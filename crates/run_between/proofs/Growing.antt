@@ -13,6 +13,7 @@ use Rattle.term.specs.Holds.{Holds, HoldsFrom, HoldsValue, HoldsValues, value-w
 use Rattle.term.specs.Setting.{Setting, Within, AllWithin, Ranged, OfUnit, UnitTerm, UnitStands}
 use Rattle.term.proofs.Holds.{holds-alike}
 use Rattle.term.proofs.Units.{within-every}
+use Rattle.term.specs.Words.{writer-word, reader-word, name-word, compound-word, packed}
 
 -- Wider bounds.
 mutual
@@ -41,19 +42,19 @@ agree-same p c places = record { names = refl; pair = λ n h. refl; compound = �
 module _ (p c : ℕ) (places places′ : Places) (same : AgreeBelow p c places places′) where
   constant-word : (k : Constant) → term-word places′ (constant k) ≡ term-word places (constant k)
   constant-word (Constant.integer i) = refl
-  constant-word (Constant.name f) = ap (λ names. 4 + 8 * number-of f names) (same .names)
+  constant-word (Constant.name f) = ap (λ names. name-word (number-of f names)) (same .names)
   constant-word Constant.empty = refl
 
   functor-same : (f : Functor) (k : ℕ) → functor-word places′ f k ≡ functor-word places f k
   functor-same cell k = refl
-  functor-same (named f) k = ap (λ names. k + 8 * (number-of f names + 1)) (same .names)
+  functor-same (named f) k = ap (λ names. packed k (number-of f names + 1)) (same .names)
 
   pub word-agrees : (t : Term) → Within p c t → term-word places′ t ≡ term-word places t
   unfolding Within
-  word-agrees (variable writer n) h = ap (λ x. 1 + 8 * x) (same .pair n h)
-  word-agrees (variable reader n) h = ap (λ x. 2 + 8 * x) (same .pair n h)
+  word-agrees (variable writer n) h = ap (λ x. writer-word x) (same .pair n h)
+  word-agrees (variable reader n) h = ap (λ x. reader-word x) (same .pair n h)
   word-agrees (constant k) h = constant-word k
-  word-agrees (compound n f ts) h = ap (λ x. 6 + 8 * x) (same .compound n (h .0))
+  word-agrees (compound n f ts) h = ap (λ x. compound-word x) (same .compound n (h .0))
 
   module _ (s : List ℕ) where
     mutual

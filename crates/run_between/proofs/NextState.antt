@@ -27,6 +27,7 @@ use Rattle.term.specs.Layout.{values-region, waiters-region, sets-region, marks
 use Rattle.term.specs.States.{Atlas, setting, goal-word, ring, UnitsStand, FirstPair, AllStand, QueueStands, WaitingStand, FailedStand, HoldsState}
 use Rattle.term.specs.declared.state.Standing.{Standing}
 use Rattle.term.proofs.Jobs.{holds-job-kept}
+use Rattle.term.specs.Words.{packed}
 use Rattle.run_compare.specs.Gifts.{Entry}
 use Rattle.run_trial.specs.Choosing.{template, MarksBelow}
 use Rattle.run_queues.specs.Log.{Slot, LogOk, present}
@@ -67,7 +68,7 @@ pub record Reduced (s s′ : List ℕ) (figures : Room) (atlas : Atlas) (units :
   pub log : LogOk s′ (waiting-region figures) (waiters-region figures) (sets-region figures) (figures .pairs) (emptied zs slots)
   pub queue : ring s′ (queue-region figures) (figures .goals) front (active + length (c .body) + length (hits zs 0 slots))
       ≡ (ring s (queue-region figures) (figures .goals) front active
-      ++ map (λ g. q + 8 * enlarged (atlas q) (unit-at q units) P y .compound (unit-at q units .compounds + g .number)) (c .body))
+      ++ map (λ g. packed q (enlarged (atlas q) (unit-at q units) P y .compound (unit-at q units .compounds + g .number))) (c .body))
       ++ woken zs slots
   pub ends : (k : ℕ) → ends-region figures ≤ k → k < queue-region figures → getD s′ k 0 ≡ getD s k 0
 

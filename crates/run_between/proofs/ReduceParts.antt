@@ -26,6 +26,7 @@ use Rattle.term.specs.Layout.{values-region, waiters-region, sets-region, queue
 use Rattle.term.specs.States.{Atlas, setting, goal-word, ring, Lies, AllStand, HoldsState}
 use Rattle.term.specs.declared.state.Standing.{Standing}
 use Rattle.term.proofs.Jobs.{holds-clause-kept}
+use Rattle.term.specs.Words.{packed}
 use Rattle.run_compare.specs.Gifts.{Entry, entries-of, assignments}
 use Rattle.run_compare.specs.Compare.{item-places}
 use Rattle.run_trial.proofs.Once.{AllApart, once-apart, no-entry, entries-differ, entry-words, entry-held}
@@ -527,7 +528,7 @@ module _ {s : List ℕ} {text : Bytes} {names : List Bytes} {j : Job} {figures :
 
               queue-6 : ring s₆ (queue-region figures) (figures .goals) front (t .active - 1 + length (c .body) + length (hits zs 0 slots))
                   ≡ (ring s (queue-region figures) (figures .goals) front (t .active - 1)
-                  ++ map (λ b. q + 8 * places .compound (unit .compounds + b .number)) (c .body))
+                  ++ map (λ b. packed q (places .compound (unit .compounds + b .number))) (c .body))
                   ++ woken zs slots
               queue-6 =
                   rw (← body-is, ← h₃ .number, ← queue-3)

@@ -15,12 +15,13 @@ use Rattle.term.specs.Setting.{Setting, Within}
 use Rattle.term.specs.declared.word.View.the-variants.{Writer, Reader}
 use Rattle.term.proofs.Cells.{word-positive}
 use Rattle.term.proofs.Chains.{followed-none, same-end, nearer}
+use Rattle.term.specs.Layout.{ends-after}
 use Rattle.run_chains.specs.Follow.{Reads, FollowedTo, PairAt, Ahead}
 use Rattle.run_table.proofs.Seen.{seen, seen-term, seen-writer, seen-reader, NoVariable, no-variable}
 
 module _ (s : List ℕ) (x : Setting) (from links : ℕ) where
   -- A pair's words stand in the scratch.
-  pub pair-inside : (n p : ℕ) → PairAt s x from links n p → from + 4 * links + p < length s
+  pub pair-inside : (n p : ℕ) → PairAt s x from links n p → from + ends-after * links + p < length s
   pair-inside n p a =
       omega (arith, a .chained .ends .inside, a .chained .links-are, a .chained .stands .held .place n (a .inside), a .place)
 
@@ -48,11 +49,11 @@ module _ (s : List ℕ) (x : Setting) (from links : ℕ) where
       }
 
   -- It leads to the end that is kept of it.
-  pub end-ahead : (n p e : ℕ) (h : Half) → PairAt s x from links n p → e ≡ getD s (from + 4 * links + p) 0 → e ≢ 0
+  pub end-ahead : (n p e : ℕ) (h : Half) → PairAt s x from links n p → e ≡ getD s (from + ends-after * links + p) 0 → e ≢ 0
       → Ahead s x from links (Term.variable h n) e
   unfolding Leads
   end-ahead n p e h a f d =
-      let same : from + 4 * links + p ≡ end-place x from n = omega (arith, a .chained .links-are, a .place) in
+      let same : from + ends-after * links + p ≡ end-place x from n = omega (arith, a .chained .links-are, a .place) in
       let word : e ≡ getD s (end-place x from n) 0 = f ∙ ap (λ m. getD s m 0) same in
       let k = a .chained .ends .kept n (a .inside) (λ z. d (word ∙ z)) in record {
         stops = λ z. absurd (d z);

@@ -19,6 +19,7 @@ use Rattle.term.specs.Setting.{Setting, UnitTerms}
 use Rattle.term.proofs.Chains.{value-leads}
 use Rattle.term.proofs.Units.{unit-terms-alike, unit-stands-alike, end-alike}
 use Rattle.term.specs.Words.{tag-in}
+use Rattle.term.specs.Layout.{ends-after}
 use Rattle.run_chains.specs.Follow.{FollowedTo, PairAt, Keepable, KeepsOf, Keeps, EndsKept}
 use Rattle.run_chains.proofs.Following.{pair-inside}
 use Rattle.run_chains.proofs.Compounds.{
@@ -47,7 +48,7 @@ module _ (x : Setting) (from links : ℕ) where
   module _ (s : List ℕ) (h : Half) (n w p e : ℕ) (k : KeepsOf s x from links (Term.variable h n) w) (a : PairAt s x from links n p)
       (to : FollowedTo s x from links (Term.variable h n) e) (u : Term) (assigned : value (x .values) n ≡ some u) where
     abbrev place : ℕ
-    place = from + 4 * links + p
+    place = from + ends-after * links + p
 
     abbrev s′ : List ℕ
     s′ = set s place e
@@ -116,11 +117,11 @@ module _ (x : Setting) (from links : ℕ) where
   -- A pair whose value is a reader is assigned.
   pub kept-where : (s : List ℕ) (h : Half) (n w p e v : ℕ) → KeepsOf s x from links (Term.variable h n) w → PairAt s x from links n p
       → FollowedTo s x from links (Term.variable h n) e → v ≡ getD s (from + p) 0 → tag-in v ≡ 2
-      → EndsKept s (set s (from + 4 * links + p) e) x from links
+      → EndsKept s (set s (from + ends-after * links + p) e) x from links
   kept-where s h n w p e v k a to is two =
       by (value (x .values) n) refl (is ∙ ap (λ m. getD s (from + m) 0) (a .place) ∙ a .chained .stands .held .stands n (a .inside))
     where
-      by : (o : Option Term) → value (x .values) n ≡ o → v ≡ value-word (x .places) o → EndsKept s (set s (from + 4 * links + p) e) x from links
+      by : (o : Option Term) → value (x .values) n ≡ o → v ≡ value-word (x .places) o → EndsKept s (set s (from + ends-after * links + p) e) x from links
       by none q f = absurd (omega arith)
       by (some u) q f = kept-set s h n w p e k a to u q
 

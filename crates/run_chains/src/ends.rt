@@ -4,6 +4,7 @@ ghost use Rattle.meaning.specs.Terms.{Half, Functor, Term, Terms, variable};
 ghost use Rattle.term.specs.Setting.{Setting};
 ghost use Rattle.run_chains.specs.Follow.{PairAt, KeepsOf, Keeps, EndsKept};
 use crate::follow::follow;
+use term::layout::ENDS_AFTER;
 use term::scratch::argument;
 use term::scratch::count;
 use term::scratch::set_at;
@@ -27,7 +28,7 @@ fn keep(s: &mut [u64], values: usize, links: usize, w: u64, p: usize)
     if e == v {
         return;
     }
-    set_at(s, values + 4 * links, p, e);
+    set_at(s, values + ENDS_AFTER * links, p, e);
 }
 
 // The same of any term.

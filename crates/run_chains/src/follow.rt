@@ -3,6 +3,7 @@ ghost use Prim.Native.Nat.{ℕ};
 ghost use Rattle.meaning.specs.Terms.{Half, Term, variable};
 ghost use Rattle.term.specs.Setting.{Setting};
 ghost use Rattle.run_chains.specs.Follow.{Reads, FollowedTo, PairAt, Ahead};
+use term::layout::ENDS_AFTER;
 use term::scratch::word_at;
 use term::word::READER;
 use term::word::TAGS;
@@ -49,7 +50,7 @@ fn led(s: &[u64], values: usize, links: usize, p: usize) -> u64
     if v % TAGS != READER {
         return v;
     }
-    let e = word_at(s, values + 4 * links, p);
+    let e = word_at(s, values + ENDS_AFTER * links, p);
     if e == 0 {
         return v;
     }

@@ -99,12 +99,12 @@ pub functors-equal : (p q : Places) → q .names ≡ p .names → (g f : Functor
     → KnownFunctor (p .names) g → KnownFunctor (p .names) f
     → eqb (functor-word q g k) (functor-word p f j) ≡ (same-functor g f && eqb k j)
 unfolding same-functor
-functors-equal p q n cell cell k j few least a b = eqb-as (packed k 0) (j + 8 * 0) k j (λ e. omega arith) (λ e. omega arith)
-functors-equal p q n cell (named f) k j few least a b = ne-eqb (packed k 0) (j + 8 * (number-of f (p .names) + 1)) (λ e. omega arith)
-functors-equal p q n (named g) cell k j few least a b = ne-eqb (packed k (number-of g (q .names) + 1)) (j + 8 * 0) (λ e. omega arith)
+functors-equal p q n cell cell k j few least a b = eqb-as (packed k 0) (packed j 0) k j (λ e. omega arith) (λ e. omega arith)
+functors-equal p q n cell (named f) k j few least a b = ne-eqb (packed k 0) (packed j (number-of f (p .names) + 1)) (λ e. omega arith)
+functors-equal p q n (named g) cell k j few least a b = ne-eqb (packed k (number-of g (q .names) + 1)) (packed j 0) (λ e. omega arith)
 functors-equal p q n (named g) (named f) k j few least a b =
     let u = packed k (number-of g (p .names) + 1) in
-    let v = j + 8 * (number-of f (p .names) + 1) in
+    let v = packed j (number-of f (p .names) + 1) in
     rw n
     (same-answer (eqb u v) (same g f && eqb k j)
     (λ e.

@@ -9,6 +9,7 @@ use Rattle.term.specs.Cells.{Places, term-word, functor-word, number-of}
 use Rattle.term.specs.Holds.{Holds, HoldsFrom}
 use Rattle.term.specs.Setting.{Within, AllWithin}
 use Rattle.term.specs.Layout.{trial-region}
+use Rattle.term.specs.Words.{name-word, packed}
 use Rattle.run_effects.specs.Build.{Item, Goes, ItemTerm}
 
 pub count-renamed : (p c : ℕ) (ts : Terms) → count (all-renamed p c ts) ≡ count ts
@@ -19,12 +20,12 @@ count-renamed p c (more t ts) = ap suc (count-renamed p c ts)
 pub same-constant-word : (item places : Places) (k : Constant) → places .names ≡ item .names
     → term-word item (constant k) ≡ term-word places (constant k)
 same-constant-word item places (Constant.integer i) e = refl
-same-constant-word item places (Constant.name f) e = ap (λ names. 4 + 8 * number-of f names) (sym e)
+same-constant-word item places (Constant.name f) e = ap (λ names. name-word (number-of f names)) (sym e)
 same-constant-word item places Constant.empty e = refl
 
 pub same-functor-word : (item places : Places) (f : Functor) (k : ℕ) → places .names ≡ item .names → functor-word item f k ≡ functor-word places f k
 same-functor-word item places cell k e = refl
-same-functor-word item places (named f) k e = ap (λ names. k + 8 * (number-of f names + 1)) (sym e)
+same-functor-word item places (named f) k e = ap (λ names. packed k (number-of f names + 1)) (sym e)
 
 -- The item's terms stay where they are.
 module _ (x : Item) (pair : ℕ) (goes : Goes x pair) (s s′ : List ℕ) (size-kept : length s ≤ length s′)

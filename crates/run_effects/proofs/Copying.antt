@@ -150,7 +150,7 @@ module _ (s : List ℕ) (x : Item) (pair to h : ℕ) where
         is,
         record {
           goes = o′ .goes;
-          word = ap (λ m. 6 + 8 * m) place;
+          word = ap (λ m. compound-word m) place;
           term = o′ .term;
           behind = o′ .behind;
           inside = o′ .inside;
@@ -186,7 +186,7 @@ module _ (s : List ℕ) (x : Item) (pair to h : ℕ) where
             let place : places .compound (c + n) ≡ to = moved .compound-at n (within .0) ∙ spread .0 in
             only-apart to end-at at s₁ s₂ (d .only) (a .apart)
             ∙ (rw put (getD-set-same s at w 0 (a .inside)))
-            ∙ ap (λ m. 6 + 8 * m) (sym place);
+            ∙ ap (λ m. compound-word m) (sym place);
         held = d .held;
       }
 

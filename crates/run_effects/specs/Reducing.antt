@@ -14,6 +14,7 @@ use Rattle.term.specs.Jobs.{HoldsGoals}
 use Rattle.term.specs.Setting.{Within}
 use Rattle.term.specs.States.{ring, listed}
 use Rattle.term.specs.Layout.{trial-region, compounds-region, gift-pair, woken-part, followed-part}
+use Rattle.term.specs.Words.{packed}
 use Rattle.run_compare.specs.Gifts.{Entry, EntriesAt}
 use Rattle.run_effects.specs.Build.{Item, Copies, total, ListSpread, Goes, ItemTerm, Moved}
 use Rattle.run_queues.specs.Ring.{RingOk}
@@ -101,7 +102,7 @@ pub record Added (s s′ : List ℕ) (x : Item) (n pair to query queue size fron
   pub behind : r ≡ to + total (goal-terms goals)
   pub kept : KeptWhere (λ k. Apart to (to + total (goal-terms goals)) k × Apart queue (queue + size) k) s s′
   pub items : (places : Places) (y : Copies) (p c : ℕ) → Moved x places pair y p c → ListSpread y to (goal-terms goals)
-      → ring s′ queue size front (active + n) ≡ ring s queue size front active ++ map (λ g. query + 8 * places .compound (c + g .number)) goals
+      → ring s′ queue size front (active + n) ≡ ring s queue size front active ++ map (λ g. packed query (places .compound (c + g .number))) goals
   pub held : (places : Places) (y : Copies) (p c : ℕ) → Moved x places pair y p c → ListSpread y to (goal-terms goals) → GoalsHeld s′ places p c goals
 
 -- The places of the pairs that the trial's first n entries give a term.

@@ -266,7 +266,7 @@ module _ (s s′ : List ℕ) (names : List Bytes) (figures : Room) (atlas : Atla
   words-older (g ∷ gs) h =
       let i : g .query < q = omega (arith, as-many, h .0 .query) in
       let first : goal-word atlas′ g ≡ goal-word atlas g =
-      ap (λ (z : Places). g .query + 8 * z .compound (g .goal .number))
+      ap (λ (z : Places). packed (g .query) (z .compound (g .goal .number)))
       (replaced-elsewhere atlas q (g .query) (next-places names P y) (not-last (g .query) i))
       in
       let later = words-older gs (h .1) in
@@ -291,7 +291,7 @@ module _ (s s′ : List ℕ) (names : List Bytes) (figures : Room) (atlas : Atla
   goals-newer [] h w k i = tt
   goals-newer (g ∷ gs) h w k i = (goal-newer g (h .0) (w .0) (k .0) (i .0), goals-newer gs (h .1) (w .1) (k .1) (i .1))
 
-  pub words-newer : (gs : List Named) → map (goal-word atlas′) (goals-at q gs) ≡ map (λ g. q + 8 * next-places names P y .compound (0 + g .number)) gs
+  pub words-newer : (gs : List Named) → map (goal-word atlas′) (goals-at q gs) ≡ map (λ g. packed q (next-places names P y .compound (0 + g .number))) gs
   unfolding goals-at
   words-newer [] = refl
   words-newer (g ∷ gs) =
@@ -299,6 +299,6 @@ module _ (s s′ : List ℕ) (names : List Bytes) (figures : Room) (atlas : Atla
       let there : atlas′ q .compound (g .number) ≡ y .at (0 + g .number) =
       ap (λ (z : Places). z .compound (g .number)) (replaced-there atlas q (next-places names P y)) ∙ ap (y .at) (sym plain)
       in
-      let first : packed q (atlas′ q .compound (g .number)) ≡ packed q (y .at (0 + g .number)) = ap (λ w. q + 8 * w) there in
+      let first : packed q (atlas′ q .compound (g .number)) ≡ packed q (y .at (0 + g .number)) = ap (λ w. packed q w) there in
       let later = words-newer gs in
       cc

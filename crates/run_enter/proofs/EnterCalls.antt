@@ -16,7 +16,7 @@ use Rattle.laws.proofs.Lists.EachOf.{Each}
 use Rattle.laws.proofs.Reading.{accepted-keeps-the-figures}
 use Rattle.laws.proofs.Reading.Figures.{QueryFits}
 use Rattle.term.specs.Jobs.{EachFrom}
-use Rattle.term.specs.Layout.{queue-region, queries-region, compounds-region, query-record, query-pairs-word, query-compounds-word}
+use Rattle.term.specs.Layout.{queue-region, queries-region, compounds-region, query-record, query-pairs-word, query-compounds-word, query-first-pair-word, query-goals-from}
 use Rattle.term.specs.States.{Atlas, ring, logged, listed, Ready}
 use Rattle.term.specs.declared.state.Standing.{Standing}
 use Rattle.run_effects.specs.Build.{Item}
@@ -34,9 +34,9 @@ Enters s figures q t =
 
 -- The numbers of the call.
 pub record Numbers (s : List ℕ) (q n pairs compounds : ℕ) : Type 0 where
-  pub goals-are : n ≡ getD s (queries-region + 64 * q + 0) 0
-  pub pairs-are : pairs ≡ getD s (queries-region + 64 * q + 1) 0
-  pub compounds-are : compounds ≡ getD s (queries-region + 64 * q + 2) 0
+  pub goals-are : n ≡ getD s (query-record q + 0) 0
+  pub pairs-are : pairs ≡ getD s (query-pairs-word q) 0
+  pub compounds-are : compounds ≡ getD s (query-compounds-word q) 0
 
 pub record Bounded (s : List ℕ) (q : ℕ) (t : Standing) : Type 0 where
   pub few : q < 8
@@ -60,17 +60,17 @@ module _ (s : List ℕ) (text : Bytes) (names : List Bytes) (j : Job) (figures :
     (q n pairs compounds : ℕ) (at : q ≡ length done) (numbers : Numbers s q n pairs compounds) where
   goals-number : n ≡ length (x .goals)
   goals-number =
-      let plain : queries-region + 64 * q + 0 ≡ query-record (length done) = omega arith in
+      let plain : query-record q + 0 ≡ query-record (length done) = omega arith in
       numbers .goals-are ∙ ap (λ k. getD s k 0) plain ∙ query s text names j figures done x rest atlas t e is .goals
 
   pairs-number : pairs ≡ length (x .variables)
   pairs-number =
-      let plain : queries-region + 64 * q + 1 ≡ query-pairs-word (length done) = omega arith in
+      let plain : query-pairs-word q ≡ query-pairs-word (length done) = omega arith in
       numbers .pairs-are ∙ ap (λ k. getD s k 0) plain ∙ query s text names j figures done x rest atlas t e is .pairs
 
   compounds-number : compounds ≡ x .compounds
   compounds-number =
-      let plain : queries-region + 64 * q + 2 ≡ query-compounds-word (length done) = omega arith in
+      let plain : query-compounds-word q ≡ query-compounds-word (length done) = omega arith in
       numbers .compounds-are ∙ ap (λ k. getD s k 0) plain ∙ query s text names j figures done x rest atlas t e is .compounds
 
   sums-fit : (t .pairs + pairs ≤ 65535) × (t .compounds + compounds ≤ 65535) × (t .active + n ≤ 65535)
@@ -82,7 +82,7 @@ module _ (s : List ℕ) (text : Bytes) (names : List Bytes) (j : Job) (figures :
 
   module _ (queue : ℕ) (queue-is : queue ≡ queue-region figures) where
     adds-here : (y : Item) × (goals : List Named)
-        × Adding s y (queries-region + 64 * q + 8) n (t .pairs) (t .cells) q queue (figures .goals) 0 (t .active) goals
+        × Adding s y (query-goals-from q) n (t .pairs) (t .cells) q queue (figures .goals) 0 (t .active) goals
     adds-here = (
       item-of names (length done) x,
       x .goals,
@@ -91,15 +91,15 @@ module _ (s : List ℕ) (text : Bytes) (names : List Bytes) (j : Job) (figures :
 
     pub enters : (s₁ s′ : List ℕ) (w r : ℕ) (u : Standing)
         → ((y : Item) (goals : List Named)
-        → Adding s y (queries-region + 64 * q + 8) n (t .pairs) (t .cells) q queue (figures .goals) 0 (t .active) goals
+        → Adding s y (query-goals-from q) n (t .pairs) (t .cells) q queue (figures .goals) 0 (t .active) goals
         → Added s s₁ y n (t .pairs) (t .cells) q queue (figures .goals) 0 (t .active) goals r)
-        → w ≡ t .pairs → s′ ≡ set s₁ (queries-region + 64 * q + 3) w → Onward t u pairs compounds r n
+        → w ≡ t .pairs → s′ ≡ set s₁ (query-first-pair-word q) w → Onward t u pairs compounds r n
         → EnterOnly figures s s′ × ((atlas′ : Atlas) × Entered s′ text names j figures (done ++ x ∷ []) atlas′ u)
     enters s₁ s′ w r u call word-is set-is on =
         let asked = adding s text names j figures done x rest atlas t e is n goals-number in
         let added = rw (at, queue-is) at (call (item-of names (length done) x) (x .goals) (rw (at, queue-is) asked)) in
-        let stored : s′ ≡ set s₁ (queries-region + 64 * length done + 3) (t .pairs) =
-        set-is ∙ ap (λ v. set s₁ (queries-region + 64 * q + 3) v) word-is ∙ ap (λ k. set s₁ (queries-region + 64 * k + 3) (t .pairs)) at
+        let stored : s′ ≡ set s₁ (query-first-pair-word (length done)) (t .pairs) =
+        set-is ∙ ap (λ v. set s₁ (query-first-pair-word q) v) word-is ∙ ap (λ k. set s₁ (query-first-pair-word k) (t .pairs)) at
         in (
           only s text names j figures done x rest atlas t e is n goals-number s₁ r added s′ stored,
           (
@@ -117,7 +117,7 @@ sums s figures q t {n} {pairs} {compounds} (text, names, j, done, x, rest, atlas
 pub adds : (s : List ℕ) (figures : Room) (q : ℕ) (t : Standing) {n pairs compounds : ℕ} (queue : ℕ) → Enters s figures q t
     → Numbers s q n pairs compounds → queue ≡ queue-region figures
     → (y : Item) × (goals : List Named)
-    × Adding s y (queries-region + 64 * q + 8) n (t .pairs) (t .cells) q queue (figures .goals) 0 (t .active) goals
+    × Adding s y (query-goals-from q) n (t .pairs) (t .cells) q queue (figures .goals) 0 (t .active) goals
 adds s figures q t {n} {pairs} {compounds} queue (text, names, j, done, x, rest, atlas, e, is, at) numbers queue-is =
     adds-here s text names j figures done x rest atlas t e is q n pairs compounds at numbers queue queue-is
 

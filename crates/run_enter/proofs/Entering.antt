@@ -15,7 +15,7 @@ use Rattle.laws.proofs.Reading.Figures.{QueryFits}
 use Rattle.term.specs.Cells.{Places}
 use Rattle.term.specs.Holds.{Holds}
 use Rattle.term.specs.Jobs.{places-from, HoldsQuery, JobKept}
-use Rattle.term.specs.Layout.{values-region, queue-region, queries-region, query-record, query-base, query-first-pair-word}
+use Rattle.term.specs.Layout.{values-region, queue-region, queries-region, query-record, query-base, query-first-pair-word, query-goals-from}
 use Rattle.term.specs.Setting.{Ranged}
 use Rattle.term.specs.States.{Atlas, goal-word, ring, listed, logged, AllStand, QueueStands, WaitingStand, FailedStand, HoldsState}
 use Rattle.term.specs.declared.state.Standing.{Standing}
@@ -175,7 +175,7 @@ module _ (s : List ℕ) (text : Bytes) (names : List Bytes) (j : Job) (figures :
       }
 
   module _ (n : ℕ) (number : n ≡ length (x .goals)) where
-    pub adding : Adding s item (queries-region + 64 * length done + 8) n (t .pairs) (t .cells) (length done)
+    pub adding : Adding s item (query-goals-from (length done)) n (t .pairs) (t .cells) (length done)
         (queue-region figures) (figures .goals) 0 (t .active) (x .goals)
     adding =
         record {
@@ -198,7 +198,7 @@ module _ (s : List ℕ) (text : Bytes) (names : List Bytes) (j : Job) (figures :
 
     module _ (s₁ : List ℕ) (r : ℕ)
         (added : Added s s₁ item n (t .pairs) (t .cells) (length done) (queue-region figures) (figures .goals) 0 (t .active) (x .goals) r)
-        (s′ : List ℕ) (set-is : s′ ≡ set s₁ (queries-region + 64 * length done + 3) (t .pairs)) where
+        (s′ : List ℕ) (set-is : s′ ≡ set s₁ (query-first-pair-word (length done)) (t .pairs)) where
       size : length s′ ≡ length s
       size = ap length set-is ∙ length-set s₁ (query-first-pair-word q) P ∙ added .kept .size
 

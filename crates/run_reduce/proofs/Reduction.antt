@@ -13,7 +13,7 @@ use Rattle.meaning.specs.Trial.{reduces}
 use Rattle.meaning.specs.Step.{without-front}
 use Rattle.meaning.specs.Run.{within, fits, run}
 use Rattle.term.specs.Cells.{Places}
-use Rattle.term.specs.Layout.{values-region, waiters-region, sets-region, queue-region, waiting-region, clauses-region, items-region, compounds-region, query-tries-word}
+use Rattle.term.specs.Layout.{values-region, waiters-region, sets-region, queue-region, waiting-region, clauses-region, items-region, compounds-region, query-tries-word, clause-goals-from}
 use Rattle.term.specs.States.{Atlas}
 use Rattle.term.specs.declared.state.Standing.{Standing}
 use Rattle.run_between.specs.declared.stepped.Stepped.the-variants.{Next, NoRoom}
@@ -172,7 +172,7 @@ module _ {s : List ℕ} {text : Bytes} {names : List Bytes} {j : Job} {figures :
             module _ {front active body queue₁ : ℕ} (passed : Passed (figures .goals) (t .front) front) (e₈ : active ≡ t .active - 1) (e₉ : body ≡ length (c .body))
                 (d₁ : queue₁ ≡ queue-region figures) where
               pub asks-4 : (x : Item) × (goals : List Named)
-                  × Adding s₃ x (clauses-region + 16 * k + 4) body (t .pairs) r₂ query queue₁ (figures .goals) front active goals
+                  × Adding s₃ x (clause-goals-from k) body (t .pairs) r₂ query queue₁ (figures .goals) front active goals
               asks-4 = (
                 clause-item (atlas (g .query) .names) k c,
                 c .body,
@@ -180,7 +180,7 @@ module _ {s : List ℕ} {text : Bytes} {names : List Bytes} {j : Job} {figures :
               )
 
               module _ {s₄ : List ℕ} {r₄ : ℕ} (raw₄ : (x : Item) (goals : List Named)
-                  → Adding s₃ x (clauses-region + 16 * k + 4) body (t .pairs) r₂ query queue₁ (figures .goals) front active goals
+                  → Adding s₃ x (clause-goals-from k) body (t .pairs) r₂ query queue₁ (figures .goals) front active goals
                   → Added s₃ s₄ x body (t .pairs) r₂ query queue₁ (figures .goals) front active goals r₄) where
                 h₄ : Added s₃ s₄ (clause-item (atlas (g .query) .names) k c) body (t .pairs) (t .cells + total (entry-terms (red .gave .gave .list)))
                     (g .query) (queue-region figures) (figures .goals) front (t .active - 1) (c .body) r₄

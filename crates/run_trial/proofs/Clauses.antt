@@ -24,6 +24,7 @@ use Rattle.term.specs.States.{listed}
 use Rattle.term.proofs.Held.{linked-none-left, linked-next}
 use Rattle.term.proofs.Numbers.{number-below}
 use Rattle.term.specs.Layout.{compounds-region, readers-part, woken-part, procedure-slot, clause-record}
+use Rattle.term.specs.Words.{packed}
 use Rattle.run_circle.specs.Ground.{NewGrounds}
 use Rattle.run_circle.proofs.Grounds.{new-none, new-then, new-same}
 use Rattle.run_trial.specs.declared.choice.TrialResult.{TrialResult}
@@ -142,9 +143,9 @@ module _ {s : List ℕ} {text : Bytes} {names : List Bytes} {j : Job} {limit : �
   functor-is : procedure-slot (getD s goal 0) ≡ procedure-place names (g .goal)
   unfolding Holds as-term
   functor-is =
-      let is : getD s goal 0 ≡ count (g .goal .arguments) + 8 * (number-of (g .goal .name) names + 1) =
+      let is : getD s goal 0 ≡ packed (count (g .goal .arguments)) (number-of (g .goal .name) names + 1) =
       ap (λ p. getD s p 0) (t .goal-place) ∙ t .goal-held .held .0 .functor
-      ∙ ap (λ l. count (g .goal .arguments) + 8 * (number-of (g .goal .name) l + 1)) (t .names-are) in
+      ∙ ap (λ l. packed (count (g .goal .arguments)) (number-of (g .goal .name) l + 1)) (t .names-are) in
       omega arith
 
   pub procedure-inside : procedure-slot (getD s goal 0) < length s

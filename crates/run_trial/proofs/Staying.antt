@@ -19,7 +19,7 @@ use Rattle.term.specs.States.{setting, listed}
 use Rattle.term.proofs.Holds.{holds-alike}
 use Rattle.term.proofs.Jobs.{holds-clause-kept, holds-job-kept, linked-map}
 use Rattle.term.proofs.Units.{within-every, unit-stands-alike, ends-stand-alike}
-use Rattle.term.specs.Layout.{trial-region, compounds-region, gifts-part, gift-pair, gift-term, woken-part, clause-record, query-record}
+use Rattle.term.specs.Layout.{trial-region, compounds-region, gifts-part, gift-pair, gift-term, woken-part, clause-record, query-record, ends-after}
 use Rattle.run_circle.specs.Ground.{NewGrounds}
 use Rattle.run_circle.proofs.Grounds.{new-same, grounds-on}
 use Rattle.run_compare.specs.Gifts.{Gift, to-head, to-goal, Entry, EntriesAt}
@@ -98,7 +98,7 @@ module _ (marks pairs : ℕ) (s s′ : List ℕ) (o : TrialOnly compounds-region
     unit-stays from a b u =
         unit-stands-alike s s′ x (omega (arith, o .size)) words-stay from (λ k l h. high-stays k (omega arith) (omega arith)) u
 
-    pub ends-stay : (from : ℕ) → marks + pairs ≤ from + 4 * x .pairs → EndsStand s x from → EndsStand s′ x from
+    pub ends-stay : (from : ℕ) → marks + pairs ≤ from + ends-after * x .pairs → EndsStand s x from → EndsStand s′ x from
     ends-stay from a e =
         ends-stand-alike s s′ x (omega (arith, o .size)) words-stay from
         (λ n h. o .same (end-place x from n) (inr (omega arith)) (inr (omega arith))) e

@@ -17,7 +17,7 @@ use Rattle.term.specs.Chains.{EndsStand}
 use Rattle.term.specs.Jobs.{GoalsNumbered, HoldsJob, ClauseAt}
 use Rattle.term.specs.Setting.{Setting, UnitTerm, UnitStands}
 use Rattle.term.specs.States.{setting, listed}
-use Rattle.term.specs.Layout.{trial-region, compounds-region, readers-part}
+use Rattle.term.specs.Layout.{trial-region, compounds-region, readers-part, ends-after}
 use Rattle.run_chains.specs.Follow.{FollowedAt}
 use Rattle.run_compare.specs.Compare.{Template, Gave}
 use Rattle.run_circle.specs.Ground.{Grounds, NewGrounds}
@@ -49,7 +49,7 @@ pub record Trying (s : List ℕ) (text : Bytes) (names : List Bytes) (j : Job) (
   pub inside : marks + figures .pairs ≤ length s
   pub enough : length (unit-of j limit figures g .values) ≤ links
   pub links-are : links ≡ figures .pairs
-  pub ends-behind : marks + figures .pairs ≤ values + 4 * figures .pairs
+  pub ends-behind : marks + figures .pairs ≤ values + ends-after * figures .pairs
   pub ends : EndsStand s (setting figures places (unit-of j limit figures g)) values
   pub grounds : Grounds places (unit-of j limit figures g .values) marks s
 

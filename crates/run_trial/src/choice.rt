@@ -24,7 +24,7 @@ ghost use Rattle.meaning.specs.Terms.{Clause, Job};
 ghost use Rattle.meaning.specs.State.{Room, Goal};
 ghost use Rattle.term.specs.Cells.{Places};
 ghost use Rattle.term.specs.Frames.{Only};
-ghost use Rattle.term.specs.Layout.{clauses-region, trial-region, compounds-region, gifts-part, procedure-slot};
+ghost use Rattle.term.specs.Layout.{clauses-region, trial-region, compounds-region, gifts-part, procedure-slot, clause-record};
 ghost use Rattle.run_trial.specs.Choosing.{Trying, ArgumentsStand, MarksBelow, Candidate, TrialIs, ChoiceIs};
 
 // "Each trial of a clause gives one of three results": it succeeds, with so many of the goal's pairs given a term; it waits on the reader of a
@@ -100,8 +100,8 @@ fn first_clause(s: &[u64], goal: usize) -> usize
 
 // The number of the next clause of the same procedure plus one, or 0.
 fn next_clause(s: &[u64], k: usize) -> usize
-    requires { ⌜ clauses-region + 16 * k < length (now s) ⌝ }
-    ensures { λ r. ⌜ r ≡ getD (now (s .entry)) (clauses-region + 16 * k) 0 ⌝ }
+    requires { ⌜ clause-record k < length (now s) ⌝ }
+    ensures { λ r. ⌜ r ≡ getD (now (s .entry)) (clause-record k) 0 ⌝ }
 {
     index(word_at(s, CLAUSES + CLAUSE_STRIDE * k, CLAUSE_NEXT))
 }

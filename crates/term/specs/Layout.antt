@@ -173,8 +173,12 @@ sets-region room = values-region room + 2 * room .pairs
 abbrev pub marks-region : Room → ℕ
 marks-region room = values-region room + 3 * room .pairs
 
+-- The ends stand behind the values at four words a pair of the room.
+abbrev pub ends-after : ℕ
+ends-after = 4
+
 abbrev pub ends-region : Room → ℕ
-ends-region room = values-region room + 4 * room .pairs
+ends-region room = values-region room + ends-after * room .pairs
 
 -- What the report keeps of a pair, in the four words from its waiter to its end.
 abbrev pub pair-facts : ℕ

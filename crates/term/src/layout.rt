@@ -22,7 +22,7 @@
 //         waiters     1 a pair: the place in the waiting log of the goal that waits on it, plus one
 //         sets        1 a pair: the next pair that the same goal waits on, plus one
 //         marks       1 a pair: 0; 1 if no unassigned pair is reached from it; or the stamp of the last search of the circle test that visited it
-//         ends        1 a pair: where its chain was seen to lead, or 0
+//         ends        1 a pair: where its chain was seen to lead, or 0; ENDS_AFTER = 4 words a pair behind the values
 //         queue       1 a goal
 //         waiting     4 a goal: two places a goal, each with the goal and the first pair it waits on
 //         failed      1 a goal
@@ -87,6 +87,8 @@ pub const WOKEN: usize = READERS + 128;
 pub const FOLLOWED: usize = WOKEN + 192;
 
 pub const COMPOUNDS: usize = TRIAL + 768;
+
+pub const ENDS_AFTER: usize = 4;
 
 pub const PAIR_FACTS: usize = 4;
 

@@ -34,7 +34,7 @@ count-line-requires c κs =
     let is : own (c .before .before .before .before .before .before .before .args .q) (goal-in (c .before .before .before .before .before .before .before .args .s .now) (c .before .before .before .before .before .before .before .args .g) (c .before .before .before .before .before .before .before .args .i)) ≡ true =
     sym (ap (own (c .before .before .before .before .before .before .before .args .q)) (c .before .before .before .before .goal-at .ensures)) ∙ sym (c .before .before .before .own .ensures) ∙ c .before .before .if1 .taken in
     let word : c .before .goal-term .result ≡ compound-word (rest-in (goal-in (c .before .before .before .before .before .before .before .args .s .now) (c .before .before .before .before .before .before .before .args .g) (c .before .before .before .before .before .before .before .args .i))) =
-    c .before .goal-term .ensures ∙ ap (λ (w : ℕ). 6 + 8 * (rest-in w)) (c .before .before .before .before .goal-at .ensures) in
+    c .before .goal-term .ensures ∙ ap (λ (w : ℕ). compound-word (rest-in w)) (c .before .before .before .before .goal-at .ensures) in
     (text, x, seen, t, counts, rw word (shows is))
 
 -- src/sections.rt:131:9
@@ -47,7 +47,7 @@ returns c =
     let is : own (c .before .before .before .before .before .before .before .before .before .before .args .q) (goal-in (c .before .before .before .before .before .before .before .before .before .before .args .s .now) (c .before .before .before .before .before .before .before .before .before .before .args .g) (c .before .before .before .before .before .before .before .before .before .before .args .i)) ≡ true =
     sym (ap (own (c .before .before .before .before .before .before .before .before .before .before .args .q)) (c .before .before .before .before .before .before .before .goal-at .ensures)) ∙ sym (c .before .before .before .before .before .before .own .ensures) ∙ c .before .before .before .before .before .if1 .taken in
     let word : c .before .before .before .before .goal-term .result ≡ compound-word (rest-in (goal-in (c .before .before .before .before .before .before .before .before .before .before .args .s .now) (c .before .before .before .before .before .before .before .before .before .before .args .g) (c .before .before .before .before .before .before .before .before .before .before .args .i))) =
-    c .before .before .before .before .goal-term .ensures ∙ ap (λ (w : ℕ). 6 + 8 * (rest-in w)) (c .before .before .before .before .before .before .before .goal-at .ensures) in (
+    c .before .before .before .before .goal-term .ensures ∙ ap (λ (w : ℕ). compound-word (rest-in w)) (c .before .before .before .before .before .before .before .goal-at .ensures) in (
       λ e. absurd (false-not-true _ e is),
       λ text x seen t e counts shows. c .before .before .count-line .ensures text x seen t counts (rw word shows),
     )

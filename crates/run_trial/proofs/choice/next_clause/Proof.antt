@@ -2,7 +2,7 @@
 use Prim.Native.Nat.{_+_, _*_}
 use mathlib.Core.Path.{_≡_, refl, _∙_}
 use native.Mathlib.Omega.{arith}
-use Rattle.term.specs.Layout.{clauses-region}
+use Rattle.term.specs.Layout.{clauses-region, clause-record}
 use borrow.Author.Needs.{needs}
 use Rattle.run_trial.proofs.choice.next_clause.Statement.{statement}
 use Rattle.run_trial.proofs.choice.next_clause.Tie as tie
@@ -21,7 +21,7 @@ index-requires c κs = search needs
 
 returns : tie.Need-returns
 returns c =
-    let same : clauses-region + 16 * c .before .before .before .args .k + 0 ≡ clauses-region + 16 * c .before .before .before .args .k = omega arith in
+    let same : clause-record (c .before .before .before .args .k) + 0 ≡ clause-record (c .before .before .before .args .k) = omega arith in
     c .index .ensures ∙ c .before .word-at .ensures ∙ rw same refl
 
 pub next-clause-spec : {M : Type 1} → statement M
