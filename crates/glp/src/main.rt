@@ -1,6 +1,7 @@
-// Runs the one job on standard input and prints its report, or `refused N line L`, ended by LF.
+// The program: runs the one job on standard input and prints its report, or `refused N line L`, ended by LF.
 // Budget 10,000; room 1,024 pairs, 1,024 compounds, 128 goals; report buffer 65,536 bytes. Input in pieces is read whole; one byte past the longest
 // text is read, so that a longer one is refused with number 3.
+// What is printed is not stated: its file `stdout` is held to the reference. Read on: crate `job`.
 use job::call::Answer;
 use job::call::call;
 ghost use mathlib.Core.Path.{_≡_};

@@ -1,4 +1,7 @@
 // The call for hosts: one exported function, with the number as its result and line and length through references.
+// `troscunel_call` requires nothing and promises number, line and length of the definition's answer, and both buffers; proofs/OneAnswer has that two
+// answers to one call are equal.
+// Read specs/Exported for the contract, include/troscunel.h for what a host has to know.
 use job::call::Answer;
 use job::call::call;
 ghost use mathlib.Core.Path.{_≡_};
