@@ -63,7 +63,8 @@ fn name(text: &[u8], s: &[u64], buffer: &mut [u8], at: usize, k: usize) -> usize
 
 // A term that is no compound, and no assigned variable.
 pub fn leaf(text: &[u8], s: &[u64], facts: usize, buffer: &mut [u8], at: usize, w: u64) -> usize
-    requires { ⌜ ((x : Setting) × (order : List ℕ) × (t : Term) × Writes (now s) (now text) x facts order t at (length (now buffer)) × Led (now s) x t w) ⌝ }
+    requires { ⌜ ((x : Setting) × (order : List ℕ) × (t : Term) × Writes (now s) (now text) x facts order t at (length (now buffer)) × Led (now s) x t w
+        × NoCompound (view (tag-in w) (rest-in w))) ⌝ }
     ensures { λ r. ⌜ ((x : Setting) (order : List ℕ) (t : Term) → Writes (now (s .entry)) (now (text .entry)) x facts order t at (length (now (buffer .entry)))
         → Led (now (s .entry)) x t w → NoCompound (view (tag-in w) (rest-in w))
         → Puts (now (buffer .entry)) (now (buffer .exit)) at r (written order alone (full (x .values) t))) ⌝ }

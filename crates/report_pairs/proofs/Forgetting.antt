@@ -35,7 +35,7 @@ zeroed-more s₀ s facts bound n below inside z = record {
 pub zeroed-all : (s s′ : List ℕ) (facts pairs : ℕ) → Zeroed s s′ facts (facts + pair-facts * pairs) (pair-facts * pairs) → Cleared s s′ facts pairs
 zeroed-all s s′ facts pairs z = record { only = z .only; zero = λ p i h k. word p i h k }
   where
-    word : (p i : ℕ) → p < pairs → i < 3 → getD s′ (facts + pair-facts * p + i) 0 ≡ 0
+    word : (p i : ℕ) → p < pairs → i < pair-facts → getD s′ (facts + pair-facts * p + i) 0 ≡ 0
     word p i h k =
         let same : facts + pair-facts * p + i ≡ facts + (pair-facts * p + i) = omega arith in
         rw same (z .zero (pair-facts * p + i) (omega arith))

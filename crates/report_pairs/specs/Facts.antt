@@ -105,7 +105,7 @@ pub record Leads (s s′ : List ℕ) (text : Bytes) (x : Setting) (facts : ℕ) 
   pub counting : (seen : List ℕ) → Counting s x facts seen → Counting s′ x facts seen
   pub led : Led s′ x t r
 
--- So many pairs have nothing kept.
+-- So many pairs have nothing kept: all four words of each are 0.
 pub record Cleared (s s′ : List ℕ) (facts pairs : ℕ) : Type 0 where
   pub only : Only facts (facts + pair-facts * pairs) s s′
-  pub zero : (p i : ℕ) → p < pairs → i < 3 → getD s′ (facts + pair-facts * p + i) 0 ≡ 0
+  pub zero : (p i : ℕ) → p < pairs → i < pair-facts → getD s′ (facts + pair-facts * p + i) 0 ≡ 0

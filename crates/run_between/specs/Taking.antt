@@ -32,7 +32,7 @@ pub record Reducing (s : List ℕ) (names : List Bytes) (j : Job) (figures : Roo
   pub at : ClauseAt s names k c
   pub gave : Succeeded s (setting-at figures atlas (run j limit figures .state .units) (g .query)) k c given n
 
--- It waits on the readers whose pairs' places stand from word 40336 on.
+-- It waits on the readers whose pairs' places stand in the part of the readers.
 pub record JoiningWaiting (s : List ℕ) (j : Job) (figures : Room) (limit : ℕ) (atlas : Atlas) (g : Goal) (goal query n : ℕ) (readers : List ℕ) : Type 0 where
   pub goal-is : goal ≡ goal-word atlas g
   pub query-is : query ≡ g .query

@@ -30,7 +30,7 @@ pub record Reads (s : List ℕ) (x : Setting) (from links : ℕ) (t : Term) (w :
 abbrev pub FollowedTo : List ℕ → Setting → ℕ → ℕ → Term → ℕ → Type 0
 FollowedTo s x from links t r = Reads s x from links (followed links (x .values) t) r
 
--- The arguments of a goal, followed, stand one behind the other from word 40657 + i on.
+-- The arguments of a goal, followed, stand one behind the other from word `followed-from` + i on.
 unfoldable pub FollowedAt : List ℕ → Setting → ℕ → ℕ → Terms → Type 0
 FollowedAt s x links i end = Unit {0}
 FollowedAt s x links i (more t ts) =

@@ -144,7 +144,7 @@ emptied zs (slot ∷ slots) = (if hit zs slot then gone else slot) ∷ emptied z
 abbrev pub NotLogged : ℕ → ℕ → ℕ → ℕ → ℕ → ℕ → Type 0
 NotLogged log waiters sets pairs used k = Apart waiters (sets + pairs) k × Apart log (log + 2 * used) k
 
--- A place joins the list from word 40464 on, before the first that is greater; the others keep their order.
+-- A place joins the list of the woken, before the first that is greater; the others keep their order.
 unfoldable pub inserted : ℕ → List ℕ → List ℕ
 inserted p [] = p ∷ []
 inserted p (q ∷ qs) = if ltb q p then q ∷ inserted p qs else p ∷ q ∷ qs
@@ -162,7 +162,7 @@ pub record Inserted (s s′ : List ℕ) (place n : ℕ) : Type 0 where
   pub kept : KeptWhere (Apart woken-part (woken-part + n + 1)) s s′
   pub places : listed s′ woken-part (n + 1) ≡ inserted place (listed s woken-part n)
 
--- The goals that wait on the entries' pairs are found: their places stand in order from word 40464 on.
+-- The goals that wait on the entries' pairs are found: their places stand in order in the part of the woken.
 pub record Wakes (s : List ℕ) (log waiters sets pairs : ℕ) (slots : List Slot) (n : ℕ) : Type 0 where
   pub ok : LogOk s log waiters sets pairs slots
   pub few : n ≤ 192

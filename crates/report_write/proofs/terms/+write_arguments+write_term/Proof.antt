@@ -419,8 +419,14 @@ write-arguments-leaf-requires : (t : ℕ) → write-arguments-lts.Need-leaf-requ
 write-arguments-leaf-requires t c κs =
     let S = c .before .before .before .before .before .before .before .before .before in let pre = S .pre .1 in let at = c .before .before .before .before .before .loop in
     let r = pre .3 in let fit = pre .5 in let G = at .inv (pre .0) (pre .1) (pre .2) r (pre .4) fit in
-    let l = c .before .before .before .end .ensures (S .args .text .now) (pre .0) (G .before .u) r (rw (c .before .before .before .before .word-at .ensures) (going-shows (at .frames) (S .args .s .now) (S .args .text .now) (pre .0) (S .args .facts) (pre .1) (pre .2) (S .args .buffer .now) (at .buffer) (S .args .at) (at .p) (at .i) (at .depth) (at .to) r fit G)) in
-    (pre .0, pre .1, G .before .u, going-writes (at .frames) (S .args .s .now) (S .args .text .now) (pre .0) (S .args .facts) (pre .1) (pre .2) (S .args .buffer .now) (at .buffer) (S .args .at) (at .p) (at .i) (at .depth) (at .to) r fit G, l)
+    let l = c .before .before .before .end .ensures (S .args .text .now) (pre .0) (G .before .u) r (rw (c .before .before .before .before .word-at .ensures) (going-shows (at .frames) (S .args .s .now) (S .args .text .now) (pre .0) (S .args .facts) (pre .1) (pre .2) (S .args .buffer .now) (at .buffer) (S .args .at) (at .p) (at .i) (at .depth) (at .to) r fit G)) in (
+      pre .0,
+      pre .1,
+      G .before .u,
+      going-writes (at .frames) (S .args .s .now) (S .args .text .now) (pre .0) (S .args .facts) (pre .1) (pre .2) (S .args .buffer .now) (at .buffer) (S .args .at) (at .p) (at .i) (at .depth) (at .to) r fit G,
+      l,
+      no-compound-seen (seen (c .before .before .before .end .result)) (rw (c .before .before .look .ensures) at (c .before .match .keys2)),
+    )
 
 write-arguments-rise-requires : (t : ℕ) → write-arguments-lts.Need-rise-requires (
   word-at-reads.Asked,
@@ -732,8 +738,14 @@ write-term-leaf-requires : (t : ℕ) → write-term-lts.Need-leaf-requires (
 ) (write-term-at t) write-term.Post
 write-term-leaf-requires t c κs =
     let S = c .before .before .before .before .before .before .before in let pre = S .pre .1 in let W = pre .3 in
-    let l = c .before .before .before .end .ensures (S .args .text .now) (pre .0) (pre .2) (W .readable) (pre .4) in
-    (pre .0, pre .1, pre .2, W, l)
+    let l = c .before .before .before .end .ensures (S .args .text .now) (pre .0) (pre .2) (W .readable) (pre .4) in (
+      pre .0,
+      pre .1,
+      pre .2,
+      W,
+      l,
+      no-compound-seen (seen (c .before .before .before .end .result)) (rw (c .before .before .look .ensures) at (c .before .match .keys2)),
+    )
 
 write-term-same-length : (t : ℕ) → write-term-lts.Need-same-length (
   end-reads.Asked,

@@ -16,9 +16,6 @@ abbrev μ-loop : tie.MeasureT-loop
 loop-holds : tie.Need-loop-holds Inv-loop μ-loop
 loop-holds c = let a = c .before .args in calls.assigns-none (a .s .now) (a .values) (a .pair) (a .to) (a .n)
 
-add-word-at : tie.Need-add-word-at Inv-loop μ-loop
-add-word-at c = search needs
-
 mul-word-at : tie.Need-mul-word-at Inv-loop μ-loop
 mul-word-at c =
     let S = c .before .before .before .before in let a = S .args in
@@ -37,8 +34,8 @@ word-at-requires c κs =
 index-requires : tie.Need-index-requires Inv-loop μ-loop
 index-requires c κs = tt
 
-add-word-at-2 : tie.Need-add-word-at-2 Inv-loop μ-loop
-add-word-at-2 c = search needs
+add-word-at : tie.Need-add-word-at Inv-loop μ-loop
+add-word-at c = search needs
 
 mul-word-at-2 : tie.Need-mul-word-at-2 Inv-loop μ-loop
 mul-word-at-2 c =
@@ -108,5 +105,5 @@ returns c =
 pub assign-goal-spec : {M : Type 1} → statement M
 assign-goal-spec =
     tie.close
-    (tie.spec Inv-loop μ-loop loop-holds add-word-at mul-word-at word-at-requires index-requires add-word-at-2 mul-word-at-2 word-at-requires-2 add-copy
+    (tie.spec Inv-loop μ-loop loop-holds mul-word-at word-at-requires index-requires add-word-at mul-word-at-2 word-at-requires-2 add-copy
     copy-requires add-i loop-less loop-again same-length returns)

@@ -24,9 +24,6 @@ loop-holds c =
     let S = c .before in
     (omega arith, λ pairs slots w. steps.awake-begins (S .args .s .now) (S .args .log) (S .args .waiters) (S .args .sets) pairs slots (w .ok))
 
-add-word-at : tie.Need-add-word-at Inv-loop μ-loop
-add-word-at c = search needs
-
 mul-word-at : tie.Need-mul-word-at Inv-loop μ-loop
 mul-word-at c =
     let S = c .before .before .before .before in omega (arith, S .pre .2 .few, c .before .loop-test .taken)
@@ -147,4 +144,4 @@ returns c =
 pub wake-spec : {M : Type 1} → statement M
 wake-spec =
     tie.close
-    (tie.spec Inv-loop μ-loop loop-holds add-word-at mul-word-at word-at-requires index-requires word-at-requires-2 index-requires-2 sub-leave leave-requires sub-insert insert-requires add-woken add-i loop-less loop-again same-length returns)
+    (tie.spec Inv-loop μ-loop loop-holds mul-word-at word-at-requires index-requires word-at-requires-2 index-requires-2 sub-leave leave-requires sub-insert insert-requires add-woken add-i loop-less loop-again same-length returns)
