@@ -197,7 +197,7 @@ module _ (s s₁ : List ℕ) (text : Bytes) (names : List Bytes) (figures : Room
     pair-low : (n : ℕ) → n < length (unit k .values) → F .atlas k .pair n < t .pairs
     pair-low n l = omega (arith, F .state .pairs, lies .pair-below k n (below k h) l)
 
-    kept-zero : (n i : ℕ) → n < length (unit k .values) → i < 3 → getD s′ (fact-place (unit k) (waiters-region figures) n + i) 0 ≡ 0
+    kept-zero : (n i : ℕ) → n < length (unit k .values) → i < pair-facts → getD s′ (fact-place (unit k) (waiters-region figures) n + i) 0 ≡ 0
     kept-zero n i l m =
         getD-set-other s₁ pairs-told (fact-place (unit k) (waiters-region figures) n + i) (figures .pairs) 0 (λ e. omega arith)
         ∙ c .zero (F .atlas k .pair n) i (pair-low n l) m
