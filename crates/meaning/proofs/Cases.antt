@@ -1,5 +1,5 @@
 -- The cases of document 01 as one computed statement over one list of them. `tests/cases` names those that fail, if any.
--- What no case shows of two definitions stands in Alone.
+-- What no case shows stands in Alone.
 use Prim.Native.String.{String}
 use mathlib.Core.Path.{_≡_, refl}
 use mathlib.Core.List.{List, [], _∷_, _++_}

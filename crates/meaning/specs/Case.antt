@@ -7,7 +7,7 @@ use lib.Dec.{leb, eqb}
 use lib.ListN.{length, drop, replicate}
 use Rattle.meaning.specs.Bytes.{Bytes, bytes-words, same, if_then_else_, those}
 use Rattle.meaning.specs.State.{Room}
-use Rattle.meaning.specs.Call.{Given, Answer, Outcome, number, line-of, length-of, cleared, call, everything}
+use Rattle.meaning.specs.Call.{Given, Answer, Outcome, number, line-of, length-of, call, everything}
 
 -- What is expected: a report; a refusal with its number and line; or number 8 with its length.
 pub data Expected : Type 0 where
@@ -60,10 +60,14 @@ expected-buffer (prints report) lent = report ++ drop (length report) lent
 expected-buffer (refuses number line) lent = lent
 expected-buffer (too-long length) lent = lent
 
+-- "Scratch is untouched on 1, 2, 3; otherwise the needed part is zero afterwards and any part beyond it is untouched", said without the call's own words.
+unfoldable pub needed-part-zero : List ℕ → List ℕ
+needed-part-zero lent = replicate need 0 ++ drop need lent
+
 unfoldable pub expected-scratch : Expected → List ℕ → List ℕ
-expected-scratch (prints report) lent = cleared need lent
-expected-scratch (refuses number line) lent = if leb number 3 then lent else cleared need lent
-expected-scratch (too-long length) lent = cleared need lent
+expected-scratch (prints report) lent = needed-part-zero lent
+expected-scratch (refuses number line) lent = if leb number 3 then lent else needed-part-zero lent
+expected-scratch (too-long length) lent = needed-part-zero lent
 
 -- The call's outcome is the expected one: number, line, length, report buffer and scratch.
 unfoldable pub as-expected : Expected → Case → Outcome → Bool
@@ -82,5 +86,5 @@ unfoldable pub failing : List Case → List String
 failing cases = map (λ c. c .label) (those (λ c. not (holds c)) cases)
 
 unfoldable pub case-words : Unit {0}
-unfolding everything need lent-scratch lent-buffer outcome expected-number expected-line expected-length expected-buffer expected-scratch as-expected holds failing
+unfolding everything need lent-scratch lent-buffer outcome expected-number expected-line expected-length expected-buffer needed-part-zero expected-scratch as-expected holds failing
 case-words = tt
