@@ -1,12 +1,12 @@
 -- What no case shows, of one definition alone: a writer in the values of a circle, and reports on the ceiling, one byte above it and far above it,
--- and a need that is another one for each room.
+-- a need that is another one for each room, and the bytes in which texts and expected reports are written.
 use Prim.Native.Nat.{ℕ}
 use mathlib.Core.Path.{_≡_, refl}
 use mathlib.Core.Bool.{Bool, true, false, _&&_}
 use mathlib.Core.List.{List, [], _∷_}
 use mathlib.Core.Option.{some}
 use lib.ListN.{length, replicate}
-use Rattle.meaning.specs.Bytes.{Bytes}
+use Rattle.meaning.specs.Bytes.{Bytes, bytes, bytes-words}
 use Rattle.meaning.specs.Terms.{writer, reader, variable}
 use Rattle.meaning.specs.Circle.{circle, circle-words}
 use Rattle.meaning.specs.Call.{Given, scratch-short, ran, report-long, Outcome, delivered, call, everything}
@@ -47,3 +47,8 @@ word-for-each-pair words =
 pub need-is-of-the-calls-room : (word-for-each-pair 1 .answer ≡ scratch-short) × (word-for-each-pair 3 .scratch ≡ 0 ∷ 0 ∷ 7 ∷ [])
 unfolding word-for-each-pair everything
 need-is-of-the-calls-room = (refl, refl)
+
+-- A case's text and its expected report are both written by `bytes`: it gives each character's code.
+pub bytes-are-codes : bytes "run _1?\n" ≡ 114 ∷ 117 ∷ 110 ∷ 32 ∷ 95 ∷ 49 ∷ 63 ∷ 10 ∷ []
+unfolding bytes-words
+bytes-are-codes = refl

@@ -71,8 +71,7 @@ figures-cases =
     ∷ of-bytes "behind 128 clauses a token that begins no item" (times 128 "p(a).\n" ++ bytes "X") (refuses 4 129)
     ∷ of-bytes "256 names, integers and lists none of them" (names-255 ++ bytes "?- last([1,2]).") (shows "run rest steps 1\nquery 1 tries 1 active 0 waiting 0 failed 1\nfailed last([1,2])\n")
     ∷ of-bytes "257 names" (names-255 ++ bytes "?- last(a1,\na1,\none,!).") (refuses 6 52)
-    ∷ of-bytes "a new name is counted before its parenthesis" (names-255 ++ bytes "?- last(a1), one\n!") (refuses 6 52)
-    ∷ of-bytes "a query's names are counted for the items behind it" (names-255 ++ bytes "?- last(a1).\none(1).") (refuses 6 53)
+    ∷ of-bytes "257 names, the last a head's before its parenthesis, one a query's" (names-255 ++ bytes "?- last(a1).\none\n!") (refuses 6 53)
     ∷ of-bytes "a 257th name that cannot stand" (names-255 ++ bytes "?- last(a1\none).") (refuses 4 53)
     ∷ []
 
