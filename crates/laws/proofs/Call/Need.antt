@@ -1,5 +1,5 @@
 -- Answer and report buffer do not hang on the need: two calls that are given the same but for need and scratch, and are both past number 2 or both not, agree in them.
--- The need is read by number 2's test and by what is cleared, and the scratch lent by these two alone.
+-- Need and scratch are read by number 2's test and where scratch is cleared, and nowhere else.
 use Prim.Native.Nat.{ℕ, _≤_}
 use mathlib.Core.Path.{_≡_, refl, sym, _∙_}
 use mathlib.Core.Bool.{Bool, true, false, not, _&&_}
@@ -32,11 +32,11 @@ unfolding if_then_else_
 both-branches true first second = first
 both-branches false first second = second
 
-module _ (need need′ : ℕ) (given : Given) (scratch : List ℕ) where
-  untouched-agree : (answer : Answer) → Agree (untouched answer given) (untouched answer (lending scratch given))
-  unfolding lending untouched
-  untouched-agree answer = record { answers = refl; buffers = refl }
+untouched-agree : (given : Given) (scratch : List ℕ) (answer : Answer) → Agree (untouched answer given) (untouched answer (lending scratch given))
+unfolding lending untouched
+untouched-agree given scratch answer = record { answers = refl; buffers = refl }
 
+module _ (need need′ : ℕ) (given : Given) (scratch : List ℕ) where
   refuses-agree : (answer : Answer) → Agree (refuses need answer given) (refuses need′ answer (lending scratch given))
   unfolding lending refuses
   refuses-agree answer = record { answers = refl; buffers = refl }
@@ -60,9 +60,9 @@ module _ (need need′ : Room → ℕ) (given : Given) (scratch : List ℕ) wher
       → Agree (call need given) (call need′ (lending scratch given))
   unfolding lending call
   answer-does-not-hang-on-the-need e =
-      both-branches (not (in-range (given .budget) (given .room))) (untouched-agree 0 0 given scratch _)
-      (rw e (both-branches (ltb (length scratch) (need′ (given .room))) (untouched-agree 0 0 given scratch _)
-      (both-branches (ltb 16384 (length (given .text))) (untouched-agree 0 0 given scratch _)
+      both-branches (not (in-range (given .budget) (given .room))) (untouched-agree given scratch _)
+      (rw e (both-branches (ltb (length scratch) (need′ (given .room))) (untouched-agree given scratch _)
+      (both-branches (ltb 16384 (length (given .text))) (untouched-agree given scratch _)
       (taken-agree (need (given .room)) (need′ (given .room)) given scratch (reading (given .text))))))
 
   -- Past number 2 with both.

@@ -1,5 +1,5 @@
--- What no case shows, of one definition alone: a writer in the values of a circle, and reports on the ceiling, one byte above it and far above it,
--- a need that is another one for each room, and the bytes in which texts and expected reports are written.
+-- What no case shows, of one definition alone: a writer in the values of a circle; reports on the ceiling, one byte above it and far above it;
+-- a need that is another one for each room; and the bytes in which texts and expected reports are written.
 use Prim.Native.Nat.{ℕ}
 use mathlib.Core.Path.{_≡_, refl}
 use mathlib.Core.Bool.{Bool, true, false, _&&_}
