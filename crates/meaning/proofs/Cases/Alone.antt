@@ -1,4 +1,4 @@
--- What no case shows, of one definition alone: a writer in the values of a circle; reports on the ceiling, one byte above it and far above it;
+-- What no case shows, of one definition alone: a writer in the values of a circle, and one that is followed; reports on the ceiling, one byte above it and far above it;
 -- a need that is another one for each room; and the bytes in which texts and expected reports are written.
 use Prim.Native.Nat.{ℕ}
 use mathlib.Core.Path.{_≡_, refl}
@@ -7,7 +7,8 @@ use mathlib.Core.List.{List, [], _∷_}
 use mathlib.Core.Option.{some}
 use lib.ListN.{length, replicate}
 use Rattle.meaning.specs.Bytes.{Bytes, bytes, bytes-words}
-use Rattle.meaning.specs.Terms.{writer, reader, variable}
+use Rattle.meaning.specs.Terms.{writer, reader, empty, variable, constant}
+use Rattle.meaning.specs.Compare.{followed, compare-words}
 use Rattle.meaning.specs.Circle.{circle, circle-words}
 use Rattle.meaning.specs.Call.{Given, scratch-short, ran, report-long, Outcome, delivered, call, everything}
 
@@ -16,6 +17,11 @@ use Rattle.meaning.specs.Call.{Given, scratch-short, ran, report-long, O
 pub circle-through-a-writer : circle (some (variable writer 1) ∷ some (variable reader 0) ∷ []) ≡ true
 unfolding circle-words
 circle-through-a-writer = refl
+
+-- "A goal term that is an assigned variable is followed to its value": a writer too, though no goal of a run holds an assigned one.
+pub writer-is-followed : followed 2 (some (variable reader 1) ∷ some (constant empty) ∷ []) (variable writer 0) ≡ constant empty
+unfolding compare-words
+writer-is-followed = refl
 
 and-false : (b : Bool) → b && false ≡ false
 and-false true = refl
