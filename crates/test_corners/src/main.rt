@@ -175,8 +175,9 @@ fn stops(s: &mut [u64], buffer: &mut [u8]) {
 
 // K11.
 fn rules(s: &mut [u64], buffer: &mut [u8]) {
-    asked(b"p(X).\n?- p(X,X).\n", 10000, 1024, 1024, 128, s, buffer);
-    asked(b"p(X).\n?- p(X?).\n", 10000, 1024, 1024, 128, s, buffer);
+    asked(b"p(X).\n", 10000, 1024, 1024, 128, s, buffer);
+    asked(b"?- p(X,X).\n", 10000, 1024, 1024, 128, s, buffer);
+    asked(b"?- p(X?).\n", 10000, 1024, 1024, 128, s, buffer);
 }
 
 // Texts that are refused on a line, and one without a query.
