@@ -9,6 +9,7 @@ use term::word::COMPOUND;
 use term::word::PROBE;
 use term::word::READER;
 use term::word::TAGS;
+use term::word::WRITER;
 use term::word::index;
 use term::word::word;
 ghost use mathlib.Core.Path.{_≡_};
@@ -22,10 +23,63 @@ ghost use Rattle.term.specs.Layout.{gift-pair, gift-term};
 ghost use Rattle.term.specs.Words.{probe-word};
 ghost use Rattle.run_circle.specs.Circle.{Entries, Held, held-word, entry-pair, Trial, Tried, Tested, Answered};
 ghost use Rattle.run_circle.specs.Ground.{GroundAt};
-ghost use Rattle.run_circle.specs.Search.{Scene, Told, Searching, LeadsIs, LastLeads, Settled, Names, begun-state, JoinedIs, SinceIs, SearchedFrom};
+ghost use Rattle.run_circle.specs.Search.{Scene, Told, Searching, LeadsIs, LastLeads, Settled, Names, begun-state, met-open, visited-one, SinceIs, SearchedFrom, EndsAs};
 
 // The mark of a pair from which no unassigned pair is reached. Stamps are greater.
 const GROUND: u64 = 1;
+
+// What a search finds: the pair is reached; it is not, but an unassigned pair may be; it is not, and all that was reached is ground.
+pub enum Found {
+    Reached,
+    Open,
+    Ground,
+}
+
+// The state of a search that goes on, as one number: MET_OPEN if it has met a pair that may not be ground, else ALL_GROUND; and, if it has visited a pair
+// since, twice one more than the place of the first.
+const ALL_GROUND: usize = 0;
+
+const MET_OPEN: usize = 1;
+
+// Whether it has met a pair that may not be ground.
+fn met_open(state: usize) -> bool
+    ensures { λ r. ⌜ r ≡ met-open state ⌝ }
+{
+    state % 2 == MET_OPEN
+}
+
+// Whether it has visited a pair since.
+fn visited_one(state: usize) -> bool
+    ensures { λ r. ⌜ r ≡ visited-one state ⌝ }
+{
+    state > MET_OPEN
+}
+
+// The place of the first pair that it has visited since.
+fn first_visited(state: usize) -> usize
+    requires { ⌜ 1 < state ⌝ }
+    ensures { λ r. ⌜ state / 2 ≡ r + 1 ⌝ }
+{
+    state / 2 - 1
+}
+
+// The state at the beginning. From a term of the head a search never tells that all is ground.
+fn begun(head: bool) -> usize
+    ensures { λ r. ⌜ r ≡ begun-state head ⌝ }
+{
+    if head { MET_OPEN } else { ALL_GROUND }
+}
+
+// The state when a pair at a place is visited.
+fn since(state: usize, p: usize) -> usize
+    requires { ⌜ 2 * p + 4 < 2 ^ 64 ⌝ }
+    ensures { λ r. ⌜ SinceIs state p r ⌝ }
+{
+    if visited_one(state) {
+        return state;
+    }
+    state + 2 * p + 2
+}
 
 // The term of the head that the trial gives the i-th of its pairs.
 fn given_term(s: &[u64], i: usize) -> u64
@@ -74,7 +128,7 @@ fn settle(s: &mut [u64], values: usize, marks: usize, stamp: u64, pair: usize)
     ensures { λ r. ⌜ ((x : Scene) (place goal : ℕ) → Searching (now (s .entry)) x values marks place stamp goal → GroundAt (x .unit) (x .before) pair
         → Settled x marks stamp (now (s .entry)) (now (s .exit))) ⌝ }
 {
-    let mut t = word(8 * pair + 1);
+    let mut t = WRITER + TAGS * word(pair);
     while leads(t) {
         let q = index(t / TAGS);
         if t % TAGS == COMPOUND {
@@ -94,50 +148,26 @@ fn settle(s: &mut [u64], values: usize, marks: usize, stamp: u64, pair: usize)
     }
 }
 
-// The end of a search that has not found the pair, where all that was left is ground: marks the pair that its state names. Whether it has met a pair that
-// may not be ground: 1; or 0.
-fn ended(s: &mut [u64], values: usize, marks: usize, stamp: u64, state: usize) -> u64
+// The end of a search that has not found the pair, where all that was left is ground: marks the pair that its state names.
+fn ended(s: &mut [u64], values: usize, marks: usize, stamp: u64, state: usize) -> Found
     requires { ⌜ ((x : Scene) × (place : ℕ) × (goal : ℕ) × Searching (now s) x values marks place stamp goal × Names x state) ⌝ }
     ensures settled { λ r. ⌜ ((x : Scene) (place goal : ℕ) → Searching (now (s .entry)) x values marks place stamp goal → Names x state
         → Settled x marks stamp (now (s .entry)) (now (s .exit))) ⌝ }
-    ensures parity { λ r. ⌜ r ≡ state % 2 ⌝ }
+    ensures answer { λ r. ⌜ EndsAs state r ⌝ }
 {
-    if state < 2 {
-        return word(state);
+    if visited_one(state) {
+        settle(s, values, marks, stamp, first_visited(state));
     }
-    settle(s, values, marks, stamp, state / 2 - 1);
-    word(state % 2)
-}
-
-// The state of a search at its beginning. From a term of the head it never tells that all is ground.
-fn begun(head: bool) -> usize
-    ensures { λ r. ⌜ r ≡ begun-state head ⌝ }
-{
-    if head { 1 } else { 0 }
-}
-
-// The state when an argument was searched.
-fn joined(state: usize, r: u64) -> usize
-    ensures { λ o. ⌜ JoinedIs state r o ⌝ }
-{
-    if r == 0 { state } else { 1 }
-}
-
-// The state when a pair at a place is visited.
-fn since(state: usize, p: usize) -> usize
-    requires { ⌜ 2 * p + 4 < 2 ^ 64 ⌝ }
-    ensures { λ r. ⌜ SinceIs state p r ⌝ }
-{
-    if state > 1 {
-        return state;
+    if met_open(state) {
+        Found::Open
+    } else {
+        Found::Ground
     }
-    state + 2 * p + 2
 }
 
-// Whether pair z is reached from a term: the head's, whose variables stand for what they are given, or the goal's. 2: it is; 0: it is not, and no
-// unassigned pair is; 1: else it is not. A pair with this search's stamp was visited.
-// Of the words' tags 6 is a compound's, and 1 and 2 are a pair's. The search goes on to a compound's last argument that leads on and to a pair's value in
-// its loop, and descends into the other arguments: `later` is the last one so far that leads on, or 0, and is searched when the next one is met.
+// Whether pair z is reached from a term: the head's, whose variables stand for what they are given, or the goal's. A pair with this search's stamp was
+// visited. The search goes on to a compound's last argument that leads on and to a pair's value in its loop, and descends into the other arguments:
+// `later` is the last one so far that leads on, or 0, and is searched when the next one is met.
 fn from_term(
     s: &mut [u64],
     values: usize,
@@ -146,7 +176,7 @@ fn from_term(
     stamp: u64,
     head: bool,
     w: u64,
-) -> u64
+) -> Found
     requires { ⌜ ((x : Scene) × (goal : ℕ) × (v : Option Term) × Searching (now s) x values marks z stamp goal × Told x head w v) ⌝ }
     ensures { λ r. ⌜ ((x : Scene) (goal : ℕ) (v : Option Term) → Searching (now (s .entry)) x values marks z stamp goal → Told x head w v
         → SearchedFrom (now (s .entry)) (now (s .exit)) x marks stamp goal v r) ⌝ }
@@ -165,11 +195,11 @@ fn from_term(
                 let a = argument(s, p, i);
                 if leads(a) {
                     if later != 0 {
-                        let r = from_term(s, values, marks, z, stamp, side, later);
-                        if r == 2 {
-                            return 2;
+                        match from_term(s, values, marks, z, stamp, side, later) {
+                            Found::Reached => return Found::Reached,
+                            Found::Open => state = MET_OPEN,
+                            Found::Ground => {}
                         }
-                        state = joined(state, r);
                     }
                     later = a;
                 }
@@ -182,7 +212,7 @@ fn from_term(
             continue;
         }
         if tag == 0 {
-            return 1;
+            return Found::Open;
         }
         if tag > READER {
             return ended(s, values, marks, stamp, state);
@@ -193,14 +223,14 @@ fn from_term(
             continue;
         }
         if p == z {
-            return 2;
+            return Found::Reached;
         }
         let m = word_at(s, marks, p);
         if m == GROUND {
             return ended(s, values, marks, stamp, state);
         }
         if m == stamp {
-            return 1;
+            return Found::Open;
         }
         set_at(s, marks, p, stamp);
         state = since(state, p);
@@ -210,7 +240,7 @@ fn from_term(
             let i = index(t / TAGS);
             t = given_term(s, i);
             side = true;
-            state = 1;
+            state = MET_OPEN;
         }
     }
 }
@@ -220,7 +250,7 @@ fn held(testing: bool, i: usize) -> u64
     requires { ⌜ probe-word i < 2 ^ 64 ⌝ }
     ensures { λ r. ⌜ r ≡ held-word testing i ⌝ }
 {
-    if testing { word(7 + 8 * i) } else { 0 }
+    if testing { PROBE + TAGS * word(i) } else { 0 }
 }
 
 // The place of the pair of the i-th entry.
@@ -255,8 +285,7 @@ fn from_entries(s: &mut [u64], values: usize, marks: usize, n: usize, stamp: u64
     while i < n {
         let z = entry_pair(s, i);
         let h = given_term(s, i);
-        let r = from_term(s, values, marks, z, stamp + word(i), true, h);
-        if r == 2 {
+        if let Found::Reached = from_term(s, values, marks, z, stamp + word(i), true, h) {
             return true;
         }
         i += 1;

@@ -96,7 +96,10 @@ pub fn places(
     let mut k = open(s, p, q);
     let mut given = n;
     let mut i = 1;
-    while i <= k {
+    'places: loop {
+        if i > k {
+            break 'places;
+        }
         let h = argument(s, p, i);
         let a = argument(s, q, i);
         let w = follow(s, values, links, a);
@@ -119,7 +122,7 @@ pub fn places(
                     q = c;
                     k = open(s, p, q);
                     i = 1;
-                    continue;
+                    continue 'places;
                 }
                 match compounds(s, values, links, b, c, given) {
                     CompareResult::Agrees(m) => {

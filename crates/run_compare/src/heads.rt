@@ -24,7 +24,10 @@ pub fn head(s: &mut [u64], values: usize, links: usize, p: usize) -> CompareResu
     let k = count(s, p);
     let mut given = 0;
     let mut i = 1;
-    while i <= k {
+    'places: loop {
+        if i > k {
+            break 'places;
+        }
         let h = argument(s, p, i);
         let w = word_at(s, FOLLOWED, i);
         match table(s, h, w, given) {

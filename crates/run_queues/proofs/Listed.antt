@@ -30,6 +30,7 @@ listed-stored s from n v h =
 pub failed-more : (s : List ℕ) (failed n goal : ℕ) → failed + n < length s → Failed s (set s (failed + n) goal) failed n goal
 failed-more s failed n goal h =
     record {
+      words = refl;
       only = only-set (failed + n) (failed + n + 1) s (failed + n) goal (omega arith) (omega arith);
       items = listed-stored s failed n goal h;
     }

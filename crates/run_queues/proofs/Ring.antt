@@ -68,6 +68,7 @@ module _ (queue size : ℕ) where
       → Pushed s (set s (queue + round size (front + active)) g) queue size front active g
   ring-pushed s front active g ok less =
       record {
+        words = refl;
         only =
             only-set queue (queue + size) s (queue + round size (front + active)) g (omega arith)
             (omega (arith, round-inside size (front + active) (omega (arith, ok .front-inside))));
@@ -101,10 +102,10 @@ module _ (queue size : ℕ) where
       cc
 
 pub passed-on : (size front : ℕ) → front + 1 < size → Passed size front (front + 1)
-passed-on size front h = record { front-inside = h; items = λ s queue n less. ring-first queue size s front n (omega arith) }
+passed-on size front h = record { place = sym (round-below size (front + 1) h); front-inside = h; items = λ s queue n less. ring-first queue size s front n (omega arith) }
 
 pub passed-round : (size front : ℕ) → front + 1 ≡ size → Passed size front 0
-passed-round size front h = record { front-inside = omega arith; items = λ s queue n less. ring-first queue size s front n (omega arith) ∙ anew s queue n less }
+passed-round size front h = record { place = omega (arith, round-beyond size (front + 1) (omega arith)); front-inside = omega arith; items = λ s queue n less. ring-first queue size s front n (omega arith) ∙ anew s queue n less }
   where
     anew : (s : List ℕ) (queue n : ℕ) → n < size
         → getD s (queue + front) 0 ∷ ring s queue size (front + 1) n ≡ getD s (queue + front) 0 ∷ ring s queue size 0 n

@@ -153,7 +153,8 @@ pub record Closed (s s′ : List ℕ) (log waiters sets pairs used : ℕ) (slots
   pub number : to ≡ length (present slots used)
   pub now : LogNow s s′ log waiters sets pairs used (present slots used)
 
--- A goal has joined the failed goals, a list of words.
+-- A goal has joined the failed goals, a list of words: the one word that is set, and what it makes of the list.
 pub record Failed (s s′ : List ℕ) (failed n goal : ℕ) : Type 0 where
+  pub words : s′ ≡ set s (failed + n) goal
   pub only : Only (failed + n) (failed + n + 1) s s′
   pub items : listed s′ failed (n + 1) ≡ listed s failed n ++ (goal ∷ [])

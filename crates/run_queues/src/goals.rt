@@ -181,7 +181,9 @@ pub fn leave(s: &mut [u64], log: usize, waiters: usize, sets: usize, place: usiz
 // The goal at a place that waits on no pair is taken, and the place is emptied.
 pub fn take(s: &mut [u64], log: usize, place: usize) -> u64
     requires { ⌜ log + 2 * place + 1 < length (now s) ⌝ }
-    ensures { λ r. ⌜ ((waiters sets pairs : ℕ) (slots : List Slot) (goal : ℕ)
+    ensures goal { λ r. ⌜ r ≡ getD (now (s .entry)) (log + 2 * place) 0 ⌝ }
+    ensures words { λ r. ⌜ now (s .exit) ≡ set (set (now (s .entry)) (log + 2 * place) 0) (log + 2 * place + 1) 0 ⌝ }
+    ensures log { λ r. ⌜ ((waiters sets pairs : ℕ) (slots : List Slot) (goal : ℕ)
         → At (now (s .entry)) log waiters sets pairs slots place goal []
         → (r ≡ goal) × LogNow (now (s .entry)) (now (s .exit)) log waiters sets pairs (length slots) (set slots place gone)) ⌝ }
 {

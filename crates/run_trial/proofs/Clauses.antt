@@ -30,7 +30,7 @@ use Rattle.run_circle.proofs.Grounds.{new-none, new-then, new-same}
 use Rattle.run_trial.specs.declared.choice.TrialResult.{TrialResult}
 use Rattle.run_trial.specs.declared.choice.TrialResult.the-variants.{Succeeds, Waits, Fails}
 use Rattle.run_trial.specs.declared.choice.ChoiceResult.the-variants.{Reduces, Waits as WaitsOn, Fails as FailsAll}
-use Rattle.run_trial.specs.Choosing.{unit-of, Trying, ArgumentsStand, MarksBelow, TrialOnly, Candidate, TrialIs, AllBelow, ChoiceIs}
+use Rattle.run_trial.specs.Choosing.{unit-of, Trying, ArgumentsStand, MarksBelow, TrialOnly, Candidate, clause-after, TrialIs, AllBelow, ChoiceIs}
 use Rattle.run_trial.proofs.choice.TrialResult.{the-type}
 use Rattle.run_trial.proofs.Following.{Ready}
 use Rattle.run_trial.proofs.Staying.{
@@ -98,6 +98,12 @@ pub neither : (r : TrialResult) → OneOf (1 ∷ 2 ∷ []) (tagOf the-type r) �
 neither (Succeeds n) a b = absurd (miss (1 ∷ 2 ∷ []) 0 tt a)
 neither (Waits p) a b = absurd (miss (0 ∷ 2 ∷ []) 1 tt b)
 neither Fails a b = refl
+
+-- Whether the trial waits or fails, the next clause is tried.
+pub goes-on : (s : List ℕ) (k : ℕ) (r : TrialResult) → OneOf (1 ∷ 2 ∷ []) (tagOf the-type r) → clause-after s k r ≡ getD s (clause-record k) 0
+goes-on s k (Succeeds n) a = absurd (miss (1 ∷ 2 ∷ []) 0 tt a)
+goes-on s k (Waits p) a = refl
+goes-on s k Fails a = refl
 
 -- How far the choice has come.
 pub record Walk (s₀ s : List ℕ) (names : List Bytes) (j : Job) (limit : ℕ) (figures : Room) (at : Places) (g : Goal)

@@ -17,7 +17,7 @@ use Rattle.term.specs.Chains.{EndsStand}
 use Rattle.term.specs.Jobs.{GoalsNumbered, HoldsJob, ClauseAt}
 use Rattle.term.specs.Setting.{Setting, UnitTerm, UnitStands}
 use Rattle.term.specs.States.{setting, listed}
-use Rattle.term.specs.Layout.{trial-region, compounds-region, readers-part, ends-after}
+use Rattle.term.specs.Layout.{trial-region, compounds-region, readers-part, ends-after, clause-record}
 use Rattle.run_chains.specs.Follow.{FollowedAt}
 use Rattle.run_compare.specs.Compare.{Template, Gave}
 use Rattle.run_circle.specs.Ground.{Grounds, NewGrounds}
@@ -89,6 +89,12 @@ abbrev pub TrialTold : List ℕ → Setting → ℕ → Clause → Result → Tr
 TrialTold s x k c o (Succeeds n) = (given : List Assignment) × (o ≡ succeeds given) × Succeeded s x k c given n
 TrialTold s x k c o (Waits p) = (pair : ℕ) × (o ≡ waits-on pair) × (pair < length (x .values)) × (p ≡ x .places .pair pair)
 TrialTold s x k c o Fails = o ≡ fails
+
+-- The clause to try behind clause k, by its number plus one, or 0 if there is none.
+abbrev pub clause-after : List ℕ → ℕ → TrialResult → ℕ
+clause-after s k (Succeeds n) = 0
+clause-after s k (Waits p) = getD s (clause-record k) 0
+clause-after s k Fails = getD s (clause-record k) 0
 
 -- The answer of a trial.
 pub record TrialIs (s s′ : List ℕ) (j : Job) (limit : ℕ) (figures : Room) (places : Places) (g : Goal) (marks stamp k : ℕ) (c : Clause) (r : TrialResult) : Type 0 where

@@ -25,7 +25,7 @@ ghost use Rattle.meaning.specs.State.{Room, Goal};
 ghost use Rattle.term.specs.Cells.{Places};
 ghost use Rattle.term.specs.Frames.{Only};
 ghost use Rattle.term.specs.Layout.{clauses-region, trial-region, compounds-region, gifts-part, procedure-slot, clause-record};
-ghost use Rattle.run_trial.specs.Choosing.{Trying, ArgumentsStand, MarksBelow, Candidate, TrialIs, ChoiceIs};
+ghost use Rattle.run_trial.specs.Choosing.{Trying, ArgumentsStand, MarksBelow, Candidate, clause-after, TrialIs, ChoiceIs};
 
 // "Each trial of a clause gives one of three results": it succeeds, with so many of the goal's pairs given a term; it waits on the reader of a
 // pair; it fails.
@@ -106,6 +106,19 @@ fn next_clause(s: &[u64], k: usize) -> usize
     index(word_at(s, CLAUSES + CLAUSE_STRIDE * k, CLAUSE_NEXT))
 }
 
+// The clause to try when clause k was tried, in the same way: the next, "also when an earlier one waits"; behind one that succeeds none.
+fn clause_after(s: &[u64], k: usize, t: TrialResult) -> usize
+    requires { ⌜ clause-record k < length (now s) ⌝ }
+    ensures { λ r. ⌜ r ≡ clause-after (now (s .entry)) k t ⌝ }
+{
+    let next = next_clause(s, k);
+    match t {
+        TrialResult::Succeeds(_) => 0,
+        TrialResult::Waits(_) => next,
+        TrialResult::Fails => next,
+    }
+}
+
 // "The first clause that succeeds is taken, also when an earlier one waits." Stamps from this one on are unused.
 pub fn choice(
     s: &mut [u64],
@@ -136,7 +149,7 @@ pub fn choice(
                 readers += 1;
             }
             stamp += 256;
-            next = next_clause(s, k);
+            next = clause_after(s, k, t);
             continue 'clauses;
         };
         return ChoiceResult::Reduces(k, n);

@@ -1,4 +1,5 @@
 -- `circle::circle::settle` meets its contract: the term at hand has ground pairs only, and the weight of what is left falls.
+use Prim.Native.Nat.{_+_, _*_}
 use mathlib.Core.Path.{_≡_, refl, sym, _∙_}
 use native.Mathlib.Omega.{arith}
 use mathlib.Core.Bool.{false}
@@ -28,24 +29,24 @@ Inv-loop s₀ values marks stamp pair t₀ s t = Settling s₀ values marks stam
 abbrev μ-loop : tie.MeasureT-loop
 μ-loop s₀ values marks stamp pair t₀ s t = term-weight s marks is-one false t
 
-mul-word : tie.Need-mul-word Inv-loop μ-loop
-mul-word c =
-    let S = c .before in
-    omega (arith, settle-small (S .args .s .now) (S .args .values) (S .args .marks) (S .args .stamp) (S .args .pair) (S .pre), S .good .0 .1)
-
-add-word : tie.Need-add-word Inv-loop μ-loop
-add-word c =
-    let S = c .before in
-    omega (arith, settle-small (S .args .s .now) (S .args .values) (S .args .marks) (S .args .stamp) (S .args .pair) (S .pre), S .good .0 .1)
-
 word-requires : tie.Need-word-requires Inv-loop μ-loop
 word-requires c κs =
     search needs
 
+mul-t : tie.Need-mul-t Inv-loop μ-loop
+mul-t c =
+    let S = c .before .before in
+    omega (arith, c .word .ensures, settle-small (S .args .s .now) (S .args .values) (S .args .marks) (S .args .stamp) (S .args .pair) (S .pre), S .good .0 .1)
+
+add-t : tie.Need-add-t Inv-loop μ-loop
+add-t c =
+    let S = c .before .before in
+    omega (arith, c .word .ensures, settle-small (S .args .s .now) (S .args .values) (S .args .marks) (S .args .stamp) (S .args .pair) (S .pre), S .good .0 .1)
+
 loop-holds : tie.Need-loop-holds Inv-loop μ-loop
 loop-holds c =
     let S = c .before .before in
-    (settling-first (S .args .s .now) (S .args .values) (S .args .marks) (S .args .stamp) (S .args .pair) (c .word .result) (c .word .ensures), refl)
+    (settling-first (S .args .s .now) (S .args .values) (S .args .marks) (S .args .stamp) (S .args .pair) (1 + 8 * c .word .result) (omega (arith, c .word .ensures)), refl)
 
 leads-requires : tie.Need-leads-requires Inv-loop μ-loop
 leads-requires c κs =
@@ -190,9 +191,9 @@ settle-spec =
     (tie.spec
     Inv-loop
     μ-loop
-    mul-word
-    add-word
     word-requires
+    mul-t
+    add-t
     loop-holds
     leads-requires
     index-requires

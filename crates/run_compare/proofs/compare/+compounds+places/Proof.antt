@@ -74,15 +74,15 @@ places-at t = and 1 places-kinds.ps (is 1 places-kinds.ps μ-places t) places.Pr
 abbrev places-below : ℕ → In 1 places-kinds.ps
 places-below t = and 1 places-kinds.ps (falls 1 places-kinds.ps _<_ μ-places t) places.Pre
 
-abbrev places-Inv-loop : places-lts.InvT-loop
-places-Inv-loop s₀ values links first second n p₀ q₀ k₀ given₀ i₀ s p q k given i =
+abbrev Inv-places : places-lts.InvT-places
+Inv-places s₀ values links first second n p₀ q₀ k₀ given₀ i₀ s p q k given i =
     (x : Setting) (y : Template) (m : ℕ) (g : Functor) (us : Terms) (lo hi l : ℕ) (f : Functor) (ts : Terms)
     → AllAgainst s₀ x y values links m g us lo hi l f ts first second n
     → Going s₀ s x y values links first n lo hi (count us) (places-outcome x links us ts) p q k given i
 
 -- A compound that it goes on to lies behind, and has at most 6 arguments.
-abbrev places-μ-loop : places-lts.MeasureT-loop
-places-μ-loop s₀ values links first second n p₀ q₀ k₀ given₀ i₀ s p q k given i = 8 * (trial-region - p) + (k + 1 - i)
+abbrev μ-turn : places-lts.MeasureT-places
+μ-turn s₀ values links first second n p₀ q₀ k₀ given₀ i₀ s p q k given i = 8 * (trial-region - p) + (k + 1 - i)
 
 pub +compounds+places-spec : {M : Type 1} → statement M
 +compounds+places-spec = close μ-compounds μ-places (λ t. compounds-lts.spec (
@@ -144,15 +144,15 @@ pub +compounds+places-spec : {M : Type 1} → statement M
     )
     (places-at t)
     places.Post
-    places-Inv-loop
-    places-μ-loop
+    Inv-places
+    μ-turn
     -- places-open-requires
     (λ c κs.
     let start = c .before .before in
     let a = start .args in
     let pre = start .pre .1 in
     both-inside (a .links) (pre .10))
-    -- places-loop-holds
+    -- places-places-holds
     (λ c x y m g us lo hi l f ts A.
     let start = c .before .before .before in
     let a = start .args in
@@ -163,24 +163,24 @@ pub +compounds+places-spec : {M : Type 1} → statement M
     let start = at .before .before .before .before in
     let a = start .args in
     let pre = start .pre .1 in
-    let G = at .loop .inv (pre .0) (pre .1) (pre .2) (pre .3) (pre .4) (pre .5) (pre .6) (pre .7) (pre .8) (pre .9) (pre .10) in
-    head-word-inside (a .links) G (c .before .loop-test .taken))
+    let G = at .places .inv (pre .0) (pre .1) (pre .2) (pre .3) (pre .4) (pre .5) (pre .6) (pre .7) (pre .8) (pre .9) (pre .10) in
+    head-word-inside (a .links) G (c .before .places-test .left))
     -- places-argument-requires-2
     (λ c κs.
     let at = c .before .before .before .before in
     let start = at .before .before .before .before in
     let a = start .args in
     let pre = start .pre .1 in
-    let G = at .loop .inv (pre .0) (pre .1) (pre .2) (pre .3) (pre .4) (pre .5) (pre .6) (pre .7) (pre .8) (pre .9) (pre .10) in
-    goal-word-inside (a .links) G (c .before .before .before .loop-test .taken))
+    let G = at .places .inv (pre .0) (pre .1) (pre .2) (pre .3) (pre .4) (pre .5) (pre .6) (pre .7) (pre .8) (pre .9) (pre .10) in
+    goal-word-inside (a .links) G (c .before .before .before .places-test .left))
     -- places-follow-requires
     (λ c κs.
     let at = c .before .before .before .before .before .before in
     let start = at .before .before .before .before in
     let a = start .args in
     let pre = start .pre .1 in
-    let G = at .loop .inv (pre .0) (pre .1) (pre .2) (pre .3) (pre .4) (pre .5) (pre .6) (pre .7) (pre .8) (pre .9) (pre .10) in
-    let left = c .before .before .before .before .before .loop-test .taken in
+    let G = at .places .inv (pre .0) (pre .1) (pre .2) (pre .3) (pre .4) (pre .5) (pre .6) (pre .7) (pre .8) (pre .9) (pre .10) in
+    let left = c .before .before .before .before .before .places-test .left in
     (pre .0, facing (a .links) G left .u, turn-reads (a .links) G left (c .before .argument2 .ensures)))
     -- places-table-requires
     (λ c κs.
@@ -188,13 +188,13 @@ pub +compounds+places-spec : {M : Type 1} → statement M
     let start = at .before .before .before .before in
     let a = start .args in
     let pre = start .pre .1 in
-    let G = at .loop .inv (pre .0) (pre .1) (pre .2) (pre .3) (pre .4) (pre .5) (pre .6) (pre .7) (pre .8) (pre .9) (pre .10) in
-    let left = c .before .before .before .before .before .before .before .loop-test .taken in
+    let G = at .places .inv (pre .0) (pre .1) (pre .2) (pre .3) (pre .4) (pre .5) (pre .6) (pre .7) (pre .8) (pre .9) (pre .10) in
+    let left = c .before .before .before .before .before .before .before .places-test .left in
     let head = c .before .before .before .before .before .argument .ensures in
     let goal = c .before .before .before .argument2 .ensures in
     let leads = c .before .follow .ensures in
     let F = facing (a .links) G left in
-    table-asks (at .loop .s) (pre .0) (pre .1) (a .values) (a .links) (G .partly .low) (F .mid) (at .loop .given)
+    table-asks (at .places .s) (pre .0) (pre .1) (a .values) (a .links) (G .partly .low) (F .mid) (at .places .given)
     (c .before .before .before .before .before .argument .result) (c .before .follow .result) (F .t) (followed (a .links) (pre .0 .values) (F .u))
     (turn-against (a .links) G left head goal leads))
     -- places-enum-known-m
@@ -210,7 +210,7 @@ pub +compounds+places-spec : {M : Type 1} → statement M
     let start = at .before .before .before .before in
     let a = start .args in
     let pre = start .pre .1 in
-    let G = at .loop .inv (pre .0) (pre .1) (pre .2) (pre .3) (pre .4) (pre .5) (pre .6) (pre .7) (pre .8) (pre .9) (pre .10) in
+    let G = at .places .inv (pre .0) (pre .1) (pre .2) (pre .3) (pre .4) (pre .5) (pre .6) (pre .7) (pre .8) (pre .9) (pre .10) in
     after .table .kept .0 ∙ same-size (a .links) G)
     -- places-returns
     (λ c x y m g us lo hi l f ts A.
@@ -218,8 +218,8 @@ pub +compounds+places-spec : {M : Type 1} → statement M
     let at = after .before .before .before .before .before .before .before .before .before in
     let start = at .before .before .before .before in
     let a = start .args in
-    let G = at .loop .inv x y m g us lo hi l f ts A in
-    let left = after .before .before .before .before .before .before .before .before .loop-test .taken in
+    let G = at .places .inv x y m g us lo hi l f ts A in
+    let left = after .before .before .before .before .before .before .before .before .places-test .left in
     let head = after .before .before .before .before .before .before .argument .ensures in
     let goal = after .before .before .before .before .argument2 .ensures in
     let leads = after .before .before .follow .ensures in
@@ -235,7 +235,7 @@ pub +compounds+places-spec : {M : Type 1} → statement M
     let start = at .before .before .before .before in
     let a = start .args in
     let pre = start .pre .1 in
-    let G = at .loop .inv (pre .0) (pre .1) (pre .2) (pre .3) (pre .4) (pre .5) (pre .6) (pre .7) (pre .8) (pre .9) (pre .10) in
+    let G = at .places .inv (pre .0) (pre .1) (pre .2) (pre .3) (pre .4) (pre .5) (pre .6) (pre .7) (pre .8) (pre .9) (pre .10) in
     after .table .kept .0 ∙ same-size (a .links) G)
     -- places-returns-2
     (λ c x y m g us lo hi l f ts A.
@@ -243,8 +243,8 @@ pub +compounds+places-spec : {M : Type 1} → statement M
     let at = after .before .before .before .before .before .before .before .before .before in
     let start = at .before .before .before .before in
     let a = start .args in
-    let G = at .loop .inv x y m g us lo hi l f ts A in
-    let left = after .before .before .before .before .before .before .before .before .loop-test .taken in
+    let G = at .places .inv x y m g us lo hi l f ts A in
+    let left = after .before .before .before .before .before .before .before .before .places-test .left in
     let head = after .before .before .before .before .before .before .argument .ensures in
     let goal = after .before .before .before .before .argument2 .ensures in
     let leads = after .before .before .follow .ensures in
@@ -260,8 +260,8 @@ pub +compounds+places-spec : {M : Type 1} → statement M
     let start = at .before .before .before .before in
     let a = start .args in
     let pre = start .pre .1 in
-    let G = at .loop .inv (pre .0) (pre .1) (pre .2) (pre .3) (pre .4) (pre .5) (pre .6) (pre .7) (pre .8) (pre .9) (pre .10) in
-    let left = after .before .before .before .before .before .before .before .before .loop-test .taken in
+    let G = at .places .inv (pre .0) (pre .1) (pre .2) (pre .3) (pre .4) (pre .5) (pre .6) (pre .7) (pre .8) (pre .9) (pre .10) in
+    let left = after .before .before .before .before .before .before .before .before .places-test .left in
     let head = after .before .before .before .before .before .before .argument .ensures in
     let goal = after .before .before .before .before .argument2 .ensures in
     let leads = after .before .before .follow .ensures in
@@ -275,7 +275,7 @@ pub +compounds+places-spec : {M : Type 1} → statement M
     let start = at .before .before .before .before in
     let a = start .args in
     let pre = start .pre .1 in
-    let G = at .loop .inv (pre .0) (pre .1) (pre .2) (pre .3) (pre .4) (pre .5) (pre .6) (pre .7) (pre .8) (pre .9) (pre .10) in
+    let G = at .places .inv (pre .0) (pre .1) (pre .2) (pre .3) (pre .4) (pre .5) (pre .6) (pre .7) (pre .8) (pre .9) (pre .10) in
     after .table .kept .0 ∙ same-size (a .links) G)
     -- places-returns-3
     (λ c x y m g us lo hi l f ts A.
@@ -283,8 +283,8 @@ pub +compounds+places-spec : {M : Type 1} → statement M
     let at = after .before .before .before .before .before .before .before .before .before in
     let start = at .before .before .before .before in
     let a = start .args in
-    let G = at .loop .inv x y m g us lo hi l f ts A in
-    let left = after .before .before .before .before .before .before .before .before .loop-test .taken in
+    let G = at .places .inv x y m g us lo hi l f ts A in
+    let left = after .before .before .before .before .before .before .before .before .places-test .left in
     let head = after .before .before .before .before .before .before .argument .ensures in
     let goal = after .before .before .before .before .argument2 .ensures in
     let leads = after .before .before .follow .ensures in
@@ -298,23 +298,23 @@ pub +compounds+places-spec : {M : Type 1} → statement M
     let start = at .before .before .before .before in
     let a = start .args in
     let pre = start .pre .1 in
-    let G = at .loop .inv (pre .0) (pre .1) (pre .2) (pre .3) (pre .4) (pre .5) (pre .6) (pre .7) (pre .8) (pre .9) (pre .10) in
-    let left = after .before .before .before .before .before .before .before .before .loop-test .taken in
+    let G = at .places .inv (pre .0) (pre .1) (pre .2) (pre .3) (pre .4) (pre .5) (pre .6) (pre .7) (pre .8) (pre .9) (pre .10) in
+    let left = after .before .before .before .before .before .before .before .before .places-test .left in
     let head = after .before .before .before .before .before .before .argument .ensures in
     let goal = after .before .before .before .before .argument2 .ensures in
     let leads = after .before .before .follow .ensures in
     let done = after .table .ensures in
     let below = c .before .before .before .before .before .before .b .given .1 in
     turn-inside (a .links) G left head goal leads done below (c .before .before .differ .ensures) (c .before .if2 .left))
-    -- places-loop-less
+    -- places-places-less
     (λ c.
     let after = c .before .before .before .before .before .before .before .before .before .before .before in
     let at = after .before .before .before .before .before .before .before .before .before in
     let start = at .before .before .before .before in
     let a = start .args in
     let pre = start .pre .1 in
-    let G = at .loop .inv (pre .0) (pre .1) (pre .2) (pre .3) (pre .4) (pre .5) (pre .6) (pre .7) (pre .8) (pre .9) (pre .10) in
-    let left = after .before .before .before .before .before .before .before .before .loop-test .taken in
+    let G = at .places .inv (pre .0) (pre .1) (pre .2) (pre .3) (pre .4) (pre .5) (pre .6) (pre .7) (pre .8) (pre .9) (pre .10) in
+    let left = after .before .before .before .before .before .before .before .before .places-test .left in
     let head = after .before .before .before .before .before .before .argument .ensures in
     let goal = after .before .before .before .before .argument2 .ensures in
     let leads = after .before .before .follow .ensures in
@@ -326,14 +326,14 @@ pub +compounds+places-spec : {M : Type 1} → statement M
     let on = turn-on (a .links) G left head goal leads done below differs same last (c .open2 .ensures .behind) in
     let later = turn-later (a .links) G left head goal leads done below in
     omega (arith, few-left (a .links) on, later .0, later .1, last))
-    -- places-loop-again
+    -- places-places-again
     (λ c x y m g us lo hi l f ts A.
     let after = c .before .before .before .before .before .before .before .before .before .before .before in
     let at = after .before .before .before .before .before .before .before .before .before in
     let start = at .before .before .before .before in
     let a = start .args in
-    let G = at .loop .inv x y m g us lo hi l f ts A in
-    let left = after .before .before .before .before .before .before .before .before .loop-test .taken in
+    let G = at .places .inv x y m g us lo hi l f ts A in
+    let left = after .before .before .before .before .before .before .before .before .places-test .left in
     let head = after .before .before .before .before .before .before .argument .ensures in
     let goal = after .before .before .before .before .argument2 .ensures in
     let leads = after .before .before .follow .ensures in
@@ -350,8 +350,8 @@ pub +compounds+places-spec : {M : Type 1} → statement M
     let start = at .before .before .before .before in
     let a = start .args in
     let pre = start .pre .1 in
-    let G = at .loop .inv (pre .0) (pre .1) (pre .2) (pre .3) (pre .4) (pre .5) (pre .6) (pre .7) (pre .8) (pre .9) (pre .10) in
-    let left = after .before .before .before .before .before .before .before .before .loop-test .taken in
+    let G = at .places .inv (pre .0) (pre .1) (pre .2) (pre .3) (pre .4) (pre .5) (pre .6) (pre .7) (pre .8) (pre .9) (pre .10) in
+    let left = after .before .before .before .before .before .before .before .before .places-test .left in
     let head = after .before .before .before .before .before .before .argument .ensures in
     let goal = after .before .before .before .before .argument2 .ensures in
     let leads = after .before .before .follow .ensures in
@@ -377,7 +377,7 @@ pub +compounds+places-spec : {M : Type 1} → statement M
     let start = at .before .before .before .before in
     let a = start .args in
     let pre = start .pre .1 in
-    let G = at .loop .inv (pre .0) (pre .1) (pre .2) (pre .3) (pre .4) (pre .5) (pre .6) (pre .7) (pre .8) (pre .9) (pre .10) in
+    let G = at .places .inv (pre .0) (pre .1) (pre .2) (pre .3) (pre .4) (pre .5) (pre .6) (pre .7) (pre .8) (pre .9) (pre .10) in
     c .before .before .before .before .before .compounds .kept .0 ∙ after .table .kept .0 ∙ same-size (a .links) G)
     -- places-returns-4
     (λ c x y m g us lo hi l f ts A.
@@ -385,8 +385,8 @@ pub +compounds+places-spec : {M : Type 1} → statement M
     let at = after .before .before .before .before .before .before .before .before .before in
     let start = at .before .before .before .before in
     let a = start .args in
-    let G = at .loop .inv x y m g us lo hi l f ts A in
-    let left = after .before .before .before .before .before .before .before .before .loop-test .taken in
+    let G = at .places .inv x y m g us lo hi l f ts A in
+    let left = after .before .before .before .before .before .before .before .before .places-test .left in
     let head = after .before .before .before .before .before .before .argument .ensures in
     let goal = after .before .before .before .before .argument2 .ensures in
     let leads = after .before .before .follow .ensures in
@@ -407,7 +407,7 @@ pub +compounds+places-spec : {M : Type 1} → statement M
     let start = at .before .before .before .before in
     let a = start .args in
     let pre = start .pre .1 in
-    let G = at .loop .inv (pre .0) (pre .1) (pre .2) (pre .3) (pre .4) (pre .5) (pre .6) (pre .7) (pre .8) (pre .9) (pre .10) in
+    let G = at .places .inv (pre .0) (pre .1) (pre .2) (pre .3) (pre .4) (pre .5) (pre .6) (pre .7) (pre .8) (pre .9) (pre .10) in
     c .before .before .before .before .compounds .kept .0 ∙ after .table .kept .0 ∙ same-size (a .links) G)
     -- places-returns-5
     (λ c x y m g us lo hi l f ts A.
@@ -415,8 +415,8 @@ pub +compounds+places-spec : {M : Type 1} → statement M
     let at = after .before .before .before .before .before .before .before .before .before in
     let start = at .before .before .before .before in
     let a = start .args in
-    let G = at .loop .inv x y m g us lo hi l f ts A in
-    let left = after .before .before .before .before .before .before .before .before .loop-test .taken in
+    let G = at .places .inv x y m g us lo hi l f ts A in
+    let left = after .before .before .before .before .before .before .before .before .places-test .left in
     let head = after .before .before .before .before .before .before .argument .ensures in
     let goal = after .before .before .before .before .argument2 .ensures in
     let leads = after .before .before .follow .ensures in
@@ -434,19 +434,19 @@ pub +compounds+places-spec : {M : Type 1} → statement M
     let start = at .before .before .before .before in
     let a = start .args in
     let pre = start .pre .1 in
-    let G = at .loop .inv (pre .0) (pre .1) (pre .2) (pre .3) (pre .4) (pre .5) (pre .6) (pre .7) (pre .8) (pre .9) (pre .10) in
-    omega (arith, few-left (a .links) G, after .before .before .before .before .before .before .before .before .loop-test .taken))
-    -- places-loop-less-2
+    let G = at .places .inv (pre .0) (pre .1) (pre .2) (pre .3) (pre .4) (pre .5) (pre .6) (pre .7) (pre .8) (pre .9) (pre .10) in
+    omega (arith, few-left (a .links) G, after .before .before .before .before .before .before .before .before .places-test .left))
+    -- places-places-less-2
     (λ c.
-    omega (arith, c .before .before .before .before .before .before .before .before .before .before .before .loop-test .taken))
-    -- places-loop-again-2
+    omega (arith, c .before .before .before .before .before .before .before .before .before .before .before .places-test .left))
+    -- places-places-again-2
     (λ c x y m g us lo hi l f ts A.
     let after = c .before .before .before in
     let at = after .before .before .before .before .before .before .before .before .before in
     let start = at .before .before .before .before in
     let a = start .args in
-    let G = at .loop .inv x y m g us lo hi l f ts A in
-    let left = after .before .before .before .before .before .before .before .before .loop-test .taken in
+    let G = at .places .inv x y m g us lo hi l f ts A in
+    let left = after .before .before .before .before .before .before .before .before .places-test .left in
     let head = after .before .before .before .before .before .before .argument .ensures in
     let goal = after .before .before .before .before .argument2 .ensures in
     let leads = after .before .before .follow .ensures in
@@ -467,12 +467,12 @@ pub +compounds+places-spec : {M : Type 1} → statement M
     let start = at .before .before .before .before in
     let a = start .args in
     let pre = start .pre .1 in
-    let G = at .loop .inv (pre .0) (pre .1) (pre .2) (pre .3) (pre .4) (pre .5) (pre .6) (pre .7) (pre .8) (pre .9) (pre .10) in
+    let G = at .places .inv (pre .0) (pre .1) (pre .2) (pre .3) (pre .4) (pre .5) (pre .6) (pre .7) (pre .8) (pre .9) (pre .10) in
     same-size (a .links) G)
     -- places-returns-6
     (λ c x y m g us lo hi l f ts A.
     let at = c .before in
     let start = at .before .before .before .before in
     let a = start .args in
-    let G = at .loop .inv x y m g us lo hi l f ts A in
-    ends (a .links) G (c .loop-test .left))
+    let G = at .places .inv x y m g us lo hi l f ts A in
+    ends (a .links) G (c .places-test .taken))

@@ -27,189 +27,189 @@ use Rattle.run_compare.proofs.Goals.{Behind, followed-inside, followed-
 use Rattle.run_compare.proofs.heads.head.Statement.{statement}
 use Rattle.run_compare.proofs.heads.head.Tie as tie
 
-abbrev Inv-loop : tie.InvT-loop
-Inv-loop s₀ values links p k given₀ i₀ s given i =
+abbrev Inv-places : tie.InvT-places
+Inv-places s₀ values links p k given₀ i₀ s given i =
     (x : Setting) (y : Template) (m : ℕ) (g : Functor) (us : Terms) (lo hi : ℕ) (ts : Terms)
     → HeadAgainst s₀ x y values links m g us lo hi ts p → Partly (Behind x links) s₀ s x y values links m us lo hi ts 0 k given i
 
-abbrev μ-loop : tie.MeasureT-loop
-μ-loop s₀ values links p k given₀ i₀ s given i = k + 1 - i
+abbrev μ-places : tie.MeasureT-places
+μ-places s₀ values links p k given₀ i₀ s given i = k + 1 - i
 
-count-requires : tie.Need-count-requires Inv-loop μ-loop
+count-requires : tie.Need-count-requires Inv-places μ-places
 count-requires c κs =
     let pre = c .before .before .pre in
     let links = c .before .before .args .links in
     omega (arith, head-inside links (pre .8 .head))
 
-loop-holds : tie.Need-loop-holds Inv-loop μ-loop
-loop-holds c x y m g us lo hi ts A =
+places-holds : tie.Need-places-holds Inv-places μ-places
+places-holds c x y m g us lo hi ts A =
     let links = c .before .before .before .args .links in
     first-partly links (A .head) (Behind x links) ts (A .goal) (A .counts) (c .count .result) (c .count .ensures)
 
-argument-requires : tie.Need-argument-requires Inv-loop μ-loop
+argument-requires : tie.Need-argument-requires Inv-places μ-places
 argument-requires c κs =
     let pre = c .before .before .before .before .before .before .pre in
     let links = c .before .before .before .before .before .before .args .links in
-    let P = c .before .before .loop .inv (pre .0) (pre .1) (pre .2) (pre .3) (pre .4) (pre .5) (pre .6) (pre .7) (pre .8) in
-    head-argument-inside links (pre .8 .head) P (c .before .loop-test .taken)
+    let P = c .before .before .places .inv (pre .0) (pre .1) (pre .2) (pre .3) (pre .4) (pre .5) (pre .6) (pre .7) (pre .8) in
+    head-argument-inside links (pre .8 .head) P (c .before .places-test .left)
 
-word-at-requires : tie.Need-word-at-requires Inv-loop μ-loop
+word-at-requires : tie.Need-word-at-requires Inv-places μ-places
 word-at-requires c κs =
     let pre = c .before .before .before .before .before .before .before .before .pre in
     let links = c .before .before .before .before .before .before .before .before .args .links in
-    let P = c .before .before .before .before .loop .inv (pre .0) (pre .1) (pre .2) (pre .3) (pre .4) (pre .5) (pre .6) (pre .7) (pre .8) in
-    followed-inside links (pre .8) P (c .before .before .before .loop-test .taken)
+    let P = c .before .before .before .before .places .inv (pre .0) (pre .1) (pre .2) (pre .3) (pre .4) (pre .5) (pre .6) (pre .7) (pre .8) in
+    followed-inside links (pre .8) P (c .before .before .before .places-test .left)
 
-table-requires : tie.Need-table-requires Inv-loop μ-loop
+table-requires : tie.Need-table-requires Inv-places μ-places
 table-requires c κs =
     let start = c .before .before .before .before .before .before .before .before .before .before in
     let a = start .args in
     let pre = c .before .before .before .before .before .before .before .before .before .before .pre in
     let links = c .before .before .before .before .before .before .before .before .before .before .args .links in
-    let P = c .before .before .before .before .before .before .loop .inv (pre .0) (pre .1) (pre .2) (pre .3) (pre .4) (pre .5) (pre .6) (pre .7) (pre .8) in
-    let F = next links ((pre .8) .head) P (c .before .before .before .before .before .loop-test .taken) in
+    let P = c .before .before .before .before .before .before .places .inv (pre .0) (pre .1) (pre .2) (pre .3) (pre .4) (pre .5) (pre .6) (pre .7) (pre .8) in
+    let F = next links ((pre .8) .head) P (c .before .before .before .before .before .places-test .left) in
     let K = next-against links ((pre .8) .head) P F (c .before .before .before .argument .ensures) (followed-read links (pre .8) P F (c .before .word-at .ensures)) in
-    table-asks (c .before .before .before .before .before .before .loop .s) (pre .0) (pre .1) (a .values) links (P .low) (F .mid) (c .before .before .before .before .before .before .loop .given) (c .before .before .before .argument .result) (c .before .word-at .result) (F .t) (followed links (pre .0 .values) (F .u)) K
+    table-asks (c .before .before .before .before .before .before .places .s) (pre .0) (pre .1) (a .values) links (P .low) (F .mid) (c .before .before .before .before .before .before .places .given) (c .before .before .before .argument .result) (c .before .word-at .result) (F .t) (followed links (pre .0 .values) (F .u)) K
 
-enum-known-m : tie.Need-enum-known-m Inv-loop μ-loop
+enum-known-m : tie.Need-enum-known-m Inv-places μ-places
 enum-known-m c =
     c .match .keys1
 
-enum-known-z : tie.Need-enum-known-z Inv-loop μ-loop
+enum-known-z : tie.Need-enum-known-z Inv-places μ-places
 enum-known-z c =
     c .match .keys2
 
-same-length : tie.Need-same-length Inv-loop μ-loop
+same-length : tie.Need-same-length Inv-places μ-places
 same-length c =
     let pre = c .before .before .before .before .before .before .before .before .before .before .before .before .before .before .before .before .pre in
-    let P = c .before .before .before .before .before .before .before .before .before .before .before .before .loop .inv (pre .0) (pre .1) (pre .2) (pre .3) (pre .4) (pre .5) (pre .6) (pre .7) (pre .8) in
+    let P = c .before .before .before .before .before .before .before .before .before .before .before .before .places .inv (pre .0) (pre .1) (pre .2) (pre .3) (pre .4) (pre .5) (pre .6) (pre .7) (pre .8) in
     c .before .before .before .before .before .table .kept .0 ∙ P .only .size
 
-returns : tie.Need-returns Inv-loop μ-loop
+returns : tie.Need-returns Inv-places μ-places
 returns c x y m g us lo hi ts A =
     let links = c .before .before .before .before .before .before .before .before .before .before .before .before .before .before .before .before .args .links in
-    let P = c .before .before .before .before .before .before .before .before .before .before .before .before .loop .inv x y m g us lo hi ts A in
-    let F = next links (A .head) P (c .before .before .before .before .before .before .before .before .before .before .before .loop-test .taken) in
+    let P = c .before .before .before .before .before .before .before .before .before .before .before .before .places .inv x y m g us lo hi ts A in
+    let F = next links (A .head) P (c .before .before .before .before .before .before .before .before .before .before .before .places-test .left) in
     let K = next-against links (A .head) P F (c .before .before .before .before .before .before .before .before .before .argument .ensures) (followed-read links A P F (c .before .before .before .before .before .before .before .word-at .ensures)) in
     waits-here links (A .head) P F (place-waits links K (c .before .before .before .before .before .table .ensures) (c .before .z .given .1))
 
-enum-told : tie.Need-enum-told Inv-loop μ-loop
+enum-told : tie.Need-enum-told Inv-places μ-places
 enum-told c =
     c .match .keys3
 
-same-length-2 : tie.Need-same-length-2 Inv-loop μ-loop
+same-length-2 : tie.Need-same-length-2 Inv-places μ-places
 same-length-2 c =
     let pre = c .before .before .before .before .before .before .before .before .before .before .before .before .before .before .before .pre in
-    let P = c .before .before .before .before .before .before .before .before .before .before .before .loop .inv (pre .0) (pre .1) (pre .2) (pre .3) (pre .4) (pre .5) (pre .6) (pre .7) (pre .8) in
+    let P = c .before .before .before .before .before .before .before .before .before .before .before .places .inv (pre .0) (pre .1) (pre .2) (pre .3) (pre .4) (pre .5) (pre .6) (pre .7) (pre .8) in
     c .before .before .before .before .table .kept .0 ∙ P .only .size
 
-returns-2 : tie.Need-returns-2 Inv-loop μ-loop
+returns-2 : tie.Need-returns-2 Inv-places μ-places
 returns-2 c x y m g us lo hi ts A =
     let links = c .before .before .before .before .before .before .before .before .before .before .before .before .before .before .before .args .links in
-    let P = c .before .before .before .before .before .before .before .before .before .before .before .loop .inv x y m g us lo hi ts A in
-    let F = next links (A .head) P (c .before .before .before .before .before .before .before .before .before .before .loop-test .taken) in
+    let P = c .before .before .before .before .before .before .before .before .before .before .before .places .inv x y m g us lo hi ts A in
+    let F = next links (A .head) P (c .before .before .before .before .before .before .before .before .before .before .places-test .left) in
     let K = next-against links (A .head) P F (c .before .before .before .before .before .before .before .before .argument .ensures) (followed-read links A P F (c .before .before .before .before .before .before .word-at .ensures)) in
     fails-here links (A .head) P F (place-fails links K (c .before .before .before .before .table .ensures) (c .enum-told .given .1))
 
-enum-known-a : tie.Need-enum-known-a Inv-loop μ-loop
+enum-known-a : tie.Need-enum-known-a Inv-places μ-places
 enum-known-a c =
     c .match .keys4
 
-differ-requires : tie.Need-differ-requires Inv-loop μ-loop
+differ-requires : tie.Need-differ-requires Inv-places μ-places
 differ-requires c κs =
     let pre = c .before .before .before .before .before .before .before .before .before .before .before .before .before .before .before .before .before .pre in
     let links = c .before .before .before .before .before .before .before .before .before .before .before .before .before .before .before .before .before .args .links in
-    let P = c .before .before .before .before .before .before .before .before .before .before .before .before .before .loop .inv (pre .0) (pre .1) (pre .2) (pre .3) (pre .4) (pre .5) (pre .6) (pre .7) (pre .8) in
-    let F = next links ((pre .8) .head) P (c .before .before .before .before .before .before .before .before .before .before .before .before .loop-test .taken) in
+    let P = c .before .before .before .before .before .before .before .before .before .before .before .before .before .places .inv (pre .0) (pre .1) (pre .2) (pre .3) (pre .4) (pre .5) (pre .6) (pre .7) (pre .8) in
+    let F = next links ((pre .8) .head) P (c .before .before .before .before .before .before .before .before .before .before .before .before .places-test .left) in
     let K = next-against links ((pre .8) .head) P F (c .before .before .before .before .before .before .before .before .before .before .argument .ensures) (followed-read links (pre .8) P F (c .before .before .before .before .before .before .before .before .word-at .ensures)) in
     place-cells links K (c .before .before .before .before .before .before .table .ensures) (c .before .before .a .given .1)
 
-same-length-3 : tie.Need-same-length-3 Inv-loop μ-loop
+same-length-3 : tie.Need-same-length-3 Inv-places μ-places
 same-length-3 c =
     let pre = c .before .before .before .before .before .before .before .before .before .before .before .before .before .before .before .before .before .before .before .pre in
-    let P = c .before .before .before .before .before .before .before .before .before .before .before .before .before .before .before .loop .inv (pre .0) (pre .1) (pre .2) (pre .3) (pre .4) (pre .5) (pre .6) (pre .7) (pre .8) in
+    let P = c .before .before .before .before .before .before .before .before .before .before .before .before .before .before .before .places .inv (pre .0) (pre .1) (pre .2) (pre .3) (pre .4) (pre .5) (pre .6) (pre .7) (pre .8) in
     c .before .before .before .before .before .before .before .before .table .kept .0 ∙ P .only .size
 
-returns-3 : tie.Need-returns-3 Inv-loop μ-loop
+returns-3 : tie.Need-returns-3 Inv-places μ-places
 returns-3 c x y m g us lo hi ts A =
     let links = c .before .before .before .before .before .before .before .before .before .before .before .before .before .before .before .before .before .before .before .args .links in
-    let P = c .before .before .before .before .before .before .before .before .before .before .before .before .before .before .before .loop .inv x y m g us lo hi ts A in
-    let F = next links (A .head) P (c .before .before .before .before .before .before .before .before .before .before .before .before .before .before .loop-test .taken) in
+    let P = c .before .before .before .before .before .before .before .before .before .before .before .before .before .before .before .places .inv x y m g us lo hi ts A in
+    let F = next links (A .head) P (c .before .before .before .before .before .before .before .before .before .before .before .before .before .before .places-test .left) in
     let K = next-against links (A .head) P F (c .before .before .before .before .before .before .before .before .before .before .before .before .argument .ensures) (followed-read links A P F (c .before .before .before .before .before .before .before .before .before .before .word-at .ensures)) in
     fails-here links (A .head) P F (place-differs links K (c .before .before .before .before .before .before .before .before .table .ensures) (c .before .before .before .before .a .given .1) (c .before .differ .result) (c .before .differ .ensures) (c .if1 .taken))
 
-places-requires : tie.Need-places-requires Inv-loop μ-loop
+places-requires : tie.Need-places-requires Inv-places μ-places
 places-requires c κs =
     let pre = c .before .before .before .before .before .before .before .before .before .before .before .before .before .before .before .before .before .before .before .before .pre in
     let links = c .before .before .before .before .before .before .before .before .before .before .before .before .before .before .before .before .before .before .before .before .args .links in
-    let P = c .before .before .before .before .before .before .before .before .before .before .before .before .before .before .before .before .loop .inv (pre .0) (pre .1) (pre .2) (pre .3) (pre .4) (pre .5) (pre .6) (pre .7) (pre .8) in
-    let F = next links ((pre .8) .head) P (c .before .before .before .before .before .before .before .before .before .before .before .before .before .before .before .loop-test .taken) in
+    let P = c .before .before .before .before .before .before .before .before .before .before .before .before .before .before .before .before .places .inv (pre .0) (pre .1) (pre .2) (pre .3) (pre .4) (pre .5) (pre .6) (pre .7) (pre .8) in
+    let F = next links ((pre .8) .head) P (c .before .before .before .before .before .before .before .before .before .before .before .before .before .before .before .places-test .left) in
     let K = next-against links ((pre .8) .head) P F (c .before .before .before .before .before .before .before .before .before .before .before .before .before .argument .ensures) (followed-read links (pre .8) P F (c .before .before .before .before .before .before .before .before .before .before .before .word-at .ensures)) in
     let D = place-deeper links K (c .before .before .before .before .before .before .before .before .before .table .ensures) (c .before .before .before .before .before .a .given .1) (c .before .before .differ .result) (c .before .before .differ .ensures) (c .before .if1 .left) in
     (pre .0, pre .1, D .m, D .g, D .us, P .low + 1, F .mid, D .l, D .f, D .ts, D .against)
 
-enum-known-m-2 : tie.Need-enum-known-m-2 Inv-loop μ-loop
+enum-known-m-2 : tie.Need-enum-known-m-2 Inv-places μ-places
 enum-known-m-2 c =
     c .match2 .keys1
 
-enum-known-z-2 : tie.Need-enum-known-z-2 Inv-loop μ-loop
+enum-known-z-2 : tie.Need-enum-known-z-2 Inv-places μ-places
 enum-known-z-2 c =
     c .match2 .keys2
 
-same-length-4 : tie.Need-same-length-4 Inv-loop μ-loop
+same-length-4 : tie.Need-same-length-4 Inv-places μ-places
 same-length-4 c =
     let pre = c .before .before .before .before .before .before .before .before .before .before .before .before .before .before .before .before .before .before .before .before .before .before .before .before .before .before .pre in
-    let P = c .before .before .before .before .before .before .before .before .before .before .before .before .before .before .before .before .before .before .before .before .before .before .loop .inv (pre .0) (pre .1) (pre .2) (pre .3) (pre .4) (pre .5) (pre .6) (pre .7) (pre .8) in
-    c .before .before .before .before .before .places .kept .0 ∙ c .before .before .before .before .before .before .before .before .before .before .before .before .before .before .before .table .kept .0 ∙ P .only .size
+    let P = c .before .before .before .before .before .before .before .before .before .before .before .before .before .before .before .before .before .before .before .before .before .before .places .inv (pre .0) (pre .1) (pre .2) (pre .3) (pre .4) (pre .5) (pre .6) (pre .7) (pre .8) in
+    c .before .before .before .before .before .places2 .kept .0 ∙ c .before .before .before .before .before .before .before .before .before .before .before .before .before .before .before .table .kept .0 ∙ P .only .size
 
-returns-4 : tie.Need-returns-4 Inv-loop μ-loop
+returns-4 : tie.Need-returns-4 Inv-places μ-places
 returns-4 c x y m g us lo hi ts A =
     let links = c .before .before .before .before .before .before .before .before .before .before .before .before .before .before .before .before .before .before .before .before .before .before .before .before .before .before .args .links in
-    let P = c .before .before .before .before .before .before .before .before .before .before .before .before .before .before .before .before .before .before .before .before .before .before .loop .inv x y m g us lo hi ts A in
-    let F = next links (A .head) P (c .before .before .before .before .before .before .before .before .before .before .before .before .before .before .before .before .before .before .before .before .before .loop-test .taken) in
+    let P = c .before .before .before .before .before .before .before .before .before .before .before .before .before .before .before .before .before .before .before .before .before .before .places .inv x y m g us lo hi ts A in
+    let F = next links (A .head) P (c .before .before .before .before .before .before .before .before .before .before .before .before .before .before .before .before .before .before .before .before .before .places-test .left) in
     let K = next-against links (A .head) P F (c .before .before .before .before .before .before .before .before .before .before .before .before .before .before .before .before .before .before .before .argument .ensures) (followed-read links A P F (c .before .before .before .before .before .before .before .before .before .before .before .before .before .before .before .before .before .word-at .ensures)) in
     let D = place-deeper links K (c .before .before .before .before .before .before .before .before .before .before .before .before .before .before .before .table .ensures) (c .before .before .before .before .before .before .before .before .before .before .before .a .given .1) (c .before .before .before .before .before .before .before .before .differ .result) (c .before .before .before .before .before .before .before .before .differ .ensures) (c .before .before .before .before .before .before .before .if1 .left) in
-    let told = c .before .before .before .before .before .places in
+    let told = c .before .before .before .before .before .places2 in
     let below = D .back (told .last .0) (told .result) (told .ensures x y (D .m) (D .g) (D .us) (P .low + 1) (F .mid) (D .l) (D .f) (D .ts) (D .against)) in
     waits-here links (A .head) P F (rw (c .before .z2 .given .1) at below)
 
-enum-told-2 : tie.Need-enum-told-2 Inv-loop μ-loop
+enum-told-2 : tie.Need-enum-told-2 Inv-places μ-places
 enum-told-2 c =
     c .match2 .keys3
 
-same-length-5 : tie.Need-same-length-5 Inv-loop μ-loop
+same-length-5 : tie.Need-same-length-5 Inv-places μ-places
 same-length-5 c =
     let pre = c .before .before .before .before .before .before .before .before .before .before .before .before .before .before .before .before .before .before .before .before .before .before .before .before .before .pre in
-    let P = c .before .before .before .before .before .before .before .before .before .before .before .before .before .before .before .before .before .before .before .before .before .loop .inv (pre .0) (pre .1) (pre .2) (pre .3) (pre .4) (pre .5) (pre .6) (pre .7) (pre .8) in
-    c .before .before .before .before .places .kept .0 ∙ c .before .before .before .before .before .before .before .before .before .before .before .before .before .before .table .kept .0 ∙ P .only .size
+    let P = c .before .before .before .before .before .before .before .before .before .before .before .before .before .before .before .before .before .before .before .before .before .places .inv (pre .0) (pre .1) (pre .2) (pre .3) (pre .4) (pre .5) (pre .6) (pre .7) (pre .8) in
+    c .before .before .before .before .places2 .kept .0 ∙ c .before .before .before .before .before .before .before .before .before .before .before .before .before .before .table .kept .0 ∙ P .only .size
 
-returns-5 : tie.Need-returns-5 Inv-loop μ-loop
+returns-5 : tie.Need-returns-5 Inv-places μ-places
 returns-5 c x y m g us lo hi ts A =
     let links = c .before .before .before .before .before .before .before .before .before .before .before .before .before .before .before .before .before .before .before .before .before .before .before .before .before .args .links in
-    let P = c .before .before .before .before .before .before .before .before .before .before .before .before .before .before .before .before .before .before .before .before .before .loop .inv x y m g us lo hi ts A in
-    let F = next links (A .head) P (c .before .before .before .before .before .before .before .before .before .before .before .before .before .before .before .before .before .before .before .before .loop-test .taken) in
+    let P = c .before .before .before .before .before .before .before .before .before .before .before .before .before .before .before .before .before .before .before .before .before .places .inv x y m g us lo hi ts A in
+    let F = next links (A .head) P (c .before .before .before .before .before .before .before .before .before .before .before .before .before .before .before .before .before .before .before .before .places-test .left) in
     let K = next-against links (A .head) P F (c .before .before .before .before .before .before .before .before .before .before .before .before .before .before .before .before .before .before .argument .ensures) (followed-read links A P F (c .before .before .before .before .before .before .before .before .before .before .before .before .before .before .before .before .word-at .ensures)) in
     let D = place-deeper links K (c .before .before .before .before .before .before .before .before .before .before .before .before .before .before .table .ensures) (c .before .before .before .before .before .before .before .before .before .before .a .given .1) (c .before .before .before .before .before .before .before .differ .result) (c .before .before .before .before .before .before .before .differ .ensures) (c .before .before .before .before .before .before .if1 .left) in
-    let told = c .before .before .before .before .places in
+    let told = c .before .before .before .before .places2 in
     let below = D .back (told .last .0) (told .result) (told .ensures x y (D .m) (D .g) (D .us) (P .low + 1) (F .mid) (D .l) (D .f) (D .ts) (D .against)) in
     fails-here links (A .head) P F (rw (c .enum-told2 .given .1) at below)
 
-add-i : tie.Need-add-i Inv-loop μ-loop
+add-i : tie.Need-add-i Inv-places μ-places
 add-i c =
     let pre = c .before .before .before .before .before .before .before .before .before .before .before .before .before .before .pre in
     let links = c .before .before .before .before .before .before .before .before .before .before .before .before .before .before .args .links in
-    let P = c .before .before .before .before .before .before .before .before .before .before .loop .inv (pre .0) (pre .1) (pre .2) (pre .3) (pre .4) (pre .5) (pre .6) (pre .7) (pre .8) in
+    let P = c .before .before .before .before .before .before .before .before .before .before .places .inv (pre .0) (pre .1) (pre .2) (pre .3) (pre .4) (pre .5) (pre .6) (pre .7) (pre .8) in
     omega (arith, count-small links (pre .8 .head) P)
 
-loop-less : tie.Need-loop-less Inv-loop μ-loop
-loop-less c =
+places-less : tie.Need-places-less Inv-places μ-places
+places-less c =
     omega arith
 
-loop-again : tie.Need-loop-again Inv-loop μ-loop
-loop-again c x y m g us lo hi ts A =
+places-again : tie.Need-places-again Inv-places μ-places
+places-again c x y m g us lo hi ts A =
     let links = c .before .before .before .before .before .before .before .before .before .before .before .before .before .before .args .links in
-    let P = c .before .before .before .before .before .before .before .before .before .before .loop .inv x y m g us lo hi ts A in
-    let F = next links (A .head) P (c .before .before .before .before .before .before .before .before .before .loop-test .taken) in
+    let P = c .before .before .before .before .before .before .before .before .before .before .places .inv x y m g us lo hi ts A in
+    let F = next links (A .head) P (c .before .before .before .before .before .before .before .before .before .places-test .left) in
     let K = next-against links (A .head) P F (c .before .before .before .before .before .before .before .argument .ensures) (followed-read links A P F (c .before .before .before .before .before .word-at .ensures)) in
     let table-told = c .before .before .before .table in
     ⊎-elim
@@ -223,26 +223,26 @@ loop-again c x y m g us lo hi ts A =
     rw (k .13, k .14) (one-more links (A .head) P F told (followed-left links A P F (told .only))))
     (c .match .came)
 
-same-length-6 : tie.Need-same-length-6 Inv-loop μ-loop
+same-length-6 : tie.Need-same-length-6 Inv-places μ-places
 same-length-6 c =
     let pre = c .before .before .before .before .before .pre in
-    let P = c .before .loop .inv (pre .0) (pre .1) (pre .2) (pre .3) (pre .4) (pre .5) (pre .6) (pre .7) (pre .8) in
+    let P = c .before .places .inv (pre .0) (pre .1) (pre .2) (pre .3) (pre .4) (pre .5) (pre .6) (pre .7) (pre .8) in
     P .only .size
 
-returns-6 : tie.Need-returns-6 Inv-loop μ-loop
+returns-6 : tie.Need-returns-6 Inv-places μ-places
 returns-6 c x y m g us lo hi ts A =
     let links = c .before .before .before .before .before .args .links in
-    let P = c .before .loop .inv x y m g us lo hi ts A in
-    all-agree links (A .head) P (c .loop-test .left)
+    let P = c .before .places .inv x y m g us lo hi ts A in
+    all-agree links (A .head) P (c .places-test .taken)
 
 pub head-spec : {M : Type 1} → statement M
 head-spec =
     tie.close
     (tie.spec
-    Inv-loop
-    μ-loop
+    Inv-places
+    μ-places
     count-requires
-    loop-holds
+    places-holds
     argument-requires
     word-at-requires
     table-requires
@@ -266,7 +266,7 @@ head-spec =
     same-length-5
     returns-5
     add-i
-    loop-less
-    loop-again
+    places-less
+    places-again
     same-length-6
     returns-6)

@@ -16,9 +16,15 @@ same-length c = search needs
 returns : tie.Need-returns
 returns c =
     let S = c .before .before .before .before .before .before .before in
-    λ waiters sets pairs slots goal a.
-    rw (c .before .before .before .before .goal-at .ensures, c .before .before .put .ensures)
-    (taken-out (S .args .s .now) (S .args .log) waiters sets pairs slots (S .args .place) goal a)
+    let read = c .before .before .before .before .goal-at .ensures in
+    let stored = c .before .before .put .ensures in (
+      read,
+      (
+        stored,
+        λ waiters sets pairs slots goal a.
+            rw (read, stored) (taken-out (S .args .s .now) (S .args .log) waiters sets pairs slots (S .args .place) goal a),
+      ),
+    )
 
 pub take-spec : {M : Type 1} → statement M
 take-spec = tie.close (tie.spec goal-at-requires put-requires same-length returns)

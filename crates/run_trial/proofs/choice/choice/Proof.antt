@@ -1,12 +1,14 @@
 -- `trial::choice::choice` meets its contract: the clauses of the procedure are tried in order, and the readers that wait are noted.
 use Prim.Native.Nat.{_+_, _-_}
-use mathlib.Core.Path.{sym, subst, _∙_}
+use mathlib.Core.Path.{_≡_, sym, ap, subst, _∙_}
 use mathlib.Core.Logic.{inl, inr, ⊎-elim}
 use native.Mathlib.Omega.{arith}
 use borrow.Author.Needs.{needs}
+use lib.ListN.{getD}
 use Rattle.meaning.specs.Terms.{named}
+use Rattle.term.specs.Layout.{clause-record}
 use Rattle.term.specs.States.{setting}
-use Rattle.run_trial.specs.Choosing.{unit-of}
+use Rattle.run_trial.specs.Choosing.{unit-of, clause-after}
 use Rattle.run_trial.proofs.Following as following
 use Rattle.run_trial.proofs.Clauses as clauses
 use Rattle.run_trial.proofs.choice.choice.Statement.{statement}
@@ -96,8 +98,8 @@ add-stamp c =
     let n = clauses.turning (L .clauses .inv) (following.ready (A .before .before .before .pre) (A .follow-arguments .ensures)) (T .before .before .clauses-test .taken) in
     record { fits = omega (arith, n .stamps, n .stamps-fit) }
 
-next-clause-requires : tie.Need-next-clause-requires Inv-clauses μ-clauses
-next-clause-requires c κs =
+clause-after-requires : tie.Need-clause-after-requires Inv-clauses μ-clauses
+clause-after-requires c κs =
     let J = c .before in
     let T = J .before .before .before .before in
     let L = T .before .before .before in
@@ -137,11 +139,16 @@ clauses-again c =
     (λ w. inr (clauses.neither (T .trial .result) (J .before .match .keys2) (w .0 .keys2), w .1, w .2))
     (J .match2 .came) in
     let S = A .before .before .before in
+    let k = L .clauses .next - 1 in
+    let same : J .match2 .t ≡ T .trial .result = ⊎-elim {C = J .match2 .t ≡ T .trial .result} (λ w. w .10 ∙ sym (w .1 .given .1)) (λ w. w .3) (J .match2 .came) in
+    let told : c .clause-after .result ≡ clause-after (J .match2 .s) k (J .match2 .t) = c .clause-after .ensures in
+    let later : c .clause-after .result ≡ getD (J .match2 .s) (clause-record k) 0 =
+    told ∙ ap (clause-after (J .match2 .s) k) same ∙ clauses.goes-on (J .match2 .s) k (T .trial .result) (J .before .match .keys2) in
     λ text names j limit figures at g others trying stand new.
     let w = L .clauses .inv text names j limit figures at g others trying stand new in
     subst (λ v. clauses.Walk (A .follow-arguments .last .0) (J .match2 .s) names j limit figures at g
     (S .args .marks) (S .args .first) (J .match2 .readers) (L .clauses .stamp + 256) v)
-    (sym (c .next-clause .ensures))
+    (sym later)
     (clauses.turn-passed trying w left
     (T .trial .ensures text names j limit figures at g others (S .args .goal) (clauses.turn trying w left .0) (clauses.walk-trying trying w)
     (clauses.walk-stand trying w stand) (clauses.turn-candidate trying w left) (w .marks-now))
@@ -237,7 +244,7 @@ choice-spec =
     set-at-requires
     add-readers
     add-stamp
-    next-clause-requires
+    clause-after-requires
     clauses-less
     clauses-again
     same-length
