@@ -20,7 +20,7 @@ use Rattle.term.proofs.Jobs.{holds-job-kept}
 use Rattle.run_queues.specs.Log.{Slot, present, LogOk}
 use Rattle.run_enter.specs.Entering.{EnterOnly, Entered}
 use Rattle.run_between.specs.Running.{RunOnly, Running}
-use Rattle.machine.specs.Ending.{Behind, GoneOn, RanIs}
+use Rattle.machine.specs.Ending.{Untouched, GoneOn, RanIs}
 use Rattle.machine.specs.declared.run.Ran.{Ran}
 use Rattle.machine.specs.declared.run.Ran.the-variants.{Ended, QueriesPassRoom}
 use Rattle.machine.proofs.Going.{run-starts}
@@ -57,14 +57,7 @@ entered-running s text names j figures atlas t e =
       none,
     )
 
--- What neither entering nor running changes.
-pub record Untouched (figures : Room) (s s′ : List ℕ) : Type 0 where
-  pub size : length s′ ≡ length s
-  pub before : (k : ℕ) → k < queries-region → getD s′ k 0 ≡ getD s k 0
-  pub records : (q i : ℕ) → q < 8 → i < 64 → i ≢ 3 → i ≢ 4 → getD s′ (query-record q + i) 0 ≡ getD s (query-record q + i) 0
-  pub items : (k : ℕ) → items-region ≤ k → k < trial-region → getD s′ k 0 ≡ getD s k 0
-  pub behind : (k : ℕ) → need-of figures ≤ k → getD s′ k 0 ≡ getD s k 0
-
+-- Neither entering nor running changes these words.
 pub entered-then-run : (figures : Room) (s t u : List ℕ) → EnterOnly figures s t → RunOnly figures t u → Untouched figures s u
 entered-then-run figures s t u e r =
     record {
@@ -122,10 +115,10 @@ module _ (figures : Room) (s s′ : List ℕ) (u : Untouched figures s s′) whe
 pub finished : (figures : Room) (s₀ s₁ s : List ℕ) (text : Bytes) (names : List Bytes) (j : Job) (atlas : Atlas) (first : Standing) (limit : ℕ) (v : Verdict) (t : Standing)
     → Ready s₀ text names figures j → EnterOnly figures s₀ s₁ → Entered s₁ text names j figures (j .queries) atlas first → RunOnly figures s₁ s
     → limit ≤ 1000000 → GoneOn s names j figures limit (Ended v t)
-    → Behind figures s₀ s × Finished s text names figures j limit v t
+    → Untouched figures s₀ s × Finished s text names figures j limit v t
 finished figures s₀ s₁ s text names j atlas first limit v t ready e entered r few g =
     let all = entered-then-run figures s₀ s₁ s e r in (
-      record { size = all .size; behind = all .behind },
+      all,
       record {
         in-range = ready .in-range;
         inside = omega (arith, ready .inside, all .size);
