@@ -45,11 +45,11 @@ same-length-3 c = search needs
 
 returns-2 : tie.Need-returns-2
 returns-2 c =
-    let a = c .before .before .before .before .before .before .before .before .before .before .before .args in
-    let q = c .before .before .before .before .before .before .before .before .before .before .before .pre in
+    let a = c .before .before .before .before .before .before .before .before .before .before .args in
+    let q = c .before .before .before .before .before .before .before .before .before .before .pre in
     let room = figures (a .room) in
-    let t = c .before .before .before .before .before .before .load .last .1 .0 in
-    let got = rw (c .before .before .why .given .1) at (c .before .before .before .before .before .before .load .ensures) in
+    let t = c .before .before .before .before .before .load .last .1 .0 in
+    let got = rw (c .before .why .given .1) at (c .before .before .before .before .before .load .ensures) in
     taken-refused (need-of room) (a .text .now) (a .budget) room (got .0) (a .s .now) t (a .buffer .now) (got .1)
     (got .2) (got .3)
 
