@@ -4,6 +4,7 @@
 // What is printed is not stated: its file `stdout` is held to the reference. Read on: crate `job`.
 use job::call::Answer;
 use job::call::call;
+use loader::refusal::Refusal;
 ghost use mathlib.Core.Path.{_≡_};
 ghost use Prim.Native.Nat.{ℕ, _≤_};
 ghost use lib.ListN.{length};
@@ -27,9 +28,11 @@ fn show(answer: Answer, buffer: &[u8])
         Answer::OutOfRange => refused(1, 0),
         Answer::ScratchShort => refused(2, 0),
         Answer::TextLong => refused(3, 0),
-        Answer::NoItems(line) => refused(4, line),
-        Answer::OccurrenceBroken(line) => refused(5, line),
-        Answer::FigurePassed(line) => refused(6, line),
+        Answer::Refused(why) => match why {
+            Refusal::NoItems(line) => refused(4, line),
+            Refusal::OccurrenceBroken(line) => refused(5, line),
+            Refusal::FigurePassed(line) => refused(6, line),
+        },
         Answer::QueriesPassRoom => refused(7, 0),
         Answer::ReportLong(_) => refused(8, 0),
     }

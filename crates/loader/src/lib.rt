@@ -3,3 +3,4 @@
 // (`image` in crate `load_image`), and for a job that it is ready to run (`Ready` in crate `term`).
 // Read specs/Loading; the parts stand in the crates `load_tokens` to `load_items`, in the order of crates.txt.
 pub mod load;
+pub mod refusal;

@@ -1,6 +1,7 @@
 // Prints the answers of document 01's cases and of further corners, through the compiled call: number, line and length, and the report.
 use job::call::Answer;
 use job::call::call;
+use loader::refusal::Refusal;
 ghost use mathlib.Core.Path.{_≡_};
 ghost use Prim.Native.Nat.{ℕ, _≤_};
 ghost use lib.ListN.{length};
@@ -26,9 +27,11 @@ fn show(answer: Answer, buffer: &[u8])
         Answer::OutOfRange => told(1, 0, 0),
         Answer::ScratchShort => told(2, 0, 0),
         Answer::TextLong => told(3, 0, 0),
-        Answer::NoItems(line) => told(4, line, 0),
-        Answer::OccurrenceBroken(line) => told(5, line, 0),
-        Answer::FigurePassed(line) => told(6, line, 0),
+        Answer::Refused(why) => match why {
+            Refusal::NoItems(line) => told(4, line, 0),
+            Refusal::OccurrenceBroken(line) => told(5, line, 0),
+            Refusal::FigurePassed(line) => told(6, line, 0),
+        },
         Answer::QueriesPassRoom => told(7, 0, 0),
         Answer::ReportLong(n) => told(8, 0, n),
     }

@@ -4,6 +4,7 @@
 // frame whose buffer is larger than 65,536 bytes, or its text than 65,535, ends the program.
 use job::call::Answer;
 use job::call::call;
+use loader::refusal::Refusal;
 ghost use mathlib.Core.Path.{_≡_};
 ghost use Prim.Native.Nat.{ℕ, _≤_, _<_};
 ghost use lib.ListN.{length};
@@ -29,9 +30,11 @@ fn show(answer: Answer, buffer: &[u8])
         Answer::OutOfRange => told(1, 0, 0),
         Answer::ScratchShort => told(2, 0, 0),
         Answer::TextLong => told(3, 0, 0),
-        Answer::NoItems(line) => told(4, line, 0),
-        Answer::OccurrenceBroken(line) => told(5, line, 0),
-        Answer::FigurePassed(line) => told(6, line, 0),
+        Answer::Refused(why) => match why {
+            Refusal::NoItems(line) => told(4, line, 0),
+            Refusal::OccurrenceBroken(line) => told(5, line, 0),
+            Refusal::FigurePassed(line) => told(6, line, 0),
+        },
         Answer::QueriesPassRoom => told(7, 0, 0),
         Answer::ReportLong(n) => told(8, 0, n),
     }

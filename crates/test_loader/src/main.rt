@@ -3,6 +3,7 @@
 // over the same scratch, so what one leaves behind must not matter to the next. More than once is for measuring.
 use loader::load::Loaded;
 use loader::load::load;
+use loader::refusal::Refusal;
 use term::layout::Room;
 ghost use mathlib.Core.Path.{_≡_};
 ghost use Prim.Native.Nat.{_≤_, _<_};
@@ -56,17 +57,21 @@ fn many(text: &[u8], n: usize, s: &mut [u64], times: usize) -> Loaded
     answer
 }
 
+fn told(number: u64, line: usize) {
+    io::print_decimal(1, number);
+    io::write_all(1, b" ");
+    io::print_decimal(1, line as u64);
+    io::write_all(1, b"\n");
+}
+
 fn show(answer: Loaded) {
     match answer {
-        Loaded::Job(_, _) => {
-            io::write_all(1, b"0 0\n");
-        }
-        Loaded::Refused(n, line) => {
-            io::print_decimal(1, n);
-            io::write_all(1, b" ");
-            io::print_decimal(1, line as u64);
-            io::write_all(1, b"\n");
-        }
+        Loaded::Job(_, _) => told(0, 0),
+        Loaded::Refused(why) => match why {
+            Refusal::NoItems(line) => told(4, line),
+            Refusal::OccurrenceBroken(line) => told(5, line),
+            Refusal::FigurePassed(line) => told(6, line),
+        },
     }
 }
 

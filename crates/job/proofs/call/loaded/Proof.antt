@@ -2,8 +2,7 @@
 use mathlib.Core.Path.{ap}
 use lib.ListN.{length, getD}
 use Rattle.term.specs.Layout.{need-of, figures}
-use Rattle.job.proofs.Readying.{cleared-same}
-use Rattle.job.proofs.Answers.{ran-is, passed-is, cleared-by}
+use Rattle.job.proofs.Answers.{ran-is, passed-is, cleared-same, cleared-by}
 use borrow.Author.Needs.{needs}
 use Rattle.job.proofs.call.loaded.Statement.{statement}
 use Rattle.job.proofs.call.loaded.Tie as tie

@@ -1,5 +1,5 @@
--- A loaded text is ready to run: its image holds the job, and the words that the run begins with are zero.
-use Prim.Native.Nat.{ℕ, _+_, _*_, _≤_, _<_}
+-- A loaded text is ready to run: its image holds the job, the words that the run begins with are zero, and nothing behind the needed part has changed.
+use Prim.Native.Nat.{ℕ, _+_, _*_, _-_, _≤_, _<_}
 use mathlib.Core.Path.{_≡_, refl, ap, sym, _∙_}
 use mathlib.Core.List.{List, [], _∷_, _++_}
 use mathlib.Core.Bool.{Bool, true, false}
@@ -7,8 +7,8 @@ use mathlib.Core.Logic.{_⊎_, inl, inr, ⊎-elim}
 use native.Mathlib.Omega.{arith}
 use native.Mathlib.Nat.{eq-or-lt-of-le}
 use lib.Dec.{leb}
-use lib.ListN.{length, getD, set, drop, replicate, length-set, length-append, length-replicate, length-drop}
-use lib.Seq.{getD-set-other, getD-drop, ext-getD, drop-at}
+use lib.ListN.{length, getD, set, drop, replicate, length-replicate}
+use lib.Seq.{getD-set-other, getD-drop, drop-at}
 use borrow.Author.Tests.{leb-true, leb-false}
 use Rattle.meaning.specs.Bytes.{Bytes}
 use Rattle.meaning.specs.Terms.{Query, Job}
@@ -44,9 +44,10 @@ use Rattle.load_image.proofs.Procedures.{LinkKept, linked-kept}
 use Rattle.load_image.proofs.ImageHolds.{entries-clauses-few, entries-headed, cleared-zero}
 use Rattle.load_image.proofs.Loaded.{accepted-laid-out, loaded-holds}
 use Rattle.load_image.proofs.TextHolds.{loaded-holds-text}
+use Rattle.loader.proofs.Finishing.{cleared-length}
 
 -- A word that no item writes: the first pair and the tries of a query, and all from the trial's region on.
-pub record RunWordsKept (s s′ : List ℕ) : Type 0 where
+record RunWordsKept (s s′ : List ℕ) : Type 0 where
   pub size : length s′ ≡ length s
   pub third : (q : ℕ) → q < 8 → getD s′ (query-first-pair-word q) 0 ≡ getD s (query-first-pair-word q) 0
   pub fourth : (q : ℕ) → q < 8 → getD s′ (query-tries-word q) 0 ≡ getD s (query-tries-word q) 0
@@ -100,7 +101,7 @@ module _ (names : List Place) (k : ℕ) (few : k < 8) (g : Query) (laid : QueryL
       (λ (a : k < q). two .between (query-record q + i) (omega arith) (omega arith))
       (order q k)
 
-  pub query-kept : RunWordsKept s (query-stored names k g vs s)
+  query-kept : RunWordsKept s (query-stored names k g vs s)
   query-kept =
       let two = query-two names k few g laid vs few-places s in
       record {
@@ -130,7 +131,7 @@ module _ (names : List Place) where
       let s₁ = query-stored names q g vs s in
       kept-then s s₁ (entries-stored names k (q + 1) es s₁) (query-kept names q (l .0) g (l .1) vs (l .2) s) (entries-kept k (q + 1) es s₁ (l .3))
 
-pub image-kept : (text : Bytes) (j : Job) (s : List ℕ) → reading text ≡ job j → compounds-region ≤ length s → RunWordsKept s (image text s)
+image-kept : (text : Bytes) (j : Job) (s : List ℕ) → reading text ≡ job j → compounds-region ≤ length s → RunWordsKept s (image text s)
 unfolding image
 image-kept text j s h inside =
     let l = accepted-laid-out text j h in
@@ -153,52 +154,51 @@ image-kept text j s h inside =
       behind = λ w m. last .above w (omega arith) ∙ links .behind w (omega arith);
     })
 
--- What is zero after clearing, and how long the scratch is.
-pub cleared-length : (need : ℕ) (s : List ℕ) → need ≤ length s → length (cleared need s) ≡ length s
-unfolding cleared
-cleared-length need s h = omega (arith, length-append (replicate need 0) (drop need s), length-replicate {A = ℕ} need 0, length-drop need s)
-
-pub cleared-word : (need : ℕ) (s : List ℕ) (w : ℕ) → w < need → getD (cleared need s) w 0 ≡ 0
+-- What is zero after clearing, and what stands behind it.
+cleared-word : (need : ℕ) (s : List ℕ) (w : ℕ) → w < need → getD (cleared need s) w 0 ≡ 0
 unfolding cleared
 cleared-word need s w h = cleared-zero need (drop need s) w h
 
--- Clearing a scratch that differs in the needed part alone.
-pub cleared-same : (need : ℕ) (s t : List ℕ) → length t ≡ length s → ((k : ℕ) → need ≤ k → getD t k 0 ≡ getD s k 0) → cleared need t ≡ cleared need s
+cleared-behind : (need : ℕ) (s : List ℕ) (k : ℕ) → need ≤ k → getD (cleared need s) k 0 ≡ getD s k 0
 unfolding cleared
-cleared-same need s t size h =
-    let same : length (drop need t) ≡ length (drop need s) = omega (arith, length-drop need t, length-drop need s) in
-    ap (λ l. replicate need 0 ++ l)
-    (ext-getD 0 (drop need t) (drop need s) same (λ i l. getD-drop need t i 0 ∙ h (need + i) (omega arith) ∙ sym (getD-drop need s i 0)))
+cleared-behind need s k h =
+    let at : need + (k - need) ≡ k = omega arith in
+    let moved : getD (replicate need 0 ++ drop need s) (need + (k - need)) 0 ≡ getD s (need + (k - need)) 0 =
+    sym (getD-drop need (replicate need 0 ++ drop need s) (k - need) 0)
+    ∙ ap (λ l. getD l (k - need) 0) (drop-at (replicate need 0) (drop need s) need (length-replicate {A = ℕ} need 0))
+    ∙ getD-drop need s (k - need) 0 in
+    rw at at moved
 
-pub cleared-twice : (need : ℕ) (s : List ℕ) → cleared need (cleared need s) ≡ cleared need s
-unfolding cleared
-cleared-twice need s = ap (λ l. replicate need 0 ++ l) (drop-at (replicate need 0) (drop need s) need (length-replicate {A = ℕ} need 0))
+-- What `load` has made of a text that is a job.
+module _ (text : Bytes) (j : Job) (figures : Room) (s s′ : List ℕ) (inside : need-of figures ≤ length s) (h : reading text ≡ job j)
+    (e : s′ ≡ image text (cleared (need-of figures) s)) where
+  kept : RunWordsKept (cleared (need-of figures) s) s′
+  kept =
+      let size = cleared-length (need-of figures) s inside in
+      rw e (image-kept text j (cleared (need-of figures) s) h (omega arith))
 
-pub loaded-ready : (text : Bytes) (j : Job) (figures : Room) (s s′ : List ℕ) → InRange figures → need-of figures ≤ length s → reading text ≡ job j
-    → s′ ≡ image text (cleared (need-of figures) s) → Ready s′ text (spellings (text-names text)) figures j
-loaded-ready text j figures s s′ range inside h e =
-    let need = need-of figures in
-    let size : length (cleared need s) ≡ length s = cleared-length need s inside in
-    let kept : RunWordsKept (cleared need s) s′ = rw e (image-kept text j (cleared need s) h (omega arith)) in
-    record {
-      in-range = range;
-      inside = omega (arith, kept .size);
-      reads = h;
-      held = loaded-holds text j need s s′ h (omega arith) e;
-      text-held = loaded-holds-text text j need s s′ h (omega arith) e;
-      records-zero = λ q i m x.
-          ⊎-elim
-          (λ (a : i ≡ 3). rw a (kept .third q m ∙ cleared-word need s (query-first-pair-word q) (omega arith)))
-          (λ (a : i ≡ 4). rw a (kept .fourth q m ∙ cleared-word need s (query-tries-word q) (omega arith)))
-          x;
-      zero = λ k low high. kept .behind k low ∙ cleared-word need s k high;
-    }
+  pub loaded-ready : InRange figures → Ready s′ text (spellings (text-names text)) figures j
+  loaded-ready range =
+      let need = need-of figures in
+      let size = cleared-length need s inside in
+      record {
+        in-range = range;
+        inside = omega (arith, kept .size);
+        reads = h;
+        held = loaded-holds text j need s s′ h (omega arith) e;
+        text-held = loaded-holds-text text j need s s′ h (omega arith) e;
+        records-zero = λ q i m x.
+            ⊎-elim
+            (λ (a : i ≡ 3). rw a (kept .third q m ∙ cleared-word need s (query-first-pair-word q) (omega arith)))
+            (λ (a : i ≡ 4). rw a (kept .fourth q m ∙ cleared-word need s (query-tries-word q) (omega arith)))
+            x;
+        zero = λ k low high. kept .behind k low ∙ cleared-word need s k high;
+      }
 
--- Nothing behind the needed part has changed.
-pub loaded-clears : (text : Bytes) (j : Job) (figures : Room) (s s′ : List ℕ) → need-of figures ≤ length s → reading text ≡ job j
-    → s′ ≡ image text (cleared (need-of figures) s) → cleared (need-of figures) s′ ≡ cleared (need-of figures) s
-loaded-clears text j figures s s′ inside h e =
-    let need = need-of figures in
-    let size : length (cleared need s) ≡ length s = cleared-length need s inside in
-    let kept : RunWordsKept (cleared need s) s′ = rw e (image-kept text j (cleared need s) h (omega arith)) in
-    cleared-same need (cleared need s) s′ (kept .size) (λ k l. kept .behind k (omega arith)) ∙ cleared-twice need s
+  -- Nothing behind the needed part has changed.
+  pub loaded-only : Only 0 (need-of figures) s s′
+  loaded-only = record {
+    size = kept .size ∙ cleared-length (need-of figures) s inside;
+    below = λ k l. absurd (omega arith);
+    above = λ k l. kept .behind k (omega arith) ∙ cleared-behind (need-of figures) s k l;
+  }
