@@ -5,9 +5,12 @@
 use job::call::Answer;
 use job::call::call;
 use loader::refusal::Refusal;
+use term::layout::COMPOUND_WORDS;
+use term::layout::COMPOUNDS;
 ghost use mathlib.Core.Path.{_≡_};
 ghost use Prim.Native.Nat.{ℕ, _≤_};
 ghost use lib.ListN.{length};
+ghost use Rattle.term.specs.Layout.{need-for};
 ghost use Rattle.job.specs.Calling.{Within};
 
 fn refused(number: u64, line: usize) {
@@ -39,10 +42,12 @@ fn show(answer: Answer, buffer: &[u8])
 }
 
 // As many words as the room needs.
-fn scratch() -> [u64; 54784]
-    ensures { λ r. ⌜ 54784 ≡ length r ⌝ }
+const NEED: usize = COMPOUNDS + COMPOUND_WORDS * 1024 + 5 * 1024 + 6 * 128;
+
+fn scratch() -> [u64; NEED]
+    ensures { λ r. ⌜ need-for 1024 1024 128 ≡ length r ⌝ }
 {
-    [0; 54784]
+    [0; NEED]
 }
 
 fn longer_text() -> [u8; 16385]

@@ -198,6 +198,10 @@ failed-region room = queue-region room + 5 * room .goals
 abbrev pub need-of : Room → ℕ
 need-of room = compounds-region + compound-words * room .compounds + 5 * room .pairs + 6 * room .goals
 
+-- The need by its three figures.
+abbrev pub need-for : ℕ → ℕ → ℕ → ℕ
+need-for pairs compounds goals = need-of (record { pairs = pairs; compounds = compounds; goals = goals })
+
 -- The figures that the code has, as those of the definitions.
 abbrev pub figures : Figures → Room
 figures room = record { pairs = room .pairs; compounds = room .compounds; goals = room .goals }

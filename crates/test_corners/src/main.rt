@@ -2,10 +2,16 @@
 use job::call::Answer;
 use job::call::call;
 use loader::refusal::Refusal;
+use term::layout::COMPOUND_WORDS;
+use term::layout::COMPOUNDS;
 ghost use mathlib.Core.Path.{_≡_};
 ghost use Prim.Native.Nat.{ℕ, _≤_};
 ghost use lib.ListN.{length};
+ghost use Rattle.term.specs.Layout.{need-for};
 ghost use Rattle.job.specs.Calling.{Within};
+
+// As many words as the program's room needs.
+const NEED: usize = COMPOUNDS + COMPOUND_WORDS * 1024 + 5 * 1024 + 6 * 128;
 
 fn told(number: u64, line: usize, size: usize) {
     io::print_decimal(1, number);
@@ -349,28 +355,28 @@ fn lent(text: &[u8], n: usize, words: usize, size: usize, s: &mut [u64], buffer:
 
 // One word too few, and one byte too few for K2's report; then just enough of both.
 fn short(text: &[u8], s: &mut [u64], buffer: &mut [u8])
-    requires { ⌜ (54784 ≤ length (now s)) × (81 ≤ length (now buffer)) ⌝ }
+    requires { ⌜ (need-for 1024 1024 128 ≤ length (now s)) × (81 ≤ length (now buffer)) ⌝ }
 {
     let n = text.len();
-    lent(text, n, 54783, 81, s, buffer);
-    lent(text, n, 54784, 80, s, buffer);
-    lent(text, n, 54784, 81, s, buffer);
+    lent(text, n, NEED - 1, 81, s, buffer);
+    lent(text, n, NEED, 80, s, buffer);
+    lent(text, n, NEED, 81, s, buffer);
 }
 
 // A text of 16,384 blanks, and one of a byte more.
 fn long(s: &mut [u64], buffer: &mut [u8])
-    requires { ⌜ (54784 ≤ length (now s)) × (81 ≤ length (now buffer)) ⌝ }
+    requires { ⌜ (need-for 1024 1024 128 ≤ length (now s)) × (81 ≤ length (now buffer)) ⌝ }
 {
     let text = blanks();
-    lent(&text, 16384, 54784, 81, s, buffer);
-    lent(&text, 16385, 54784, 81, s, buffer);
+    lent(&text, 16384, NEED, 81, s, buffer);
+    lent(&text, 16385, NEED, 81, s, buffer);
 }
 
 // Scratch that holds something already.
-fn scratch() -> [u64; 54784]
-    ensures { λ r. ⌜ 54784 ≡ length r ⌝ }
+fn scratch() -> [u64; NEED]
+    ensures { λ r. ⌜ need-for 1024 1024 128 ≡ length r ⌝ }
 {
-    [7; 54784]
+    [7; NEED]
 }
 
 fn blanks() -> [u8; 16385]

@@ -5,6 +5,8 @@
 use job::call::Answer;
 use job::call::call;
 use loader::refusal::Refusal;
+use term::layout::COMPOUND_WORDS;
+use term::layout::COMPOUNDS;
 ghost use mathlib.Core.Path.{_≡_};
 ghost use Prim.Native.Nat.{ℕ, _≤_, _<_};
 ghost use lib.ListN.{length};
@@ -110,7 +112,7 @@ fn lent_words(
     requires { ⌜ (pairs ≤ 1000000000) × (compounds ≤ 1000000000) × (goals ≤ 1000000000) × (more ≤ 1000000000) ⌝ }
     ensures { λ r. ⌜ r ≤ most ⌝ }
 {
-    let all = 40704 + 8 * compounds + 5 * pairs + 6 * goals + more;
+    let all = COMPOUNDS + COMPOUND_WORDS * compounds + 5 * pairs + 6 * goals + more;
     if all < less {
         return 0;
     }

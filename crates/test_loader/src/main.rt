@@ -4,10 +4,13 @@
 use loader::load::Loaded;
 use loader::load::load;
 use loader::refusal::Refusal;
+use term::layout::COMPOUND_WORDS;
+use term::layout::COMPOUNDS;
 use term::layout::Room;
 ghost use mathlib.Core.Path.{_≡_};
 ghost use Prim.Native.Nat.{_≤_, _<_};
 ghost use lib.ListN.{length};
+ghost use Rattle.term.specs.Layout.{need-for};
 
 fn digit(c: u8) -> usize
     ensures { λ r. ⌜ r ≤ 9 ⌝ }
@@ -34,7 +37,7 @@ fn number(line: &mut [u8]) -> usize
 }
 
 fn once(text: &[u8], n: usize, s: &mut [u64]) -> Loaded
-    requires { ⌜ (n ≤ length (now text)) × (40723 ≤ length (now s)) ⌝ }
+    requires { ⌜ (n ≤ length (now text)) × (need-for 1 1 1 ≤ length (now s)) ⌝ }
 {
     let room = Room {
         pairs: 1,
@@ -46,7 +49,7 @@ fn once(text: &[u8], n: usize, s: &mut [u64]) -> Loaded
 
 // The first n bytes loaded so many times: the last answer.
 fn many(text: &[u8], n: usize, s: &mut [u64], times: usize) -> Loaded
-    requires { ⌜ (n ≤ length (now text)) × (40723 ≤ length (now s)) ⌝ }
+    requires { ⌜ (n ≤ length (now text)) × (need-for 1 1 1 ≤ length (now s)) ⌝ }
 {
     let mut answer = Loaded::Job(0, 0);
     let mut k: usize = 0;
@@ -77,7 +80,7 @@ fn show(answer: Loaded) {
 
 // One frame, if there is one: whether there was.
 fn frame(line: &mut [u8], text: &mut [u8], s: &mut [u64]) -> bool
-    requires { ⌜ (7 ≤ length (now line)) × (20001 ≤ length (now text)) × (40723 ≤ length (now s)) ⌝ }
+    requires { ⌜ (7 ≤ length (now line)) × (20001 ≤ length (now text)) × (need-for 1 1 1 ≤ length (now s)) ⌝ }
 {
     let times = number(line);
     let n = number(line);
@@ -94,7 +97,7 @@ fn frame(line: &mut [u8], text: &mut [u8], s: &mut [u64]) -> bool
 
 // Up to a hundred thousand frames.
 fn frames(line: &mut [u8], text: &mut [u8], s: &mut [u64])
-    requires { ⌜ (7 ≤ length (now line)) × (20001 ≤ length (now text)) × (40723 ≤ length (now s)) ⌝ }
+    requires { ⌜ (7 ≤ length (now line)) × (20001 ≤ length (now text)) × (need-for 1 1 1 ≤ length (now s)) ⌝ }
 {
     let mut k: usize = 0;
     while k < 100000 {
@@ -105,11 +108,14 @@ fn frames(line: &mut [u8], text: &mut [u8], s: &mut [u64])
     }
 }
 
+// As many words as the smallest room needs.
+const NEED: usize = COMPOUNDS + COMPOUND_WORDS + 5 + 6;
+
 // Scratch that holds something already.
-fn scratch() -> [u64; 40723]
-    ensures { λ r. ⌜ 40723 ≡ length r ⌝ }
+fn scratch() -> [u64; NEED]
+    ensures { λ r. ⌜ need-for 1 1 1 ≡ length r ⌝ }
 {
-    [7; 40723]
+    [7; NEED]
 }
 
 fn main() {
