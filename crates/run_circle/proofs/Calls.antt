@@ -2,20 +2,20 @@
 -- to the one is an answer to the other, and the weight falls.
 use Prim.Native.Nat.{ℕ, _+_, _*_, _/_, _%_, _≤_, _<_}
 use mathlib.Core.Path.{_≡_, refl, sym, ap, subst, _∙_}
-use mathlib.Core.Logic.{inl, inr, ⊎-elim}
+use mathlib.Core.Logic.{inl, ⊎-elim}
 use mathlib.Core.Bool.{Bool, true, false, true≢false}
 use mathlib.Core.List.{List}
 use mathlib.Core.Option.{Option}
 use native.Mathlib.Decide.{decLt}
 use native.Mathlib.Omega.{arith}
+use lib.Dec.{eqb}
 use lib.ListN.{length, getD, set, length-set}
+use borrow.Author.Tests.{ne-eqb}
 use Rattle.meaning.specs.Terms.{Term}
 use Rattle.meaning.specs.State.{value}
 use Rattle.term.specs.Layout.{trial-region, gift-term}
 use Rattle.term.specs.Words.{tag-in, rest-in}
 use Rattle.run_circle.specs.Ground.{Ground, GroundAt}
-use Rattle.run_circle.specs.declared.circle.Found.{Found}
-use Rattle.run_circle.specs.declared.circle.Found.the-variants.{Reached, Open, Ground as AllGround}
 use Rattle.run_circle.specs.Search.{
   Scene,
   side,
@@ -29,9 +29,9 @@ use Rattle.run_circle.specs.Search.{
   Searched,
   Firm,
   SearchedFrom,
-  EndsAs,
   Keeps,
   begun-state,
+  JoinedIs,
   SinceIs,
   Names,
   Settled,
@@ -86,7 +86,7 @@ module _ (s : List ℕ) (values marks place stamp : ℕ) where
   abbrev pub TermFirm : Bool → ℕ → Type 0
   TermFirm b w = (x : Scene) (goal : ℕ) (v : Option Term) → Searching s x values marks place stamp goal → Told x b w v → Firm x v
 
-  abbrev pub TermTells : Bool → ℕ → List ℕ → Found → Type 0
+  abbrev pub TermTells : Bool → ℕ → List ℕ → ℕ → Type 0
   TermTells b w s′ r = (x : Scene) (goal : ℕ) (v : Option Term) → Searching s x values marks place stamp goal → Told x b w v
       → SearchedFrom s s′ x marks stamp goal v r
 
@@ -148,16 +148,15 @@ module _ (s : List ℕ) (values marks place stamp : ℕ) (b : Bool) (w state : �
         (x, z, g .now, searching-on x marks stamp z s s′ (g .stamped) values place h, g .told)
 
     -- It ends: found, or not all is ground.
-    gone : (s″ : List ℕ) (f : Bool) → TermFinds s′ values marks place stamp b′ w′ s″ f → TermFinds s values marks place stamp b w s″ f
-    gone s″ f tell x z v h told =
+    pub going-tells : (s″ : List ℕ) (r : ℕ) (f : Bool) → eqb r 2 ≡ f → (r ≡ 0 → ⊥) → TermFinds s′ values marks place stamp b′ w′ s″ f
+        → TermTells s values marks place stamp b w s″ r
+    going-tells s″ r f e unfirm tell x z v h told =
         let g = going x z v h told in
-        g .answer s″ f (tell x z (g .now) (searching-on x marks stamp z s s′ (g .stamped) values place h) (g .told))
-
-    pub reached-tells : (s″ : List ℕ) → TermFinds s′ values marks place stamp b′ w′ s″ true → TermTells s values marks place stamp b w s″ Reached
-    reached-tells s″ tell x z v h told = record { searched = gone s″ true tell x z v h told; firm = tt }
-
-    pub open-tells : (s″ : List ℕ) → TermFinds s′ values marks place stamp b′ w′ s″ false → TermTells s values marks place stamp b w s″ Open
-    open-tells s″ tell x z v h told = record { searched = gone s″ false tell x z v h told; firm = tt }
+        let a = g .answer s″ f (tell x z (g .now) (searching-on x marks stamp z s s′ (g .stamped) values place h) (g .told)) in
+        record {
+          searched = rw e a;
+          firm = λ o. absurd (unfirm o);
+        }
 
     -- Or all that was left is ground.
     module _ (begun : state ≡ begun-state b) (firm : TermFirm s′ values marks place stamp b′ w′) where
@@ -178,22 +177,18 @@ module _ (s : List ℕ) (values marks place stamp : ℕ) (b : Bool) (w state : �
       ended-asks (x, z, v, h, told) =
           (x, place, z, searching-on x marks stamp z s s′ (going x z v h told .stamped) values place h, names x z v h told)
 
-      pub ended-tells : TermFinds s′ values marks place stamp b′ w′ s′ false → (s″ : List ℕ) (r : Found)
+      pub ended-tells : TermFinds s′ values marks place stamp b′ w′ s′ false → (s″ : List ℕ) (r : ℕ)
           → ((x : Scene) (at goal : ℕ) → Searching s′ x values marks at stamp goal → Names x state′ → Settled x marks stamp s′ s″)
-          → EndsAs state′ r → TermTells s values marks place stamp b w s″ r
-      ended-tells finds s″ r settle ends x z v h told = go r ends
-        where
-          all : Searched s s″ x marks stamp z (λ j. StandsAt j v) false
-          all =
-              let g = going x z v h told in
-              let here = searching-on x marks stamp z s s′ (g .stamped) values place h in
-              g .answer s″ false (settled-answer x marks stamp z (λ j. StandsAt j (g .now)) s′ s′ s″ (finds x z (g .now) here (g .told))
-              (settle x place z here (names x z v h told)))
-
-          go : (o : Found) → EndsAs state′ o → SearchedFrom s s″ x marks stamp z v o
-          go Reached e = absurd e
-          go Open e = record { searched = all; firm = tt }
-          go AllGround e = record { searched = all; firm = kept x z v h told .firm e .1 (left x z v h told) }
+          → r ≡ state′ % 2 → TermTells s values marks place stamp b w s″ r
+      ended-tells finds s″ r settle parity x z v h told =
+          let g = going x z v h told in
+          let here = searching-on x marks stamp z s s′ (g .stamped) values place h in
+          let all = settled-answer x marks stamp z (λ j. StandsAt j (g .now)) s′ s′ s″ (finds x z (g .now) here (g .told))
+          (settle x place z here (names x z v h told)) in
+          record {
+            searched = rw (ne-eqb r 2 (λ e. omega arith)) (g .answer s″ false all);
+            firm = λ o. kept x z v h told .firm (sym parity ∙ o) .1 (left x z v h told);
+          }
 
 pub going-on : (s : List ℕ) (values marks place stamp : ℕ) (b : Bool) (w state : ℕ) (s′ : List ℕ) (b′ : Bool) (w′ state′ : ℕ)
     → Going s values marks place stamp b w state s′ b′ w′ state′ → (s″ : List ℕ) (b″ : Bool) (w″ state″ : ℕ)
@@ -246,17 +241,17 @@ module _ (s₀ : List ℕ) (values marks place stamp : ℕ) (b : Bool) (w first 
         falls-to-argument x values marks place stamp z s₀ s h (c .stamped) (visited stamp) (fewer-unseen x marks stamp s₀ s (c .stamped)) b w later v
         (c .argument .value) told (c .argument .told) (c .argument .lower)
 
-    later-tells : (s′ : List ℕ) (r : Found) → TermTells s values marks place stamp b later s′ r
+    later-tells : (s′ : List ℕ) (r : ℕ) → TermTells s values marks place stamp b later s′ r
         → (x : Scene) (z : ℕ) (v : Option Term) (h : Searching s₀ x values marks place stamp z) (told : Told x b w v)
         → SearchedFrom s s′ x marks stamp z (walking x z v h told .argument .value) r
     later-tells s′ r tell x z v h told =
         let c = walking x z v h told in
         tell x z (c .argument .value) (searching-on x marks stamp z s₀ s (c .stamped) values place h) (c .argument .told)
 
-    pub later-found : (s′ : List ℕ) → TermTells s values marks place stamp b later s′ Reached → TermFinds s₀ values marks place stamp b w s′ true
+    pub later-found : (s′ : List ℕ) → TermTells s values marks place stamp b later s′ 2 → TermFinds s₀ values marks place stamp b w s′ true
     later-found s′ tell x z v h told =
         walk-found x values marks place stamp z b s₀ s w v h told q k i later first state (walking x z v h told) s′
-        (later-tells s′ Reached tell x z v h told .searched)
+        (later-tells s′ 2 tell x z v h told .searched)
 
     module _ (a : ℕ) (reads : a ≡ getD s (q + i) 0) (le : i ≤ k) where
       -- An argument that does not lead on is passed over.
@@ -269,21 +264,17 @@ module _ (s₀ : List ℕ) (values marks place stamp : ℕ) (b : Bool) (w first 
       walking-on leads e x z v h told =
           let c = walking x z v h told in
           let searched = no-pairs x values marks place stamp z b s later (c .argument .value) (c .argument .told) ((λ f. omega arith), inl (omega arith)) in
-          walk-next x values marks place stamp z b s₀ s w v h told q k i later first state c a reads le leads s state searched
-          (inr (refl, λ j r. absurd (none-at (side x b) (c .argument .value) later (c .argument .told .word) ((λ f. omega arith), inl (omega arith)) j r)))
+          walk-next x values marks place stamp z b s₀ s w v h told q k i later first state c a reads le leads s 0 state searched
+          (λ f j r. absurd (none-at (side x b) (c .argument .value) later (c .argument .told .word) ((λ f. omega arith), inl (omega arith)) j r))
+          (record { kept = λ e. refl; new = λ d. absurd (d refl) })
 
-      pub walking-open : LeadsIs a true → (s′ : List ℕ) → TermTells s values marks place stamp b later s′ Open → Walking s′ q k (i + 1) a 1
-      walking-open leads s′ tell x z v h told =
-          let t = later-tells s′ Open tell x z v h told in
-          walk-next x values marks place stamp z b s₀ s w v h told q k i later first state (walking x z v h told) a reads le leads s′ 1 (t .searched)
-          (inl refl)
-
-      pub walking-ground : LeadsIs a true → (s′ : List ℕ) → TermTells s values marks place stamp b later s′ AllGround → Walking s′ q k (i + 1) a state
-      walking-ground leads s′ tell x z v h told =
+      pub walking-next : LeadsIs a true → (s′ : List ℕ) (r out : ℕ) → TermTells s values marks place stamp b later s′ r → (r ≡ 2 → ⊥)
+          → JoinedIs state r out → Walking s′ q k (i + 1) a out
+      walking-next leads s′ r out tell found joined x z v h told =
           let c = walking x z v h told in
-          let t = later-tells s′ AllGround tell x z v h told in
-          walk-next x values marks place stamp z b s₀ s w v h told q k i later first state c a reads le leads s′ state (t .searched)
-          (inr (refl, grounds x (c .argument .value) (t .firm)))
+          let t = later-tells s′ r tell x z v h told in
+          walk-next x values marks place stamp z b s₀ s w v h told q k i later first state c a reads le leads s′ r out
+          (rw (ne-eqb r 2 found) at (t .searched)) (λ e. grounds x (c .argument .value) (t .firm e)) joined
 
     -- Behind all arguments the search goes on to that one.
     module _ (done : k < i) where

@@ -2,13 +2,13 @@
 use Prim.Native.Nat.{ℕ, _+_, _*_, _≤_, _<_, _^_}
 use mathlib.Core.Path.{_≡_, refl, sym, ap, subst, _∙_}
 use mathlib.Core.Bool.{Bool, true, false, true≢false}
-use mathlib.Core.List.{List, [], _∷_}
+use mathlib.Core.List.{List}
 use native.Mathlib.Decide.{ℕ-discrete}
 use native.Mathlib.Omega.{arith}
+use lib.Dec.{eqb}
 use lib.ListN.{length, getD, take}
 use lib.Seq.{getD-take}
-use types.Run.{OneOf, miss}
-use denote.Enum.Declared.{tagOf}
+use borrow.Author.Tests.{eq-eqb, ne-eqb}
 use Rattle.meaning.specs.State.{value}
 use Rattle.laws.proofs.Circle.Leaning.{Links}
 use Rattle.laws.proofs.Circle.Search.{circle-says, no-circle-says}
@@ -16,22 +16,13 @@ use Rattle.term.specs.Frames.{Only}
 use Rattle.term.specs.Layout.{gift-pair, gift-term}
 use Rattle.run_circle.specs.Circle.{entry-pair, entry-term, Held, Trial, old, Tried, Answered}
 use Rattle.run_circle.specs.Ground.{Ground, Grounds, NewGrounds}
-use Rattle.run_circle.specs.declared.circle.Found.{Found}
-use Rattle.run_circle.specs.declared.circle.Found.the-variants.{Reached, Open, Ground as AllGround}
-use Rattle.run_circle.specs.Search.{Scene, Told, StandsAt, Searching, Visited, Stamped, Searched, is-reached}
-use Rattle.run_circle.proofs.circle.Found.{the-type}
+use Rattle.run_circle.specs.Search.{Scene, Told, StandsAt, Searching, Visited, Stamped, Searched}
 use Rattle.run_circle.proofs.Calls.{TermAsks, TermTells}
 use Rattle.run_circle.proofs.Grounds.{new-none, new-then, new-same, grounds-on}
 use Rattle.run_circle.proofs.Stamps.{not-visited, visited-below}
 use Rattle.run_circle.proofs.Scenes.{scene, shown, entry-told, before-same}
 use Rattle.run_circle.proofs.Through.{circle-on-entry, not-around}
 use Rattle.run_circle.proofs.Visit.{link}
-
--- Any other answer is that it is not reached.
-pub not-reached : (r : Found) → OneOf (1 ∷ 2 ∷ []) (tagOf the-type r) → is-reached r ≡ false
-not-reached Reached k = absurd (miss (1 ∷ 2 ∷ []) 0 tt k)
-not-reached Open k = refl
-not-reached AllGround k = refl
 
 -- Before the i-th entry, s₁ being the scratch with the entries' pairs held.
 pub record Passed (s₀ s₁ s : List ℕ) (y : Trial) (marks stamp i : ℕ) : Type 0 where
@@ -212,10 +203,10 @@ module _ (s₁ : List ℕ) (values marks n stamp : ℕ) where
             told s₀ s₁ y values marks n stamp tried held s i p h,
           )
 
-      module _ (s′ : List ℕ) (r : Found) (tell : TermTells s values marks place (stamp + a) true w s′ r) where
+      module _ (s′ : List ℕ) (r : ℕ) (tell : TermTells s values marks place (stamp + a) true w s′ r) where
         searched : (y : Trial) (s₀ : List ℕ) (tried : Tried s₀ y values marks n stamp) (held : Held s₀ s₁ values n true)
             → Searched s s′ (scene y values (take marks s₁) (length s₁)) marks (stamp + i) (tried .entry i h .pair)
-            (λ j. StandsAt j (value (y .after) (tried .entry i h .pair))) (is-reached r)
+            (λ j. StandsAt j (value (y .after) (tried .entry i h .pair))) (eqb r 2)
         searched y s₀ tried held =
             let p = passing y s₀ tried held in
             let tell′ : TermTells s values marks (entry-pair s i) (stamp + i) true (entry-term s i) s′ r = rw (at, number, word) at tell in
@@ -223,10 +214,10 @@ module _ (s₁ : List ℕ) (values marks n stamp : ℕ) where
             (searching s₀ s₁ y values marks n stamp tried held s i p h)
             (told s₀ s₁ y values marks n stamp tried held s i p h) .searched
 
-        pub entry-tells : is-reached r ≡ true → Tells s′ true
+        pub entry-tells : r ≡ 2 → Tells s′ true
         entry-tells e y s₀ tried held =
-            entry-found s₀ s₁ y values marks n stamp tried held s i (passing y s₀ tried held) h s′ (rw e at (searched y s₀ tried held))
+            entry-found s₀ s₁ y values marks n stamp tried held s i (passing y s₀ tried held) h s′ (rw (eq-eqb r 2 e) at (searched y s₀ tried held))
 
-        pub passing-next : is-reached r ≡ false → Passing s′ (i + 1)
+        pub passing-next : (r ≡ 2 → ⊥) → Passing s′ (i + 1)
         passing-next e y s₀ tried held =
-            passed-next s₀ s₁ y values marks n stamp tried held s i (passing y s₀ tried held) h s′ (rw e at (searched y s₀ tried held))
+            passed-next s₀ s₁ y values marks n stamp tried held s i (passing y s₀ tried held) h s′ (rw (ne-eqb r 2 e) at (searched y s₀ tried held))

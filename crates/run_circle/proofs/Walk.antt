@@ -27,6 +27,7 @@ use Rattle.run_circle.specs.Search.{
   Closed,
   Searched,
   Firm,
+  JoinedIs,
 }
 use Rattle.run_circle.proofs.Depth.{depth, depths}
 use Rattle.run_circle.proofs.Stamps.{stamped-same, stamped-then, searching-on, seen-on, closed-then, closed-same, whole-word}
@@ -292,30 +293,30 @@ module _ (x : Scene) (values marks place stamp z : ℕ) (b : Bool) where
           over P j (inr r) = inr r
 
       -- It leads on: it is searched later, when the one that was to be searched later was searched.
-      pub walk-next : LeadsIs a true → (s′ : List ℕ) (out : ℕ) → Searched s s′ x marks stamp z (λ j. StandsAt j (c .argument .value)) false
-          → (out ≡ 1) ⊎ ((out ≡ state) × ((j : ℕ) → StandsAt j (c .argument .value) → Ground (x .before) j))
+      pub walk-next : LeadsIs a true → (s′ : List ℕ) (r out : ℕ) → Searched s s′ x marks stamp z (λ j. StandsAt j (c .argument .value)) false
+          → (r ≡ 0 → (j : ℕ) → StandsAt j (c .argument .value) → Ground (x .before) j) → JoinedIs state r out
           → Walked s₀ s′ x marks stamp z b q k (i + 1) a v first out
-      walk-next leads s′ out searched all = record {
+      walk-next leads s′ r out searched all joined = record {
         rest = next .rest;
         argument = next .argument;
         stamped = stamped-then x marks stamp s₀ s s′ (c .stamped) (searched .stamped);
         closed = closed-then x marks stamp z s s′ (searched .stamped) s₀ (c .closed) (searched .closed refl);
         visited = λ j l. ⊎-elim (⊎-elim (λ m. inr (searched .visited refl j m)) (λ m. inl (next .stands j m)))
             (λ m. inr (seen-on x marks stamp z s s′ (searched .stamped) j m)) (c .visited j l);
-        firm = firm all (c .firm);
+        firm = firm (ℕ-discrete r 0) (c .firm);
         idle = λ e. absurd (⊎-elim (λ f. omega arith) (λ (d, f). d (omega arith)) leads);
       }
         where
-          firm : (out ≡ 1) ⊎ ((out ≡ state) × ((j : ℕ) → StandsAt j (c .argument .value) → Ground (x .before) j))
+          firm : Dec (r ≡ 0)
               → (state ≡ 1)
               ⊎ ((state ≡ first) × ((j : ℕ) → StandsAt j v → (StandsAt j (c .argument .value) ⊎ StandsIn j (c .rest .terms)) ⊎ Ground (x .before) j))
               → (out ≡ 1)
               ⊎ ((out ≡ first) × ((j : ℕ) → StandsAt j v → (StandsAt j (next .argument .value) ⊎ StandsIn j (next .rest .terms)) ⊎ Ground (x .before) j))
-          firm (inl one) was = inl one
-          firm (inr (kept, ground)) (inl one) = inl (kept ∙ one)
-          firm (inr (kept, ground)) (inr (same, left)) = inr (
-            kept ∙ same,
-            λ j l. ⊎-elim (⊎-elim (λ m. inr (ground j m)) (λ m. inl (next .stands j m))) inr (left j l),
+          firm (no d) was = inl (joined .new d)
+          firm (yes f) (inl one) = inl (joined .kept f ∙ one)
+          firm (yes f) (inr (same, left)) = inr (
+            joined .kept f ∙ same,
+            λ j l. ⊎-elim (⊎-elim (λ m. inr (all f j m)) (λ m. inl (next .stands j m))) inr (left j l),
           )
 
     -- The pair is found from the argument that is searched later.

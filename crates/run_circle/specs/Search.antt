@@ -18,8 +18,6 @@ use Rattle.term.specs.Holds.{value-word, HoldsValue}
 use Rattle.term.specs.Layout.{trial-region, gift-term}
 use Rattle.term.specs.Words.{probe-word, tag-in}
 use Rattle.run_circle.specs.Ground.{Ground, GroundAt, Grounds, NewGrounds}
-use Rattle.run_circle.specs.declared.circle.Found.{Found}
-use Rattle.run_circle.specs.declared.circle.Found.the-variants.{Reached, Open, Ground as AllGround}
 
 -- A pair stands in a value.
 abbrev pub StandsAt : ℕ → Option Term → Type 0
@@ -150,20 +148,10 @@ abbrev pub Firm : Scene → Option Term → Type 0
 Firm x none = ⊥
 Firm x (some t) = (j : ℕ) → Stands j t → Ground (x .before) j
 
--- A search from a value: the pair was found, or not; and if all is ground, the value has ground pairs only.
-abbrev pub is-reached : Found → Bool
-is-reached Reached = true
-is-reached Open = false
-is-reached AllGround = false
-
-abbrev pub FirmIf : Found → Scene → Option Term → Type 0
-FirmIf Reached x v = Unit {0}
-FirmIf Open x v = Unit {0}
-FirmIf AllGround x v = Firm x v
-
-pub record SearchedFrom (s s′ : List ℕ) (x : Scene) (marks stamp z : ℕ) (v : Option Term) (r : Found) : Type 0 where
-  pub searched : Searched s s′ x marks stamp z (λ j. StandsAt j v) (is-reached r)
-  pub firm : FirmIf r x v
+-- A search from a value: 2 (REACHED), the pair was found; 0 (FIRM), it was not, and the value has ground pairs only; else it was not found.
+pub record SearchedFrom (s s′ : List ℕ) (x : Scene) (marks stamp z : ℕ) (v : Option Term) (r : ℕ) : Type 0 where
+  pub searched : Searched s s′ x marks stamp z (λ j. StandsAt j v) (eqb r 2)
+  pub firm : r ≡ 0 → Firm x v
 
 -- What a search keeps besides, as one number: odd, if it has met a pair that may not be ground; and twice one more than the place of the first pair that
 -- it visited since, if any. The value is firm, and that pair ground, if what is left to search is firm.
@@ -188,11 +176,10 @@ met-open state = eqb (state % 2) 1
 abbrev pub visited-one : ℕ → Bool
 visited-one state = ltb 1 state
 
--- The answer of a search that has not found the pair, where all that was left is ground.
-abbrev pub EndsAs : ℕ → Found → Type 0
-EndsAs state Reached = ⊥
-EndsAs state Open = state % 2 ≡ 1
-EndsAs state AllGround = state % 2 ≡ 0
+-- An argument was searched that is firm, or may not be.
+pub record JoinedIs (state r out : ℕ) : Type 0 where
+  pub kept : r ≡ 0 → out ≡ state
+  pub new : (r ≡ 0 → ⊥) → out ≡ 1
 
 -- The pair that the state names is ground.
 abbrev pub Names : Scene → ℕ → Type 0

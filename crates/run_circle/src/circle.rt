@@ -23,17 +23,18 @@ ghost use Rattle.term.specs.Layout.{gift-pair, gift-term};
 ghost use Rattle.term.specs.Words.{probe-word};
 ghost use Rattle.run_circle.specs.Circle.{Entries, Held, held-word, entry-pair, Trial, Tried, Tested, Answered};
 ghost use Rattle.run_circle.specs.Ground.{GroundAt};
-ghost use Rattle.run_circle.specs.Search.{Scene, Told, Searching, LeadsIs, LastLeads, Settled, Names, begun-state, met-open, visited-one, SinceIs, SearchedFrom, EndsAs};
+ghost use Rattle.run_circle.specs.Search.{Scene, Told, Searching, LeadsIs, LastLeads, Settled, Names, begun-state, met-open, visited-one, JoinedIs, SinceIs, SearchedFrom};
 
 // The mark of a pair from which no unassigned pair is reached. Stamps are greater.
 const GROUND: u64 = 1;
 
-// What a search finds: the pair is reached; it is not, but an unassigned pair may be; it is not, and all that was reached is ground.
-pub enum Found {
-    Reached,
-    Open,
-    Ground,
-}
+// What a search finds: the pair is reached; it is not, but an unassigned pair may be; it is not, and all that was reached is ground. A number and no enum:
+// an enum is handed over by a pointer, and the deepest search would pass 8 MiB of stack.
+const REACHED: u64 = 2;
+
+const OPEN: u64 = 1;
+
+const FIRM: u64 = 0;
 
 // The state of a search that goes on, as one number: MET_OPEN if it has met a pair that may not be ground, else ALL_GROUND; and, if it has visited a pair
 // since, twice one more than the place of the first.
@@ -68,6 +69,13 @@ fn begun(head: bool) -> usize
     ensures { λ r. ⌜ r ≡ begun-state head ⌝ }
 {
     if head { MET_OPEN } else { ALL_GROUND }
+}
+
+// The state when an argument was searched.
+fn joined(state: usize, r: u64) -> usize
+    ensures { λ o. ⌜ JoinedIs state r o ⌝ }
+{
+    if r == FIRM { state } else { MET_OPEN }
 }
 
 // The state when a pair at a place is visited.
@@ -149,20 +157,16 @@ fn settle(s: &mut [u64], values: usize, marks: usize, stamp: u64, pair: usize)
 }
 
 // The end of a search that has not found the pair, where all that was left is ground: marks the pair that its state names.
-fn ended(s: &mut [u64], values: usize, marks: usize, stamp: u64, state: usize) -> Found
+fn ended(s: &mut [u64], values: usize, marks: usize, stamp: u64, state: usize) -> u64
     requires { ⌜ ((x : Scene) × (place : ℕ) × (goal : ℕ) × Searching (now s) x values marks place stamp goal × Names x state) ⌝ }
     ensures settled { λ r. ⌜ ((x : Scene) (place goal : ℕ) → Searching (now (s .entry)) x values marks place stamp goal → Names x state
         → Settled x marks stamp (now (s .entry)) (now (s .exit))) ⌝ }
-    ensures answer { λ r. ⌜ EndsAs state r ⌝ }
+    ensures parity { λ r. ⌜ r ≡ state % 2 ⌝ }
 {
     if visited_one(state) {
         settle(s, values, marks, stamp, first_visited(state));
     }
-    if met_open(state) {
-        Found::Open
-    } else {
-        Found::Ground
-    }
+    if met_open(state) { OPEN } else { FIRM }
 }
 
 // Whether pair z is reached from a term: the head's, whose variables stand for what they are given, or the goal's. A pair with this search's stamp was
@@ -176,7 +180,7 @@ fn from_term(
     stamp: u64,
     head: bool,
     w: u64,
-) -> Found
+) -> u64
     requires { ⌜ ((x : Scene) × (goal : ℕ) × (v : Option Term) × Searching (now s) x values marks z stamp goal × Told x head w v) ⌝ }
     ensures { λ r. ⌜ ((x : Scene) (goal : ℕ) (v : Option Term) → Searching (now (s .entry)) x values marks z stamp goal → Told x head w v
         → SearchedFrom (now (s .entry)) (now (s .exit)) x marks stamp goal v r) ⌝ }
@@ -195,11 +199,11 @@ fn from_term(
                 let a = argument(s, p, i);
                 if leads(a) {
                     if later != 0 {
-                        match from_term(s, values, marks, z, stamp, side, later) {
-                            Found::Reached => return Found::Reached,
-                            Found::Open => state = MET_OPEN,
-                            Found::Ground => {}
+                        let r = from_term(s, values, marks, z, stamp, side, later);
+                        if r == REACHED {
+                            return REACHED;
                         }
+                        state = joined(state, r);
                     }
                     later = a;
                 }
@@ -212,7 +216,7 @@ fn from_term(
             continue;
         }
         if tag == 0 {
-            return Found::Open;
+            return OPEN;
         }
         if tag > READER {
             return ended(s, values, marks, stamp, state);
@@ -223,14 +227,14 @@ fn from_term(
             continue;
         }
         if p == z {
-            return Found::Reached;
+            return REACHED;
         }
         let m = word_at(s, marks, p);
         if m == GROUND {
             return ended(s, values, marks, stamp, state);
         }
         if m == stamp {
-            return Found::Open;
+            return OPEN;
         }
         set_at(s, marks, p, stamp);
         state = since(state, p);
@@ -285,7 +289,8 @@ fn from_entries(s: &mut [u64], values: usize, marks: usize, n: usize, stamp: u64
     while i < n {
         let z = entry_pair(s, i);
         let h = given_term(s, i);
-        if let Found::Reached = from_term(s, values, marks, z, stamp + word(i), true, h) {
+        let r = from_term(s, values, marks, z, stamp + word(i), true, h);
+        if r == REACHED {
             return true;
         }
         i += 1;

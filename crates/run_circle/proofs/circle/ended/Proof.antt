@@ -42,7 +42,7 @@ returns c =
       ⊎-elim (λ (if1, lent, first, settle, s, known, same). rw same (λ x place goal h names.
           settle .ensures x place goal h (names (first .result) (first .ensures))))
           (λ (if1, same). rw same (λ x place goal h names. settled-same x (a .marks) (a .stamp) (a .s .now))) (If1 .if1 .came),
-      eqb-true (a .state % 2) 1 (sym (Open .met-open .ensures) ∙ c .if2 .taken),
+      sym (eqb-true (a .state % 2) 1 (sym (Open .met-open .ensures) ∙ c .if2 .taken)),
     )
 
 same-length-2 : tie.Need-same-length-2

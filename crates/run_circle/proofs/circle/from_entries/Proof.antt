@@ -64,18 +64,15 @@ from-term-requires c κs =
     (E .before .before .loop-test .taken) (E .entry-pair .result) (c .word .result) (G .given-term .result)
     (E .entry-pair .ensures) (c .word .ensures) (G .given-term .ensures) (S .pre)
 
-enum-told : tie.Need-enum-told Inv-loop μ-loop
-enum-told c = c .match .keys1
-
 same-length : tie.Need-same-length Inv-loop μ-loop
 same-length c =
-    let F = c .before .before .before .before in
+    let F = c .before .before .before in
     let L = F .before .before .before .before .before .before .before .before in
     F .from-term .kept .0 ∙ L .loop .inv .2
 
 returns : tie.Need-returns Inv-loop μ-loop
 returns c =
-    let F = c .before .before .before .before in
+    let F = c .before .before .before in
     let W = F .before in
     let G = W .before .before in
     let E = G .before .before in
@@ -84,7 +81,7 @@ returns c =
     starts.entry-tells (a .s .now) (a .values) (a .marks) (a .n) (a .stamp) (L .loop .s) (L .loop .i) (L .loop .inv .0)
     (E .before .before .loop-test .taken) (E .entry-pair .result) (W .word .result) (G .given-term .result)
     (E .entry-pair .ensures) (W .word .ensures) (G .given-term .ensures)
-    (F .from-term .last .0) (F .from-term .result) (F .from-term .ensures) (rw (c .enum-told .given .1) refl)
+    (F .from-term .last .0) (F .from-term .result) (F .from-term .ensures) (c .if1 .taken)
 
 add-i : tie.Need-add-i Inv-loop μ-loop
 add-i c = omega (arith, c .before .before .before .before .before .before .before .before .before .before .loop-test .taken)
@@ -103,7 +100,7 @@ loop-again c =
       starts.passing-next (a .s .now) (a .values) (a .marks) (a .n) (a .stamp) (L .loop .s) (L .loop .i) (L .loop .inv .0)
           (E .before .before .loop-test .taken) (E .entry-pair .result) (W .word .result) (G .given-term .result)
           (E .entry-pair .ensures) (W .word .ensures) (G .given-term .ensures)
-          (F .from-term .last .0) (F .from-term .result) (F .from-term .ensures) (starts.not-reached (F .from-term .result) (c .match .keys2)),
+          (F .from-term .last .0) (F .from-term .result) (F .from-term .ensures) (c .if1 .left),
       omega (arith, E .before .before .loop-test .taken),
       F .from-term .kept .0 ∙ L .loop .inv .2,
     )
@@ -130,7 +127,6 @@ from-entries-spec =
     word-requires
     add-from-term
     from-term-requires
-    enum-told
     same-length
     returns
     add-i
