@@ -2,13 +2,17 @@
 use crate::cursor::Cursor;
 use load_names::names;
 use load_names::variables;
-use load_tokens::next::Next;
-use load_tokens::next::next_of;
+use load_tokens::next::IsNext;
+use load_tokens::next::next_is;
 use load_tokens::token::Token;
 use load_tokens::token::front;
+use term::word::EMPTY;
 use term::word::INTEGER;
 use term::word::NAME;
+use term::word::READER;
 use term::word::TAGS;
+use term::word::WRITER;
+use term::word::index;
 use term::word::word;
 ghost use mathlib.Core.Path.{_≡_};
 ghost use mathlib.Core.List.{List};
@@ -35,8 +39,8 @@ fn behind_name(rest: &[u8], left: usize, n: usize, d: Cursor) -> Begun
     ensures { λ r. ⌜ BehindName (now (rest .entry)) left n d r ⌝ }
 {
     let at = d.at;
-    match next_of(rest, at, b'(', b'(', b'(') {
-        Next::First(behind) => {
+    match next_is(rest, at, b'(') {
+        IsNext::Yes(behind) => {
             if left == 0 {
                 return Begun::Exceeded;
             }
@@ -50,8 +54,7 @@ fn behind_name(rest: &[u8], left: usize, n: usize, d: Cursor) -> Begun
                 },
             )
         }
-        Next::Other(_) => Begun::Got(NAME + TAGS * word(n), d),
-        _ => Begun::Exceeded,
+        IsNext::No(_) => Begun::Got(NAME + TAGS * word(n), d),
     }
 }
 
@@ -64,9 +67,9 @@ fn behind_bracket(rest: &[u8], left: usize, d: Cursor) -> Begun
         return Begun::Exceeded;
     }
     let at = d.at;
-    match next_of(rest, at, b']', b']', b']') {
-        Next::First(behind) => Begun::Got(
-            5,
+    match next_is(rest, at, b']') {
+        IsNext::Yes(behind) => Begun::Got(
+            EMPTY,
             Cursor {
                 at: behind,
                 names: d.names,
@@ -74,16 +77,15 @@ fn behind_bracket(rest: &[u8], left: usize, d: Cursor) -> Begun
                 compounds: d.compounds,
             },
         ),
-        Next::Other(_) => Begun::Square(d),
-        _ => Begun::Exceeded,
+        IsNext::No(_) => Begun::Square(d),
     }
 }
 
-// A variable's word: the tag is 1 for its writer and 2 for its reader.
+// A variable's word, with the tag of its half.
 fn variable(
     rest: &[u8],
     item: &mut [u64],
-    tag: usize,
+    tag: u64,
     a: usize,
     e: usize,
     next: usize,
@@ -95,9 +97,10 @@ fn variable(
         → VariableBegun (now (rest .entry)) vars tag a (slice a e (now (rest .entry))) next c (now (item .entry)) (now (item .exit)) r) ⌝ }
 {
     let known = c.variables;
-    match variables::number(rest, item, known, 16 + 16 * tag, a, e) {
+    let half = 16 + 16 * index(tag);
+    match variables::number(rest, item, known, half, a, e) {
         variables::Numbered::Number(n, count) => Begun::Got(
-            word(tag + 8 * n),
+            tag + TAGS * word(n),
             Cursor {
                 at: next,
                 names: c.names,
@@ -142,8 +145,8 @@ pub fn begin(
                 names::Numbered::Exceeded => Begun::Exceeded,
             }
         }
-        Token::Writer(a, e) => variable(rest, item, 1, a, e, e, c),
-        Token::Reader(a, e) => variable(rest, item, 2, a, e, e + 1, c),
+        Token::Writer(a, e) => variable(rest, item, WRITER, a, e, e, c),
+        Token::Reader(a, e) => variable(rest, item, READER, a, e, e + 1, c),
         Token::Integer(w, _, e) => Begun::Got(
             INTEGER + TAGS * w,
             Cursor {

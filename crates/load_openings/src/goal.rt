@@ -1,8 +1,8 @@
 // How a goal begins: "heads and goals are compounds with a name".
 use crate::cursor::Cursor;
 use load_names::names;
-use load_tokens::next::Next;
-use load_tokens::next::next_of;
+use load_tokens::next::IsNext;
+use load_tokens::next::next_is;
 use load_tokens::token::Token;
 use load_tokens::token::front;
 ghost use mathlib.Core.List.{List};
@@ -29,8 +29,8 @@ pub fn goal_name(text: &[u8], rest: &[u8], from: usize, names: &mut [u64], c: Cu
         Token::Name(a, e) => {
             let known = c.names;
             match names::number(text, rest, from, names, known, a, e) {
-                names::Numbered::Number(n, count) => match next_of(rest, e, b'(', b'(', b'(') {
-                    Next::First(behind) => Opening::Named(
+                names::Numbered::Number(n, count) => match next_is(rest, e, b'(') {
+                    IsNext::Yes(behind) => Opening::Named(
                         n,
                         Cursor {
                             at: behind,
@@ -39,9 +39,7 @@ pub fn goal_name(text: &[u8], rest: &[u8], from: usize, names: &mut [u64], c: Cu
                             compounds: c.compounds,
                         },
                     ),
-                    Next::Second(a) => Opening::NotNamed(a),
-                    Next::Third(a) => Opening::NotNamed(a),
-                    Next::Other(a) => Opening::NotNamed(a),
+                    IsNext::No(a) => Opening::NotNamed(a),
                 },
                 names::Numbered::Exceeded => Opening::Overfull,
             }

@@ -3,8 +3,10 @@ use load_openings::begin::Begun;
 use load_openings::begin::begin;
 use load_openings::cursor::Cursor;
 use load_openings::cursor::Read;
+use load_tokens::next::IsNext;
 use load_tokens::next::Next;
 use load_tokens::next::Start;
+use load_tokens::next::next_is;
 use load_tokens::next::next_of;
 use load_tokens::next::starts;
 use term::layout::COMPOUND_WORDS;
@@ -315,8 +317,8 @@ fn last_tail(
     match term(text, rest, from, s, names, item, base, left, c) {
         Read::Got(w, e) => {
             let at = e.at;
-            match next_of(rest, at, b']', b']', b']') {
-                Next::First(behind) => Read::Got(
+            match next_is(rest, at, b']') {
+                IsNext::Yes(behind) => Read::Got(
                     w,
                     Cursor {
                         at: behind,
@@ -325,8 +327,7 @@ fn last_tail(
                         compounds: e.compounds,
                     },
                 ),
-                Next::Other(a) => Read::Malformed(a),
-                _ => Read::Exceeded,
+                IsNext::No(a) => Read::Malformed(a),
             }
         }
         Read::Malformed(a) => Read::Malformed(a),

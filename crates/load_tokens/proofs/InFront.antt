@@ -80,18 +80,12 @@ next-sign rest at b a x r f e p = rw (p, e) (rw e at (sign-front rest at b a f))
 pub differs : (b y x : ℕ) → b ≡ y → (b ≡ x → ⊥) → eqb y x ≡ false
 differs b y x e n = ne-eqb y x (λ s. n (e ∙ s))
 
--- Where the code asks for one sign alone, by three equal ones, or for two, nothing is left for its other arms.
+-- Where the code asks for two signs, by three of which two are equal, nothing is left for the third arm.
 pub eqb-same : (x : ℕ) → eqb x x ≡ false → ⊥
 eqb-same x e =
     let t : eqb x x ≡ true = eq-eqb x x refl in
     let z : _≡_ {A = ℕ} 0 1 = cc in
     omega arith
-
-pub one-sign : (rest : Bytes) (at x : ℕ) (r : Next) → NextIs rest at x x x r → OneOf (1 ∷ 2 ∷ []) (tagOf the-type r) → ⊥
-one-sign rest at x (First b) n k = miss (1 ∷ 2 ∷ []) 0 tt k
-one-sign rest at x (Second b) n k = eqb-same x (n .0)
-one-sign rest at x (Third b) n k = eqb-same x (n .0)
-one-sign rest at x (Other a) n k = miss (1 ∷ 2 ∷ []) 3 tt k
 
 pub two-signs : (rest : Bytes) (at x y : ℕ) (r : Next) → NextIs rest at x y y r → OneOf (2 ∷ []) (tagOf the-type r) → ⊥
 two-signs rest at x y (First b) n k = miss (2 ∷ []) 0 tt k

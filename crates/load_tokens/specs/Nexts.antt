@@ -1,4 +1,4 @@
--- What the code says of the next token: whether it can begin a term, and which of three signs it is.
+-- What the code says of the next token: whether it can begin a term, whether it is a sign, and which of three signs it is.
 use Prim.Native.Nat.{ℕ, _+_, _≤_, _<_}
 use mathlib.Core.Path.{_≡_}
 use mathlib.Core.Bool.{Bool, true, false, _||_}
@@ -13,6 +13,8 @@ use Rattle.load_tokens.specs.declared.next.Start.the-variants.{Can, Cann
 use Rattle.load_tokens.specs.declared.token.Token.the-variants as tokens
 use Rattle.load_tokens.specs.declared.next.Mark.{Mark}
 use Rattle.load_tokens.specs.declared.next.Mark.the-variants.{Sign, NoSign}
+use Rattle.load_tokens.specs.declared.next.IsNext.{IsNext}
+use Rattle.load_tokens.specs.declared.next.IsNext.the-variants.{Yes, No}
 use Rattle.load_tokens.specs.declared.next.Next.{Next}
 use Rattle.load_tokens.specs.declared.next.Next.the-variants.{First, Second, Third, Other}
 
@@ -48,6 +50,10 @@ StartIs rest at (Cannot a) = (a ≤ length rest) × ((from : ℕ) → Stops begi
 abbrev pub MarkIs : Bytes → ℕ → Mark → Type 0
 MarkIs rest at (Sign c a) = FrontIs rest at (tokens.Sign c a)
 MarkIs rest at (NoSign a) = (a ≤ length rest) × ((x y z from : ℕ) → Stops (one-of x y z) (from + a) (tokens-in from rest at))
+
+abbrev pub IsNextSign : Bytes → ℕ → ℕ → IsNext → Type 0
+IsNextSign rest at x (Yes behind) = SignAt rest at x behind
+IsNextSign rest at x (No a) = (a ≤ length rest) × ((from : ℕ) → Stops (one-of x x x) (from + a) (tokens-in from rest at))
 
 abbrev pub NextIs : Bytes → ℕ → ℕ → ℕ → ℕ → Next → Type 0
 NextIs rest at x y z (First behind) = SignAt rest at x behind

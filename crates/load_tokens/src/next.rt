@@ -1,4 +1,4 @@
-// What comes next, as the readers of terms and items ask for it: whether it can begin a term, and which of some signs it is.
+// What comes next, as the readers of terms and items ask for it: whether it can begin a term, whether it is a sign, and which of some signs it is.
 use crate::token::Token;
 use crate::token::begins_sign;
 use crate::token::behind_sign;
@@ -6,7 +6,7 @@ use crate::token::front;
 use crate::token::skip;
 ghost use Prim.Native.Nat.{_≤_};
 ghost use lib.ListN.{length};
-ghost use Rattle.load_tokens.specs.Nexts.{StartIs, MarkIs, NextIs};
+ghost use Rattle.load_tokens.specs.Nexts.{StartIs, MarkIs, IsNextSign, NextIs};
 
 // Whether the next token can begin a term, or where the one stands that cannot.
 pub enum Start {
@@ -55,6 +55,27 @@ fn ahead(rest: &[u8], at: usize) -> Mark
         return Mark::Sign(c, a);
     }
     Mark::NoSign(a)
+}
+
+// Whether this sign comes next, with the first place behind it; or where the token stands that is another.
+pub enum IsNext {
+    Yes(usize),
+    No(usize),
+}
+
+pub fn next_is(rest: &[u8], at: usize, sign: u8) -> IsNext
+    requires { ⌜ at ≤ length (now rest) ⌝ }
+    ensures { λ r. ⌜ IsNextSign (now (rest .entry)) at sign r ⌝ }
+{
+    match ahead(rest, at) {
+        Mark::Sign(c, a) => {
+            if c == sign {
+                return IsNext::Yes(behind_sign(c, a));
+            }
+            IsNext::No(a)
+        }
+        Mark::NoSign(a) => IsNext::No(a),
+    }
 }
 
 // Which of three signs comes next, with the first place behind it; or where the token stands that is none of them.

@@ -1,19 +1,18 @@
--- `openings::begin::behind_name` meets its contract: each arm is what `next_of` says.
+-- `load_openings::begin::behind_name` meets its contract: each arm is what `next_is` says.
 use mathlib.Core.Path.{refl}
 use native.Mathlib.Omega.{arith}
-use Rattle.load_tokens.proofs.InFront.{one-sign}
 use borrow.Author.Needs.{needs}
 use Rattle.load_openings.proofs.begin.behind_name.Statement.{statement}
 use Rattle.load_openings.proofs.begin.behind_name.Tie as tie
 
-next-of-requires : tie.Need-next-of-requires
-next-of-requires c κs = search needs
+next-is-requires : tie.Need-next-is-requires
+next-is-requires c κs = search needs
 
 enum-known-behind : tie.Need-enum-known-behind
 enum-known-behind c = search needs
 
 returns : tie.Need-returns
-returns c = (c .if1 .taken, c .before .before .behind .given .0 .0, rw (c .before .before .behind .given .1) at (c .before .before .before .before .next-of .ensures))
+returns c = (c .if1 .taken, c .before .before .behind .given .0 .0, rw (c .before .before .behind .given .1) at (c .before .before .before .before .next-is .ensures))
 
 enum-told : tie.Need-enum-told
 enum-told c = search needs
@@ -28,19 +27,16 @@ add-t13 : tie.Need-add-t13
 add-t13 c = search needs
 
 returns-2 : tie.Need-returns-2
-returns-2 c = let apart = c .if1 .left in (refl, omega arith, c .before .before .behind .given .0 .0, rw (c .before .before .behind .given .1) at (c .before .before .before .before .next-of .ensures), refl)
+returns-2 c = let apart = c .if1 .left in (refl, omega arith, c .before .before .behind .given .0 .0, rw (c .before .before .behind .given .1) at (c .before .before .before .before .next-is .ensures), refl)
 
 returns-3 : tie.Need-returns-3
-returns-3 c = let e = c .before .enum-told .given in let o = rw (e .1) at (c .before .before .before .next-of .ensures) in (omega (arith, c .word .ensures), refl, e .0 .0, o .1)
-
-returns-4 : tie.Need-returns-4
-returns-4 c = absurd (one-sign (c .before .before .before .args .rest .now) (c .before .before .before .args .d .at) 40 (c .before .next-of .result) (c .before .next-of .ensures) (c .match .keys3))
+returns-3 c = let e = c .before .enum-told .given in let o = rw (e .1) at (c .before .before .before .next-is .ensures) in (omega (arith, c .word .ensures), refl, e .0 .0, o .1)
 
 pub behind-name-spec : {M : Type 1} → statement M
 behind-name-spec =
     tie.close
     (tie.spec
-    next-of-requires
+    next-is-requires
     enum-known-behind
     returns
     enum-told
@@ -48,5 +44,4 @@ behind-name-spec =
     mul-t12
     add-t13
     returns-2
-    returns-3
-    returns-4)
+    returns-3)

@@ -26,7 +26,7 @@ use Rattle.load_terms.proofs.terms.+arguments+compound+elements+last_ta
 use Rattle.load_terms.proofs.terms.+arguments+compound+elements+last_tail+term.Proof.Compound.{compound-returns, compound-add-t17, compound-arguments-requires, compound-functor-requires, compound-store-functor-requires, compound-compound-word-requires, compound-returns-2, compound-returns-3, compound-returns-4}
 use Rattle.load_terms.proofs.terms.+arguments+compound+elements+last_tail+term.Proof.Elements.{elements-Inv-loop, elements-μ-loop, elements-loop-holds, elements-add-t29, elements-term-requires, elements-next-of-requires, elements-compound-word-requires, elements-store-cell-requires, elements-loop-less, elements-loop-again, elements-last-tail-requires, elements-store-cell-requires-2, elements-compound-word-requires-2, elements-store-cell-requires-3, elements-compound-word-requires-3, elements-starts-requires}
 use Rattle.load_terms.proofs.terms.+arguments+compound+elements+last_tail+term.Proof.Answers.{elements-same-length, elements-same-length-2, elements-same-length-3, elements-returns, elements-same-length-4, elements-same-length-5, elements-same-length-6, elements-returns-2, elements-same-length-7, elements-same-length-8, elements-same-length-9, elements-returns-3, elements-same-length-10, elements-same-length-11, elements-same-length-12, elements-returns-4, elements-same-length-13, elements-same-length-14, elements-same-length-15, elements-returns-5, elements-same-length-16, elements-same-length-17, elements-same-length-18, elements-returns-6, elements-same-length-19, elements-same-length-20, elements-same-length-21, elements-returns-7, elements-same-length-22, elements-same-length-23, elements-same-length-24, elements-returns-8, elements-same-length-25, elements-same-length-26, elements-same-length-27, elements-returns-9}
-use Rattle.load_terms.proofs.terms.+arguments+compound+elements+last_tail+term.Proof.LastTail.{last-tail-term-requires, last-tail-next-of-requires, last-tail-returns, last-tail-returns-2, last-tail-returns-3, last-tail-returns-4, last-tail-returns-5}
+use Rattle.load_terms.proofs.terms.+arguments+compound+elements+last_tail+term.Proof.LastTail.{last-tail-term-requires, last-tail-next-is-requires, last-tail-returns, last-tail-returns-2, last-tail-returns-3, last-tail-returns-4}
 use Rattle.load_terms.proofs.terms.+arguments+compound+elements+last_tail+term.Proof.Term.{term-begin-requires, term-sub-compound, term-compound-requires, term-sub-elements, term-elements-requires, term-returns, term-returns-2, term-returns-3, term-returns-4, term-returns-5}
 
 pub +arguments+compound+elements+last-tail+term-spec : {M : Type 1} → statement M
@@ -39,6 +39,6 @@ pub +arguments+compound+elements+last-tail+term-spec : {M : Type 1} → statemen
     (λ t. elements-lts.spec (elements-calls t) (elements-at t) elements.Post elements-Inv-loop elements-μ-loop
     (elements-loop-holds t) (elements-add-t29 t) (elements-term-requires t) (λ c. search needs) (elements-next-of-requires t) (λ c. search needs) (elements-compound-word-requires t) (elements-store-cell-requires t) (elements-loop-less t) (elements-loop-again t) (λ c. search needs) (elements-last-tail-requires t) (λ c. search needs) (elements-store-cell-requires-2 t) (elements-compound-word-requires-2 t) (elements-same-length t) (elements-same-length-2 t) (elements-same-length-3 t) (elements-returns t) (λ c. search needs) (elements-same-length-4 t) (elements-same-length-5 t) (elements-same-length-6 t) (elements-returns-2 t) (λ c. search needs) (elements-same-length-7 t) (elements-same-length-8 t) (elements-same-length-9 t) (elements-returns-3 t) (λ c. search needs) (elements-store-cell-requires-3 t) (elements-compound-word-requires-3 t) (elements-same-length-10 t) (elements-same-length-11 t) (elements-same-length-12 t) (elements-returns-4 t) (λ c. search needs) (elements-same-length-13 t) (elements-same-length-14 t) (elements-same-length-15 t) (elements-returns-5 t) (λ c. search needs) (elements-same-length-16 t) (elements-same-length-17 t) (elements-same-length-18 t) (elements-returns-6 t) (λ c. search needs) (elements-same-length-19 t) (elements-same-length-20 t) (elements-same-length-21 t) (elements-returns-7 t) (elements-starts-requires t) (λ c. search needs) (λ c. search needs) (elements-same-length-22 t) (elements-same-length-23 t) (elements-same-length-24 t) (elements-returns-8 t) (elements-same-length-25 t) (elements-same-length-26 t) (elements-same-length-27 t) (elements-returns-9 t))
     (λ t. last-tail-lts.spec (last-tail-calls t) (last-tail-at t) last-tail.Post
-    (last-tail-term-requires t) (λ c. search needs) (last-tail-next-of-requires t) (λ c. search needs) (λ c. search needs) (λ c. search needs) (λ c. search needs) (λ c. search needs) (λ c. search needs) (λ c. search needs) (last-tail-returns t) (λ c. search needs) (λ c. search needs) (λ c. search needs) (last-tail-returns-2 t) (λ c. search needs) (λ c. search needs) (λ c. search needs) (last-tail-returns-3 t) (λ c. search needs) (λ c. search needs) (λ c. search needs) (last-tail-returns-4 t) (λ c. search needs) (λ c. search needs) (λ c. search needs) (last-tail-returns-5 t))
+    (last-tail-term-requires t) (λ c. search needs) (last-tail-next-is-requires t) (λ c. search needs) (λ c. search needs) (λ c. search needs) (λ c. search needs) (λ c. search needs) (λ c. search needs) (λ c. search needs) (last-tail-returns t) (λ c. search needs) (λ c. search needs) (λ c. search needs) (last-tail-returns-2 t) (λ c. search needs) (λ c. search needs) (λ c. search needs) (last-tail-returns-3 t) (λ c. search needs) (λ c. search needs) (λ c. search needs) (last-tail-returns-4 t))
     λ t. term-lts.spec (term-calls t) (term-at t) term.Post
     (term-begin-requires t) (λ c. search needs) (λ c. search needs) (term-sub-compound t) (term-compound-requires t) (λ c. search needs) (term-sub-elements t) (term-elements-requires t) (λ c. search needs) (λ c. search needs) (λ c. search needs) (λ c. search needs) (term-returns t) (λ c. search needs) (λ c. search needs) (λ c. search needs) (term-returns-2 t) (λ c. search needs) (λ c. search needs) (λ c. search needs) (term-returns-3 t) (λ c. search needs) (λ c. search needs) (term-returns-4 t) (λ c. search needs) (λ c. search needs) (term-returns-5 t)

@@ -22,6 +22,7 @@ use Rattle.load_terms.proofs.terms.+arguments+compound+elements+last_ta
 use Rattle.load_openings.proofs.begin.begin.Reads as begin-reads
 use Rattle.load_terms.proofs.terms.compound_word.Reads as compound-word-reads
 use Rattle.load_terms.proofs.terms.functor.Reads as functor-reads
+use Rattle.load_tokens.proofs.next.next_is.Reads as next-is-reads
 use Rattle.load_tokens.proofs.next.next_of.Reads as next-of-reads
 use Rattle.load_tokens.proofs.next.starts.Reads as starts-reads
 use Rattle.load_terms.proofs.terms.store_argument.Reads as store-argument-reads
@@ -88,7 +89,7 @@ abbrev pub elements-calls : ℕ → elements-lts.Claims
 elements-calls t = (term-below t, term.Post, next-of-reads.Asked, next-of-reads.Learnt, compound-word-reads.Asked, compound-word-reads.Learnt, store-cell-reads.Asked, store-cell-reads.Learnt, last-tail-below t, last-tail.Post, starts-reads.Asked, starts-reads.Learnt)
 
 abbrev pub last-tail-calls : ℕ → last-tail-lts.Claims
-last-tail-calls t = (term-below t, term.Post, next-of-reads.Asked, next-of-reads.Learnt)
+last-tail-calls t = (term-below t, term.Post, next-is-reads.Asked, next-is-reads.Learnt)
 
 abbrev pub term-calls : ℕ → term-lts.Claims
 term-calls t = (begin-reads.Asked, begin-reads.Learnt, compound-below t, compound.Post, elements-below t, elements.Post)

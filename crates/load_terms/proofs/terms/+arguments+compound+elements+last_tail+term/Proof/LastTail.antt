@@ -1,7 +1,6 @@
 -- `last_tail` in the cycle that reads a term: each arm is one lemma on the term behind a `|` and its closing bracket.
 use native.Mathlib.Omega.{arith}
 use Rattle.meaning.specs.Items.{term as term-reader}
-use Rattle.load_tokens.proofs.InFront.{one-sign}
 use Rattle.load_terms.proofs.Elements.{last-malformed, last-passed, last-other, last-got}
 use Prim.Native.Nat.{ℕ}
 use borrow.Fn.PlainCycle.{is, and}
@@ -16,8 +15,8 @@ last-tail-term-requires t c κs =
     let r = entry .pre .1 .0 in
     (omega (arith, entry .pre .0), ((r .0, r .1, r .2), p))
 
-pub last-tail-next-of-requires : (t : ℕ) → last-tail-lts.Need-next-of-requires (last-tail-calls t) (last-tail-at t) last-tail.Post
-last-tail-next-of-requires t c κs =
+pub last-tail-next-is-requires : (t : ℕ) → last-tail-lts.Need-next-is-requires (last-tail-calls t) (last-tail-at t) last-tail.Post
+last-tail-next-is-requires t c κs =
     let entry = c .before .before .before .before .before .before .before .before .before .before .before .before .before .before .before .before .before .before in
     let word-got = c .before .w in
     let one-term = c .before .before .before .before .before .before .before .before .before .term in
@@ -32,7 +31,7 @@ last-tail-returns t c known vars stands =
     let word-got = c .before .before .before .before .before .w in
     let one-term = c .before .before .before .before .before .before .before .before .before .before .before .before .before .term in
     let sign-end = c .before .behind in
-    let sign-next = c .before .before .before .next-of in
+    let sign-next = c .before .before .before .next-is in
     let a = entry .args in
     let g = word-got .given in
     let b = rw (g .1) at (one-term .ensures known vars stands) in
@@ -44,7 +43,7 @@ last-tail-returns-2 t c known vars stands =
     let word-got = c .before .before .before .before .before .w in
     let one-term = c .before .before .before .before .before .before .before .before .before .before .before .before .before .term in
     let stop = c .before .a in
-    let sign-next = c .before .before .before .next-of in
+    let sign-next = c .before .before .before .next-is in
     let a = entry .args in
     let g = word-got .given in
     let b = rw (g .1) at (one-term .ensures known vars stands) in
@@ -52,16 +51,7 @@ last-tail-returns-2 t c known vars stands =
     last-other (a .text .now) (a .rest .now) (a .from) (a .base) known vars (a .c) (a .s .now) (a .item .now) (one-term .last .1 .1 .1 .0) (one-term .last .1 .1 .1 .1 .0) (one-term .last .1 .1 .1 .1 .1 .0) (term-reader (a .left)) (g .0 .0) (g .0 .1 .0) (b .0) (b .1) (b .2) (stop .given .0 .0) (o .0) (o .1)
 
 pub last-tail-returns-3 : (t : ℕ) → last-tail-lts.Need-returns-3 (last-tail-calls t) (last-tail-at t) last-tail.Post
-last-tail-returns-3 t c =
-    let entry = c .before .before .before .before .before .before .before .before .before .before .before .before .before .before .before .before .before .before .before .before in
-    let word-got = c .before .before .before .w in
-    let sign-next = c .before .next-of in
-    let arm = c .match2 in
-    let a = entry .args in
-    absurd (one-sign (a .rest .now) (word-got .given .0 .1 .0 .at) 93 (sign-next .result) (sign-next .ensures) (arm .keys3))
-
-pub last-tail-returns-4 : (t : ℕ) → last-tail-lts.Need-returns-4 (last-tail-calls t) (last-tail-at t) last-tail.Post
-last-tail-returns-4 t c known vars stands =
+last-tail-returns-3 t c known vars stands =
     let entry = c .before .before .before .before .before .before .before .before .before .before .before .before .before .before .before .before .before .before in
     let stop = c .before .a2 in
     let one-term = c .before .before .before .before .before .before .before .before .before .term in
@@ -70,8 +60,8 @@ last-tail-returns-4 t c known vars stands =
     let b = rw (g .1) at (one-term .ensures known vars stands) in
     last-malformed (a .text .now) (a .rest .now) (a .from) (a .base) known vars (a .c) (a .s .now) (a .item .now) (one-term .last .1 .1 .1 .0) (one-term .last .1 .1 .1 .1 .0) (one-term .last .1 .1 .1 .1 .1 .0) (term-reader (a .left)) (g .0 .0) b
 
-pub last-tail-returns-5 : (t : ℕ) → last-tail-lts.Need-returns-5 (last-tail-calls t) (last-tail-at t) last-tail.Post
-last-tail-returns-5 t c known vars stands =
+pub last-tail-returns-4 : (t : ℕ) → last-tail-lts.Need-returns-4 (last-tail-calls t) (last-tail-at t) last-tail.Post
+last-tail-returns-4 t c known vars stands =
     let entry = c .before .before .before .before .before .before .before .before .before .before .before .before .before .before .before .before .before in
     let told = c .enum-told in
     let one-term = c .before .before .before .before .before .before .before .before .term in
