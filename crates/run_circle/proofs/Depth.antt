@@ -123,7 +123,7 @@ module _ (front : List ℕ) (places : Places) where
         let all : length (p ∷ met) + depths ts ≤ length front =
         all-deep n 0 ts (held .1) (p ∷ met) (new, d)
         (λ m q. ⊎-elim (λ e. omega (arith, held .0 .inside)) (below m) (in-cons-cases q))
-        (λ m q. ⊎-elim (λ e. (Term.compound n f ts, held, ap (λ i. 6 + 8 * i) (sym e), omega arith))
+        (λ m q. ⊎-elim (λ e. (Term.compound n f ts, held, ap (λ i. compound-word i) (sym e), omega arith))
         (λ r. let (u, hu, e, l) = above m r in (u, hu, e, omega arith)) (in-cons-cases q)) in
         omega arith
 

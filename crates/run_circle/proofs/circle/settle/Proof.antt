@@ -5,6 +5,7 @@ use native.Mathlib.Omega.{arith}
 use mathlib.Core.Bool.{false}
 use lib.ListN.{length}
 use borrow.Author.Needs.{needs}
+use Rattle.term.specs.Words.{writer-word}
 use Rattle.run_circle.proofs.Measure.{term-weight}
 use Rattle.run_circle.proofs.Settle.{
   is-one,
@@ -46,7 +47,7 @@ add-t c =
 loop-holds : tie.Need-loop-holds Inv-loop μ-loop
 loop-holds c =
     let S = c .before .before in
-    (settling-first (S .args .s .now) (S .args .values) (S .args .marks) (S .args .stamp) (S .args .pair) (1 + 8 * c .word .result) (omega (arith, c .word .ensures)), refl)
+    (settling-first (S .args .s .now) (S .args .values) (S .args .marks) (S .args .stamp) (S .args .pair) (writer-word (c .word .result)) (omega (arith, c .word .ensures)), refl)
 
 leads-requires : tie.Need-leads-requires Inv-loop μ-loop
 leads-requires c κs =
