@@ -17,7 +17,7 @@ use Rattle.term.specs.Cells.{number-of, KnownName, Known, Numbered}
 use Rattle.term.specs.Jobs.{ClauseLaid, GoalsNumbered, GoalsKnown, EachFrom, Linked, procedure-place}
 use Rattle.term.proofs.Numbers.{same-equal, number-below, number-apart}
 use Rattle.term.proofs.Jobs.{linked-map}
-use Rattle.term.specs.Layout.{clauses-region, queries-region, compounds-region, procedure-slot, clause-record}
+use Rattle.term.specs.Layout.{clauses-region, queries-region, compounds-region, procedure-slot, clause-record, clause-stride}
 use Rattle.term.specs.Words.{packed}
 use Rattle.load_names.specs.Places.{Place, spellings, item-places}
 use Rattle.load_image.specs.Image.{head-word, head-words, link-one, linked}
@@ -98,7 +98,7 @@ module _ (s : List ℕ) (k p : ℕ) (few : k < 128) (low : 512 ≤ p) (high : p 
 pub record LinkKept (s s′ : List ℕ) : Type 0 where
   pub size : length s′ ≡ length s
   pub before : (w : ℕ) → w < 512 → getD s′ w 0 ≡ getD s w 0
-  pub records : (i j : ℕ) → 1 ≤ j → j < 16 → getD s′ (clause-record i + j) 0 ≡ getD s (clause-record i + j) 0
+  pub records : (i j : ℕ) → 1 ≤ j → j < clause-stride → getD s′ (clause-record i + j) 0 ≡ getD s (clause-record i + j) 0
   pub behind : (w : ℕ) → queries-region ≤ w → getD s′ w 0 ≡ getD s w 0
 
 module _ (names : List Place) (few-names : length (spellings names) ≤ 256) where

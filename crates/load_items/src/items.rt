@@ -10,13 +10,21 @@ use load_tokens::next::Next;
 use load_tokens::next::next_of;
 use load_tokens::token::Token;
 use load_tokens::token::front;
+use term::layout::CLAUSE_BODY;
+use term::layout::CLAUSE_COMPOUNDS;
+use term::layout::CLAUSE_GOALS;
+use term::layout::CLAUSE_PAIRS;
 use term::layout::CLAUSE_STRIDE;
 use term::layout::CLAUSES;
 use term::layout::COMPOUND_WORDS;
 use term::layout::ITEM_COMPOUNDS;
 use term::layout::ITEMS;
 use term::layout::QUERIES;
+use term::layout::QUERY_BODY;
+use term::layout::QUERY_COMPOUNDS;
+use term::layout::QUERY_PAIRS;
 use term::layout::QUERY_STRIDE;
+use term::layout::QUERY_VARIABLES;
 use term::word::word;
 ghost use mathlib.Core.Path.{_≡_};
 ghost use mathlib.Core.List.{List};
@@ -142,7 +150,7 @@ fn clause(
         item,
         heads,
         ITEMS / COMPOUND_WORDS + ITEM_COMPOUNDS * k,
-        record + 4,
+        record + CLAUSE_BODY,
         k,
         first(known, 0),
     ) {
@@ -153,9 +161,9 @@ fn clause(
             if !both_halves(item, c.variables) {
                 return Item::Broken(begins);
             }
-            s[record + 1] = word(c.variables);
-            s[record + 2] = word(c.compounds);
-            s[record + 3] = body;
+            s[record + CLAUSE_PAIRS] = word(c.variables);
+            s[record + CLAUSE_COMPOUNDS] = word(c.compounds);
+            s[record + CLAUSE_GOALS] = body;
             Item::Clause(c.at, c.names)
         }
         Read::Malformed(a) => Item::Malformed(a),
@@ -194,7 +202,7 @@ fn query(
         names,
         item,
         ITEMS / COMPOUND_WORDS + ITEM_COMPOUNDS * (128 + k),
-        record + 8,
+        record + QUERY_BODY,
         first(known, begins + 2),
     ) {
         Read::Got(count, c) => {
@@ -202,9 +210,9 @@ fn query(
                 return Item::Broken(begins);
             }
             s[record] = count;
-            s[record + 1] = word(c.variables);
-            s[record + 2] = word(c.compounds);
-            keep_places(s, item, from, record + 16, c.variables);
+            s[record + QUERY_PAIRS] = word(c.variables);
+            s[record + QUERY_COMPOUNDS] = word(c.compounds);
+            keep_places(s, item, from, record + QUERY_VARIABLES, c.variables);
             Item::Query(c.at, c.names)
         }
         Read::Malformed(a) => Item::Malformed(a),

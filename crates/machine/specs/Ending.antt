@@ -9,7 +9,7 @@ use Rattle.meaning.specs.Bytes.{Bytes}
 use Rattle.meaning.specs.Terms.{Job}
 use Rattle.meaning.specs.State.{Room}
 use Rattle.meaning.specs.Run.{queries-fit, run}
-use Rattle.term.specs.Layout.{need-of, queries-region, items-region, trial-region, query-record}
+use Rattle.term.specs.Layout.{need-of, queries-region, items-region, trial-region, query-record, query-stride, first-pair-at, tries-at}
 use Rattle.term.specs.States.{Atlas, HoldsState, Finished, verdict-of}
 use Rattle.machine.specs.declared.run.Ran.{Ran}
 use Rattle.machine.specs.declared.run.Ran.the-variants.{Ended, QueriesPassRoom}
@@ -26,7 +26,7 @@ GoneOn s names j figures limit QueriesPassRoom = ⊥
 pub record Untouched (figures : Room) (s s′ : List ℕ) : Type 0 where
   pub size : length s′ ≡ length s
   pub before : (k : ℕ) → k < queries-region → getD s′ k 0 ≡ getD s k 0
-  pub records : (q i : ℕ) → q < 8 → i < 64 → i ≢ 3 → i ≢ 4 → getD s′ (query-record q + i) 0 ≡ getD s (query-record q + i) 0
+  pub records : (q i : ℕ) → q < 8 → i < query-stride → i ≢ first-pair-at → i ≢ tries-at → getD s′ (query-record q + i) 0 ≡ getD s (query-record q + i) 0
   pub items : (k : ℕ) → items-region ≤ k → k < trial-region → getD s′ k 0 ≡ getD s k 0
   pub behind : (k : ℕ) → need-of figures ≤ k → getD s′ k 0 ≡ getD s k 0
 

@@ -13,7 +13,7 @@ use Rattle.meaning.specs.State.{Room, QueryUnit, Goal, Waiting, unit-at}
 use Rattle.meaning.specs.Step.{without-front}
 use Rattle.meaning.specs.Run.{fits, choice-for, queries-fit, run}
 use Rattle.term.specs.Jobs.{HoldsJob}
-use Rattle.term.specs.Layout.{values-region, waiters-region, sets-region, marks-region, ends-region, waiting-region, need-of, InRange, queries-region, items-region, trial-region, query-record}
+use Rattle.term.specs.Layout.{values-region, waiters-region, sets-region, marks-region, ends-region, waiting-region, need-of, InRange, queries-region, items-region, trial-region, query-record, query-stride, tries-at}
 use Rattle.term.specs.Chains.{EndOf}
 use Rattle.term.specs.States.{Atlas, setting-at, goal-word, HoldsState}
 use Rattle.term.specs.declared.state.Standing.{Standing}
@@ -31,7 +31,7 @@ slot-of atlas w = waits (goal-word atlas (w .goal)) (gathered [] (map (λ p. atl
 pub record RunOnly (figures : Room) (s s′ : List ℕ) : Type 0 where
   pub size : length s′ ≡ length s
   pub before : (k : ℕ) → k < queries-region → getD s′ k 0 ≡ getD s k 0
-  pub records : (q i : ℕ) → q < 8 → i < 64 → i ≢ 4 → getD s′ (query-record q + i) 0 ≡ getD s (query-record q + i) 0
+  pub records : (q i : ℕ) → q < 8 → i < query-stride → i ≢ tries-at → getD s′ (query-record q + i) 0 ≡ getD s (query-record q + i) 0
   pub items : (k : ℕ) → items-region ≤ k → k < trial-region → getD s′ k 0 ≡ getD s k 0
   pub behind : (k : ℕ) → need-of figures ≤ k → getD s′ k 0 ≡ getD s k 0
 

@@ -15,7 +15,7 @@ use Rattle.laws.proofs.Reading.Figures.{QueryFits}
 use Rattle.term.specs.Cells.{Places}
 use Rattle.term.specs.Holds.{Holds}
 use Rattle.term.specs.Jobs.{places-from, HoldsQuery, JobKept}
-use Rattle.term.specs.Layout.{values-region, queue-region, queries-region, query-record, query-base, query-first-pair-word, query-goals-from}
+use Rattle.term.specs.Layout.{values-region, queue-region, queries-region, query-record, query-base, query-first-pair-word, query-goals-from, query-stride, first-pair-at}
 use Rattle.term.specs.Setting.{Ranged}
 use Rattle.term.specs.States.{Atlas, goal-word, ring, listed, logged, AllStand, QueueStands, WaitingStand, FailedStand, HoldsState}
 use Rattle.term.specs.declared.state.Standing.{Standing}
@@ -215,7 +215,7 @@ module _ (s : List ℕ) (text : Bytes) (names : List Bytes) (j : Job) (figures :
           ∙ getD-set-same s₁ (query-first-pair-word q) P 0 (omega (arith, added .kept .size, e .inside, few))
 
       -- A word of a record but where its own pairs begin.
-      record-word : (k i : ℕ) → k < 8 → i < 64 → i ≢ 3 → getD s′ (query-record k + i) 0 ≡ getD s (query-record k + i) 0
+      record-word : (k i : ℕ) → k < 8 → i < query-stride → i ≢ first-pair-at → getD s′ (query-record k + i) 0 ≡ getD s (query-record k + i) 0
       record-word k i h l other =
           same (query-record k + i) (inl (omega (arith, e .cells))) (inl (omega arith)) (λ f. other (omega (arith, f)))
 

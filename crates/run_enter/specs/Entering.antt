@@ -11,7 +11,7 @@ use Rattle.meaning.specs.Items.{job, reading}
 use Rattle.meaning.specs.State.{Room, start}
 use Rattle.meaning.specs.Run.{queries-fit}
 use Rattle.term.specs.Jobs.{HoldsJob}
-use Rattle.term.specs.Layout.{values-region, waiters-region, marks-region, queue-region, need-of, InRange, queries-region, items-region, compounds-region, query-record, query-tries-word}
+use Rattle.term.specs.Layout.{values-region, waiters-region, marks-region, queue-region, need-of, InRange, queries-region, items-region, compounds-region, query-record, query-tries-word, query-stride, first-pair-at}
 use Rattle.term.specs.States.{Atlas, HoldsState}
 use Rattle.term.specs.declared.state.Standing.{Standing}
 
@@ -24,7 +24,7 @@ record-sum s at (suc n) = record-sum s at n + getD s (query-record n + at) 0
 pub record EnterOnly (figures : Room) (s s′ : List ℕ) : Type 0 where
   pub size : length s′ ≡ length s
   pub before : (k : ℕ) → k < queries-region → getD s′ k 0 ≡ getD s k 0
-  pub records : (q i : ℕ) → q < 8 → i < 64 → i ≢ 3 → getD s′ (query-record q + i) 0 ≡ getD s (query-record q + i) 0
+  pub records : (q i : ℕ) → q < 8 → i < query-stride → i ≢ first-pair-at → getD s′ (query-record q + i) 0 ≡ getD s (query-record q + i) 0
   pub items : (k : ℕ) → items-region ≤ k → k < compounds-region → getD s′ k 0 ≡ getD s k 0
   pub pairs : (k : ℕ) → values-region figures ≤ k → k < queue-region figures → getD s′ k 0 ≡ getD s k 0
   pub behind : (k : ℕ) → need-of figures ≤ k → getD s′ k 0 ≡ getD s k 0

@@ -22,7 +22,7 @@ ghost use Prim.Native.Nat.{ℕ, _+_, _≤_, _<_};
 ghost use lib.ListN.{length, getD};
 ghost use Rattle.meaning.specs.Bytes.{Bytes};
 ghost use Rattle.meaning.specs.Terms.{Job, Query};
-ghost use Rattle.term.specs.Layout.{figures, items-region, query-record};
+ghost use Rattle.term.specs.Layout.{figures, items-region, query-record, item-compounds, query-stride};
 ghost use Rattle.term.specs.States.{Ready, Atlas};
 ghost use Rattle.meaning.specs.Run.{queries-fit};
 ghost use Rattle.term.specs.Jobs.{HoldsJob};
@@ -30,7 +30,7 @@ ghost use Rattle.run_enter.specs.Entering.{record-sum, EnterOnly, Entere
 
 // The queries' words at a place of their records, added up: 0 their goals, 1 their pairs, 2 their compounds.
 fn sum(s: &[u64], queries: usize, at: usize) -> usize
-    requires { ⌜ (queries ≤ 8) × (at < 64) × (items-region ≤ length (now s)) × ((q : ℕ) → q < queries → getD (now s) (query-record q + at) 0 ≤ 32) ⌝ }
+    requires { ⌜ (queries ≤ 8) × (at < query-stride) × (items-region ≤ length (now s)) × ((q : ℕ) → q < queries → getD (now s) (query-record q + at) 0 ≤ item-compounds) ⌝ }
     ensures { λ r. ⌜ r ≡ record-sum (now (s .entry)) at queries ⌝ }
 {
     let mut all = 0;

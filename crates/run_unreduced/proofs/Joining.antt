@@ -13,7 +13,7 @@ use Rattle.meaning.specs.Trial.{joins-waiting, joins-failed}
 use Rattle.meaning.specs.Step.{unit-after, goals-after, pairs-charged, compounds-charged, without-front, step}
 use Rattle.meaning.specs.Run.{fits}
 use Rattle.term.specs.Jobs.{EachFrom, JobKept}
-use Rattle.term.specs.Layout.{waiters-region, marks-region, queue-region, waiting-region, failed-region, need-of, queries-region, items-region, query-record, query-tries-word}
+use Rattle.term.specs.Layout.{waiters-region, marks-region, queue-region, waiting-region, failed-region, need-of, queries-region, items-region, query-record, query-tries-word, query-stride, tries-at}
 use Rattle.term.specs.States.{Atlas, goal-word, ring, listed, logged, Lies, UnitsStand, FirstPair, GoalStands, AllStand, QueueStands, HoldsState}
 use Rattle.term.specs.declared.state.Standing.{Standing}
 use Rattle.run_queues.specs.Ring.{Passed}
@@ -28,7 +28,7 @@ use Rattle.run_queues.proofs.Ring.{ring-kept}
 pub record JoinKept (figures : Room) (q : ℕ) (s s′ : List ℕ) : Type 0 where
   pub size : length s′ ≡ length s
   pub before : (k : ℕ) → k < queries-region → getD s′ k 0 ≡ getD s k 0
-  pub records : (p i : ℕ) → p < 8 → i < 64 → i ≢ 4 → getD s′ (query-record p + i) 0 ≡ getD s (query-record p + i) 0
+  pub records : (p i : ℕ) → p < 8 → i < query-stride → i ≢ tries-at → getD s′ (query-record p + i) 0 ≡ getD s (query-record p + i) 0
   pub tries : (p : ℕ) → p < 8 → (p ≡ q → ⊥) → getD s′ (query-tries-word p) 0 ≡ getD s (query-tries-word p) 0
   pub tried : getD s′ (query-tries-word q) 0 ≡ getD s (query-tries-word q) 0 + 1
   pub words : (k : ℕ) → items-region ≤ k → k < waiters-region figures → getD s′ k 0 ≡ getD s k 0
