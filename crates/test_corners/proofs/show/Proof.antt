@@ -1,4 +1,4 @@
--- `corners::show` meets its contract.
+-- `test_corners::show` meets its contract.
 use native.Mathlib.Omega.{arith}
 use lib.ListN.{length-take}
 use borrow.Author.Needs.{needs}

@@ -1,4 +1,4 @@
--- `jobs::frames` meets its contract. The buffers keep their lengths; the frames left to take fall.
+-- `test_jobs::frames` meets its contract. The buffers keep their lengths; the frames left to take fall.
 use Prim.Native.Nat.{_-_}
 use mathlib.Core.Path.{_≡_}
 use lib.ListN.{length}

@@ -1,4 +1,4 @@
--- `jobs::number` meets its contract. The number stays below 1,000,000,000; the digits left to read fall.
+-- `test_jobs::number` meets its contract. The number stays below 1,000,000,000; the digits left to read fall.
 use Prim.Native.Nat.{_-_, _≤_}
 use mathlib.Core.Path.{_≡_}
 use lib.ListN.{length}

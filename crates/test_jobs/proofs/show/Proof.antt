@@ -1,4 +1,4 @@
--- `jobs::show` meets its contract.
+-- `test_jobs::show` meets its contract.
 use native.Mathlib.Omega.{arith}
 use lib.ListN.{length-take}
 use borrow.Author.Needs.{needs}

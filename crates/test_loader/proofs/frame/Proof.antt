@@ -1,4 +1,4 @@
--- `loads::frame` meets its contract: a part from the front is as long as it is cut.
+-- `test_loader::frame` meets its contract: a part from the front is as long as it is cut.
 use native.Mathlib.Omega.{arith}
 use lib.ListN.{length-take}
 use borrow.Author.Needs.{needs}

@@ -1,4 +1,4 @@
--- `loads::many` meets its contract. The scratch keeps its length; the times left fall.
+-- `test_loader::many` meets its contract. The scratch keeps its length; the times left fall.
 use Prim.Native.Nat.{_-_}
 use mathlib.Core.Path.{_≡_}
 use lib.ListN.{length}

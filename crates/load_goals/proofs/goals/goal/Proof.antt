@@ -1,4 +1,4 @@
--- `bodies::goals::goal` meets its contract: behind a goal's name and parenthesis it answers what `compound` answers.
+-- `load_goals::goals::goal` meets its contract: behind a goal's name and parenthesis it answers what `compound` answers.
 use Prim.Native.Nat.{ℕ, _+_, _*_, _≤_}
 use mathlib.Core.Path.{_≡_, refl, ap, sym, _∙_}
 use Rattle.term.proofs.Frames.{only-same}

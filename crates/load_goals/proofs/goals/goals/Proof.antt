@@ -1,4 +1,4 @@
--- `bodies::goals::goals` meets its contract. Goals have been read, each with its comma, as many as were counted; the next one comes, up to
+-- `load_goals::goals::goals` meets its contract. Goals have been read, each with its comma, as many as were counted; the next one comes, up to
 -- eight of them, and what is left of the eight falls.
 use Prim.Native.Nat.{ℕ, _+_, _*_, _-_, _≤_, _<_}
 use mathlib.Core.Path.{_≡_, refl, ap, sym, _∙_}

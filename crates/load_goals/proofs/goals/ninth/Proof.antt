@@ -1,4 +1,4 @@
--- `bodies::goals::ninth` meets its contract: a name passes the figure, any other token cannot stand.
+-- `load_goals::goals::ninth` meets its contract: a name passes the figure, any other token cannot stand.
 use Rattle.load_goals.proofs.Ninth.{ninth-name, ninth-writer, ninth-reader, ninth-integer, ninth-sign, ninth-bad, ninth-ends}
 use native.Mathlib.Omega.{arith}
 use borrow.Author.Needs.{needs}

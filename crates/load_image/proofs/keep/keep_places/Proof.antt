@@ -1,4 +1,4 @@
--- `image::keep::keep_places` meets its contract. The first n places are kept; what is left of them falls.
+-- `load_image::keep::keep_places` meets its contract. The first n places are kept; what is left of them falls.
 use Prim.Native.Nat.{ℕ, _+_, _*_, _-_, _≤_}
 use mathlib.Core.Path.{_≡_, refl, sym, _∙_}
 use lib.ListN.{length, getD, length-set}

@@ -1,4 +1,4 @@
--- `image::keep::link` meets its contract. The clauses from k on are linked; k falls.
+-- `load_image::keep::link` meets its contract. The clauses from k on are linked; k falls.
 use Prim.Native.Nat.{ℕ, suc, _+_, _*_, _-_, _≤_, _<_}
 use mathlib.Core.Path.{_≡_, refl, sym, _∙_}
 use lib.ListN.{length, getD, take, drop, length-set}

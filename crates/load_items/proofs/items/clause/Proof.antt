@@ -1,4 +1,4 @@
--- `items::items::clause` meets its contract: too many clauses, or the rule is read, judged after its full stop, and its record written.
+-- `load_items::items::clause` meets its contract: too many clauses, or the rule is read, judged after its full stop, and its record written.
 use Prim.Native.Nat.{ℕ, _+_, _*_, _-_, _≤_, _<_}
 use mathlib.Core.Path.{_≡_, refl, ap, sym, _∙_}
 use mathlib.Core.Bool.{true, false}

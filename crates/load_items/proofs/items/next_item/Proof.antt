@@ -1,4 +1,4 @@
--- `items::items::next_item` meets its contract: the first token says whether it is a clause, a query, none, or nothing at all.
+-- `load_items::items::next_item` meets its contract: the first token says whether it is a clause, a query, none, or nothing at all.
 use Prim.Native.Nat.{ℕ, _+_, _*_, _-_, _≤_, _<_}
 use mathlib.Core.Path.{_≡_, refl, ap, sym, _∙_}
 use Rattle.load_items.proofs.FirstTokens.{query-sign, starts-sign, starts-writer, starts-reader, starts-integer, starts-bad, starts-nothing}

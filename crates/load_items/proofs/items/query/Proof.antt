@@ -1,4 +1,4 @@
--- `items::items::query` meets its contract: too many queries, or its goals are read, judged after their full stop, and its record written.
+-- `load_items::items::query` meets its contract: too many queries, or its goals are read, judged after their full stop, and its record written.
 use Prim.Native.Nat.{ℕ, _+_, _*_, _-_, _≤_, _<_}
 use mathlib.Core.Path.{_≡_, refl, ap, sym, _∙_}
 use mathlib.Core.Bool.{true, false}

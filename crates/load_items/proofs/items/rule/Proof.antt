@@ -1,4 +1,4 @@
--- `items::items::rule` meets its contract: behind the head come the body's goals, a full stop, or something that cannot stand.
+-- `load_items::items::rule` meets its contract: behind the head come the body's goals, a full stop, or something that cannot stand.
 use Prim.Native.Nat.{ℕ, _+_, _*_, _-_, _≤_, _<_}
 use mathlib.Core.Path.{_≡_, refl, ap, sym, _∙_}
 use lib.ListN.{length, length-set}

@@ -1,4 +1,4 @@
--- `tables::names::add` meets its contract: four stores, each inside the table.
+-- `load_names::names::add` meets its contract: four stores, each inside the table.
 use native.Mathlib.Omega.{arith}
 use lib.ListN.{length-set}
 use borrow.Author.Needs.{needs}

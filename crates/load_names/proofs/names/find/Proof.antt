@@ -1,4 +1,4 @@
--- `tables::names::find` meets its contract. The loop walks the chain of the spelling's hash: no place from `next` on is spelled so.
+-- `load_names::names::find` meets its contract. The loop walks the chain of the spelling's hash: no place from `next` on is spelled so.
 -- Each link leads to an earlier place, so `next` falls.
 use Prim.Native.Nat.{ℕ, suc, _-_, _<_}
 use mathlib.Core.Path.{_≡_, sym, _∙_}

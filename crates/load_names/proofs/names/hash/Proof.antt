@@ -1,4 +1,4 @@
--- `tables::names::hash` meets its contract. The hash so far, taken on over what is left, is that of the whole part; what is left falls.
+-- `load_names::names::hash` meets its contract. The hash so far, taken on over what is left, is that of the whole part; what is left falls.
 use Prim.Native.Nat.{_-_, _%_, _≤_, _<_}
 use mathlib.Core.Path.{_≡_, refl, sym, ap, _∙_}
 use native.Mathlib.Omega.{arith}

@@ -1,4 +1,4 @@
--- `tables::names::number` meets its contract: what the search found decides which of the three answers is given.
+-- `load_names::names::number` meets its contract: what the search found decides which of the three answers is given.
 use Prim.Native.Nat.{_+_, _-_}
 use mathlib.Core.Path.{sym, ap, _∙_}
 use native.Mathlib.Omega.{arith}

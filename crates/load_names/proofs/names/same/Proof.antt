@@ -1,4 +1,4 @@
--- `tables::names::same` meets its contract. From the k-th byte on the two parts compare as the whole parts do; what is left of n falls.
+-- `load_names::names::same` meets its contract. From the k-th byte on the two parts compare as the whole parts do; what is left of n falls.
 use Prim.Native.Nat.{_+_, _-_, _≤_}
 use mathlib.Core.Path.{_≡_, sym, _∙_}
 use native.Mathlib.Omega.{arith}

@@ -1,4 +1,4 @@
--- `tables::names::spelled` meets its contract: a place of another length is spelled otherwise, and one of the same length as its bytes say.
+-- `load_names::names::spelled` meets its contract: a place of another length is spelled otherwise, and one of the same length as its bytes say.
 use mathlib.Core.Path.{sym}
 use borrow.Author.Needs.{needs}
 use Rattle.load_names.proofs.Spellings.{stands-longer, stands-spelled}

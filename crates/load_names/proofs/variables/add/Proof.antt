@@ -1,4 +1,4 @@
--- `tables::variables::add` meets its contract: two stores, each inside the table.
+-- `load_names::variables::add` meets its contract: two stores, each inside the table.
 use native.Mathlib.Omega.{arith}
 use lib.ListN.{length-set}
 use borrow.Author.Needs.{needs}

@@ -1,4 +1,4 @@
--- `tables::variables::find` meets its contract. No variable before the n-th is spelled so; what is left of them falls.
+-- `load_names::variables::find` meets its contract. No variable before the n-th is spelled so; what is left of them falls.
 use Prim.Native.Nat.{ℕ, _-_, _≤_, _<_}
 use mathlib.Core.Path.{_≡_, sym, _∙_}
 use mathlib.Core.List.{List}

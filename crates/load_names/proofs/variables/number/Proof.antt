@@ -1,4 +1,4 @@
--- `tables::variables::number` meets its contract: what the search found decides which of the three answers is given, and the half is counted.
+-- `load_names::variables::number` meets its contract: what the search found decides which of the three answers is given, and the half is counted.
 use Prim.Native.Nat.{_+_, _-_, _<_}
 use mathlib.Core.Path.{sym, ap, _∙_}
 use native.Mathlib.Omega.{arith}

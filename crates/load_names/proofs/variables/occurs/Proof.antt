@@ -1,4 +1,4 @@
--- `tables::variables::occurs` meets its contract: a count below 2 grows by one, and a count of 2 is the least of 2 and 3.
+-- `load_names::variables::occurs` meets its contract: a count below 2 grows by one, and a count of 2 is the least of 2 and 3.
 use Prim.Native.Nat.{_+_, min}
 use mathlib.Core.Path.{_≡_, sym}
 use native.Mathlib.Omega.{arith}

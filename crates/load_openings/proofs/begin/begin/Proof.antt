@@ -1,4 +1,4 @@
--- `openings::begin::begin` meets its contract: each arm is one lemma on a term's first token.
+-- `load_openings::begin::begin` meets its contract: each arm is one lemma on a term's first token.
 use Prim.Native.Nat.{_+_}
 use mathlib.Core.Path.{refl}
 use native.Mathlib.Omega.{arith}

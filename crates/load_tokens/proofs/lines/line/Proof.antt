@@ -1,4 +1,4 @@
--- `tokens::lines::line` meets its contract. Up to i the line feeds are counted; what is left of the bytes to count falls.
+-- `load_tokens::lines::line` meets its contract. Up to i the line feeds are counted; what is left of the bytes to count falls.
 use Prim.Native.Nat.{ℕ, _+_, _-_, _≤_, _<_}
 use mathlib.Core.Path.{_≡_, refl, ap, _∙_}
 use mathlib.Core.Bool.{Bool}

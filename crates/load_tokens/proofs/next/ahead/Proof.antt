@@ -1,4 +1,4 @@
--- `tokens::next::ahead` meets its contract: behind separators and remarks a sign begins, or a token that is none.
+-- `load_tokens::next::ahead` meets its contract: behind separators and remarks a sign begins, or a token that is none.
 use Prim.Native.Nat.{ℕ, _+_}
 use mathlib.Core.Path.{_≡_, refl, sym, _∙_}
 use native.Mathlib.Omega.{arith}

@@ -1,4 +1,4 @@
--- `tokens::next::next_of` meets its contract: the sign in front is the first of the three that it equals, and no other token is one.
+-- `load_tokens::next::next_of` meets its contract: the sign in front is the first of the three that it equals, and no other token is one.
 use native.Mathlib.Omega.{arith}
 use borrow.Author.Tests.{ne-eqb}
 use Rattle.load_tokens.specs.Fronts.{FrontIs}

@@ -1,4 +1,4 @@
--- `tokens::next::starts` meets its contract: each arm is what `front` says of its token.
+-- `load_tokens::next::starts` meets its contract: each arm is what `front` says of its token.
 use borrow.Author.Tests.{eq-eqb, ne-eqb}
 use Rattle.load_tokens.proofs.InFront.{
   name-starts,

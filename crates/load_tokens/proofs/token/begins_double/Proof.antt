@@ -1,4 +1,4 @@
--- `tokens::token::begins_double` meets its contract: each arm is the first byte of a sign of two bytes,
+-- `load_tokens::token::begins_double` meets its contract: each arm is the first byte of a sign of two bytes,
 -- and behind them all the byte is none of them.
 use borrow.Author.Tests.{ne-eqb}
 use Rattle.meaning.specs.Tokens.{tokens-words}

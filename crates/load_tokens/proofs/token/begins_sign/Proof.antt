@@ -1,4 +1,4 @@
--- `tokens::token::begins_sign` meets its contract: the tests of the code are those of the definition, in its order.
+-- `load_tokens::token::begins_sign` meets its contract: the tests of the code are those of the definition, in its order.
 use mathlib.Core.Path.{sym, _∙_}
 use Rattle.load_tokens.specs.Fronts.{begins-sign}
 use borrow.Author.Needs.{needs}

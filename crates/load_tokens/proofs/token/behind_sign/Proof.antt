@@ -1,4 +1,4 @@
--- `tokens::token::behind_sign` meets its contract: the test of the code is that of `behind`.
+-- `load_tokens::token::behind_sign` meets its contract: the test of the code is that of `behind`.
 -- Two bytes behind `:` and `?`, and one behind any other sign.
 use mathlib.Core.Path.{sym, _∙_}
 use borrow.Author.Needs.{needs}

@@ -1,4 +1,4 @@
--- `tokens::token::dashed` meets its contract: at the end of the text no byte stands behind.
+-- `load_tokens::token::dashed` meets its contract: at the end of the text no byte stands behind.
 use Prim.Native.Nat.{_+_}
 use mathlib.Core.Path.{sym}
 use Rattle.meaning.specs.Bytes.{byte}

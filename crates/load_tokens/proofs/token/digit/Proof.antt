@@ -1,4 +1,4 @@
--- `tokens::token::digit` meets its contract: the two tests of the code are those of `digit`.
+-- `load_tokens::token::digit` meets its contract: the two tests of the code are those of `digit`.
 -- If the first passes the second decides, and if it fails the whole does.
 use borrow.Author.Tests.{le-leb, lt-leb}
 use Rattle.meaning.specs.Tokens.{tokens-words}

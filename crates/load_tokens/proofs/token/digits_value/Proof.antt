@@ -1,4 +1,4 @@
--- `tokens::token::digits_value` meets its contract. The value of the digits from i on, behind v, is that of all, and they are all digits if
+-- `load_tokens::token::digits_value` meets its contract. The value of the digits from i on, behind v, is that of all, and they are all digits if
 -- those from i on are; v has no more digits than were read. What is left falls.
 use Prim.Native.Nat.{_+_, _-_, _^_, _≤_, _<_, suc}
 use mathlib.Core.Path.{_≡_, refl, sym, _∙_}

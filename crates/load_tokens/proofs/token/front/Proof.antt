@@ -1,4 +1,4 @@
--- `tokens::token::front` meets its contract: what the first byte behind separators and remarks leads stands in front there,
+-- `load_tokens::token::front` meets its contract: what the first byte behind separators and remarks leads stands in front there,
 -- and so from the first offset on.
 use Prim.Native.Nat.{_+_}
 use mathlib.Core.Path.{_≡_, refl, sym, _∙_}

@@ -1,4 +1,4 @@
--- `tokens::token::in_run` meets its contract: the tests of the code are those of the definition, in its order.
+-- `load_tokens::token::in_run` meets its contract: the tests of the code are those of the definition, in its order.
 use mathlib.Core.Path.{sym, _∙_}
 use borrow.Author.Needs.{needs}
 use Rattle.meaning.specs.Bytes.{byte}

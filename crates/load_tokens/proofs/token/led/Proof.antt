@@ -1,4 +1,4 @@
--- `tokens::token::led` meets its contract: the first byte's class tells what the run is, and `_` is the one that is left.
+-- `load_tokens::token::led` meets its contract: the first byte's class tells what the run is, and `_` is the one that is left.
 use Prim.Native.Nat.{_+_}
 use mathlib.Core.Path.{_≡_, sym, _∙_}
 use mathlib.Core.Bool.{true}

@@ -1,4 +1,4 @@
--- `tokens::token::lowercase` meets its contract: the two tests of the code are those of `lowercase`.
+-- `load_tokens::token::lowercase` meets its contract: the two tests of the code are those of `lowercase`.
 -- If the first passes the second decides, and if it fails the whole does.
 use borrow.Author.Tests.{le-leb, lt-leb}
 use Rattle.meaning.specs.Tokens.{tokens-words}

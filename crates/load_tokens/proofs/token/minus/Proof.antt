@@ -1,4 +1,4 @@
--- `tokens::token::minus` meets its contract: a digit right behind makes it an integer's, or the token is bad.
+-- `load_tokens::token::minus` meets its contract: a digit right behind makes it an integer's, or the token is bad.
 -- What the digits are is `negative`'s to say.
 use mathlib.Core.Path.{sym, _∙_}
 use borrow.Author.Needs.{needs}

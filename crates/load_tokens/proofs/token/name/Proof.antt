@@ -1,4 +1,4 @@
--- `tokens::token::name` meets its contract: the test of the code is the contract's.
+-- `load_tokens::token::name` meets its contract: the test of the code is the contract's.
 -- A run of at most 31 bytes is a name.
 use borrow.Author.Needs.{needs}
 use borrow.Author.Tests.{le-leb, lt-leb}

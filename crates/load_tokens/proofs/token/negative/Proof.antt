@@ -1,4 +1,4 @@
--- `tokens::token::negative` meets its contract: each answer is a case of a `-` right before a digit.
+-- `load_tokens::token::negative` meets its contract: each answer is a case of a `-` right before a digit.
 -- The digits are led by a zero, too many, within the range or beyond it.
 use Prim.Native.Nat.{_+_}
 use native.Mathlib.Omega.{arith}

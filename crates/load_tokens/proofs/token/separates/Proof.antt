@@ -1,4 +1,4 @@
--- `tokens::token::separates` meets its contract: each arm is one of the bytes that separate,
+-- `load_tokens::token::separates` meets its contract: each arm is one of the bytes that separate,
 -- and behind them all the byte is none of them.
 use borrow.Author.Tests.{ne-eqb}
 use Rattle.meaning.specs.Tokens.{tokens-words}

@@ -1,4 +1,4 @@
--- `tokens::token::single_sign` meets its contract: each arm is one of the signs of a single byte,
+-- `load_tokens::token::single_sign` meets its contract: each arm is one of the signs of a single byte,
 -- and behind them all the byte is none of them.
 use borrow.Author.Tests.{ne-eqb}
 use Rattle.meaning.specs.Tokens.{tokens-words}

@@ -1,4 +1,4 @@
--- `tokens::token::skip` meets its contract. The tokens from i on are those from the first offset on.
+-- `load_tokens::token::skip` meets its contract. The tokens from i on are those from the first offset on.
 -- What is left of the text falls: a separator has one byte, and a remark at least its `%`.
 use Prim.Native.Nat.{ℕ, _+_, _-_, _≤_, _<_}
 use mathlib.Core.Path.{_≡_, refl, sym, _∙_}

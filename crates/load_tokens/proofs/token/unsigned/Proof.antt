@@ -1,4 +1,4 @@
--- `tokens::token::unsigned` meets its contract: each answer is a case of an integer without a sign.
+-- `load_tokens::token::unsigned` meets its contract: each answer is a case of an integer without a sign.
 -- The run is a zero alone, led by a zero, too long, within the range or beyond it.
 use native.Mathlib.Omega.{arith}
 use borrow.Author.Needs.{needs}

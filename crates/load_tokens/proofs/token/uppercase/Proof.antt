@@ -1,4 +1,4 @@
--- `tokens::token::uppercase` meets its contract: the two tests of the code are those of `uppercase`.
+-- `load_tokens::token::uppercase` meets its contract: the two tests of the code are those of `uppercase`.
 -- If the first passes the second decides, and if it fails the whole does.
 use borrow.Author.Tests.{le-leb, lt-leb}
 use Rattle.meaning.specs.Tokens.{tokens-words}

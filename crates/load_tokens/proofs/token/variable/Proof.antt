@@ -1,4 +1,4 @@
--- `tokens::token::variable` meets its contract: each answer is a case of a run led by an uppercase letter.
+-- `load_tokens::token::variable` meets its contract: each answer is a case of a run led by an uppercase letter.
 -- The run is overlong, the last of the text, before a `?` or before any other byte.
 use borrow.Author.Needs.{needs}
 use borrow.Author.Tests.{eq-eqb, ne-eqb}

@@ -1,4 +1,4 @@
--- `counting::counting::count_arguments` and `count_compound` meet their contracts. Each compound counts a byte before its first argument, so the bytes up to
+-- `report_count::counting::count_arguments` and `count_compound` meet their contracts. Each compound counts a byte before its first argument, so the bytes up to
 -- the ceiling fall; the walk's invariant says what is counted and what is left in the order of the whole, `turn` that it holds behind an argument.
 use Prim.Native.Nat.{ℕ, _+_, _-_, _*_, _<_}
 use mathlib.Core.Path.{_≡_, refl, _∙_, sym}

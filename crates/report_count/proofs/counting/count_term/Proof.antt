@@ -1,4 +1,4 @@
--- `counting::counting::count_term` meets its contract: at the ceiling nothing is counted; below it the term is led to its end, a compound or a leaf.
+-- `report_count::counting::count_term` meets its contract: at the ceiling nothing is counted; below it the term is led to its end, a compound or a leaf.
 use mathlib.Core.Path.{_∙_, sym}
 use native.Mathlib.Omega.{arith}
 use borrow.Author.Needs.{needs}

@@ -1,4 +1,4 @@
--- `counting::counting::counted` meets its contract: the length that is kept of an assigned variable.
+-- `report_count::counting::counted` meets its contract: the length that is kept of an assigned variable.
 use Prim.Native.Nat.{ℕ, _+_, _-_, _*_, _≤_, _<_}
 use mathlib.Core.Path.{_≡_, refl, _∙_, sym, ap}
 use mathlib.Core.List.{[], _∷_, _++_}

@@ -1,4 +1,4 @@
--- `counting::counting::integer` meets its contract.
+-- `report_count::counting::integer` meets its contract.
 use Prim.Native.Nat.{ℕ, _+_, _-_, _*_, _≤_, _<_}
 use mathlib.Core.Path.{_≡_, _∙_, sym, ap}
 use mathlib.Core.List.{[], _∷_, _++_}

@@ -1,4 +1,4 @@
--- `counting::counting::keep` meets its contract: the length is kept of an assigned variable's pair.
+-- `report_count::counting::keep` meets its contract: the length is kept of an assigned variable's pair.
 use mathlib.Core.Path.{_≡_, _∙_, sym}
 use native.Mathlib.Omega.{arith}
 use borrow.Author.Needs.{needs}

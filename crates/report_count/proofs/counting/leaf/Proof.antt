@@ -1,4 +1,4 @@
--- `counting::counting::leaf` meets its contract: by what is seen at the end of the chain.
+-- `report_count::counting::leaf` meets its contract: by what is seen at the end of the chain.
 use mathlib.Core.Path.{_≡_, refl, _∙_}
 use mathlib.Core.List.{[], _∷_}
 use borrow.Author.Needs.{needs}

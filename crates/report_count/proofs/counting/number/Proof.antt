@@ -1,4 +1,4 @@
--- `counting::counting::number` meets its contract: the number that the pair has, or the next one.
+-- `report_count::counting::number` meets its contract: the number that the pair has, or the next one.
 use Prim.Native.Nat.{ℕ, _+_, _*_}
 use mathlib.Core.Path.{_≡_, _∙_, sym, ap}
 use native.Mathlib.Omega.{arith}

@@ -1,4 +1,4 @@
--- `counting::counting::opening` meets its contract: a bracket, or the name and a parenthesis, counted.
+-- `report_count::counting::opening` meets its contract: a bracket, or the name and a parenthesis, counted.
 use Prim.Native.Nat.{ℕ, _+_, _-_, _*_, _≤_, _<_}
 use mathlib.Core.Path.{_≡_, _∙_, sym, ap}
 use mathlib.Core.List.{[], _∷_, _++_}

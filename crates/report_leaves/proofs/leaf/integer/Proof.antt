@@ -1,4 +1,4 @@
--- `leaves::leaf::integer` meets its contract: its digits, or a minus sign and those of what is missing to 2^32.
+-- `report_leaves::leaf::integer` meets its contract: its digits, or a minus sign and those of what is missing to 2^32.
 use Prim.Native.Nat.{ℕ, _+_, _-_, _*_, _≤_}
 use mathlib.Core.Path.{_≡_, _∙_, sym, ap}
 use mathlib.Core.List.{[], _∷_, _++_}

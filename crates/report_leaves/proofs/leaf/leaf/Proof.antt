@@ -1,4 +1,4 @@
--- `leaves::leaf::leaf` meets its contract: by what the word shows.
+-- `report_leaves::leaf::leaf` meets its contract: by what the word shows.
 use Prim.Native.Nat.{ℕ, _+_, _-_, _*_, _≤_}
 use mathlib.Core.Path.{_≡_, _∙_, sym, ap}
 use mathlib.Core.List.{[], _∷_, _++_}

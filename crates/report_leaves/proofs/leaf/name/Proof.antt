@@ -1,4 +1,4 @@
--- `leaves::leaf::name` meets its contract: the bytes of the text where it is spelled.
+-- `report_leaves::leaf::name` meets its contract: the bytes of the text where it is spelled.
 use Prim.Native.Nat.{ℕ, _+_, _-_, _*_, _≤_}
 use mathlib.Core.Path.{_≡_, _∙_, sym, ap}
 use mathlib.Core.List.{[], _∷_, _++_}

@@ -1,4 +1,4 @@
--- `leaves::leaf::variable` meets its contract: an underscore, and the number.
+-- `report_leaves::leaf::variable` meets its contract: an underscore, and the number.
 use Prim.Native.Nat.{ℕ, _+_, _-_, _*_, _≤_}
 use mathlib.Core.Path.{_≡_, _∙_, sym, ap}
 use mathlib.Core.List.{[], _∷_, _++_}

@@ -1,4 +1,4 @@
--- `facts::cells::behind` meets its contract: arguments in parentheses, the element of a list, or its tail.
+-- `report_pairs::cells::behind` meets its contract: arguments in parentheses, the element of a list, or its tail.
 use mathlib.Core.Path.{_≡_, _∙_, sym}
 use borrow.Author.Needs.{needs}
 use Rattle.report_pairs.proofs.Behinds.{named-asks, named-tells, tail-asks, tail-tells}

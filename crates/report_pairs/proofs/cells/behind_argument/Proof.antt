@@ -1,4 +1,4 @@
--- `facts::cells::behind_argument` meets its contract: a comma and the next argument, or the parenthesis.
+-- `report_pairs::cells::behind_argument` meets its contract: a comma and the next argument, or the parenthesis.
 use native.Mathlib.Omega.{arith}
 use borrow.Author.Needs.{needs}
 use Rattle.meaning.specs.Terms.{named}

@@ -1,4 +1,4 @@
--- `facts::cells::behind_element` meets its contract: by what the tail's word shows.
+-- `report_pairs::cells::behind_element` meets its contract: by what the tail's word shows.
 use mathlib.Core.Path.{_≡_, _∙_, sym}
 use native.Mathlib.Omega.{arith}
 use borrow.Author.Needs.{needs}

@@ -1,4 +1,4 @@
--- `facts::ends::end` meets its contract. The invariant: the term at hand has the same values applied, and ends within the links that are left.
+-- `report_pairs::ends::end` meets its contract. The invariant: the term at hand has the same values applied, and ends within the links that are left.
 use Prim.Native.Nat.{_<_}
 use native.Mathlib.Omega.{arith}
 use borrow.Author.Needs.{needs}

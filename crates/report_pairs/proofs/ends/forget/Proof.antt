@@ -1,4 +1,4 @@
--- `facts::ends::forget` meets its contract: the words passed are 0.
+-- `report_pairs::ends::forget` meets its contract: the words passed are 0.
 use Prim.Native.Nat.{ℕ, _+_, _*_, _-_, _≤_, _<_}
 use mathlib.Core.Path.{_≡_}
 use native.Mathlib.Omega.{arith}

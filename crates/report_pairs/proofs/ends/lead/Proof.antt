@@ -1,4 +1,4 @@
--- `facts::ends::lead` meets its contract: the end is kept of an assigned variable's pair.
+-- `report_pairs::ends::lead` meets its contract: the end is kept of an assigned variable's pair.
 use native.Mathlib.Omega.{arith}
 use borrow.Author.Needs.{needs}
 use Rattle.report_pairs.proofs.Chains.{pair-inside, lead-same, lead-kept}

@@ -1,4 +1,4 @@
--- `facts::ends::next` meets its contract, by the cases of Chains.
+-- `report_pairs::ends::next` meets its contract, by the cases of Chains.
 use mathlib.Core.Path.{_≡_}
 use native.Mathlib.Omega.{arith}
 use borrow.Author.Needs.{needs}

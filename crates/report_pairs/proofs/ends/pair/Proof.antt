@@ -1,4 +1,4 @@
--- `facts::ends::pair` meets its contract: a variable's view has the upper part of its word.
+-- `report_pairs::ends::pair` meets its contract: a variable's view has the upper part of its word.
 use Prim.Native.Nat.{_/_, _%_}
 use mathlib.Core.Path.{_≡_, _∙_}
 use native.Mathlib.Omega.{arith}

@@ -1,4 +1,4 @@
--- `facts::ends::value` meets its contract.
+-- `report_pairs::ends::value` meets its contract.
 use mathlib.Core.Path.{_≡_, ap}
 use lib.ListN.{getD}
 use Prim.Native.Nat.{ℕ, _+_, _-_}

@@ -1,4 +1,4 @@
--- `facts::length::digits` meets its contract: the digits counted and those of what is left are the number's and one.
+-- `report_pairs::length::digits` meets its contract: the digits counted and those of what is left are the number's and one.
 use Prim.Native.Nat.{ℕ, _+_, _-_, _≤_}
 use mathlib.Core.Path.{_≡_, ap, _∙_}
 use native.Mathlib.Omega.{arith}

@@ -1,4 +1,4 @@
--- `putting::put::decimal` meets its contract: the digits of what is left, put over the digits that stand, give the number's. What is left falls.
+-- `report_put::put::decimal` meets its contract: the digits of what is left, put over the digits that stand, give the number's. What is left falls.
 use Prim.Native.Nat.{ℕ, _+_, _-_, _/_, _%_, _≤_, _<_}
 use mathlib.Core.Path.{_≡_, refl, sym, ap, _∙_}
 use mathlib.Core.List.{List, [], _∷_, _++_}

@@ -1,4 +1,4 @@
--- `putting::put::put` meets its contract: one place is set.
+-- `report_put::put::put` meets its contract: one place is set.
 use Rattle.report_pairs.proofs.Laid.{puts-one}
 use borrow.Author.Needs.{needs}
 use Rattle.report_put.proofs.put.put.Statement.{statement}

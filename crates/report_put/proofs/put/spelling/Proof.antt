@@ -1,4 +1,4 @@
--- `putting::put::spelling` meets its contract: the part of the text that is lent is those bytes of it.
+-- `report_put::put::spelling` meets its contract: the part of the text that is lent is those bytes of it.
 use Prim.Native.Nat.{ℕ, _+_, _-_, _≤_}
 use mathlib.Core.Path.{_≡_, sym, ap, _∙_}
 use mathlib.Core.List.{List}

@@ -1,4 +1,4 @@
--- `putting::put::words` meets its contract: so many bytes as were passed have been put.
+-- `report_put::put::words` meets its contract: so many bytes as were passed have been put.
 use Prim.Native.Nat.{ℕ, suc, _+_, _-_, _≤_, _<_}
 use mathlib.Core.Path.{_≡_, refl, sym, ap, _∙_}
 use mathlib.Core.List.{List, [], _∷_, _++_}

@@ -1,4 +1,4 @@
--- `sections::sections::count_goal` meets its contract: the goal's line, if it is the query's.
+-- `report_sections::sections::count_goal` meets its contract: the goal's line, if it is the query's.
 use Prim.Native.Nat.{ℕ, _+_, _*_, _/_}
 use mathlib.Core.Path.{_≡_, refl, sym, ap, _∙_}
 use mathlib.Core.Bool.{Bool, true, false}

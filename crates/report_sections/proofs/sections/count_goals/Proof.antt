@@ -1,4 +1,4 @@
--- `sections::sections::count_goals` meets its contract: the lines of the query's goals at the places passed are counted.
+-- `report_sections::sections::count_goals` meets its contract: the lines of the query's goals at the places passed are counted.
 use Prim.Native.Nat.{ℕ, _+_, _*_, _-_, _/_, _≤_, _<_}
 use mathlib.Core.Path.{_≡_, refl, sym, ap, _∙_}
 use mathlib.Core.Bool.{Bool, true, false}

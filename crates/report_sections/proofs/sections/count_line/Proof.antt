@@ -1,4 +1,4 @@
--- `sections::sections::count_line` meets its contract: bytes, a term, one byte.
+-- `report_sections::sections::count_line` meets its contract: bytes, a term, one byte.
 use native.Mathlib.Omega.{arith}
 use Rattle.report_count.proofs.Lengths.{counts-further, counted-line}
 use borrow.Author.Needs.{needs}

@@ -1,4 +1,4 @@
--- `sections::sections::count_lines` meets its contract: header, values and the goals of the three lists, each counted behind the others.
+-- `report_sections::sections::count_lines` meets its contract: header, values and the goals of the three lists, each counted behind the others.
 use mathlib.Core.Path.{_≡_, refl, sym, ap, _∙_}
 use mathlib.Core.List.{[]}
 use Prim.Native.Nat.{ℕ, _+_}

@@ -1,4 +1,4 @@
--- `sections::sections::count_section` meets its contract: the counter is set to 0, and the section counted.
+-- `report_sections::sections::count_section` meets its contract: the counter is set to 0, and the section counted.
 use borrow.Author.Needs.{needs}
 use Rattle.report_sections.proofs.Restarting.{long-enough, asked-counts, asked-section, count-told}
 use Rattle.report_sections.proofs.sections.count_section.Statement.{statement}

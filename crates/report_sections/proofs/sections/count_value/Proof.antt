@@ -1,4 +1,4 @@
--- `sections::sections::count_value` meets its contract: the name, three bytes, the value.
+-- `report_sections::sections::count_value` meets its contract: the name, three bytes, the value.
 use Prim.Native.Nat.{ℕ, _+_}
 use mathlib.Core.Path.{_≡_, refl, ap, _∙_}
 use native.Mathlib.Omega.{arith}

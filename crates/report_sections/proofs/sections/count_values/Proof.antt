@@ -1,4 +1,4 @@
--- `sections::sections::count_values` meets its contract: the lines of so many variables as were passed are counted.
+-- `report_sections::sections::count_values` meets its contract: the lines of so many variables as were passed are counted.
 use Prim.Native.Nat.{ℕ, _+_, _-_, _≤_}
 use mathlib.Core.Path.{_≡_, refl, sym, ap, _∙_}
 use mathlib.Core.List.{List}

@@ -1,4 +1,4 @@
--- `sections::sections::write_goal` meets its contract: the word, the goal, one byte.
+-- `report_sections::sections::write_goal` meets its contract: the word, the goal, one byte.
 use mathlib.Core.Path.{sym}
 use native.Mathlib.Omega.{arith}
 use Rattle.meaning.specs.Bytes.{bytes}

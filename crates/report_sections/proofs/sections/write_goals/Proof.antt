@@ -1,4 +1,4 @@
--- `sections::sections::write_goals` meets its contract: the lines of the query's goals at the places passed are written.
+-- `report_sections::sections::write_goals` meets its contract: the lines of the query's goals at the places passed are written.
 use Prim.Native.Nat.{ℕ, _+_, _*_, _-_, _/_, _≤_, _<_}
 use mathlib.Core.Path.{_≡_, refl, sym, ap, _∙_}
 use mathlib.Core.Logic.{⊎-elim}

@@ -1,4 +1,4 @@
--- `sections::sections::write_line` meets its contract: a term, one byte.
+-- `report_sections::sections::write_line` meets its contract: a term, one byte.
 use native.Mathlib.Omega.{arith}
 use Rattle.report_pairs.proofs.Laid.{puts-behind}
 use borrow.Author.Needs.{needs}

@@ -1,4 +1,4 @@
--- `sections::sections::write_section` meets its contract: header, values and the goals of the three lists, one behind the other.
+-- `report_sections::sections::write_section` meets its contract: header, values and the goals of the three lists, one behind the other.
 use Prim.Native.Nat.{ℕ, _+_, _≤_}
 use mathlib.Core.Path.{_≡_, refl, sym, ap, _∙_}
 use mathlib.Core.List.{List}

@@ -1,4 +1,4 @@
--- `sections::sections::write_value` meets its contract: the name, three bytes, the value, one byte.
+-- `report_sections::sections::write_value` meets its contract: the name, three bytes, the value, one byte.
 use Prim.Native.Nat.{ℕ, _+_}
 use mathlib.Core.Path.{_≡_, refl, sym, ap, _∙_}
 use mathlib.Core.List.{List, [], _∷_, _++_}

@@ -1,4 +1,4 @@
--- `sections::sections::write_values` meets its contract: the lines of so many variables as were passed are written.
+-- `report_sections::sections::write_values` meets its contract: the lines of so many variables as were passed are written.
 use Prim.Native.Nat.{ℕ, _+_, _-_, _≤_, _<_}
 use mathlib.Core.Path.{_≡_, refl, sym, ap, _∙_}
 use mathlib.Core.List.{List, []}

@@ -1,4 +1,4 @@
--- `tallies::groups::goal_at` meets its contract: before the ring's end, and beyond it.
+-- `report_tallies::groups::goal_at` meets its contract: before the ring's end, and beyond it.
 use mathlib.Core.Path.{_∙_}
 use native.Mathlib.Omega.{arith}
 use Rattle.report_tallies.proofs.GoalPlaces.{place-below, place-beyond, goal-below, goal-beyond}

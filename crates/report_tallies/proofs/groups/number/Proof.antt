@@ -1,4 +1,4 @@
--- `tallies::groups::number` meets its contract: those counted and those from the place on are all.
+-- `report_tallies::groups::number` meets its contract: those counted and those from the place on are all.
 use Prim.Native.Nat.{_+_, _-_, _≤_, _<_}
 use mathlib.Core.Path.{_≡_, refl, sym, ap, _∙_}
 use mathlib.Core.Logic.{⊎-elim}

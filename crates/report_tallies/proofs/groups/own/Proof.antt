@@ -1,4 +1,4 @@
--- `tallies::groups::own` meets its contract.
+-- `report_tallies::groups::own` meets its contract.
 use mathlib.Core.Path.{sym, ap, _∙_}
 use lib.Dec.{eqb}
 use native.Mathlib.Omega.{arith}

@@ -1,4 +1,4 @@
--- `tallies::header::count` meets its contract: a word and a number behind it.
+-- `report_tallies::header::count` meets its contract: a word and a number behind it.
 use Rattle.report_pairs.proofs.Laid.{puts-behind}
 use borrow.Author.Needs.{needs}
 use Rattle.report_tallies.proofs.header.count.Statement.{statement}

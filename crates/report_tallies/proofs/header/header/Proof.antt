@@ -1,4 +1,4 @@
--- `tallies::header::header` meets its contract: six pieces, one behind the other.
+-- `report_tallies::header::header` meets its contract: six pieces, one behind the other.
 use mathlib.Core.Path.{_∙_}
 use native.Mathlib.Omega.{arith}
 use Rattle.meaning.specs.Bytes.{bytes}

@@ -1,4 +1,4 @@
--- `tallies::header::header_length` meets its contract.
+-- `report_tallies::header::header_length` meets its contract.
 use native.Mathlib.Omega.{arith}
 use Rattle.report_tallies.proofs.FirstLines.{header-size}
 use borrow.Author.Needs.{needs}

@@ -1,4 +1,4 @@
--- `tallies::header::run_length` meets its contract.
+-- `report_tallies::header::run_length` meets its contract.
 use native.Mathlib.Omega.{arith}
 use Rattle.report_tallies.proofs.FirstLines.{run-rest-size, run-budget-size, run-room-size}
 use borrow.Author.Needs.{needs}

@@ -1,4 +1,4 @@
--- `tallies::header::run_line` meets its contract: three pieces.
+-- `report_tallies::header::run_line` meets its contract: three pieces.
 use native.Mathlib.Omega.{arith}
 use Rattle.meaning.specs.Bytes.{bytes}
 use Rattle.report_tallies.proofs.FirstLines.{run-line-size, puts-run}

@@ -1,4 +1,4 @@
--- `tallies::header::run_words` meets its contract: each verdict's words.
+-- `report_tallies::header::run_words` meets its contract: each verdict's words.
 use mathlib.Core.Path.{_≡_, sym}
 use native.Mathlib.Omega.{arith}
 use lib.ListN.{length}

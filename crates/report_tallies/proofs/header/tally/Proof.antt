@@ -1,4 +1,4 @@
--- `tallies::header::tally` meets its contract: each list is counted.
+-- `report_tallies::header::tally` meets its contract: each list is counted.
 use Prim.Native.Nat.{ℕ}
 use mathlib.Core.Path.{_≡_, _∙_}
 use Rattle.report_tallies.specs.declared.header.Tallies.{Tallies}

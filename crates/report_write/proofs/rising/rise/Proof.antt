@@ -1,4 +1,4 @@
--- `writing::rising::rise` meets its contract: each byte that is put ends a compound, or stands before the next argument.
+-- `report_write::rising::rise` meets its contract: each byte that is put ends a compound, or stands before the next argument.
 use Prim.Native.Nat.{ℕ, _+_}
 use mathlib.Core.Path.{_≡_, _∙_}
 use mathlib.Core.List.{List}

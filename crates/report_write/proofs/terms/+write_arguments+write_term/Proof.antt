@@ -1,4 +1,4 @@
--- `writing::terms::write_arguments` and `write_term` meet their contracts. Each term that is a compound puts a byte before its arguments, and an argument
+-- `report_write::terms::write_arguments` and `write_term` meet their contracts. Each term that is a compound puts a byte before its arguments, and an argument
 -- stands behind what is put, so the bytes of the buffer that are left fall; the walk's invariant says which bytes are put and what is still to be written,
 -- also behind the compounds in the frames.
 use mathlib.Core.Path.{_≡_, _∙_, sym, refl}

@@ -1,4 +1,4 @@
--- `chains::arguments::follow_arguments` meets its contract. The invariant: where what is left of the arguments is followed, so is the whole.
+-- `run_chains::arguments::follow_arguments` meets its contract. The invariant: where what is left of the arguments is followed, so is the whole.
 use Prim.Native.Nat.{ℕ, _+_, _-_}
 use native.Mathlib.Omega.{arith}
 use Rattle.meaning.specs.Terms.{Functor, Terms}

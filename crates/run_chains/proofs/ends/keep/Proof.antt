@@ -1,4 +1,4 @@
--- `chains::ends::keep` meets its contract: the pair has a value, so it leads to what is found.
+-- `run_chains::ends::keep` meets its contract: the pair has a value, so it leads to what is found.
 use native.Mathlib.Omega.{arith}
 use Rattle.run_chains.proofs.Following.{pair-inside}
 use Rattle.run_chains.proofs.Keeping.{kept-same, kept-where}

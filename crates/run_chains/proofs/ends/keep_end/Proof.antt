@@ -1,4 +1,4 @@
--- `chains::ends::keep_end` meets its contract: only a variable has a pair.
+-- `run_chains::ends::keep_end` meets its contract: only a variable has a pair.
 use mathlib.Core.Path.{_≡_}
 use Rattle.meaning.specs.Terms.{writer, reader}
 use Rattle.term.specs.declared.word.View.the-variants.{Writer, Reader}

@@ -1,4 +1,4 @@
--- `chains::ends::keep_ends` meets its contract. The invariant: only ends have changed, and what is left of the arguments.
+-- `run_chains::ends::keep_ends` meets its contract. The invariant: only ends have changed, and what is left of the arguments.
 use Prim.Native.Nat.{ℕ, _+_, _-_}
 use native.Mathlib.Omega.{arith}
 use Rattle.meaning.specs.Terms.{Functor, Terms}

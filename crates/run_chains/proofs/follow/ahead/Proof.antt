@@ -1,4 +1,4 @@
--- `chains::follow::ahead` meets its contract: what is seen in a term's word says whether it leads on.
+-- `run_chains::follow::ahead` meets its contract: what is seen in a term's word says whether it leads on.
 use mathlib.Core.Path.{_≡_}
 use Rattle.meaning.specs.Terms.{writer, reader}
 use Rattle.term.specs.declared.word.View.the-variants.{Writer, Reader}

@@ -1,4 +1,4 @@
--- `chains::follow::follow` meets its contract. The invariant: the term at hand ends where the whole does, within the links that are left.
+-- `run_chains::follow::follow` meets its contract. The invariant: the term at hand ends where the whole does, within the links that are left.
 use native.Mathlib.Omega.{arith}
 use borrow.Author.Needs.{needs}
 use Rattle.meaning.specs.Terms.{Term}

@@ -1,4 +1,4 @@
--- `chains::follow::led` meets its contract: a pair leads to its value, and to the end that is kept of it.
+-- `run_chains::follow::led` meets its contract: a pair leads to its value, and to the end that is kept of it.
 use native.Mathlib.Omega.{arith}
 use Rattle.run_chains.proofs.Following.{pair-inside, value-ahead, end-ahead}
 use borrow.Author.Needs.{needs}

@@ -1,4 +1,4 @@
--- `charges::charges::count_try` meets its contract: the word of the query's tries is one more.
+-- `run_charges::charges::count_try` meets its contract: the word of the query's tries is one more.
 use borrow.Author.Needs.{needs}
 use Rattle.run_charges.proofs.charges.count_try.Statement.{statement}
 use Rattle.run_charges.proofs.charges.count_try.Tie as tie

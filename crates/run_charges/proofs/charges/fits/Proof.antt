@@ -1,4 +1,4 @@
--- `charges::charges::fits` meets its contract: the definition's test, figure by figure.
+-- `run_charges::charges::fits` meets its contract: the definition's test, figure by figure.
 use Prim.Native.Nat.{_+_, _-_}
 use native.Mathlib.Omega.{arith}
 use borrow.Author.Needs.{needs}

@@ -1,4 +1,4 @@
--- `circle::circle::circle` meets its contract: the entries' pairs are held, searched from, and set back.
+-- `run_circle::circle::circle` meets its contract: the entries' pairs are held, searched from, and set back.
 use borrow.Author.Needs.{needs}
 use Rattle.run_circle.proofs.SetBack.{entries-of, entries-still, tested}
 use Rattle.run_circle.proofs.circle.circle.Statement.{statement}

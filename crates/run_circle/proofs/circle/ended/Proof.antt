@@ -1,4 +1,4 @@
--- `circle::circle::ended` meets its contract: the pair that the state names, if any, is marked.
+-- `run_circle::circle::ended` meets its contract: the pair that the state names, if any, is marked.
 use Prim.Native.Nat.{_%_, _<_}
 use mathlib.Core.Path.{_≡_, refl, sym, _∙_}
 use mathlib.Core.Logic.{⊎-elim}

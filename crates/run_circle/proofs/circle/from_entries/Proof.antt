@@ -1,4 +1,4 @@
--- `circle::circle::from_entries` meets its contract: through the entries passed there is no circle.
+-- `run_circle::circle::from_entries` meets its contract: through the entries passed there is no circle.
 use Prim.Native.Nat.{_-_, _≤_}
 use mathlib.Core.Path.{_≡_, refl, _∙_}
 use native.Mathlib.Omega.{arith}

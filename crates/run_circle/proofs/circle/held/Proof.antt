@@ -1,4 +1,4 @@
--- `circle::circle::held` meets its contract, on each side of its test.
+-- `run_circle::circle::held` meets its contract, on each side of its test.
 use native.Mathlib.Omega.{arith}
 use borrow.Author.Needs.{needs}
 use Rattle.run_circle.proofs.circle.held.Statement.{statement}

@@ -1,4 +1,4 @@
--- `circle::circle::hold` meets its contract: the entries passed are set, and all else is as it was.
+-- `run_circle::circle::hold` meets its contract: the entries passed are set, and all else is as it was.
 use Prim.Native.Nat.{_+_, _-_, _≤_}
 use mathlib.Core.Path.{_≡_, refl, sym, subst, _∙_}
 use native.Mathlib.Omega.{arith}

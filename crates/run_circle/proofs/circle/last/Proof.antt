@@ -1,4 +1,4 @@
--- `circle::circle::last` meets its contract: the arguments behind the one at hand do not lead on.
+-- `run_circle::circle::last` meets its contract: the arguments behind the one at hand do not lead on.
 use native.Mathlib.Omega.{arith}
 use borrow.Author.Needs.{needs}
 use Rattle.run_circle.specs.Search.{LastLeads}

@@ -1,4 +1,4 @@
--- `circle::circle::leads` meets its contract.
+-- `run_circle::circle::leads` meets its contract.
 use mathlib.Core.Logic.{inl, inr}
 use Rattle.run_circle.proofs.circle.leads.Statement.{statement}
 use Rattle.run_circle.proofs.circle.leads.Tie as tie

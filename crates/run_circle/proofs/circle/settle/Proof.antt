@@ -1,4 +1,4 @@
--- `circle::circle::settle` meets its contract: the term at hand has ground pairs only, and the weight of what is left falls.
+-- `run_circle::circle::settle` meets its contract: the term at hand has ground pairs only, and the weight of what is left falls.
 use Prim.Native.Nat.{_+_, _*_}
 use mathlib.Core.Path.{_≡_, refl, sym, _∙_}
 use native.Mathlib.Omega.{arith}

@@ -1,4 +1,4 @@
--- `circle::circle::since` meets its contract, on each side of its test.
+-- `run_circle::circle::since` meets its contract, on each side of its test.
 use Prim.Native.Nat.{_≤_, _<_}
 use mathlib.Core.Path.{_≡_, refl, sym, _∙_}
 use native.Mathlib.Omega.{arith}

@@ -1,4 +1,4 @@
--- `compare::compare::compounds` and `places` meet their contracts. The places of the head's compounds rise, which is the measure; the loop's
+-- `run_compare::compare::compounds` and `places` meet their contracts. The places of the head's compounds rise, which is the measure; the loop's
 -- invariant says in which two compounds it stands, what was given so far and what is left of their arguments, and that their answer is the whole's.
 use Prim.Native.Nat.{ℕ, _+_, _*_, _-_, _<_}
 use mathlib.Core.Path.{_≡_, refl, _∙_}

@@ -1,4 +1,4 @@
--- `compare::compare::open` meets its contract. The invariant: those behind the k-th are the same constants.
+-- `run_compare::compare::open` meets its contract. The invariant: those behind the k-th are the same constants.
 use Prim.Native.Nat.{_%_}
 use mathlib.Core.Path.{sym, _∙_}
 use native.Mathlib.Omega.{arith}

@@ -1,4 +1,4 @@
--- `compare::compare::same` meets its contract: the words are equal, and an arm that says yes has seen a constant.
+-- `run_compare::compare::same` meets its contract: the words are equal, and an arm that says yes has seen a constant.
 use mathlib.Core.Path.{_≡_, sym, ap, _∙_}
 use Prim.Native.Nat.{ℕ}
 use native.Mathlib.Omega.{arith}

@@ -1,4 +1,4 @@
--- `compare::heads::head` meets its contract. The invariant: what was given so far, and what is left of both lists of arguments, of which the goal's
+-- `run_compare::heads::head` meets its contract. The invariant: what was given so far, and what is left of both lists of arguments, of which the goal's
 -- stand followed.
 use Prim.Native.Nat.{ℕ, _+_, _-_}
 use mathlib.Core.Path.{_∙_}

@@ -1,4 +1,4 @@
--- `reduction::reduce::add_goals` meets its contract: goal by goal its copy's word joins the queue, and its copy is made.
+-- `run_effects::reduce::add_goals` meets its contract: goal by goal its copy's word joins the queue, and its copy is made.
 use Prim.Native.Nat.{_/_, _-_}
 use mathlib.Core.Path.{ap, _∙_}
 use native.Mathlib.Omega.{arith}

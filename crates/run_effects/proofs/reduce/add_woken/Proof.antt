@@ -1,4 +1,4 @@
--- `reduction::reduce::add_woken` meets its contract: the first i goals stand at the queue's end, and their places are empty.
+-- `run_effects::reduce::add_woken` meets its contract: the first i goals stand at the queue's end, and their places are empty.
 use Prim.Native.Nat.{ℕ, _-_, _≤_}
 use mathlib.Core.Path.{_∙_}
 use mathlib.Core.List.{List}

@@ -1,4 +1,4 @@
--- `reduction::reduce::assign_goal` meets its contract: entry by entry the head's term is copied, its word to the pair's place.
+-- `run_effects::reduce::assign_goal` meets its contract: entry by entry the head's term is copied, its word to the pair's place.
 use Prim.Native.Nat.{_-_}
 use mathlib.Core.Path.{_∙_}
 use native.Mathlib.Omega.{arith}

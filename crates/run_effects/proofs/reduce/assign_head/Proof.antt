@@ -1,4 +1,4 @@
--- `reduction::reduce::assign_head` meets its contract: the first of the clause's pairs have what the head's writers were given.
+-- `run_effects::reduce::assign_head` meets its contract: the first of the clause's pairs have what the head's writers were given.
 use Prim.Native.Nat.{ℕ, _+_, _-_, _≤_, _<_}
 use mathlib.Core.Path.{_≡_, _∙_}
 use native.Mathlib.Omega.{arith}

@@ -1,4 +1,4 @@
--- `reduction::reduce::insert` meets its contract: the words from i on have moved on by one, and none of them is less than the place.
+-- `run_effects::reduce::insert` meets its contract: the words from i on have moved on by one, and none of them is less than the place.
 use Prim.Native.Nat.{_+_, _-_}
 use mathlib.Core.Path.{ap, _∙_}
 use mathlib.Core.Logic.{⊎-elim}

@@ -1,4 +1,4 @@
--- `reduction::reduce::wake` meets its contract: after i entries the goals found wait on nothing, and their places are listed.
+-- `run_effects::reduce::wake` meets its contract: after i entries the goals found wait on nothing, and their places are listed.
 use Prim.Native.Nat.{ℕ, _-_, _≤_}
 use mathlib.Core.Path.{sym, _∙_}
 use mathlib.Core.Logic.{⊎-elim}

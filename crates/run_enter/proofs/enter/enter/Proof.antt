@@ -1,4 +1,4 @@
--- `entering::enter::enter` meets its contract: the query's goals are copied to the queue's end, and its unit stands.
+-- `run_enter::enter::enter` meets its contract: the query's goals are copied to the queue's end, and its unit stands.
 use mathlib.Core.Path.{refl, _∙_}
 use native.Mathlib.Omega.{arith}
 use borrow.Author.Needs.{needs}

@@ -1,4 +1,4 @@
--- `entering::enter::enter_all` meets its contract: query by query they are entered.
+-- `run_enter::enter::enter_all` meets its contract: query by query they are entered.
 use Prim.Native.Nat.{_-_}
 use mathlib.Core.Path.{_≡_, refl}
 use mathlib.Core.Bool.{true}

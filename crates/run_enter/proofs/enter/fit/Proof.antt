@@ -1,4 +1,4 @@
--- `entering::enter::fit` meets its contract: figure by figure.
+-- `run_enter::enter::fit` meets its contract: figure by figure.
 use Prim.Native.Nat.{ℕ, _+_, _≤_, _<_}
 use mathlib.Core.Path.{_≡_, refl, sym, ap, _∙_}
 use native.Mathlib.Omega.{arith}

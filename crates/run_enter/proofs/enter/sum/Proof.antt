@@ -1,4 +1,4 @@
--- `entering::enter::sum` meets its contract: up to q the words are added up.
+-- `run_enter::enter::sum` meets its contract: up to q the words are added up.
 use Prim.Native.Nat.{ℕ, _+_, _*_, _-_, _≤_, _<_}
 use mathlib.Core.Path.{_≡_, refl, ap, sym, _∙_}
 use native.Mathlib.Omega.{arith}

@@ -1,4 +1,4 @@
--- `queues::goals::behind` meets its contract: the next place, or the ring's first behind its last.
+-- `run_queues::goals::behind` meets its contract: the next place, or the ring's first behind its last.
 use native.Mathlib.Omega.{arith}
 use borrow.Author.Needs.{needs}
 use Rattle.run_queues.proofs.Ring.{passed-on, passed-round}

@@ -1,4 +1,4 @@
--- `queues::goals::close_up` meets its contract: up to i the log is closed up.
+-- `run_queues::goals::close_up` meets its contract: up to i the log is closed up.
 use Prim.Native.Nat.{ℕ, _+_, _-_, _≤_, _<_}
 use mathlib.Core.Path.{_≡_, refl}
 use mathlib.Core.List.{List}

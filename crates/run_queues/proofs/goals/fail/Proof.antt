@@ -1,4 +1,4 @@
--- `queues::goals::fail` meets its contract: the word is stored behind the list.
+-- `run_queues::goals::fail` meets its contract: the word is stored behind the list.
 use Rattle.run_queues.proofs.Listed.{failed-more}
 use borrow.Author.Needs.{needs}
 use Rattle.run_queues.proofs.goals.fail.Statement.{statement}

@@ -1,4 +1,4 @@
--- `queues::goals::join` meets its contract: a pair without a waiter is new to the set, and one with a waiter has this goal.
+-- `run_queues::goals::join` meets its contract: a pair without a waiter is new to the set, and one with a waiter has this goal.
 use native.Mathlib.Omega.{arith}
 use borrow.Author.Needs.{needs}
 use Rattle.run_queues.proofs.LogSteps.{joins-new, joins-there}

@@ -1,4 +1,4 @@
--- `queues::goals::join_all` meets its contract: after i readers the set has the pairs of the first i.
+-- `run_queues::goals::join_all` meets its contract: after i readers the set has the pairs of the first i.
 use Prim.Native.Nat.{ℕ, _+_, _-_, _≤_, _<_}
 use mathlib.Core.Path.{_≡_, refl, ap, _∙_}
 use mathlib.Core.List.{List}

@@ -1,4 +1,4 @@
--- `queues::goals::push` meets its contract: the word is stored at the place behind the last goal.
+-- `run_queues::goals::push` meets its contract: the word is stored at the place behind the last goal.
 use Prim.Native.Nat.{_+_}
 use native.Mathlib.Omega.{arith}
 use borrow.Author.Needs.{needs}

@@ -1,4 +1,4 @@
--- `queues::goals::settle` meets its contract: by what stands at the place, and by whether one before it is empty.
+-- `run_queues::goals::settle` meets its contract: by what stands at the place, and by whether one before it is empty.
 use Prim.Native.Nat.{_+_}
 use mathlib.Core.Path.{_∙_, sym}
 use borrow.Author.Needs.{needs}

@@ -1,4 +1,4 @@
--- `queues::goals::shift` meets its contract: the pairs are turned first, then the two places are written.
+-- `run_queues::goals::shift` meets its contract: the pairs are turned first, then the two places are written.
 use Prim.Native.Nat.{_+_}
 use mathlib.Core.Path.{_∙_}
 use borrow.Author.Needs.{needs}

@@ -1,4 +1,4 @@
--- `queues::goals::spot` meets its contract: inside the ring a place stays, and past its end a turn is taken off.
+-- `run_queues::goals::spot` meets its contract: inside the ring a place stays, and past its end a turn is taken off.
 use mathlib.Core.Path.{_≡_, sym}
 use native.Mathlib.Omega.{arith}
 use Rattle.run_queues.proofs.Ring.{round-below, round-beyond}

@@ -1,4 +1,4 @@
--- `queues::goals::take` meets its contract: the goal's word is read, and its place is emptied.
+-- `run_queues::goals::take` meets its contract: the goal's word is read, and its place is emptied.
 use borrow.Author.Needs.{needs}
 use Rattle.run_queues.proofs.LogSteps.{taken-out}
 use Rattle.run_queues.proofs.goals.take.Statement.{statement}

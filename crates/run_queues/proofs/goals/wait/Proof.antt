@@ -1,4 +1,4 @@
--- `queues::goals::wait` meets its contract: the goal joins the log with no pair, and then its pairs join it.
+-- `run_queues::goals::wait` meets its contract: the goal joins the log with no pair, and then its pairs join it.
 use mathlib.Core.List.{[]}
 use borrow.Author.Needs.{needs}
 use Rattle.run_queues.proofs.LogSteps.{with-goal, waiting-begins, waiting-ends}

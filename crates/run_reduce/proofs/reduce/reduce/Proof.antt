@@ -1,4 +1,4 @@
--- `reduces::reduce::reduce` meets its contract: if the reduction fits, its parts follow one another; else nothing has changed.
+-- `run_reduce::reduce::reduce` meets its contract: if the reduction fits, its parts follow one another; else nothing has changed.
 use Prim.Native.Nat.{ℕ, _+_, _-_, _≤_}
 use mathlib.Core.Path.{refl, ap, _∙_}
 use mathlib.Core.Bool.{true, false}

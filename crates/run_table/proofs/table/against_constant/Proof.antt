@@ -1,4 +1,4 @@
--- `rows::table::against_constant` meets its contract: a row for what is seen.
+-- `run_table::table::against_constant` meets its contract: a row for what is seen.
 use mathlib.Core.Path.{_≡_, refl, ap, _∙_}
 use lib.Dec.{eqb}
 use borrow.Author.Tests.{eq-eqb, ne-eqb}

@@ -1,4 +1,4 @@
--- `rows::table::table` meets its contract: the row is chosen by what is seen of the head's word.
+-- `run_table::table::table` meets its contract: the row is chosen by what is seen of the head's word.
 use mathlib.Core.Path.{_≡_}
 use native.Mathlib.Omega.{arith}
 use lib.Dec.{eqb}

@@ -1,4 +1,4 @@
--- `trial::choice::begin` meets its contract: the words passed are 0.
+-- `run_trial::choice::begin` meets its contract: the words passed are 0.
 use Prim.Native.Nat.{ℕ, _+_, _-_, _≤_, _<_}
 use mathlib.Core.Path.{_≡_, _∙_}
 use native.Mathlib.Decide.{decLt}

@@ -1,4 +1,4 @@
--- `trial::choice::choice` meets its contract: the clauses of the procedure are tried in order, and the readers that wait are noted.
+-- `run_trial::choice::choice` meets its contract: the clauses of the procedure are tried in order, and the readers that wait are noted.
 use Prim.Native.Nat.{_+_, _-_}
 use mathlib.Core.Path.{_≡_, sym, ap, subst, _∙_}
 use mathlib.Core.Logic.{inl, inr, ⊎-elim}

@@ -1,4 +1,4 @@
--- `trial::choice::clause_after` meets its contract, by what the trial gave.
+-- `run_trial::choice::clause_after` meets its contract, by what the trial gave.
 use mathlib.Core.Path.{refl}
 use borrow.Author.Needs.{needs}
 use Rattle.run_trial.proofs.choice.clause_after.Statement.{statement}

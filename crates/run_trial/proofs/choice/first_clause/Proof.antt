@@ -1,4 +1,4 @@
--- `trial::choice::first_clause` meets its contract: the goal's functor tells where the procedure has its word.
+-- `run_trial::choice::first_clause` meets its contract: the goal's functor tells where the procedure has its word.
 use Prim.Native.Nat.{_+_}
 use mathlib.Core.Path.{_≡_, refl, _∙_}
 use native.Mathlib.Omega.{arith}

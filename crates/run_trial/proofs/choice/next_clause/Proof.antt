@@ -1,4 +1,4 @@
--- `trial::choice::next_clause` meets its contract: the first word of the clause's record.
+-- `run_trial::choice::next_clause` meets its contract: the first word of the clause's record.
 use Prim.Native.Nat.{_+_, _*_}
 use mathlib.Core.Path.{_≡_, refl, _∙_}
 use native.Mathlib.Omega.{arith}

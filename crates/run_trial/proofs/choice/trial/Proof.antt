@@ -1,4 +1,4 @@
--- `trial::choice::trial` meets its contract: the head is compared with the goal, and where all places agree the circle test follows.
+-- `run_trial::choice::trial` meets its contract: the head is compared with the goal, and where all places agree the circle test follows.
 use borrow.Author.Needs.{needs}
 use Rattle.meaning.specs.Terms.{named}
 use Rattle.term.specs.States.{setting}

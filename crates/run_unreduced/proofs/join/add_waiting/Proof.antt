@@ -1,4 +1,4 @@
--- `joins::join::add_waiting` meets its contract: the goal stands behind the waiting goals with its readers' pairs, and the try is counted.
+-- `run_unreduced::join::add_waiting` meets its contract: the goal stands behind the waiting goals with its readers' pairs, and the try is counted.
 -- What the free place and the waiting goal are is put together once, for the calls and for the answer.
 use Prim.Native.Nat.{ℕ, _+_, _*_, _<_}
 use mathlib.Core.List.{List, [], _∷_, _++_}

@@ -1,4 +1,4 @@
--- `joins::join::free_place` meets its contract: there is a free place, or the log is closed up.
+-- `run_unreduced::join::free_place` meets its contract: there is a free place, or the log is closed up.
 use borrow.Author.Needs.{needs}
 use Rattle.term.specs.Layout.{figures}
 use Rattle.run_unreduced.proofs.FreePlaces.{place-free, place-closed}

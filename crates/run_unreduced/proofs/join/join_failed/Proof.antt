@@ -1,4 +1,4 @@
--- `joins::join::join_failed` meets its contract: the goal stands behind the failed goals, and the try is counted.
+-- `run_unreduced::join::join_failed` meets its contract: the goal stands behind the failed goals, and the try is counted.
 use native.Mathlib.Omega.{arith}
 use borrow.Author.Needs.{needs}
 use Rattle.term.specs.Layout.{figures}

@@ -1,4 +1,4 @@
--- `joins::join::join_waiting` meets its contract: keeping the ends leaves the state as it was, and the goal joins the waiting goals.
+-- `run_unreduced::join::join_waiting` meets its contract: keeping the ends leaves the state as it was, and the goal joins the waiting goals.
 use Prim.Native.Nat.{ℕ}
 use mathlib.Core.List.{List}
 use borrow.Author.Needs.{needs}
