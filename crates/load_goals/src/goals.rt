@@ -85,23 +85,10 @@ pub fn goals(
                 let at = e.at;
                 match next_of(rest, at, b',', b'.', b'.') {
                     Next::First(behind) => {
-                        d = Cursor {
-                            at: behind,
-                            names: e.names,
-                            variables: e.variables,
-                            compounds: e.compounds,
-                        };
+                        d = Cursor { at: behind, ..e };
                     }
                     Next::Second(behind) => {
-                        return Read::Got(
-                            word(i),
-                            Cursor {
-                                at: behind,
-                                names: e.names,
-                                variables: e.variables,
-                                compounds: e.compounds,
-                            },
-                        );
+                        return Read::Got(word(i), Cursor { at: behind, ..e });
                     }
                     Next::Third(a) => {
                         return Read::Malformed(a);

@@ -72,22 +72,9 @@ fn rule(
                     item,
                     base,
                     place,
-                    Cursor {
-                        at: behind,
-                        names: e.names,
-                        variables: e.variables,
-                        compounds: e.compounds,
-                    },
+                    Cursor { at: behind, ..e },
                 ),
-                Next::Second(behind) => Read::Got(
-                    0,
-                    Cursor {
-                        at: behind,
-                        names: e.names,
-                        variables: e.variables,
-                        compounds: e.compounds,
-                    },
-                ),
+                Next::Second(behind) => Read::Got(0, Cursor { at: behind, ..e }),
                 Next::Third(a) => Read::Malformed(a),
                 Next::Other(a) => Read::Malformed(a),
             }

@@ -44,15 +44,7 @@ fn behind_name(rest: &[u8], left: usize, n: usize, d: Cursor) -> Begun
             if left == 0 {
                 return Begun::Exceeded;
             }
-            Begun::Round(
-                n,
-                Cursor {
-                    at: behind,
-                    names: d.names,
-                    variables: d.variables,
-                    compounds: d.compounds,
-                },
-            )
+            Begun::Round(n, Cursor { at: behind, ..d })
         }
         IsNext::No(_) => Begun::Got(NAME + TAGS * word(n), d),
     }
@@ -68,15 +60,7 @@ fn behind_bracket(rest: &[u8], left: usize, d: Cursor) -> Begun
     }
     let at = d.at;
     match next_is(rest, at, b']') {
-        IsNext::Yes(behind) => Begun::Got(
-            EMPTY,
-            Cursor {
-                at: behind,
-                names: d.names,
-                variables: d.variables,
-                compounds: d.compounds,
-            },
-        ),
+        IsNext::Yes(behind) => Begun::Got(EMPTY, Cursor { at: behind, ..d }),
         IsNext::No(_) => Begun::Square(d),
     }
 }
@@ -103,9 +87,8 @@ fn variable(
             tag + TAGS * word(n),
             Cursor {
                 at: next,
-                names: c.names,
                 variables: count,
-                compounds: c.compounds,
+                ..c
             },
         ),
         variables::Numbered::Exceeded => Begun::Exceeded,
@@ -138,8 +121,7 @@ pub fn begin(
                     Cursor {
                         at: e,
                         names: count,
-                        variables: c.variables,
-                        compounds: c.compounds,
+                        ..c
                     },
                 ),
                 names::Numbered::Exceeded => Begun::Exceeded,
@@ -147,27 +129,10 @@ pub fn begin(
         }
         Token::Writer(a, e) => variable(rest, item, WRITER, a, e, e, c),
         Token::Reader(a, e) => variable(rest, item, READER, a, e, e + 1, c),
-        Token::Integer(w, _, e) => Begun::Got(
-            INTEGER + TAGS * w,
-            Cursor {
-                at: e,
-                names: c.names,
-                variables: c.variables,
-                compounds: c.compounds,
-            },
-        ),
+        Token::Integer(w, _, e) => Begun::Got(INTEGER + TAGS * w, Cursor { at: e, ..c }),
         Token::Sign(b, a) => {
             if b == b'[' {
-                behind_bracket(
-                    rest,
-                    left,
-                    Cursor {
-                        at: a + 1,
-                        names: c.names,
-                        variables: c.variables,
-                        compounds: c.compounds,
-                    },
-                )
+                behind_bracket(rest, left, Cursor { at: a + 1, ..c })
             } else {
                 Begun::Malformed(a)
             }

@@ -35,8 +35,7 @@ pub fn goal_name(text: &[u8], rest: &[u8], from: usize, names: &mut [u64], c: Cu
                         Cursor {
                             at: behind,
                             names: count,
-                            variables: c.variables,
-                            compounds: c.compounds,
+                            ..c
                         },
                     ),
                     IsNext::No(a) => Opening::NotNamed(a),

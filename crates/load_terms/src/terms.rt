@@ -120,10 +120,8 @@ pub fn compound(
         return Read::Exceeded;
     }
     let d = Cursor {
-        at: c.at,
-        names: c.names,
-        variables: c.variables,
         compounds: n + 1,
+        ..c
     };
     match arguments(text, rest, from, s, names, item, base, left, n, d) {
         Read::Got(k, e) => {
@@ -163,23 +161,10 @@ fn arguments(
                 let at = e.at;
                 match next_of(rest, at, b',', b')', b')') {
                     Next::First(behind) => {
-                        d = Cursor {
-                            at: behind,
-                            names: e.names,
-                            variables: e.variables,
-                            compounds: e.compounds,
-                        };
+                        d = Cursor { at: behind, ..e };
                     }
                     Next::Second(behind) => {
-                        return Read::Got(
-                            word(i),
-                            Cursor {
-                                at: behind,
-                                names: e.names,
-                                variables: e.variables,
-                                compounds: e.compounds,
-                            },
-                        );
+                        return Read::Got(word(i), Cursor { at: behind, ..e });
                     }
                     Next::Third(a) => {
                         return Read::Malformed(a);
@@ -227,10 +212,8 @@ fn elements(
     while d.compounds < ITEM_COMPOUNDS {
         let cell = d.compounds;
         let inside = Cursor {
-            at: d.at,
-            names: d.names,
-            variables: d.variables,
             compounds: cell + 1,
+            ..d
         };
         match term(text, rest, from, s, names, item, base, left, inside) {
             Read::Got(w, e) => {
@@ -238,20 +221,10 @@ fn elements(
                 match next_of(rest, at, b',', b'|', b']') {
                     Next::First(behind) => {
                         store_cell(s, base, cell, w, compound_word(base, e.compounds));
-                        d = Cursor {
-                            at: behind,
-                            names: e.names,
-                            variables: e.variables,
-                            compounds: e.compounds,
-                        };
+                        d = Cursor { at: behind, ..e };
                     }
                     Next::Second(behind) => {
-                        let f = Cursor {
-                            at: behind,
-                            names: e.names,
-                            variables: e.variables,
-                            compounds: e.compounds,
-                        };
+                        let f = Cursor { at: behind, ..e };
                         match last_tail(text, rest, from, s, names, item, base, left, f) {
                             Read::Got(v, g) => {
                                 store_cell(s, base, cell, w, v);
@@ -267,15 +240,7 @@ fn elements(
                     }
                     Next::Third(behind) => {
                         store_cell(s, base, cell, w, 5);
-                        return Read::Got(
-                            compound_word(base, first),
-                            Cursor {
-                                at: behind,
-                                names: e.names,
-                                variables: e.variables,
-                                compounds: e.compounds,
-                            },
-                        );
+                        return Read::Got(compound_word(base, first), Cursor { at: behind, ..e });
                     }
                     Next::Other(a) => {
                         return Read::Malformed(a);
@@ -318,15 +283,7 @@ fn last_tail(
         Read::Got(w, e) => {
             let at = e.at;
             match next_is(rest, at, b']') {
-                IsNext::Yes(behind) => Read::Got(
-                    w,
-                    Cursor {
-                        at: behind,
-                        names: e.names,
-                        variables: e.variables,
-                        compounds: e.compounds,
-                    },
-                ),
+                IsNext::Yes(behind) => Read::Got(w, Cursor { at: behind, ..e }),
                 IsNext::No(a) => Read::Malformed(a),
             }
         }

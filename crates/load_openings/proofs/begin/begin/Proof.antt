@@ -78,14 +78,14 @@ variable-requires-2 c κs =
 enum-known-w : tie.Need-enum-known-w
 enum-known-w c = search needs
 
-mul-t35 : tie.Need-mul-t35
-mul-t35 c =
+mul-t37 : tie.Need-mul-t37
+mul-t37 c =
     let g = c .before .w .given in
     let f = rw (g .1) at (c .before .before .before .front .ensures) in
     omega (arith, f .3)
 
-add-t36 : tie.Need-add-t36
-add-t36 c =
+add-t38 : tie.Need-add-t38
+add-t38 c =
     let g = c .before .w .given in
     let f = rw (g .1) at (c .before .before .before .front .ensures) in
     omega (arith, f .3)
@@ -93,8 +93,8 @@ add-t36 c =
 enum-known-b : tie.Need-enum-known-b
 enum-known-b c = search needs
 
-add-t40 : tie.Need-add-t40
-add-t40 c =
+add-t45 : tie.Need-add-t45
+add-t45 c =
     let g = c .before .before .b .given in
     let f = rw (g .1) at (c .before .before .before .before .front .ensures) in
     omega (arith, f .1, behind-past (g .0 .0) (g .0 .1 .0))
@@ -215,10 +215,10 @@ begin-spec =
     add-variable
     variable-requires-2
     enum-known-w
-    mul-t35
-    add-t36
+    mul-t37
+    add-t38
     enum-known-b
-    add-t40
+    add-t45
     behind-bracket-requires
     enum-known-a-4
     enum-told-2

@@ -20,11 +20,11 @@ enum-told c = search needs
 word-requires : tie.Need-word-requires
 word-requires c κs = search needs
 
-mul-t12 : tie.Need-mul-t12
-mul-t12 c = search needs
+mul-t15 : tie.Need-mul-t15
+mul-t15 c = search needs
 
-add-t13 : tie.Need-add-t13
-add-t13 c = search needs
+add-t16 : tie.Need-add-t16
+add-t16 c = search needs
 
 returns-2 : tie.Need-returns-2
 returns-2 c = let apart = c .if1 .left in (refl, omega arith, c .before .before .behind .given .0 .0, rw (c .before .before .behind .given .1) at (c .before .before .before .before .next-is .ensures), refl)
@@ -41,7 +41,7 @@ behind-name-spec =
     returns
     enum-told
     word-requires
-    mul-t12
-    add-t13
+    mul-t15
+    add-t16
     returns-2
     returns-3)
