@@ -1,11 +1,16 @@
-// Runs the one job on standard input and prints its report, or `refused N line L`, ended by LF.
+// The program: runs the one job on standard input and prints its report, or `refused N line L`, ended by LF.
 // Budget 10,000; room 1,024 pairs, 1,024 compounds, 128 goals; report buffer 65,536 bytes. Input in pieces is read whole; one byte past the longest
 // text is read, so that a longer one is refused with number 3.
+// What is printed is not stated: its file `stdout` is held to the reference. Read on: crate `job`.
 use job::call::Answer;
 use job::call::call;
+use loader::refusal::Refusal;
+use term::layout::COMPOUND_WORDS;
+use term::layout::COMPOUNDS;
 ghost use mathlib.Core.Path.{_≡_};
 ghost use Prim.Native.Nat.{ℕ, _≤_};
 ghost use lib.ListN.{length};
+ghost use Rattle.term.specs.Layout.{need-for};
 ghost use Rattle.job.specs.Calling.{Within};
 
 fn refused(number: u64, line: usize) {
@@ -26,19 +31,23 @@ fn show(answer: Answer, buffer: &[u8])
         Answer::OutOfRange => refused(1, 0),
         Answer::ScratchShort => refused(2, 0),
         Answer::TextLong => refused(3, 0),
-        Answer::NoItems(line) => refused(4, line),
-        Answer::OccurrenceBroken(line) => refused(5, line),
-        Answer::FigurePassed(line) => refused(6, line),
+        Answer::Refused(why) => match why {
+            Refusal::NoItems(line) => refused(4, line),
+            Refusal::OccurrenceBroken(line) => refused(5, line),
+            Refusal::FigurePassed(line) => refused(6, line),
+        },
         Answer::QueriesPassRoom => refused(7, 0),
         Answer::ReportLong(_) => refused(8, 0),
     }
 }
 
 // As many words as the room needs.
-fn scratch() -> [u64; 54784]
-    ensures { λ r. ⌜ 54784 ≡ length r ⌝ }
+const NEED: usize = COMPOUNDS + COMPOUND_WORDS * 1024 + 5 * 1024 + 6 * 128;
+
+fn scratch() -> [u64; NEED]
+    ensures { λ r. ⌜ need-for 1024 1024 128 ≡ length r ⌝ }
 {
-    [0; 54784]
+    [0; NEED]
 }
 
 fn longer_text() -> [u8; 16385]

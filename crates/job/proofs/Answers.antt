@@ -5,11 +5,12 @@ use mathlib.Core.Bool.{Bool, true, false, _&&_}
 use mathlib.Core.List.{List, _++_}
 use native.Mathlib.Omega.{arith}
 use lib.Dec.{leb, ltb}
-use lib.ListN.{length, getD, drop, replicate}
+use lib.ListN.{length, getD, drop, replicate, length-drop}
+use lib.Seq.{getD-drop, ext-getD}
 use borrow.Author.Tests.{le-leb, lt-leb, lt-ltb, le-ltb, leb-true}
 use Rattle.meaning.specs.Bytes.{Bytes, if_then_else_}
 use Rattle.meaning.specs.Terms.{Job}
-use Rattle.meaning.specs.Items.{Refusal, no-item, occurrence-rule, figure, no-query, Reading, job, refused, reading}
+use Rattle.meaning.specs.Items.{Refusal, job, refused, reading}
 use Rattle.meaning.specs.State.{Room}
 use Rattle.meaning.specs.Run.{run, queries-fit}
 use Rattle.meaning.specs.Report.{report}
@@ -20,13 +21,8 @@ use Rattle.meaning.specs.Call.{
   out-of-range,
   scratch-short,
   text-long,
-  no-items,
-  occurrence-broken,
-  figure-passed,
   queries-pass-room,
   report-long,
-  number,
-  line-of,
   Outcome,
   in-range,
   refusal,
@@ -41,7 +37,6 @@ use Rattle.meaning.specs.Call.{
 }
 use Rattle.term.specs.Layout.{need-of, InRange}
 use Rattle.job.specs.Calling.{room-of, given, told}
-use Rattle.job.proofs.Readying.{cleared-same}
 
 abbrev pub made : Answer → Bytes → List ℕ → Outcome
 made answer buffer scratch = record { answer = answer; buffer = buffer; scratch = scratch }
@@ -104,29 +99,6 @@ in-range-within b p c g h =
       goals = leb-true g 65535 (both (leb 1 g) (leb g 65535) (first .1) .1);
     }
 
--- 4, 5 and 6.
-module _ (text : Bytes) (n at : ℕ) where
-  pub refused-4 : (r : Refusal) → n < 5 → n ≡ number (refusal text r) → at ≡ line-of (refusal text r) → no-items at ≡ refusal text r
-  unfolding refusal number line-of
-  refused-4 (no-item place) l h k = ap no-items k
-  refused-4 (occurrence-rule place) l h k = absurd (omega arith)
-  refused-4 (figure place) l h k = absurd (omega arith)
-  refused-4 no-query l h k = absurd (omega arith)
-
-  pub refused-5 : (r : Refusal) → 5 ≤ n → n < 6 → n ≡ number (refusal text r) → at ≡ line-of (refusal text r) → occurrence-broken at ≡ refusal text r
-  unfolding refusal number line-of
-  refused-5 (no-item place) m l h k = absurd (omega arith)
-  refused-5 (occurrence-rule place) m l h k = ap occurrence-broken k
-  refused-5 (figure place) m l h k = absurd (omega arith)
-  refused-5 no-query m l h k = absurd (omega arith)
-
-  pub refused-6 : (r : Refusal) → 6 ≤ n → n ≡ number (refusal text r) → at ≡ line-of (refusal text r) → figure-passed at ≡ refusal text r
-  unfolding refusal number line-of
-  refused-6 (no-item place) l h k = absurd (omega arith)
-  refused-6 (occurrence-rule place) l h k = absurd (omega arith)
-  refused-6 (figure place) l h k = ap figure-passed k
-  refused-6 no-query l h k = ap figure-passed k
-
 -- 0 and 8.
 and-false : (x : Bool) → (x && false) ≡ false
 and-false true = refl
@@ -146,6 +118,14 @@ module _ (n size long : ℕ) (e : n ≡ min long 16777217) where
   fits h i =
       let same : n ≡ long = omega arith in
       rw (le-leb long size (omega arith), le-leb long 16777216 (omega arith)) (ap ran same)
+
+-- Clearing a scratch that differs in the needed part alone.
+pub cleared-same : (need : ℕ) (s t : List ℕ) → length t ≡ length s → ((k : ℕ) → need ≤ k → getD t k 0 ≡ getD s k 0) → cleared need t ≡ cleared need s
+unfolding cleared
+cleared-same need s t size h =
+    let same : length (drop need t) ≡ length (drop need s) = omega (arith, length-drop need t, length-drop need s) in
+    ap (λ l. replicate need 0 ++ l)
+    (ext-getD 0 (drop need t) (drop need s) same (λ i l. getD-drop need t i 0 ∙ h (need + i) (omega arith) ∙ sym (getD-drop need s i 0)))
 
 -- The needed part zero, by a clearing of what a callee left.
 pub cleared-by : (need words : ℕ) (s t : List ℕ) {u : List ℕ} → words ≡ need → length t ≡ length s → ((k : ℕ) → need ≤ k → getD t k 0 ≡ getD s k 0)

@@ -1,3 +1,2 @@
 pub mod Answers
 pub mod Promise
-pub mod Readying

@@ -42,6 +42,7 @@ use Rattle.laws.proofs.Own.{TextsAlike}
 use Rattle.laws.proofs.Own.Shown.{section-shown, rest-shown, left-by}
 use Rattle.laws.proofs.Promise.{same-tries-same-section, both-rest-same-section}
 use Rattle.term.specs.Layout.{need-of}
+use Rattle.loader.specs.declared.refusal.Refusal.the-variants.{NoItems, OccurrenceBroken, FigurePassed}
 use Rattle.job.specs.Calling.{answer-of, outcome, Called}
 use Rattle.job.specs.declared.call.Answer.{Answer}
 use Rattle.job.specs.declared.call.Answer.the-variants.{
@@ -49,9 +50,7 @@ use Rattle.job.specs.declared.call.Answer.the-variants.{
   OutOfRange,
   ScratchShort,
   TextLong,
-  NoItems,
-  OccurrenceBroken,
-  FigurePassed,
+  Refused,
   QueriesPassRoom,
   ReportLong,
 }
@@ -62,9 +61,9 @@ back (ran n) = Ran n
 back out-of-range = OutOfRange
 back scratch-short = ScratchShort
 back text-long = TextLong
-back (no-items at) = NoItems at
-back (occurrence-broken at) = OccurrenceBroken at
-back (figure-passed at) = FigurePassed at
+back (no-items at) = Refused (NoItems at)
+back (occurrence-broken at) = Refused (OccurrenceBroken at)
+back (figure-passed at) = Refused (FigurePassed at)
 back queries-pass-room = QueriesPassRoom
 back (report-long n) = ReportLong n
 
@@ -74,9 +73,9 @@ back-answer (Ran n) = refl
 back-answer OutOfRange = refl
 back-answer ScratchShort = refl
 back-answer TextLong = refl
-back-answer (NoItems at) = refl
-back-answer (OccurrenceBroken at) = refl
-back-answer (FigurePassed at) = refl
+back-answer (Refused (NoItems at)) = refl
+back-answer (Refused (OccurrenceBroken at)) = refl
+back-answer (Refused (FigurePassed at)) = refl
 back-answer QueriesPassRoom = refl
 back-answer (ReportLong n) = refl
 

@@ -14,24 +14,20 @@ use Rattle.meaning.specs.Call.{
   out-of-range,
   scratch-short,
   text-long,
-  no-items,
-  occurrence-broken,
-  figure-passed,
   queries-pass-room,
   report-long,
   Outcome,
   call,
 }
 use Rattle.term.specs.Layout.{need-of}
+use Rattle.loader.specs.Refusals.{refusal-answer}
 use Rattle.job.specs.declared.call.Answer.{Answer}
 use Rattle.job.specs.declared.call.Answer.the-variants.{
   Ran,
   OutOfRange,
   ScratchShort,
   TextLong,
-  NoItems,
-  OccurrenceBroken,
-  FigurePassed,
+  Refused,
   QueriesPassRoom,
   ReportLong,
 }
@@ -42,9 +38,7 @@ answer-of (Ran n) = ran n
 answer-of OutOfRange = out-of-range
 answer-of ScratchShort = scratch-short
 answer-of TextLong = text-long
-answer-of (NoItems at) = no-items at
-answer-of (OccurrenceBroken at) = occurrence-broken at
-answer-of (FigurePassed at) = figure-passed at
+answer-of (Refused why) = refusal-answer why
 answer-of QueriesPassRoom = queries-pass-room
 answer-of (ReportLong n) = report-long n
 

@@ -1,6 +1,7 @@
 // The call: "1, 2, 3; then the text item by item; then no query; then 7; then 8."
 use loader::load::Loaded;
 use loader::load::load;
+use loader::refusal::Refusal;
 use machine::run::Ran;
 use machine::run::run;
 use report::report::report;
@@ -15,23 +16,21 @@ ghost use Prim.Native.Nat.{ℕ, _≤_, min};
 ghost use lib.ListN.{length};
 ghost use Rattle.meaning.specs.Bytes.{Bytes};
 ghost use Rattle.meaning.specs.Terms.{Job};
-ghost use Rattle.meaning.specs.Items.{Refusal, reading};
+ghost use Rattle.meaning.specs.Items.{reading};
 ghost use Rattle.meaning.specs.Run.{run as run-of};
 ghost use Rattle.meaning.specs.Report.{report as report-of};
-ghost use Rattle.meaning.specs.Call.{in-range, refusal, number, line-of, delivered, runs, taken as taken-of, call as call-of};
+ghost use Rattle.meaning.specs.Call.{in-range, delivered, runs, taken as taken-of, call as call-of};
 ghost use Rattle.term.specs.Layout.{need-of, figures, InRange};
 ghost use Rattle.term.specs.States.{Ready, Finished};
 ghost use Rattle.job.specs.Calling.{answer-of, room-of, given, outcome, told as told-of};
 
-// The nine answers: with the report's length where it ran or was too long, with the line where the text was refused.
+// The nine answers: with the report's length where it ran or was too long; 4, 5 and 6 with the line, as the loader told them.
 pub enum Answer {
     Ran(usize),
     OutOfRange,
     ScratchShort,
     TextLong,
-    NoItems(usize),
-    OccurrenceBroken(usize),
-    FigurePassed(usize),
+    Refused(Refusal),
     QueriesPassRoom,
     ReportLong(usize),
 }
@@ -59,20 +58,6 @@ fn within(budget: usize, pairs: usize, compounds: usize, goals: usize) -> bool
         return false;
     }
     goals <= 65535
-}
-
-// 4, 5 or 6, with its line.
-fn refused(n: u64, at: usize) -> Answer
-    requires { ⌜ ((text : Bytes) × (r : Refusal) × (n ≡ number (refusal text r)) × (at ≡ line-of (refusal text r))) ⌝ }
-    ensures { λ a. ⌜ ((text : Bytes) (r : Refusal) → n ≡ number (refusal text r) → at ≡ line-of (refusal text r) → answer-of a ≡ refusal text r) ⌝ }
-{
-    if n < 5 {
-        return Answer::NoItems(at);
-    }
-    if n < 6 {
-        return Answer::OccurrenceBroken(at);
-    }
-    Answer::FigurePassed(at)
 }
 
 // 0 or 8, by the report's length up to the ceiling and the buffer's.
@@ -148,7 +133,7 @@ fn taken(text: &[u8], budget: usize, room: Room, s: &mut [u64], buffer: &mut [u8
 {
     match load(text, s, room) {
         Loaded::Job(_, queries) => loaded(text, budget, room, queries, s, buffer),
-        Loaded::Refused(n, at) => refused(n, at),
+        Loaded::Refused(why) => Answer::Refused(why),
     }
 }
 

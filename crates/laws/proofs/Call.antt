@@ -1,6 +1,7 @@
 -- The call: what one that ran left in its buffer; and the length that it returns never passes the ceiling: 0 on 1 to 7, below it on 0, cut to it on 8.
 -- No case can show the latter, since no report of 16,777,217 bytes is computed here.
 pub mod Delivered
+pub mod Need
 use Prim.Native.Nat.{ℕ, _≤_}
 use mathlib.Core.Path.{_≡_, refl}
 use mathlib.Core.Bool.{not, _&&_}
@@ -18,6 +19,8 @@ use Rattle.meaning.specs.Call.{Given, Outcome, length-of, in-range, refusal, un
 use Rattle.laws.proofs.Lists.{if-holds, and-right}
 -- A call that ran read a job from its text, returned the length of that job's report, and left it at the front of its buffer.
 pub use Delivered.{Ran, ran-read-a-job, ran-reports, report-is-run-line-and-sections, ran-returns-the-length, ran-shows-the-report}
+-- Answer and report buffer are the same with any need that the scratch has.
+pub use Need.{Agree, lending, answer-does-not-hang-on-the-need, answer-with-any-need, case-with-any-need}
 
 Within : Outcome → Type 0
 Within o = length-of (o .answer) ≤ 16777217

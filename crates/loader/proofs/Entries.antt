@@ -7,9 +7,10 @@ use lib.ListN.{length, set}
 use Rattle.meaning.specs.Bytes.{Bytes}
 use Rattle.meaning.specs.Terms.{Clause, Query, Job, count}
 use Rattle.meaning.specs.Items.{Refusal, Reading, job, refused, with-clause, with-query}
-use Rattle.term.specs.Jobs.{clause-base, query-base, clause-record, query-record, GoalsKnown}
-use Rattle.tables.specs.Places.{Place, spellings, item-places}
-use Rattle.image.specs.Image.{
+use Rattle.term.specs.Jobs.{GoalsKnown}
+use Rattle.term.specs.Layout.{clause-base, query-base, query-goals-from, clause-goals-from}
+use Rattle.load_names.specs.Places.{Place, spellings, item-places}
+use Rattle.load_image.specs.Image.{
   Entry,
   a-clause,
   a-query,
@@ -24,9 +25,9 @@ use Rattle.image.specs.Image.{
   places-stored,
 }
 use Rattle.loader.specs.Loading.{with-entries, EntriesKnown}
-use Rattle.openings.proofs.Passing.{More}
-use Rattle.bodies.proofs.GoalLists.{still-known, still-goals, still-stored}
-use Rattle.items.proofs.Heads.{still-head}
+use Rattle.load_openings.proofs.Passing.{More}
+use Rattle.load_goals.proofs.GoalLists.{still-known, still-goals, still-stored}
+use Rattle.load_items.proofs.Heads.{still-head}
 
 pub with-snoc : (es : List Entry) (e : Entry) (r : Reading) → with-entries (es ++ (e ∷ [])) r ≡ with-entries es (with-entries (e ∷ []) r)
 unfolding with-entries
@@ -101,12 +102,12 @@ module _ (known known′ : List Place) (m : More known known′) where
   clause-still k c s h =
       rw (
         still-stored known known′ (clause-base k) m (c .head) s (h .0),
-        still-goals known known′ (clause-base k) m (clause-record k + 4) (c .body) _ (h .1),
+        still-goals known known′ (clause-base k) m (clause-goals-from k) (c .body) _ (h .1),
       )
 
   query-still : (k : ℕ) (q : Query) (vs : List Place) (s : List ℕ) → GoalsKnown (spellings known) (q .goals) → query-stored known′ k q vs s ≡ query-stored known k q vs s
   unfolding query-stored
-  query-still k q vs s h = rw (still-goals known known′ (query-base k) m (query-record k + 8) (q .goals) s h)
+  query-still k q vs s h = rw (still-goals known known′ (query-base k) m (query-goals-from k) (q .goals) s h)
 
   pub entries-still : (k q : ℕ) (es : List Entry) (s : List ℕ) → EntriesKnown (spellings known) es → entries-stored known′ k q es s ≡ entries-stored known k q es s
   unfolding entries-stored EntriesKnown

@@ -14,11 +14,11 @@ use Rattle.meaning.specs.Items.{Refusal, no-query, Reading, job, refused, item,
 use Rattle.meaning.specs.Call.{cleared}
 use Rattle.term.specs.Cells.{number-of, functor-word}
 use Rattle.term.specs.Frames.{Only}
-use Rattle.tokens.specs.Fronts.{tokens-at}
-use Rattle.tables.specs.Places.{Place, spellings, item-places}
-use Rattle.tables.specs.Tables.{NamesIn}
-use Rattle.image.specs.Kept.{pairs-kept}
-use Rattle.image.specs.Image.{
+use Rattle.load_tokens.specs.Fronts.{tokens-at}
+use Rattle.load_names.specs.Places.{Place, spellings, item-places}
+use Rattle.load_names.specs.Tables.{NamesIn}
+use Rattle.load_image.specs.Kept.{pairs-kept}
+use Rattle.load_image.specs.Image.{
   names-in,
   Entry,
   a-clause,
@@ -36,14 +36,15 @@ use Rattle.image.specs.Image.{
   text-entries,
   image,
 }
-use Rattle.items.specs.Outcomes.{shifted}
+use Rattle.load_items.specs.Outcomes.{shifted}
 use Rattle.loader.specs.Loading.{with-entries, EntriesKnown, Reached}
 use Rattle.term.specs.Cells.{Known}
 use Rattle.meaning.specs.Terms.{as-term}
 use Rattle.term.specs.Jobs.{GoalsKnown}
-use Rattle.tables.proofs.Numbering.{spellings-length}
+use Rattle.term.specs.Layout.{trial-region}
+use Rattle.load_names.proofs.Numbering.{spellings-length}
 use Rattle.loader.proofs.Entries.{with-all}
-use Rattle.items.proofs.PlacesKept.{kept-places}
+use Rattle.load_items.proofs.PlacesKept.{kept-places}
 
 -- Clearing again: nothing beyond the needed part has changed.
 only-drop : (hi n : ℕ) (s t : List ℕ) → hi ≤ n → Only 0 hi s t → drop n t ≡ drop n s
@@ -51,11 +52,11 @@ only-drop hi n s t h o =
     let size : length (drop n t) ≡ length (drop n s) = omega (arith, length-drop n t, length-drop n s, o .size) in
     ext-getD 0 (drop n t) (drop n s) size (λ i l. getD-drop n t i 0 ∙ o .above (n + i) (omega arith) ∙ sym (getD-drop n s i 0))
 
-pub cleared-again : (need : ℕ) (s t : List ℕ) → 39936 ≤ need → Only 0 39936 (cleared need s) t → replicate need 0 ++ drop need t ≡ cleared need s
+pub cleared-again : (need : ℕ) (s t : List ℕ) → trial-region ≤ need → Only 0 trial-region (cleared need s) t → replicate need 0 ++ drop need t ≡ cleared need s
 unfolding cleared
 cleared-again need s t h o =
     ap (λ l. replicate need 0 ++ l)
-    (only-drop 39936 need (replicate need 0 ++ drop need s) t h o ∙ drop-at (replicate need 0) (drop need s) need (length-replicate {A = ℕ} need 0))
+    (only-drop trial-region need (replicate need 0 ++ drop need s) t h o ∙ drop-at (replicate need 0) (drop need s) need (length-replicate {A = ℕ} need 0))
 
 pub cleared-length : (need : ℕ) (s : List ℕ) → need ≤ length s → length (cleared need s) ≡ length s
 unfolding cleared
@@ -162,5 +163,5 @@ pub first-clear : (need n : ℕ) (s s′ : List ℕ) → n ≡ need → s′ ≡
 unfolding cleared
 first-clear need n s s′ e h = h ∙ ap (λ k. replicate k 0 ++ drop k s) e
 
-pub second-clear : (need n : ℕ) (s t s′ : List ℕ) → n ≡ need → 39936 ≤ need → Only 0 39936 (cleared need s) t → s′ ≡ replicate n 0 ++ drop n t → s′ ≡ cleared need s
+pub second-clear : (need n : ℕ) (s t s′ : List ℕ) → n ≡ need → trial-region ≤ need → Only 0 trial-region (cleared need s) t → s′ ≡ replicate n 0 ++ drop n t → s′ ≡ cleared need s
 second-clear need n s t s′ e enough o h = h ∙ ap (λ k. replicate k 0 ++ drop k t) e ∙ cleared-again need s t enough o

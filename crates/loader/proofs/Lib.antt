@@ -4,4 +4,5 @@ pub mod Loaded
 pub mod OneAnswer
 pub mod Pieces
 pub mod Reaching
+pub mod Readying
 pub mod Stopping

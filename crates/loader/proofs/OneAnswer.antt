@@ -7,8 +7,24 @@ use lib.ListN.{length}
 use Rattle.meaning.specs.Bytes.{Bytes}
 use Rattle.meaning.specs.Terms.{Job}
 use Rattle.meaning.specs.Items.{Refusal, Reading, job, refused, reading}
-use Rattle.meaning.specs.Call.{refusal, number, line-of}
+use Rattle.meaning.specs.State.{Room}
+use Rattle.meaning.specs.Call.{
+  Answer,
+  ran,
+  out-of-range,
+  scratch-short,
+  text-long,
+  no-items,
+  occurrence-broken,
+  figure-passed,
+  queries-pass-room,
+  report-long,
+  refusal,
+}
 use Rattle.loader.specs.Loading.{LoadedIs}
+use Rattle.loader.specs.Refusals.{refusal-answer}
+use Rattle.loader.specs.declared.refusal.Refusal.{Refusal as Why}
+use Rattle.loader.specs.declared.refusal.Refusal.the-variants.{NoItems, OccurrenceBroken, FigurePassed}
 use Rattle.loader.specs.declared.load.Loaded.{Loaded}
 use Rattle.loader.specs.declared.load.Loaded.the-variants.{Job as AJob, Refused}
 
@@ -21,12 +37,34 @@ same-refusal x i j a b = cc
 not-both : {P : Type 0} (x : Reading) (i : Job) (j : Refusal) → x ≡ job i → x ≡ refused j → P
 not-both x i j a b = let z : _≡_ {A = ℕ} 0 1 = cc in absurd (omega arith)
 
-pub one-answer : (text : Bytes) (need : ℕ) (s s₁ s₂ : List ℕ) (r₁ r₂ : Loaded) → LoadedIs text need s s₁ r₁ → LoadedIs text need s s₂ r₂ → (r₁ ≡ r₂) × (s₁ ≡ s₂)
-one-answer text need s s₁ s₂ (AJob c q) (AJob d p) (i, a, b, e, f) (j, g, h, k, l) =
+-- No two refusals of the code are one answer of the definition.
+back : Answer → Why
+back (ran n) = NoItems 0
+back out-of-range = NoItems 0
+back scratch-short = NoItems 0
+back text-long = NoItems 0
+back (no-items at) = NoItems at
+back (occurrence-broken at) = OccurrenceBroken at
+back (figure-passed at) = FigurePassed at
+back queries-pass-room = NoItems 0
+back (report-long n) = NoItems 0
+
+back-refusal : (x : Why) → back (refusal-answer x) ≡ x
+unfolding back
+back-refusal (NoItems at) = refl
+back-refusal (OccurrenceBroken at) = refl
+back-refusal (FigurePassed at) = refl
+
+pub one-refusal : (x y : Why) → refusal-answer x ≡ refusal-answer y → x ≡ y
+one-refusal x y e = sym (back-refusal x) ∙ ap back e ∙ back-refusal y
+
+pub one-answer : (text : Bytes) (figures : Room) (s s₁ s₂ : List ℕ) (r₁ r₂ : Loaded) → LoadedIs text figures s s₁ r₁ → LoadedIs text figures s s₂ r₂
+    → (r₁ ≡ r₂) × (s₁ ≡ s₂)
+one-answer text figures s s₁ s₂ (AJob c q) (AJob d p) (i, a, b, e, f, n, u, o) (j, g, h, k, l, m, v, w) =
     let same = same-job (reading text) i j a g in
     (rw (b, e, h, k, same), f ∙ sym l)
-one-answer text need s s₁ s₂ (AJob c q) (Refused n m) (i, a, b, e, f) (j, g, h, k, l) = not-both (reading text) i j a g
-one-answer text need s s₁ s₂ (Refused n m) (AJob d p) (i, a, b, e, f) (j, g, h, k, l) = not-both (reading text) j i g a
-one-answer text need s s₁ s₂ (Refused n m) (Refused n′ m′) (i, a, b, e, f) (j, g, h, k, l) =
+one-answer text figures s s₁ s₂ (AJob c q) (Refused x) (i, a, b, e, f, n, u, o) (j, g, h, l) = not-both (reading text) i j a g
+one-answer text figures s s₁ s₂ (Refused x) (AJob d p) (i, a, b, f) (j, g, h, k, l, m, v, w) = not-both (reading text) j i g a
+one-answer text figures s s₁ s₂ (Refused x) (Refused y) (i, a, b, f) (j, g, h, l) =
     let same = same-refusal (reading text) i j a g in
-    (rw (b, e, h, k, same), f ∙ sym l)
+    (ap Refused (one-refusal x y (b ∙ ap (refusal text) same ∙ sym h)), f ∙ sym l)

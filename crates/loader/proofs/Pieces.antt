@@ -9,11 +9,11 @@ use lib.Seq.{drop-drop}
 use Rattle.meaning.specs.Bytes.{Bytes, byte, same, any, if_then_else_}
 use Rattle.meaning.specs.Tokens.{Token, name, variable, integer, sign, bad, Tokens, ends, token, Front, blank, placed, front, tokens-from}
 use Rattle.meaning.specs.Items.{is, onto, pieces}
-use Rattle.tokens.specs.Fronts.{tokens-at, tokens-in}
-use Rattle.tables.specs.Places.{Place, Placed, spellings, with-place, with-name, with-variable, before, names-over, variables-over}
-use Rattle.openings.specs.Reading.{piece, Open}
-use Rattle.image.specs.Image.{names-in, variables-in}
-use Rattle.items.specs.Outcomes.{shifted}
+use Rattle.load_tokens.specs.Fronts.{tokens-at, tokens-in}
+use Rattle.load_names.specs.Places.{Place, Placed, spellings, with-place, with-name, with-variable, before, names-over, variables-over}
+use Rattle.load_openings.specs.Reading.{piece, Open}
+use Rattle.load_image.specs.Image.{names-in, variables-in}
+use Rattle.load_items.specs.Outcomes.{shifted}
 
 abbrev stopped : ℕ → Tokens
 stopped stop = token stop (sign 46) (ends stop)

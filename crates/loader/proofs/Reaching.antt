@@ -12,11 +12,12 @@ use Rattle.meaning.specs.Tokens.{Tokens, ends, token, sign, tokens}
 use Rattle.meaning.specs.Items.{Reading, Piece, clause, query, nothing, job, refused, Refusal, SoFar, with-clause, with-query, item, items, pieces}
 use Rattle.term.proofs.Frames.{only-same, only-then}
 use Rattle.term.specs.Frames.{Only}
-use Rattle.tokens.specs.Fronts.{tokens-at, tokens-in}
-use Rattle.tables.specs.Places.{Place, Placed, spellings, before, names-over, variables-over, with-name}
-use Rattle.tables.specs.Tables.{NamesIn, last-with}
-use Rattle.openings.specs.Reading.{piece}
-use Rattle.image.specs.Image.{
+use Rattle.term.specs.Layout.{trial-region}
+use Rattle.load_tokens.specs.Fronts.{tokens-at, tokens-in}
+use Rattle.load_names.specs.Places.{Place, Placed, spellings, before, names-over, variables-over, with-name}
+use Rattle.load_names.specs.Tables.{NamesIn, last-with}
+use Rattle.load_openings.specs.Reading.{piece}
+use Rattle.load_image.specs.Image.{
   names-in,
   variables-in,
   Entry,
@@ -32,9 +33,9 @@ use Rattle.image.specs.Image.{
   head-word,
   head-words,
 }
-use Rattle.items.specs.Outcomes.{Took, TookClause, TookQuery, shifted}
+use Rattle.load_items.specs.Outcomes.{Took, TookClause, TookQuery, shifted}
 use Rattle.loader.specs.Loading.{with-entries, EntriesKnown, Reached}
-use Rattle.openings.proofs.Passing.{names-more}
+use Rattle.load_openings.proofs.Passing.{names-more}
 use Rattle.loader.proofs.Pieces.{piece-is, pieces-cut, names-before, names-of-piece, variables-of-piece, tokens-behind}
 use Rattle.loader.proofs.Entries.{
   with-snoc,
@@ -80,7 +81,7 @@ reached-none text s names heads e size = record {
   heads-are = refl;
   heads-size = size;
   known-names = tt;
-  only = only-same 0 39936 s;
+  only = only-same 0 trial-region s;
 }
 
 snoc-length : {A : Type 0} (l : List A) (a : A) → length (l ++ (a ∷ [])) ≡ length l + 1
@@ -153,7 +154,7 @@ module _ (text : Bytes) (s₀ s names heads : List ℕ) (from clauses queries kn
 
   -- A clause more.
   pub reached-clause : (s′ names′ heads′ : List ℕ) (at count′ : ℕ) (c : Clause) (ps : List Placed) (stop : ℕ)
-      → TookClause text (drop from text) from places clauses queries s heads s′ names′ heads′ at count′ c ps stop → Only 0 39936 s s′
+      → TookClause text (drop from text) from places clauses queries s heads s′ names′ heads′ at count′ c ps stop → Only 0 trial-region s s′
       → Reached text s₀ s′ names′ heads′ (from + at) (clauses + 1) queries count′ (names-over ps places) (done ++ (a-clause c ∷ []))
   unfolding with-entries clauses-of queries-of head-words EntriesKnown so-far
   reached-clause s′ names′ heads′ at count′ c ps stop k only =
@@ -195,12 +196,12 @@ module _ (text : Bytes) (s₀ s names heads : List ℕ) (from clauses queries kn
         known-names =
             known-snoc-entries (spellings places′) done (a-clause c ∷ []) (entries-still-known places places′ m done (r .known-names))
             (k .known-names, k .few .1, tt);
-        only = only-then 0 39936 s₀ s s′ (r .only) only;
+        only = only-then 0 trial-region s₀ s s′ (r .only) only;
       }
 
   -- A query more.
   pub reached-query : (s′ names′ heads′ : List ℕ) (at count′ : ℕ) (q : Query) (ps : List Placed) (stop : ℕ)
-      → TookQuery text (drop from text) from places clauses queries s heads s′ names′ heads′ at count′ q ps stop → Only 0 39936 s s′
+      → TookQuery text (drop from text) from places clauses queries s heads s′ names′ heads′ at count′ q ps stop → Only 0 trial-region s s′
       → Reached text s₀ s′ names′ heads′ (from + at) clauses (queries + 1) count′ (names-over ps places)
       (done ++ (a-query q (map (shifted from) (variables-over from ps [])) ∷ []))
   unfolding with-entries clauses-of queries-of head-words EntriesKnown so-far
@@ -242,5 +243,5 @@ module _ (text : Bytes) (s₀ s names heads : List ℕ) (from clauses queries kn
         heads-size = rw (k .noted) (r .heads-size);
         known-names =
             known-snoc-entries (spellings places′) done (a-query q vs ∷ []) (entries-still-known places places′ m done (r .known-names)) (k .known-names, tt);
-        only = only-then 0 39936 s₀ s s′ (r .only) only;
+        only = only-then 0 trial-region s₀ s s′ (r .only) only;
       }

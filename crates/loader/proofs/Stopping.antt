@@ -8,10 +8,10 @@ use lib.ListN.{length, drop}
 use Rattle.meaning.specs.Bytes.{Bytes, if_then_else_}
 use Rattle.meaning.specs.Tokens.{Token, Tokens, ends, token, tokens}
 use Rattle.meaning.specs.Items.{Piece, Refusal, Reading, job, refused, is, onto, item, items, pieces, asked, reading}
-use Rattle.tokens.specs.Fronts.{tokens-at, tokens-in}
-use Rattle.tables.specs.Places.{Place, spellings}
-use Rattle.openings.specs.Reading.{piece}
-use Rattle.image.specs.Image.{Entry, so-far}
+use Rattle.load_tokens.specs.Fronts.{tokens-at, tokens-in}
+use Rattle.load_names.specs.Places.{Place, spellings}
+use Rattle.load_openings.specs.Reading.{piece}
+use Rattle.load_image.specs.Image.{Entry, so-far}
 use Rattle.loader.specs.Loading.{with-entries, Reached}
 use Rattle.loader.proofs.Entries.{with-refused}
 use Rattle.loader.proofs.Reaching.{items-refused, here}

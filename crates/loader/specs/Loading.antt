@@ -6,14 +6,17 @@ use lib.ListN.{length, take}
 use Rattle.meaning.specs.Bytes.{Bytes}
 use Rattle.meaning.specs.Terms.{Job, count}
 use Rattle.meaning.specs.Tokens.{Tokens, tokens}
-use Rattle.meaning.specs.Items.{Refusal, no-query, Reading, job, refused, with-clause, with-query, items, pieces, reading, line}
-use Rattle.meaning.specs.Call.{refusal, number, line-of, cleared}
+use Rattle.meaning.specs.Items.{Refusal, Reading, job, refused, with-clause, with-query, items, pieces, reading}
+use Rattle.meaning.specs.State.{Room}
+use Rattle.meaning.specs.Call.{refusal, cleared}
 use Rattle.term.specs.Frames.{Only}
 use Rattle.term.specs.Jobs.{GoalsKnown}
-use Rattle.tokens.specs.Fronts.{tokens-at}
-use Rattle.tables.specs.Places.{Place, spellings}
-use Rattle.tables.specs.Tables.{NamesIn}
-use Rattle.image.specs.Image.{
+use Rattle.term.specs.Layout.{trial-region, need-of}
+use Rattle.term.specs.States.{Ready}
+use Rattle.load_tokens.specs.Fronts.{tokens-at}
+use Rattle.load_names.specs.Places.{Place, spellings}
+use Rattle.load_names.specs.Tables.{NamesIn}
+use Rattle.load_image.specs.Image.{
   names-in,
   Entry,
   a-clause,
@@ -26,6 +29,7 @@ use Rattle.image.specs.Image.{
   head-words,
   image,
 }
+use Rattle.loader.specs.Refusals.{refusal-answer, at-line}
 use Rattle.loader.specs.declared.load.Loaded.{Loaded}
 use Rattle.loader.specs.declared.load.Loaded.the-variants.{Job as AJob, Refused}
 use Rattle.loader.specs.declared.load.Listed.{Listed}
@@ -58,20 +62,23 @@ pub record Reached (text : Bytes) (s₀ s names heads : List ℕ) (from clauses 
   pub heads-are : take clauses heads ≡ head-words places (clauses-of done)
   pub heads-size : length heads ≡ 128
   pub known-names : EntriesKnown (spellings places) done
-  pub only : Only 0 39936 s₀ s
+  pub only : Only 0 trial-region s₀ s
 
--- All items read, or the first refused item with its number and place.
+-- All items read, or the first refused item's refusal with its place.
 abbrev pub ListedIs : (text : Bytes) (s₀ s names heads : List ℕ) → Listed → Type 0
 ListedIs text s₀ s names heads (Items clauses queries known) =
     (places : List Place) × (done : List Entry) × (n : ℕ) × (from : ℕ)
     × Reached text s₀ s names heads from clauses queries known places done
     × (tokens-at text from ≡ Tokens.ends n)
-ListedIs text s₀ s names heads (Stopped n place) =
-    (r : Refusal) × (reading text ≡ refused r) × (n ≡ number (refusal text r)) × (line text place ≡ line-of (refusal text r)) × Only 0 39936 s₀ s
+ListedIs text s₀ s names heads (Stopped why) =
+    (r : Refusal) × (reading text ≡ refused r) × (refusal-answer (at-line text why) ≡ refusal text r) × Only 0 trial-region s₀ s
 
--- The answer of `load`.
-abbrev pub LoadedIs : (text : Bytes) (need : ℕ) (s s′ : List ℕ) → Loaded → Type 0
-LoadedIs text need s s′ (AJob clauses queries) =
-    (j : Job) × (reading text ≡ job j) × (clauses ≡ length (j .clauses)) × (queries ≡ length (j .queries)) × (s′ ≡ image text (cleared need s))
-LoadedIs text need s s′ (Refused n at) =
-    (r : Refusal) × (reading text ≡ refused r) × (n ≡ number (refusal text r)) × (at ≡ line-of (refusal text r)) × (s′ ≡ cleared need s)
+-- The answer of `load`: a job, every word of the scratch, and that it is ready to run, with nothing changed behind the needed part; or the definition's
+-- answer for the refused text, and the needed part is zero.
+abbrev pub LoadedIs : (text : Bytes) (figures : Room) (s s′ : List ℕ) → Loaded → Type 0
+LoadedIs text figures s s′ (AJob clauses queries) =
+    (j : Job) × (reading text ≡ job j) × (clauses ≡ length (j .clauses)) × (queries ≡ length (j .queries))
+    × (s′ ≡ image text (cleared (need-of figures) s))
+    × (names : List Bytes) × Ready s′ text names figures j × Only 0 (need-of figures) s s′
+LoadedIs text figures s s′ (Refused why) =
+    (r : Refusal) × (reading text ≡ refused r) × (refusal-answer why ≡ refusal text r) × (s′ ≡ cleared (need-of figures) s)

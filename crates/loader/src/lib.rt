@@ -1,5 +1,6 @@
-// The loader: from a job text to a checked job in the scratch, or a refusal with its number and line.
-// Its one function for hosts is `load::load`; what it promises stands in specs/Loading.antt: exactly the answer of the definitions' `reading`, and
-// every word of the needed part afterwards (`image`, in the crate of that name). That the image holds the definitions' job is a law:
-// `loaded-holds` and `loaded-holds-text` in proofs/Loaded.antt. It stands on `tokens`, `tables`, `phrases` (terms) and `items`.
+// The loader: from a job text to a checked job in the scratch, or a refusal.
+// Its one function for hosts is `load::load`. It promises exactly the answer of the definitions' `reading`, every word of the needed part afterwards
+// (`image` in crate `load_image`), and for a job that it is ready to run (`Ready` in crate `term`).
+// Read specs/Loading and specs/Refusals; the parts stand in the crates `load_tokens` to `load_items`, in the order of crates.txt.
 pub mod load;
+pub mod refusal;

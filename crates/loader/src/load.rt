@@ -1,33 +1,34 @@
 // The loader's one public function: a text becomes a job in the scratch, or is refused.
-use image::keep::keep_places;
-use image::keep::link;
-use items::items::Item;
-use items::items::next_item;
+use crate::refusal::Refusal;
+use load_image::keep::keep_places;
+use load_image::keep::link;
+use load_items::items::Item;
+use load_items::items::next_item;
+use load_tokens::lines::line;
 use term::clear::clear;
 use term::layout::Room;
 use term::layout::need;
-use tokens::lines::line;
 ghost use mathlib.Core.Path.{_≡_};
 ghost use mathlib.Core.List.{List};
 ghost use Prim.Native.Nat.{ℕ, _+_, _≤_, _<_};
 ghost use lib.ListN.{length, drop, replicate};
-ghost use Rattle.meaning.specs.Call.{cleared};
 ghost use Rattle.term.specs.Layout.{need-of, figures, InRange};
-ghost use Rattle.tables.specs.Places.{Place};
-ghost use Rattle.tables.specs.Tables.{NamesIn};
-ghost use Rattle.items.specs.Outcomes.{ItemIs, Lent};
+ghost use Rattle.load_names.specs.Places.{Place};
+ghost use Rattle.load_names.specs.Tables.{NamesIn};
+ghost use Rattle.load_items.specs.Outcomes.{ItemIs, Lent};
 ghost use Rattle.loader.specs.Loading.{ListedIs, LoadedIs};
+ghost use Rattle.loader.specs.Refusals.{at-line};
 
-// How many clauses and queries the job has; or the refusal's number and line.
+// How many clauses and queries the job has; or the refusal with its line.
 pub enum Loaded {
     Job(usize, usize),
-    Refused(u64, usize),
+    Refused(Refusal),
 }
 
-// All items read: clauses, queries and names; or the refusal's number and place.
+// All items read: clauses, queries and names; or the refusal with its place.
 pub enum Listed {
     Items(usize, usize, usize),
-    Stopped(u64, usize),
+    Stopped(Refusal),
 }
 
 // The item at an offset of the text, with an empty table of its own.
@@ -85,13 +86,13 @@ fn all_items(text: &[u8], s: &mut [u64], names: &mut [u64], heads: &mut [u64]) -
                 from += at;
             }
             Item::Malformed(a) => {
-                return Listed::Stopped(4, from + a);
+                return Listed::Stopped(Refusal::NoItems(from + a));
             }
             Item::Broken(a) => {
-                return Listed::Stopped(5, from + a);
+                return Listed::Stopped(Refusal::OccurrenceBroken(from + a));
             }
-            Item::Passed(a) => {
-                return Listed::Stopped(6, from + a);
+            Item::Exceeded(a) => {
+                return Listed::Stopped(Refusal::FigurePassed(from + a));
             }
             Item::Nothing => {
                 return Listed::Items(clauses, queries, known);
@@ -100,10 +101,21 @@ fn all_items(text: &[u8], s: &mut [u64], names: &mut [u64], heads: &mut [u64]) -
     }
 }
 
-// A text becomes a job in the needed part of the scratch, or is refused and that part is zero; nothing beyond it changes.
+// A refusal with the line of its place.
+fn told_at_line(text: &[u8], why: Refusal) -> Refusal
+    ensures { λ r. ⌜ r ≡ at-line (now (text .entry)) why ⌝ }
+{
+    match why {
+        Refusal::NoItems(place) => Refusal::NoItems(line(text, place)),
+        Refusal::OccurrenceBroken(place) => Refusal::OccurrenceBroken(line(text, place)),
+        Refusal::FigurePassed(place) => Refusal::FigurePassed(line(text, place)),
+    }
+}
+
+// A text becomes a job in the needed part of the scratch, ready to run, or is refused and that part is zero; nothing beyond it changes.
 pub fn load(text: &[u8], s: &mut [u64], room: Room) -> Loaded
     requires { ⌜ InRange (figures room) × (need-of (figures room) ≤ length (now s)) ⌝ }
-    ensures { λ r. ⌜ LoadedIs (now (text .entry)) (need-of (figures room)) (now (s .entry)) (now (s .exit)) r ⌝ }
+    ensures { λ r. ⌜ LoadedIs (now (text .entry)) (figures room) (now (s .entry)) (now (s .exit)) r ⌝ }
 {
     let words = need(room);
     clear(s, words);
@@ -113,15 +125,15 @@ pub fn load(text: &[u8], s: &mut [u64], room: Room) -> Loaded
         Listed::Items(clauses, queries, known) => {
             if queries == 0 {
                 clear(s, words);
-                return Loaded::Refused(6, 0);
+                return Loaded::Refused(Refusal::FigurePassed(0));
             }
             link(s, &heads, clauses);
             keep_places(s, &names, 0, 0, known);
             Loaded::Job(clauses, queries)
         }
-        Listed::Stopped(n, place) => {
+        Listed::Stopped(why) => {
             clear(s, words);
-            Loaded::Refused(n, line(text, place))
+            Loaded::Refused(told_at_line(text, why))
         }
     }
 }

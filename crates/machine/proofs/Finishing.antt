@@ -10,17 +10,17 @@ use Rattle.meaning.specs.Bytes.{Bytes}
 use Rattle.meaning.specs.Terms.{Query, Job}
 use Rattle.meaning.specs.State.{Room, start}
 use Rattle.meaning.specs.Run.{run}
-use Rattle.term.specs.Jobs.{query-record, EachFrom, HoldsJob, JobKept}
+use Rattle.term.specs.Jobs.{EachFrom, HoldsJob, JobKept}
 use Rattle.term.specs.Spellings.{SpelledAt, HoldsSpellings, HoldsVariables, HoldsText}
-use Rattle.term.specs.Layout.{values-region, waiters-region, sets-region, marks-region, ends-region, queue-region, waiting-region, need-of}
+use Rattle.term.specs.Layout.{values-region, waiters-region, sets-region, marks-region, ends-region, queue-region, waiting-region, need-of, queries-region, items-region, trial-region, query-record, query-variables-from}
 use Rattle.term.specs.States.{Atlas, HoldsState, Ready, Finished, verdict-of}
 use Rattle.term.specs.declared.state.Standing.{Standing}
 use Rattle.term.specs.declared.state.Verdict.{Verdict}
 use Rattle.term.proofs.Jobs.{holds-job-kept}
-use Rattle.queues.specs.Log.{Slot, present, LogOk}
-use Rattle.entering.specs.Entering.{EnterOnly, Entered}
-use Rattle.running.specs.Running.{RunOnly, Running}
-use Rattle.machine.specs.Ending.{Behind, GoneOn, RanIs}
+use Rattle.run_queues.specs.Log.{Slot, present, LogOk}
+use Rattle.run_enter.specs.Entering.{EnterOnly, Entered}
+use Rattle.run_between.specs.Running.{RunOnly, Running}
+use Rattle.machine.specs.Ending.{Untouched, GoneOn, RanIs}
 use Rattle.machine.specs.declared.run.Ran.{Ran}
 use Rattle.machine.specs.declared.run.Ran.the-variants.{Ended, QueriesPassRoom}
 use Rattle.machine.proofs.Going.{run-starts}
@@ -57,14 +57,7 @@ entered-running s text names j figures atlas t e =
       none,
     )
 
--- What neither entering nor running changes.
-pub record Untouched (figures : Room) (s s′ : List ℕ) : Type 0 where
-  pub size : length s′ ≡ length s
-  pub before : (k : ℕ) → k < 4608 → getD s′ k 0 ≡ getD s k 0
-  pub records : (q i : ℕ) → q < 8 → i < 64 → i ≢ 3 → i ≢ 4 → getD s′ (query-record q + i) 0 ≡ getD s (query-record q + i) 0
-  pub items : (k : ℕ) → 5120 ≤ k → k < 39936 → getD s′ k 0 ≡ getD s k 0
-  pub behind : (k : ℕ) → need-of figures ≤ k → getD s′ k 0 ≡ getD s k 0
-
+-- Neither entering nor running changes these words.
 pub entered-then-run : (figures : Room) (s t u : List ℕ) → EnterOnly figures s t → RunOnly figures t u → Untouched figures s u
 entered-then-run figures s t u e r =
     record {
@@ -98,12 +91,12 @@ module _ (figures : Room) (s s′ : List ℕ) (u : Untouched figures s s′) whe
       let vars = h .0 .few in (
         record {
           few = h .0 .few;
-          held = spellings-kept text (query-record k + 16) (q .variables) same (h .0 .held);
+          held = spellings-kept text (query-variables-from k) (q .variables) same (h .0 .held);
         },
         variables-kept text (k + 1) qs (omega (arith, more)) (h .1),
       )
     where
-      same : (w : ℕ) → query-record k + 16 ≤ w → w < query-record k + 16 + 2 * length (q .variables) → getD s′ w 0 ≡ getD s w 0
+      same : (w : ℕ) → query-variables-from k ≤ w → w < query-variables-from k + 2 * length (q .variables) → getD s′ w 0 ≡ getD s w 0
       same w l m =
           let more : length (q ∷ qs) ≡ 1 + length qs = omega arith in
           let few-variables : length (q .variables) ≤ 16 = h .0 .few in
@@ -122,10 +115,10 @@ module _ (figures : Room) (s s′ : List ℕ) (u : Untouched figures s s′) whe
 pub finished : (figures : Room) (s₀ s₁ s : List ℕ) (text : Bytes) (names : List Bytes) (j : Job) (atlas : Atlas) (first : Standing) (limit : ℕ) (v : Verdict) (t : Standing)
     → Ready s₀ text names figures j → EnterOnly figures s₀ s₁ → Entered s₁ text names j figures (j .queries) atlas first → RunOnly figures s₁ s
     → limit ≤ 1000000 → GoneOn s names j figures limit (Ended v t)
-    → Behind figures s₀ s × Finished s text names figures j limit v t
+    → Untouched figures s₀ s × Finished s text names figures j limit v t
 finished figures s₀ s₁ s text names j atlas first limit v t ready e entered r few g =
     let all = entered-then-run figures s₀ s₁ s e r in (
-      record { size = all .size; behind = all .behind },
+      all,
       record {
         in-range = ready .in-range;
         inside = omega (arith, ready .inside, all .size);

@@ -13,21 +13,22 @@ use Rattle.meaning.specs.Run.{choice-for, run}
 use Rattle.term.specs.Layout.{values-region, marks-region, queue-region}
 use Rattle.term.specs.States.{Atlas, goal-word, setting, GoalStands}
 use Rattle.term.specs.declared.state.Standing.{Standing}
-use Rattle.trial.specs.Choosing.{unit-of, Trying, MarksBelow, ChoiceTold, ChoiceIs}
-use Rattle.queues.specs.Log.{Slot}
-use Rattle.running.specs.Running.{RunOnly, Running, StepIs}
-use Rattle.running.specs.Taking.{Taken, Reducing, JoiningWaiting, JoiningFailed}
-use Rattle.running.specs.declared.stepped.Stepped.{Stepped}
-use Rattle.trial.specs.declared.choice.Fate.{Fate}
-use Rattle.trial.specs.declared.choice.Fate.the-variants.{Reduces, Waits, Fails}
-use Rattle.running.proofs.GroundMarks.{grounds-tried}
-use Rattle.running.proofs.FramesRunning.{few-units, word-query, word-place, front-word, front-stands, trying, trial-run-only, run-only-then, running-tried}
+use Rattle.term.specs.Words.{tag-in, rest-in}
+use Rattle.run_trial.specs.Choosing.{unit-of, Trying, MarksBelow, ChoiceTold, ChoiceIs}
+use Rattle.run_queues.specs.Log.{Slot}
+use Rattle.run_between.specs.Running.{RunOnly, Running, StepIs}
+use Rattle.run_between.specs.Taking.{Taken, Reducing, JoiningWaiting, JoiningFailed}
+use Rattle.run_between.specs.declared.stepped.Stepped.{Stepped}
+use Rattle.run_trial.specs.declared.choice.ChoiceResult.{ChoiceResult}
+use Rattle.run_trial.specs.declared.choice.ChoiceResult.the-variants.{Reduces, Waits, Fails}
+use Rattle.run_between.proofs.GroundMarks.{grounds-tried}
+use Rattle.run_between.proofs.FramesRunning.{few-units, word-query, word-place, front-word, front-stands, trying, trial-run-only, run-only-then, running-tried}
 
 -- What the step has read.
 pub record Fetched (s : List ℕ) (figures : Room) (t : Standing) (goal query place values marks steps : ℕ) : Type 0 where
   pub goal-is : goal ≡ getD s (queue-region figures + t .front) 0
-  pub query-is : query ≡ goal % 8
-  pub place-is : place ≡ goal / 8
+  pub query-is : query ≡ tag-in goal
+  pub place-is : place ≡ rest-in goal
   pub values-is : values ≡ values-region figures
   pub marks-is : marks ≡ marks-region figures
   pub steps-are : steps ≡ t .steps
@@ -55,10 +56,10 @@ module _ (s : List ℕ) (text : Bytes) (names : List Bytes) (j : Job) (figures :
       )
 
   its-query : query ≡ g .query
-  its-query = f .query-is ∙ ap (λ w. w % 8) its-word ∙ word-query (g .query) (atlas (g .query) .compound (g .goal .number)) few-queries
+  its-query = f .query-is ∙ ap (λ w. tag-in w) its-word ∙ word-query (g .query) (atlas (g .query) .compound (g .goal .number)) few-queries
 
   its-place : place ≡ atlas (g .query) .compound (g .goal .number)
-  its-place = f .place-is ∙ ap (λ w. w / 8) its-word ∙ word-place (g .query) (atlas (g .query) .compound (g .goal .number)) few-queries
+  its-place = f .place-is ∙ ap (λ w. rest-in w) its-word ∙ word-place (g .query) (atlas (g .query) .compound (g .goal .number)) few-queries
 
   pub choice-tries : Trying s text names j limit figures (atlas (g .query)) g others values marks (figures .pairs) place
   choice-tries =
@@ -71,7 +72,7 @@ module _ (s : List ℕ) (text : Bytes) (names : List Bytes) (j : Job) (figures :
   choice-stamps = (omega arith, omega (arith, f .steps-are))
 
   -- The choice is made.
-  module _ (s₁ : List ℕ) (fate : Fate) (told : ChoiceIs s s₁ names j limit figures (atlas (g .query)) g marks (steps * 32768 + 2) fate) where
+  module _ (s₁ : List ℕ) (fate : ChoiceResult) (told : ChoiceIs s s₁ names j limit figures (atlas (g .query)) g marks (steps * 32768 + 2) fate) where
     tried-only : RunOnly figures s s₁
     tried-only = trial-run-only figures s s₁ (rw (f .marks-is) at (told .only))
 

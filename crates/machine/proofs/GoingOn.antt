@@ -13,12 +13,12 @@ use Rattle.meaning.specs.Run.{run}
 use Rattle.term.specs.States.{Atlas, HoldsState, verdict-of}
 use Rattle.term.specs.declared.state.Standing.{Standing}
 use Rattle.term.specs.declared.state.Verdict.the-variants.{Rest, Budget, Room as NoRoomLeft}
-use Rattle.queues.specs.Log.{Slot}
-use Rattle.running.specs.Running.{RunOnly, Running, StepIs}
+use Rattle.run_queues.specs.Log.{Slot}
+use Rattle.run_between.specs.Running.{RunOnly, Running, StepIs}
 use Rattle.machine.specs.Ending.{GoneOn}
-use Rattle.running.specs.declared.stepped.Stepped.the-variants.{Next, NoRoom}
+use Rattle.run_between.specs.declared.stepped.Stepped.the-variants.{Next, NoRoom}
 use Rattle.machine.specs.declared.run.Ran.the-variants.{Ended}
-use Rattle.running.proofs.FramesRunning.{run-only-then}
+use Rattle.run_between.proofs.FramesRunning.{run-only-then}
 use Rattle.machine.proofs.Going.{ends-at-rest, ends-for-room, ends-by-budget}
 
 -- After so many steps, of which the budget has some left.

@@ -1,8 +1,8 @@
 // The run: step after step, until it ends.
 use crate::step::step;
-use entering::enter::enter_all;
-use entering::enter::fit;
-use running::stepped::Stepped;
+use run_between::stepped::Stepped;
+use run_enter::enter::enter_all;
+use run_enter::enter::fit;
 use term::layout::Room;
 use term::state::Standing;
 use term::state::Verdict;
@@ -14,8 +14,8 @@ ghost use Rattle.meaning.specs.Bytes.{Bytes};
 ghost use Rattle.meaning.specs.Terms.{Job};
 ghost use Rattle.term.specs.Layout.{figures};
 ghost use Rattle.term.specs.States.{Ready, Atlas};
-ghost use Rattle.queues.specs.Log.{Slot};
-ghost use Rattle.running.specs.Running.{Running, RunOnly};
+ghost use Rattle.run_queues.specs.Log.{Slot};
+ghost use Rattle.run_between.specs.Running.{Running, RunOnly};
 ghost use Rattle.machine.specs.Ending.{GoneOn, RanIs};
 
 // How the run ended and the state in which it did; or the queries alone pass a room figure.

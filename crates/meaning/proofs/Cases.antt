@@ -1,5 +1,5 @@
 -- The cases of document 01 as one computed statement over one list of them. `tests/cases` names those that fail, if any.
--- What no case shows of two definitions stands in Alone.
+-- What no case shows stands in Alone.
 use Prim.Native.String.{String}
 use mathlib.Core.Path.{_≡_, refl}
 use mathlib.Core.List.{List, [], _∷_, _++_}
@@ -17,9 +17,10 @@ use Figures.{figures-cases, figures-words}
 use Calls.{calls-cases, calls-words}
 use Runs.{machine-cases, report-cases, runs-words}
 
+-- The long texts last: a wrong definition is then refused by a short case, where one shows it.
 unfoldable pub cases : List Case
 cases =
-    session ++ errors ++ tokens-cases ++ items-cases ++ figures-cases ++ calls-cases ++ machine-cases ++ report-cases
+    session ++ errors ++ machine-cases ++ report-cases ++ tokens-cases ++ items-cases ++ figures-cases ++ calls-cases
 
 -- No case fails.
 pub all-hold : failing cases ≡ []

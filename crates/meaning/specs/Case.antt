@@ -1,13 +1,14 @@
 -- A case: one call, and what document 01 says comes of it. For statements that compute.
+-- What judges a case (`expected-scratch`, `equal`, `failing`) uses none of the definitions that it judges.
 use Prim.Native.Nat.{ℕ, zero, suc}
 use Prim.Native.String.{String}
-use mathlib.Core.Bool.{Bool, true, false, not, _&&_}
-use mathlib.Core.List.{List, [], _∷_, _++_, map}
+use mathlib.Core.Bool.{Bool, true, false, _&&_}
+use mathlib.Core.List.{List, [], _∷_, _++_}
 use lib.Dec.{leb, eqb}
 use lib.ListN.{length, drop, replicate}
-use Rattle.meaning.specs.Bytes.{Bytes, bytes-words, same, if_then_else_, those}
+use Rattle.meaning.specs.Bytes.{Bytes}
 use Rattle.meaning.specs.State.{Room}
-use Rattle.meaning.specs.Call.{Given, Answer, Outcome, number, line-of, length-of, cleared, call, everything}
+use Rattle.meaning.specs.Call.{Given, Answer, Outcome, number, line-of, length-of, call, everything}
 
 -- What is expected: a report; a refusal with its number and line; or number 8 with its length.
 pub data Expected : Type 0 where
@@ -60,10 +61,20 @@ expected-buffer (prints report) lent = report ++ drop (length report) lent
 expected-buffer (refuses number line) lent = lent
 expected-buffer (too-long length) lent = lent
 
+-- "Scratch is untouched on 1, 2, 3; otherwise the needed part is zero afterwards and any part beyond it is untouched."
+unfoldable pub needed-part-zero : List ℕ → List ℕ
+needed-part-zero lent = replicate need 0 ++ drop need lent
+
 unfoldable pub expected-scratch : Expected → List ℕ → List ℕ
-expected-scratch (prints report) lent = cleared need lent
-expected-scratch (refuses number line) lent = if leb number 3 then lent else cleared need lent
-expected-scratch (too-long length) lent = cleared need lent
+expected-scratch (prints report) lent = needed-part-zero lent
+expected-scratch (refuses number line) lent = elim (leb number 3) [ true ↦ lent | false ↦ needed-part-zero lent ]
+expected-scratch (too-long length) lent = needed-part-zero lent
+
+unfoldable pub equal : List ℕ → List ℕ → Bool
+equal [] [] = true
+equal [] (n ∷ ns) = false
+equal (m ∷ ms) [] = false
+equal (m ∷ ms) (n ∷ ns) = eqb m n && equal ms ns
 
 -- The call's outcome is the expected one: number, line, length, report buffer and scratch.
 unfoldable pub as-expected : Expected → Case → Outcome → Bool
@@ -71,16 +82,17 @@ as-expected expected c o =
     eqb (number (o .answer)) (expected-number expected)
     && eqb (line-of (o .answer)) (expected-line expected)
     && eqb (length-of (o .answer)) (expected-length expected)
-    && same (o .buffer) (expected-buffer expected (lent-buffer c))
-    && same (o .scratch) (expected-scratch expected (lent-scratch c))
+    && equal (o .buffer) (expected-buffer expected (lent-buffer c))
+    && equal (o .scratch) (expected-scratch expected (lent-scratch c))
 
 unfoldable pub holds : Case → Bool
 holds c = as-expected (c .expected) c (outcome c)
 
 -- The labels of the cases that do not hold.
 unfoldable pub failing : List Case → List String
-failing cases = map (λ c. c .label) (those (λ c. not (holds c)) cases)
+failing [] = []
+failing (c ∷ cases) = elim (holds c) [ true ↦ failing cases | false ↦ c .label ∷ failing cases ]
 
 unfoldable pub case-words : Unit {0}
-unfolding everything need lent-scratch lent-buffer outcome expected-number expected-line expected-length expected-buffer expected-scratch as-expected holds failing
+unfolding everything need lent-scratch lent-buffer outcome expected-number expected-line expected-length expected-buffer needed-part-zero expected-scratch equal as-expected holds failing
 case-words = tt

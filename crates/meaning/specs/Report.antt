@@ -57,30 +57,30 @@ integer-bytes (plus n) = decimal n
 integer-bytes (minus n) = bytes "-" ++ decimal n
 
 -- A term stands alone, or as the tail of a list behind an element.
-pub data Standing : Type 0 where
-  alone tail : Standing
+pub data Role : Type 0 where
+  alone tail : Role
 
 -- "Lists as `[a,b]` or `[a|T]`, tails followed."
-unfoldable pub behind-bar : Standing → Bytes → Bytes
+unfoldable pub behind-bar : Role → Bytes → Bytes
 behind-bar alone written = written
 behind-bar tail written = bytes "|" ++ written ++ bytes "]"
 
-unfoldable pub empty-bytes : Standing → Bytes
+unfoldable pub empty-bytes : Role → Bytes
 empty-bytes alone = bytes "[]"
 empty-bytes tail = bytes "]"
 
-unfoldable pub before-element : Standing → Bytes
+unfoldable pub before-element : Role → Bytes
 before-element alone = bytes "["
 before-element tail = bytes ","
 
-unfoldable pub constant-bytes : Standing → Constant → Bytes
+unfoldable pub constant-bytes : Role → Constant → Bytes
 constant-bytes standing (integer i) = behind-bar standing (integer-bytes i)
 constant-bytes standing (name f) = behind-bar standing f
 constant-bytes standing empty = empty-bytes standing
 
 -- A term written, "no spaces"; `pairs` are the section's unassigned pairs in order of first appearance.
 unfoldable mutual
-  pub written : List ℕ → Standing → Term → Bytes
+  pub written : List ℕ → Role → Term → Bytes
   written pairs standing (variable h p) = behind-bar standing (variable-bytes pairs h p)
   written pairs standing (constant k) = constant-bytes standing k
   written pairs standing (compound n cell ts) = before-element standing ++ element-and-tail pairs ts

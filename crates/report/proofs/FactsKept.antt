@@ -8,18 +8,17 @@ use lib.ListN.{length, getD}
 use Rattle.meaning.specs.Bytes.{Bytes, if_then_else_}
 use Rattle.meaning.specs.Terms.{Term, as-term}
 use Rattle.meaning.specs.State.{Room, Goal, value}
-use Rattle.term.specs.Jobs.{query-record}
-use Rattle.term.specs.Layout.{waiters-region}
+use Rattle.term.specs.Layout.{waiters-region, compounds-region, pairs-told, pair-facts, query-pairs-word, query-first-pair-word, query-tries-word, query-variables-from}
 use Rattle.term.specs.Setting.{Setting, UnitTerm, UnitStands}
 use Rattle.term.specs.declared.state.Standing.{Standing}
 use Rattle.term.proofs.Holds.{holds-alike, holds-values-alike, EveryValue}
 use Rattle.term.proofs.Spellings.{holds-spellings-kept}
-use Rattle.facts.specs.Facts.{fact-place, Led, EndAt, Readable, Changed}
-use Rattle.tallies.specs.Groups.{goal-in, own, own-from, active-group, waiting-group, failed-group}
-use Rattle.tallies.specs.declared.groups.Group.{Group}
-use Rattle.tallies.specs.Header.{tallies-of, header-of}
-use Rattle.sections.specs.Sections.{Variables, GoalsHeld, Listed, SectionAt}
-use Rattle.sections.specs.Whole.{section-bytes, lines-shown}
+use Rattle.report_pairs.specs.Facts.{fact-place, Led, EndAt, Readable, Changed}
+use Rattle.report_tallies.specs.Groups.{goal-in, own, own-from, active-group, waiting-group, failed-group}
+use Rattle.report_tallies.specs.declared.groups.Group.{Group}
+use Rattle.report_tallies.specs.Header.{tallies-of, header-of}
+use Rattle.report_sections.specs.Sections.{Variables, GoalsHeld, Listed, SectionAt}
+use Rattle.report_sections.specs.Whole.{section-bytes, lines-shown}
 use Rattle.report.specs.All.{Made, FactsOnly, bytes-of, sections-bytes}
 use Rattle.term.proofs.Units.{within-every}
 
@@ -48,7 +47,7 @@ changed-facts figures s s′ text x r e c =
     }
 
 -- The facts of a unit whose pairs are apart from those of the counted one are as they were.
-pub facts-apart : (s s′ : List ℕ) (x y : Setting) (facts : ℕ) → 40704 ≤ facts → Changed s s′ x facts
+pub facts-apart : (s s′ : List ℕ) (x y : Setting) (facts : ℕ) → compounds-region ≤ facts → Changed s s′ x facts
     → ((a b : ℕ) → a < length (x .values) → b < length (y .values) → x .places .pair a ≡ y .places .pair b → ⊥)
     → (n i k : ℕ) → n < length (y .values) → i < 3 → k ≡ fact-place y facts n + i → getD s′ k 0 ≡ getD s k 0
 facts-apart s s′ x y facts low c apart n i k h l e =
@@ -63,13 +62,13 @@ own-same s s′ g q same (suc n) i =
     ap₂ (λ (w : ℕ) (l : List ℕ). if own q w then w ∷ l else l) (same i) (own-same s s′ g q same n (i + 1))
 
 module _ (figures : Room) (s s′ : List ℕ) (o : FactsOnly figures s s′) where
-  list-same : (g : Group) (q n : ℕ) → waiters-region figures + 4 * figures .pairs ≤ g .from → own-from s′ g q 0 n ≡ own-from s g q 0 n
+  list-same : (g : Group) (q n : ℕ) → waiters-region figures + pair-facts * figures .pairs ≤ g .from → own-from s′ g q 0 n ≡ own-from s g q 0 n
   list-same g q n h = own-same s s′ g q (λ i. o .behind _ (omega arith)) n 0
 
   -- The bytes of a section, and of the first so many.
   tallies-same : (t : Standing) (q : ℕ) → q < 8 → tallies-of s′ figures q t ≡ tallies-of s figures q t
   tallies-same t q h =
-      let tries : getD s′ (query-record q + 4) 0 ≡ getD s (query-record q + 4) 0 = o .counter (query-record q + 4) (omega arith) in
+      let tries : getD s′ (query-tries-word q) 0 ≡ getD s (query-tries-word q) 0 = o .counter (query-tries-word q) (omega arith) in
       let active = list-same (active-group figures t) q (t .active) (omega arith) in
       let waiting = list-same (waiting-group figures t) q (t .log) (omega arith) in
       let failed = list-same (failed-group figures t) q (t .failed) (omega arith) in
@@ -133,7 +132,7 @@ module _ (figures : Room) (s s′ : List ℕ) (o : FactsOnly figures s s′) whe
         record {
           inside = omega (arith, o .size, r .inside);
           behind = r .behind;
-          room = o .before 39937 (omega arith) (omega arith) ∙ r .room;
+          room = o .before pairs-told (omega arith) (omega arith) ∙ r .room;
           links = r .links;
           apart = r .apart;
           compound-behind = r .compound-behind;
@@ -153,9 +152,9 @@ module _ (figures : Room) (s s′ : List ℕ) (o : FactsOnly figures s s′) whe
         record {
           small = v .small;
           few = v .few;
-          number = o .counter (query-record q + 1) (omega (arith, v .small)) ∙ v .number;
-          spelled = holds-spellings-kept s s′ text (query-record q + 16) xs (λ k l h. o .counter k (omega (arith, v .small, v .few))) (v .spelled);
-          pair = λ n h. v .pair n h ∙ ap (λ (k : ℕ). k + n) (sym (o .counter (query-record q + 3) (omega (arith, v .small))));
+          number = o .counter (query-pairs-word q) (omega (arith, v .small)) ∙ v .number;
+          spelled = holds-spellings-kept s s′ text (query-variables-from q) xs (λ k l h. o .counter k (omega (arith, v .small, v .few))) (v .spelled);
+          pair = λ n h. v .pair n h ∙ ap (λ (k : ℕ). k + n) (sym (o .counter (query-first-pair-word q) (omega (arith, v .small))));
           low = v .low;
           within = v .within;
         }

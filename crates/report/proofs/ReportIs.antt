@@ -11,18 +11,17 @@ use Rattle.meaning.specs.State.{Room, State, Part, of, unit-at, goals-of, part-
 use Rattle.meaning.specs.Run.{run, Ended}
 use Rattle.meaning.specs.Report.{header, section, sections, run-line, report}
 use Rattle.laws.proofs.Runs.Charges.{run-units}
-use Rattle.term.specs.Jobs.{query-record}
-use Rattle.term.specs.Layout.{waiters-region}
+use Rattle.term.specs.Layout.{waiters-region, pairs-told, query-tries-word}
 use Rattle.term.specs.States.{Atlas, Finished, verdict-of}
 use Rattle.term.specs.declared.state.Standing.{Standing}
 use Rattle.term.specs.declared.state.Verdict.{Verdict as Told}
-use Rattle.facts.specs.Facts.{Cleared}
-use Rattle.facts.specs.Threaded.{shown-groups}
-use Rattle.tallies.specs.Header.{tallies-of, header-of, run-words-of, run-line-of}
-use Rattle.tallies.specs.declared.header.Tallies.{Tallies}
-use Rattle.sections.specs.Whole.{lines-shown, section-bytes}
+use Rattle.report_pairs.specs.Facts.{Cleared}
+use Rattle.report_pairs.specs.Threaded.{shown-groups}
+use Rattle.report_tallies.specs.Header.{tallies-of, header-of, run-words-of, run-line-of}
+use Rattle.report_tallies.specs.declared.header.Tallies.{Tallies}
+use Rattle.report_sections.specs.Whole.{lines-shown, section-bytes}
 use Rattle.report.specs.All.{Made, Stands, Sections, bytes-of, sections-bytes, report-bytes, no-query, made-of}
-use Rattle.sections.proofs.Lines.{section-shown}
+use Rattle.report_sections.proofs.Lines.{section-shown}
 use Rattle.report.proofs.Sectioning.{finished-sections}
 
 -- The report's first line, and a section's, by equal counts.
@@ -37,7 +36,7 @@ header-is k c part tries active waiting failed = rw (tries, active, waiting, fai
 
 -- A section of a state whose query has so many tries: its goals are as many as the scratch lists.
 section-is : (s : List ℕ) (text : Bytes) (figures : Room) (t : Standing) (atlas : Atlas) (queries : List Query) (state : State) (k : ℕ)
-    → Stands s text figures t k (made-of figures atlas queries state k) → getD s (query-record k + 4) 0 ≡ unit-at k (state .units) .tries
+    → Stands s text figures t k (made-of figures atlas queries state k) → getD s (query-tries-word k) 0 ≡ unit-at k (state .units) .tries
     → bytes-of s figures t k (made-of figures atlas queries state k) ≡ section k (getD queries k no-query) (part-of k state)
 unfolding section-bytes lines-shown shown-groups part-of goals-of
 section-is s text figures t atlas queries state k stands tries =
@@ -78,25 +77,25 @@ joined-all s figures t made state qs each =
 
 pub report-is : (s s₁ : List ℕ) (text : Bytes) (names : List Bytes) (figures : Room) (j : Job) (limit : ℕ) (v : Told) (t : Standing)
     (F : Finished s text names figures j limit v t) → length text ≤ 16384 → Cleared s s₁ (waiters-region figures) (t .pairs)
-    → report-bytes (set s₁ 39937 (figures .pairs)) figures v t (made-of figures (F .atlas) (j .queries) (run j limit figures .state)) (length (j .queries))
+    → report-bytes (set s₁ pairs-told (figures .pairs)) figures v t (made-of figures (F .atlas) (j .queries) (run j limit figures .state)) (length (j .queries))
     ≡ report (j .queries) (run j limit figures)
 unfolding report
 report-is s s₁ text names figures j limit v t F short cleared =
     ap₂ (_++_ {A = ℕ}) (run-line-is v (t .steps) (run j limit figures) (F .verdict) (F .state .steps)) all
   where
-    standing : Sections (set s₁ 39937 (figures .pairs)) text figures t (made-of figures (F .atlas) (j .queries) (run j limit figures .state)) (length (j .queries))
+    standing : Sections (set s₁ pairs-told (figures .pairs)) text figures t (made-of figures (F .atlas) (j .queries) (run j limit figures .state)) (length (j .queries))
     standing = finished-sections s s₁ text names figures j limit v t F short cleared .0
 
     tries : (k : ℕ) → k < length (j .queries)
-        → getD (set s₁ 39937 (figures .pairs)) (query-record k + 4) 0 ≡ unit-at k (run j limit figures .state .units) .tries
+        → getD (set s₁ pairs-told (figures .pairs)) (query-tries-word k) 0 ≡ unit-at k (run j limit figures .state .units) .tries
     tries k h =
         let few = standing .few in
-        getD-set-other s₁ 39937 (query-record k + 4) (figures .pairs) 0 (λ e. omega arith)
-        ∙ cleared .only .below (query-record k + 4) (omega arith)
+        getD-set-other s₁ pairs-told (query-tries-word k) (figures .pairs) 0 (λ e. omega arith)
+        ∙ cleared .only .below (query-tries-word k) (omega arith)
         ∙ F .state .units .tries k (omega (arith, run-units j limit figures))
 
-    all : sections-bytes (set s₁ 39937 (figures .pairs)) figures t (made-of figures (F .atlas) (j .queries) (run j limit figures .state)) (length (j .queries))
+    all : sections-bytes (set s₁ pairs-told (figures .pairs)) figures t (made-of figures (F .atlas) (j .queries) (run j limit figures .state)) (length (j .queries))
         ≡ joined (sections 0 (j .queries) (run j limit figures .state))
     all =
-        joined-all (set s₁ 39937 (figures .pairs)) figures t (made-of figures (F .atlas) (j .queries) (run j limit figures .state)) (run j limit figures .state) (j .queries)
-        (λ i h. section-is (set s₁ 39937 (figures .pairs)) text figures t (F .atlas) (j .queries) (run j limit figures .state) i (standing .stands i h) (tries i h))
+        joined-all (set s₁ pairs-told (figures .pairs)) figures t (made-of figures (F .atlas) (j .queries) (run j limit figures .state)) (run j limit figures .state) (j .queries)
+        (λ i h. section-is (set s₁ pairs-told (figures .pairs)) text figures t (F .atlas) (j .queries) (run j limit figures .state) i (standing .stands i h) (tries i h))

@@ -1,5 +1,5 @@
 -- What `report` asks of its parts when the run has finished, and what it tells by theirs.
-use Prim.Native.Nat.{ℕ, _+_, _≤_, _<_, min}
+use Prim.Native.Nat.{ℕ, _+_, _*_, _≤_, _<_, min}
 use mathlib.Core.Path.{_≡_, refl, ap, _∙_}
 use mathlib.Core.Bool.{Bool, true, false, _&&_}
 use mathlib.Core.Logic.{_≢_}
@@ -15,17 +15,17 @@ use Rattle.meaning.specs.State.{Room}
 use Rattle.meaning.specs.Run.{run}
 use Rattle.meaning.specs.Report.{report}
 use Rattle.laws.proofs.Runs.{steps-within-budget}
-use Rattle.term.specs.Layout.{waiters-region, need-of}
+use Rattle.term.specs.Layout.{trial-region, waiters-region, pairs-told, pair-facts}
 use Rattle.term.specs.States.{Finished}
 use Rattle.term.specs.declared.state.Standing.{Standing}
 use Rattle.term.specs.declared.state.Verdict.{Verdict as Told}
-use Rattle.facts.specs.Laid.{capped, laid, Puts}
-use Rattle.facts.specs.Facts.{Cleared}
-use Rattle.sections.specs.Whole.{Uncounted, Numbers}
+use Rattle.report_pairs.specs.Laid.{capped, laid, Puts}
+use Rattle.report_pairs.specs.Facts.{Cleared}
+use Rattle.report_sections.specs.Whole.{Uncounted, Numbers}
 use Rattle.report.specs.All.{Made, Sections, AllCounted, report-bytes, order-of, made-of}
-use Rattle.tallies.specs.Header.{run-line-of}
+use Rattle.report_tallies.specs.Header.{run-line-of}
 use Rattle.report.specs.Promise.{with-report, ReportIs}
-use Rattle.facts.proofs.Laid.{laid-whole}
+use Rattle.report_pairs.proofs.Laid.{laid-whole}
 use Rattle.report.proofs.Sectioning.{finished-sections}
 use Rattle.report.proofs.ReportIs.{report-is}
 
@@ -49,7 +49,7 @@ with-all bs buffer h l = rw (le-leb (length bs) (length buffer) h, le-leb (lengt
 -- Before the counting: nothing is kept of the pairs from `facts` on, and the trial's second word is the room's pairs.
 module _ (s s₁ s₂ : List ℕ) (text : Bytes) (names : List Bytes) (figures : Room) (j : Job) (limit : ℕ) (v : Told) (t : Standing) (facts n : ℕ)
     (F : Finished s text names figures j limit v t) (all : n ≡ length (j .queries)) (short : length text ≤ 16384) (here : facts ≡ waiters-region figures)
-    (forgot : Cleared s s₁ facts (t .pairs)) (noted : s₂ ≡ set s₁ 39937 (figures .pairs)) where
+    (forgot : Cleared s s₁ facts (t .pairs)) (noted : s₂ ≡ set s₁ pairs-told (figures .pairs)) where
   abbrev making : ℕ → Made
   making = made-of figures (F .atlas) (j .queries) (run j limit figures .state)
 
@@ -80,14 +80,22 @@ module _ (s s₁ s₂ : List ℕ) (text : Bytes) (names : List Bytes) (figures :
     counted = told text making begun few-steps uncounted
 
     size : length s₃ ≡ length s
-    size = counted .only .size ∙ ap length noted ∙ length-set s₁ 39937 (figures .pairs) ∙ cleared .only .size
+    size = counted .only .size ∙ ap length noted ∙ length-set s₁ pairs-told (figures .pairs) ∙ cleared .only .size
 
-    behind : (k : ℕ) → need-of figures ≤ k → getD s₃ k 0 ≡ getD s k 0
+    -- Counting, the number of the pairs and clearing leave a word as it was.
+    stays : (k : ℕ) → k ≢ pairs-told → getD s₃ k 0 ≡ getD s₂ k 0 → getD s₁ k 0 ≡ getD s k 0 → getD s₃ k 0 ≡ getD s k 0
+    stays k other e f =
+        e ∙ ap (λ (l : List ℕ). getD l k 0) noted ∙ getD-set-other s₁ pairs-told k (figures .pairs) 0 other ∙ f
+
+    front : (k : ℕ) → k < trial-region → getD s₃ k 0 ≡ getD s k 0
+    front k h = stays k (λ e. omega arith) (counted .only .counter k h) (cleared .only .below k (omega arith))
+
+    before : (k : ℕ) → pairs-told < k → k < waiters-region figures → getD s₃ k 0 ≡ getD s k 0
+    before k l h = stays k (λ e. omega arith) (counted .only .before k (omega arith) h) (cleared .only .below k h)
+
+    behind : (k : ℕ) → waiters-region figures + pair-facts * figures .pairs ≤ k → getD s₃ k 0 ≡ getD s k 0
     behind k h =
-        counted .only .behind k (omega arith)
-        ∙ ap (λ (l : List ℕ). getD l k 0) noted
-        ∙ getD-set-other s₁ 39937 k (figures .pairs) 0 (λ e. omega arith)
-        ∙ cleared .only .above k (omega (arith, F .state .pairs, F .state .lies .pairs-fit))
+        stays k (λ e. omega arith) (counted .only .behind k h) (cleared .only .above k (omega (arith, F .state .pairs, F .state .lies .pairs-fit)))
 
     counted-is : r ≡ min (length (report (j .queries) (run j limit figures))) 16777217
     counted-is = counted .place ∙ ap (λ (l : Bytes). capped (length l)) bytes-are
@@ -99,6 +107,8 @@ module _ (s s₁ s₂ : List ℕ) (text : Bytes) (names : List Bytes) (figures :
     too-long buffer e =
         record {
           size = size;
+          front = front;
+          before = before;
           behind = behind;
           length-is = counted-is;
           buffer-is = with-too-long (report (j .queries) (run j limit figures)) buffer (omega (arith, counted-is));
@@ -108,6 +118,8 @@ module _ (s s₁ s₂ : List ℕ) (text : Bytes) (names : List Bytes) (figures :
     no-place buffer h =
         record {
           size = size;
+          front = front;
+          before = before;
           behind = behind;
           length-is = counted-is;
           buffer-is = with-none (report (j .queries) (run j limit figures)) buffer (omega (arith, counted-is));
@@ -146,6 +158,8 @@ module _ (s s₁ s₂ : List ℕ) (text : Bytes) (names : List Bytes) (figures :
       written-whole buffer′ r′ writes =
           record {
             size = size;
+            front = front;
+            before = before;
             behind = behind;
             length-is = is-length;
             buffer-is =

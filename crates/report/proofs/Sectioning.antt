@@ -20,8 +20,8 @@ use Rattle.laws.proofs.Runs.Invariant.{run-keeps}
 use Rattle.laws.proofs.Runs.Charges.{run-units}
 use Rattle.laws.proofs.Trial.Values.{unit-at-set, length-values-after}
 use Rattle.laws.proofs.Circle.Never.{run-no-circle}
-use Rattle.term.specs.Jobs.{query-record, EachFrom, HoldsQuery}
-use Rattle.term.specs.Layout.{values-region, waiters-region}
+use Rattle.term.specs.Jobs.{EachFrom, HoldsQuery}
+use Rattle.term.specs.Layout.{values-region, waiters-region, compounds-region, pairs-told, pair-facts, query-pairs-word, query-first-pair-word, query-variables-from}
 use Rattle.term.specs.Setting.{Setting, UnitTerm, UnitStands}
 use Rattle.term.specs.Spellings.{HoldsVariables}
 use Rattle.term.specs.States.{setting-at, Lies, FirstPair, Finished}
@@ -30,11 +30,11 @@ use Rattle.term.specs.declared.state.Verdict.{Verdict as Told}
 use Rattle.term.proofs.Holds.{holds-alike, holds-values-alike, EveryValue}
 use Rattle.term.proofs.Jobs.{each-at}
 use Rattle.term.proofs.Spellings.{holds-spellings-kept}
-use Rattle.facts.specs.Facts.{fact-place, EndAt, Readable, Cleared}
-use Rattle.tallies.specs.Groups.{goal-place, own, own-from, active-group, waiting-group, failed-group}
-use Rattle.tallies.specs.declared.groups.Group.{Group}
-use Rattle.sections.specs.Sections.{Variables, GoalsHeld, Listed}
-use Rattle.sections.specs.Whole.{Uncounted}
+use Rattle.report_pairs.specs.Facts.{fact-place, EndAt, Readable, Cleared}
+use Rattle.report_tallies.specs.Groups.{goal-place, own, own-from, active-group, waiting-group, failed-group}
+use Rattle.report_tallies.specs.declared.groups.Group.{Group}
+use Rattle.report_sections.specs.Sections.{Variables, GoalsHeld, Listed}
+use Rattle.report_sections.specs.Whole.{Uncounted}
 use Rattle.report.specs.All.{Sections, Stands, no-query, made-of}
 use Rattle.term.proofs.Units.{within-every}
 use Rattle.report.proofs.SoundRun.{sound-values, sound-queue, sound-waiting, sound-failed}
@@ -43,16 +43,16 @@ use Rattle.report.proofs.StateLists.{listed-active, listed-waiting, lis
 -- The words apart from what is kept of pairs, and but the trial's second word, are as they were.
 pub record Beside (figures : Room) (s s′ : List ℕ) : Type 0 where
   pub size : length s′ ≡ length s
-  pub front : (k : ℕ) → k < waiters-region figures → k ≢ 39937 → getD s′ k 0 ≡ getD s k 0
-  pub behind : (k : ℕ) → waiters-region figures + 4 * figures .pairs ≤ k → getD s′ k 0 ≡ getD s k 0
+  pub front : (k : ℕ) → k < waiters-region figures → k ≢ pairs-told → getD s′ k 0 ≡ getD s k 0
+  pub behind : (k : ℕ) → waiters-region figures + pair-facts * figures .pairs ≤ k → getD s′ k 0 ≡ getD s k 0
 
 pub beside-cleared : (s s₁ : List ℕ) (figures : Room) (pairs : ℕ) → pairs ≤ figures .pairs → Cleared s s₁ (waiters-region figures) pairs
-    → Beside figures s (set s₁ 39937 (figures .pairs))
+    → Beside figures s (set s₁ pairs-told (figures .pairs))
 beside-cleared s s₁ figures pairs few c =
     record {
-      size = length-set s₁ 39937 (figures .pairs) ∙ c .only .size;
-      front = λ k h d. getD-set-other s₁ 39937 k (figures .pairs) 0 d ∙ c .only .below k h;
-      behind = λ k h. getD-set-other s₁ 39937 k (figures .pairs) 0 (λ e. omega arith) ∙ c .only .above k (omega arith);
+      size = length-set s₁ pairs-told (figures .pairs) ∙ c .only .size;
+      front = λ k h d. getD-set-other s₁ pairs-told k (figures .pairs) 0 d ∙ c .only .below k h;
+      behind = λ k h. getD-set-other s₁ pairs-told k (figures .pairs) 0 (λ e. omega arith) ∙ c .only .above k (omega arith);
     }
 
 -- Places below a bound that are apart from one another are at most so many.
@@ -116,7 +116,7 @@ from-first P i l d h e = let none : 0 + i ≡ i = omega arith in subst (λ (k : 
 
 -- A unit and its goals stay.
 module _ (figures : Room) (s s′ : List ℕ) (b : Beside figures s s′) (x : Setting) (same : x .pairs ≡ figures .pairs)
-    (compound-behind : (n : ℕ) → n < x .compounds → 40704 ≤ x .places .compound n)
+    (compound-behind : (n : ℕ) → n < x .compounds → compounds-region ≤ x .places .compound n)
     (compound-before : (n : ℕ) → n < x .compounds → x .places .compound n + x .places .width n ≤ values-region figures) where
   compound-stays : (n : ℕ) → n < x .compounds → (k : ℕ) → x .places .compound n ≤ k → k < x .places .compound n + x .places .width n → getD s′ k 0 ≡ getD s k 0
   compound-stays n h k l m = b .front k (omega (arith, compound-before n h)) (λ e. omega (arith, compound-behind n h))
@@ -150,7 +150,7 @@ module _ (figures : Room) (s s′ : List ℕ) (b : Beside figures s s′) (x : S
   goals-stay [] h = tt
   goals-stay (g ∷ gs) h = (term-stays (as-term (g .goal)) (h .0), h .1, goals-stay gs (h .2))
 
-  own-stays : (g : Group) (q : ℕ) → waiters-region figures + 4 * x .pairs ≤ g .from → (n i : ℕ) → own-from s′ g q i n ≡ own-from s g q i n
+  own-stays : (g : Group) (q : ℕ) → waiters-region figures + pair-facts * x .pairs ≤ g .from → (n i : ℕ) → own-from s′ g q i n ≡ own-from s g q i n
   unfolding own-from
   own-stays g q far zero i = refl
   own-stays g q far (suc n) i =
@@ -170,7 +170,7 @@ module _ (figures : Room) (s s′ : List ℕ) (b : Beside figures s s′) (x : S
 module _ (s s₁ : List ℕ) (text : Bytes) (names : List Bytes) (figures : Room) (j : Job) (limit : ℕ) (v : Told) (t : Standing)
     (F : Finished s text names figures j limit v t) (short : length text ≤ 16384) (c : Cleared s s₁ (waiters-region figures) (t .pairs)) where
   abbrev s′ : List ℕ
-  s′ = set s₁ 39937 (figures .pairs)
+  s′ = set s₁ pairs-told (figures .pairs)
 
   abbrev state : State
   state = run j limit figures .state
@@ -197,12 +197,12 @@ module _ (s s₁ : List ℕ) (text : Bytes) (names : List Bytes) (figures : Room
     pair-low : (n : ℕ) → n < length (unit k .values) → F .atlas k .pair n < t .pairs
     pair-low n l = omega (arith, F .state .pairs, lies .pair-below k n (below k h) l)
 
-    kept-zero : (n i : ℕ) → n < length (unit k .values) → i < 3 → getD s′ (fact-place (unit k) (waiters-region figures) n + i) 0 ≡ 0
+    kept-zero : (n i : ℕ) → n < length (unit k .values) → i < pair-facts → getD s′ (fact-place (unit k) (waiters-region figures) n + i) 0 ≡ 0
     kept-zero n i l m =
-        getD-set-other s₁ 39937 (fact-place (unit k) (waiters-region figures) n + i) (figures .pairs) 0 (λ e. omega arith)
+        getD-set-other s₁ pairs-told (fact-place (unit k) (waiters-region figures) n + i) (figures .pairs) 0 (λ e. omega arith)
         ∙ c .zero (F .atlas k .pair n) i (pair-low n l) m
 
-    compound-behind : (n : ℕ) → n < unit k .compounds → 40704 ≤ F .atlas k .compound n
+    compound-behind : (n : ℕ) → n < unit k .compounds → compounds-region ≤ F .atlas k .compound n
     compound-behind n l = lies .compound-behind k n (below k h) l
 
     compound-before : (n : ℕ) → n < unit k .compounds → F .atlas k .compound n + F .atlas k .width n ≤ values-region figures
@@ -218,7 +218,7 @@ module _ (s s₁ : List ℕ) (text : Bytes) (names : List Bytes) (figures : Room
         record {
           inside = omega (arith, beside .size, F .inside);
           behind = omega arith;
-          room = getD-set-same s₁ 39937 (figures .pairs) 0 (omega (arith, c .only .size, F .inside));
+          room = getD-set-same s₁ pairs-told (figures .pairs) 0 (omega (arith, c .only .size, F .inside));
           links = few-places (F .atlas k .pair) (length (unit k .values)) (figures .pairs) (λ n l. omega (arith, pair-low n l, charged))
               (λ n m a b e. lies .pair-apart k k n m (below k h) (below k h) a b e .1);
           apart = λ n m a b e. lies .pair-apart k k n m (below k h) (below k h) a b e .1;
@@ -248,9 +248,9 @@ module _ (s s₁ : List ℕ) (text : Bytes) (names : List Bytes) (figures : Room
         record {
           small = small;
           few = few;
-          number = beside .front (query-record k + 1) (omega arith) (λ e. omega arith) ∙ query .pairs;
-          spelled = holds-spellings-kept s s′ text (query-record k + 16) (q .variables) (λ i l m. beside .front i (omega arith) (λ e. omega arith)) (spelled .held);
-          pair = λ n l. first n l ∙ ap (λ (w : ℕ). w + n) (sym (beside .front (query-record k + 3) (omega arith) (λ e. omega arith)));
+          number = beside .front (query-pairs-word k) (omega arith) (λ e. omega arith) ∙ query .pairs;
+          spelled = holds-spellings-kept s s′ text (query-variables-from k) (q .variables) (λ i l m. beside .front i (omega arith) (λ e. omega arith)) (spelled .held);
+          pair = λ n l. first n l ∙ ap (λ (w : ℕ). w + n) (sym (beside .front (query-first-pair-word k) (omega arith) (λ e. omega arith)));
           low = λ n l. omega (arith, pair-low n (omega arith), charged, F .in-range .pairs);
           within = within;
         }

@@ -12,15 +12,15 @@ use Rattle.term.specs.Layout.{waiters-region}
 use Rattle.term.specs.declared.state.Standing.{Standing}
 use Rattle.term.specs.declared.state.Verdict.{Verdict as Told}
 use Rattle.term.specs.declared.state.Verdict.the-variants.{Rest, Budget, Room as NoRoom}
-use Rattle.facts.specs.Laid.{capped, Puts}
-use Rattle.facts.specs.Facts.{fact-place}
-use Rattle.tallies.specs.Header.{run-line-of}
-use Rattle.sections.specs.Whole.{Numbers, Uncounted, SectionCounted}
+use Rattle.report_pairs.specs.Laid.{capped, Puts}
+use Rattle.report_pairs.specs.Facts.{fact-place}
+use Rattle.report_tallies.specs.Header.{run-line-of}
+use Rattle.report_sections.specs.Whole.{Numbers, Uncounted, SectionCounted}
 use Rattle.report.specs.All.{Made, Stands, bytes-of, order-of, Sections, sections-bytes, FactsOnly, AllCounted}
-use Rattle.facts.proofs.Decimals.{decimal-few}
-use Rattle.tallies.proofs.FirstLines.{run-rest-size, run-budget-size, run-room-size}
+use Rattle.report_pairs.proofs.Decimals.{decimal-few}
+use Rattle.report_tallies.proofs.FirstLines.{run-rest-size, run-budget-size, run-room-size}
 use Rattle.report.proofs.FactsKept.{facts-none, facts-then, changed-facts, facts-apart, bytes-same, sections-same, readable-still, section-still}
-use Rattle.facts.proofs.Laid.{puts-none, puts-behind, puts-as}
+use Rattle.report_pairs.proofs.Laid.{puts-none, puts-behind, puts-as}
 
 -- The first line is far below the ceiling.
 pub run-line-short : (v : Told) (steps : ℕ) → steps ≤ 1000000 → length (run-line-of v steps) ≤ 38

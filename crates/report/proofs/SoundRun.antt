@@ -58,7 +58,7 @@ use Rattle.laws.proofs.Reading.Figures.{
   JobFits,
 }
 use Rattle.laws.proofs.Reading.ItemByItem.{names-of}
-use Rattle.facts.specs.Sound.{SoundConstant, SoundFunctor, Sound, AllSound, SoundValues}
+use Rattle.report_pairs.specs.Sound.{SoundConstant, SoundFunctor, Sound, AllSound, SoundValues}
 
 -- A value, a goal, goals and values of a state.
 SoundValue : Option Term → Type 0

@@ -15,10 +15,11 @@ use Rattle.term.specs.Layout.{InRange, need-of, waiters-region}
 use Rattle.term.specs.Setting.{UnitTerm}
 use Rattle.term.specs.States.{Atlas, goal-word, setting-at, AllStand, HoldsState}
 use Rattle.term.specs.declared.state.Standing.{Standing}
-use Rattle.facts.specs.Sound.{Sound}
-use Rattle.tallies.specs.Groups.{active-group, waiting-group, failed-group}
-use Rattle.sections.specs.Sections.{GoalsHeld, Listed}
-use Rattle.tallies.proofs.OwnGoals.{own-active, own-waiting, own-failed, active-inside, waiting-inside, failed-inside}
+use Rattle.term.specs.Words.{packed}
+use Rattle.report_pairs.specs.Sound.{Sound}
+use Rattle.report_tallies.specs.Groups.{active-group, waiting-group, failed-group}
+use Rattle.report_sections.specs.Sections.{GoalsHeld, Listed}
+use Rattle.report_tallies.proofs.OwnGoals.{own-active, own-waiting, own-failed, active-inside, waiting-inside, failed-inside}
 
 -- A goal of the query has the query's place.
 of-place : (q : ℕ) (g : Goal) → of q g ≡ true → g .query ≡ q
@@ -26,16 +27,16 @@ unfolding of
 of-place q g e = eqb-true (g .query) q e
 
 module _ (atlas : Atlas) (q : ℕ) where
-  own-places : (gs : List Goal) → map (goal-word atlas) (those (of q) gs) ≡ map (λ h. q + 8 * atlas q .compound (h .goal .number)) (those (of q) gs)
+  own-places : (gs : List Goal) → map (goal-word atlas) (those (of q) gs) ≡ map (λ h. packed q (atlas q .compound (h .goal .number))) (those (of q) gs)
   unfolding those if_then_else_
   own-places [] = refl
   own-places (g ∷ gs) = go (of q g) refl (own-places gs)
     where
       go : (b : Bool) → of q g ≡ b
-          → map (goal-word atlas) (those (of q) gs) ≡ map (λ h. q + 8 * atlas q .compound (h .goal .number)) (those (of q) gs)
-          → map (goal-word atlas) (those (of q) (g ∷ gs)) ≡ map (λ h. q + 8 * atlas q .compound (h .goal .number)) (those (of q) (g ∷ gs))
+          → map (goal-word atlas) (those (of q) gs) ≡ map (λ h. packed q (atlas q .compound (h .goal .number))) (those (of q) gs)
+          → map (goal-word atlas) (those (of q) (g ∷ gs)) ≡ map (λ h. packed q (atlas q .compound (h .goal .number))) (those (of q) (g ∷ gs))
       go true e further =
-          rw e (ap₂ (λ (a : ℕ) (l : List ℕ). a ∷ l) (ap (λ (k : ℕ). k + 8 * atlas k .compound (g .goal .number)) (of-place q g e)) further)
+          rw e (ap₂ (λ (a : ℕ) (l : List ℕ). a ∷ l) (ap (λ (k : ℕ). packed k (atlas k .compound (g .goal .number))) (of-place q g e)) further)
       go false e further = rw e further
 
   own-held : (s : List ℕ) (figures : Room) (units : List QueryUnit) (gs : List Goal) → AllStand s figures atlas units gs → Each (λ g. Sound (as-term (g .goal))) gs

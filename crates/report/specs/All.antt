@@ -6,15 +6,15 @@ use lib.ListN.{length, getD}
 use Rattle.meaning.specs.Bytes.{Bytes, those}
 use Rattle.meaning.specs.Terms.{Query}
 use Rattle.meaning.specs.State.{Room, Goal, State, of}
-use Rattle.term.specs.Layout.{waiters-region, need-of}
+use Rattle.term.specs.Layout.{waiters-region, need-of, trial-region, pair-facts}
 use Rattle.term.specs.Setting.{Setting}
 use Rattle.term.specs.States.{Atlas, setting-at}
 use Rattle.term.specs.declared.state.Standing.{Standing}
 use Rattle.term.specs.declared.state.Verdict.{Verdict as Told}
-use Rattle.facts.specs.Threaded.{lines-seen}
-use Rattle.facts.specs.Laid.{capped}
-use Rattle.tallies.specs.Header.{run-line-of}
-use Rattle.sections.specs.Whole.{section-bytes, SectionStands, Numbers, Uncounted}
+use Rattle.report_pairs.specs.Threaded.{lines-seen}
+use Rattle.report_pairs.specs.Laid.{capped}
+use Rattle.report_tallies.specs.Header.{run-line-of}
+use Rattle.report_sections.specs.Whole.{section-bytes, SectionStands, Numbers, Uncounted}
 
 -- What a section is made of: its query's unit, variables and goals.
 pub record Made : Type 0 where
@@ -52,9 +52,9 @@ report-bytes s figures v t made n = run-line-of v (t .steps) ++ sections-bytes s
 -- Only what is kept of pairs has changed, and how many numbers were given.
 pub record FactsOnly (figures : Room) (s s′ : List ℕ) : Type 0 where
   pub size : length s′ ≡ length s
-  pub counter : (k : ℕ) → k < 39936 → getD s′ k 0 ≡ getD s k 0
-  pub before : (k : ℕ) → 39936 < k → k < waiters-region figures → getD s′ k 0 ≡ getD s k 0
-  pub behind : (k : ℕ) → waiters-region figures + 4 * figures .pairs ≤ k → getD s′ k 0 ≡ getD s k 0
+  pub counter : (k : ℕ) → k < trial-region → getD s′ k 0 ≡ getD s k 0
+  pub before : (k : ℕ) → trial-region < k → k < waiters-region figures → getD s′ k 0 ≡ getD s k 0
+  pub behind : (k : ℕ) → waiters-region figures + pair-facts * figures .pairs ≤ k → getD s′ k 0 ≡ getD s k 0
 
 -- The report is counted up to r; below the ceiling every section's pairs have their numbers.
 pub record AllCounted (s s′ : List ℕ) (text : Bytes) (figures : Room) (v : Told) (t : Standing) (made : ℕ → Made) (n r : ℕ) : Type 0 where

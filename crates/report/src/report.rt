@@ -1,10 +1,10 @@
 // The report: counted, then written if it fits.
-use facts::ends::forget;
-use facts::length::CEILING;
-use sections::sections::count_section;
-use sections::sections::write_section;
-use tallies::header::run_length;
-use tallies::header::run_line;
+use report_pairs::ends::forget;
+use report_pairs::length::CEILING;
+use report_sections::sections::count_section;
+use report_sections::sections::write_section;
+use report_tallies::header::run_length;
+use report_tallies::header::run_line;
 use term::layout;
 use term::layout::Room;
 use term::layout::TRIAL;
@@ -16,18 +16,18 @@ ghost use Prim.Native.Nat.{ℕ, _+_, _≤_, _<_};
 ghost use lib.ListN.{length, getD, set};
 ghost use Rattle.meaning.specs.Bytes.{Bytes};
 ghost use Rattle.meaning.specs.Terms.{Job};
-ghost use Rattle.term.specs.Layout.{figures};
+ghost use Rattle.term.specs.Layout.{figures, compounds-region, pairs-told};
 ghost use Rattle.term.specs.States.{Finished};
 ghost use Rattle.term.specs.Layout.{waiters-region};
-ghost use Rattle.facts.specs.Laid.{Puts};
-ghost use Rattle.sections.specs.Whole.{Uncounted, Numbers};
+ghost use Rattle.report_pairs.specs.Laid.{Puts};
+ghost use Rattle.report_sections.specs.Whole.{Uncounted, Numbers};
 ghost use Rattle.report.specs.All.{Made, Sections, AllCounted, order-of, report-bytes};
 ghost use Rattle.report.specs.Promise.{ReportIs};
 
 // The number of the room's pairs, for the chains' ends.
 fn note_pairs(s: &mut [u64], pairs: usize)
-    requires { ⌜ 40704 ≤ length (now s) ⌝ }
-    ensures { λ r. ⌜ now (s .exit) ≡ set (now (s .entry)) 39937 pairs ⌝ }
+    requires { ⌜ compounds-region ≤ length (now s) ⌝ }
+    ensures { λ r. ⌜ now (s .exit) ≡ set (now (s .entry)) pairs-told pairs ⌝ }
 {
     s[TRIAL + 1] = pairs as u64;
 }

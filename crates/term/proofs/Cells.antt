@@ -10,6 +10,7 @@ use Rattle.meaning.specs.Terms.{writer, reader, Constant, Term, Terms, end, mor
 use Rattle.term.specs.Cells.{Places, term-word, functor-word, stored, arguments-stored, Numbered, AllNumbered}
 use Rattle.term.specs.Frames.{Only}
 use Rattle.term.proofs.Frames.{only-same, only-set, only-then, only-wider}
+use Rattle.term.specs.Layout.{item-place}
 
 -- No term has the word 0.
 pub word-positive : (places : Places) (t : Term) → 0 < term-word places t
@@ -34,16 +35,16 @@ mutual
       omega (arith, numbered-order lo (k .0) t (k .1), all-numbered-order (k .0) hi ts (k .2))
 
 -- The places of an item's compounds begin at a base.
-module _ (places : Places) (base : ℕ) (at : (n : ℕ) → places .compound n ≡ 8 * (base + n)) where
+module _ (places : Places) (base : ℕ) (at : (n : ℕ) → places .compound n ≡ item-place base n) where
   mutual
     unfolding Numbered AllNumbered stored arguments-stored count
 
-    pub stored-only : (lo hi : ℕ) (t : Term) (s : List ℕ) → Numbered lo hi t → Only (8 * (base + lo)) (8 * (base + hi)) s (stored places t s)
-    stored-only lo hi (Term.variable h n) s k = only-same (8 * (base + lo)) (8 * (base + hi)) s
-    stored-only lo hi (Term.constant c) s k = only-same (8 * (base + lo)) (8 * (base + hi)) s
+    pub stored-only : (lo hi : ℕ) (t : Term) (s : List ℕ) → Numbered lo hi t → Only (item-place base lo) (item-place base hi) s (stored places t s)
+    stored-only lo hi (Term.variable h n) s k = only-same (item-place base lo) (item-place base hi) s
+    stored-only lo hi (Term.constant c) s k = only-same (item-place base lo) (item-place base hi) s
     stored-only lo hi (Term.compound n f ts) s k =
-        let l = 8 * (base + lo) in
-        let h = 8 * (base + hi) in
+        let l = item-place base lo in
+        let h = item-place base hi in
         let s′ = arguments-stored places n 0 ts s in
         only-then l h s s′ (set s′ (places .compound n) (functor-word places f (count ts)))
         (arguments-stored-only lo hi n 0 (lo + 1) ts s (k .0) (omega arith) (omega arith) (k .2))
@@ -53,18 +54,18 @@ module _ (places : Places) (base : ℕ) (at : (n : ℕ) → places .compound n �
 
     -- The arguments' words lie in the place of their compound, which has the number lo.
     pub arguments-stored-only : (lo hi n i from : ℕ) (ts : Terms) (s : List ℕ) → n ≡ lo → lo < from → i + count ts ≤ 6 → AllNumbered from hi ts
-        → Only (8 * (base + lo)) (8 * (base + hi)) s (arguments-stored places n i ts s)
-    arguments-stored-only lo hi n i from end s e b few k = only-same (8 * (base + lo)) (8 * (base + hi)) s
+        → Only (item-place base lo) (item-place base hi) s (arguments-stored places n i ts s)
+    arguments-stored-only lo hi n i from end s e b few k = only-same (item-place base lo) (item-place base hi) s
     arguments-stored-only lo hi n i from (more t ts) s e b few k =
-        let l = 8 * (base + lo) in
-        let h = 8 * (base + hi) in
+        let l = item-place base lo in
+        let h = item-place base hi in
         let mid = k .0 in
         let low : from ≤ mid = numbered-order from mid t (k .1) in
         let high : mid ≤ hi = all-numbered-order mid hi ts (k .2) in
         let s₁ = stored places t s in
         let s₂ = set s₁ (places .compound n + 1 + i) (term-word places t) in
         only-then l h s s₁ (arguments-stored places n (i + 1) ts s₂)
-        (only-wider (8 * (base + from)) (8 * (base + mid)) l h s s₁ (omega arith) (omega arith) (stored-only from mid t s (k .1)))
+        (only-wider (item-place base from) (item-place base mid) l h s s₁ (omega arith) (omega arith) (stored-only from mid t s (k .1)))
         (only-then l h s₁ s₂ (arguments-stored places n (i + 1) ts s₂)
         (only-set l h s₁ (places .compound n + 1 + i) (term-word places t) (omega (arith, at n)) (omega (arith, at n)))
         (arguments-stored-only lo hi n (i + 1) mid ts s₂ e (omega arith) (omega arith) (k .2)))
@@ -74,7 +75,7 @@ module _ (places : Places) (base : ℕ) (at : (n : ℕ) → places .compound n �
     unfolding Numbered AllNumbered stored arguments-stored count
 
     pub stored-set : (lo hi : ℕ) (t : Term) (s : List ℕ) (k v : ℕ) → Numbered lo hi t
-        → ((j : ℕ) → 8 * (base + lo) ≤ j → j < 8 * (base + hi) → k ≢ j) → stored places t (set s k v) ≡ set (stored places t s) k v
+        → ((j : ℕ) → item-place base lo ≤ j → j < item-place base hi → k ≢ j) → stored places t (set s k v) ≡ set (stored places t s) k v
     stored-set lo hi (Term.variable h n) s k v m outside = refl
     stored-set lo hi (Term.constant c) s k v m outside = refl
     stored-set lo hi (Term.compound n f ts) s k v m outside =
@@ -85,7 +86,7 @@ module _ (places : Places) (base : ℕ) (at : (n : ℕ) → places .compound n �
         ∙ set-comm (arguments-stored places n 0 ts s) k here v own (outside here (omega (arith, at n, m .0)) (omega (arith, at n, m .0)))
 
     pub arguments-stored-set : (lo hi n i from : ℕ) (ts : Terms) (s : List ℕ) (k v : ℕ) → n ≡ lo → lo < from → i + count ts ≤ 6
-        → AllNumbered from hi ts → ((j : ℕ) → 8 * (base + lo) ≤ j → j < 8 * (base + hi) → k ≢ j)
+        → AllNumbered from hi ts → ((j : ℕ) → item-place base lo ≤ j → j < item-place base hi → k ≢ j)
         → arguments-stored places n i ts (set s k v) ≡ set (arguments-stored places n i ts s) k v
     arguments-stored-set lo hi n i from end s k v e b few m outside = refl
     arguments-stored-set lo hi n i from (more t ts) s k v e b few m outside =

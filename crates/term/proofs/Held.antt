@@ -12,8 +12,9 @@ use Rattle.meaning.specs.Bytes.{Bytes, same}
 use Rattle.meaning.specs.Terms.{Named, Clause, as-term}
 use Rattle.term.specs.Cells.{Places, term-word, number-of, Numbered, KnownName}
 use Rattle.term.specs.Holds.{Holds}
-use Rattle.term.specs.Jobs.{clause-record, GoalsNumbered, ClauseLaid, HoldsGoals, Linked}
+use Rattle.term.specs.Jobs.{GoalsNumbered, ClauseLaid, HoldsGoals, Linked}
 use Rattle.term.proofs.Numbers.{same-equal, number-apart}
+use Rattle.term.specs.Layout.{clause-record}
 
 -- No clause is left where the word is 0; else the word is one more than the number of the next.
 module _ (s : List ℕ) (At : ℕ → Clause → Type 0) (w : ℕ) where

@@ -15,6 +15,7 @@ use Rattle.term.specs.Holds.{Holds, HoldsFrom, HoldsValue, HoldsValues}
 use Rattle.term.proofs.Frames.{only-set}
 use Rattle.term.proofs.Cells.{numbered-order, all-numbered-order, stored-only}
 use Rattle.term.proofs.Regions.{OnlyTwo, two-same, two-first, two-second, two-then, two-wider}
+use Rattle.term.specs.Layout.{item-place}
 
 -- A condition met by every number in reach is met by a term's.
 module _ (P Q : ℕ → Type 0) (h : (n : ℕ) → P n → Q n) where
@@ -103,18 +104,18 @@ module _ (s s′ : List ℕ) (places : Places) (P : ℕ → Type 0) (size : leng
   }
 
 -- A term that is numbered from lo up to hi, its compounds' places beginning at a base: where only words outside of its own differ.
-module _ (places : Places) (base : ℕ) (at : (n : ℕ) → places .compound n ≡ 8 * (base + n)) (wide : (n : ℕ) → places .width n ≡ 8) (s s′ : List ℕ) (size : length s ≤ length s′) where
-  own-words : (lo hi : ℕ) → ((k : ℕ) → 8 * (base + lo) ≤ k → k < 8 * (base + hi) → getD s′ k 0 ≡ getD s k 0)
+module _ (places : Places) (base : ℕ) (at : (n : ℕ) → places .compound n ≡ item-place base n) (wide : (n : ℕ) → places .width n ≡ 8) (s s′ : List ℕ) (size : length s ≤ length s′) where
+  own-words : (lo hi : ℕ) → ((k : ℕ) → item-place base lo ≤ k → k < item-place base hi → getD s′ k 0 ≡ getD s k 0)
       → (n : ℕ) → (lo ≤ n) × (n < hi) → (k : ℕ) → places .compound n ≤ k → k < places .compound n + places .width n → getD s′ k 0 ≡ getD s k 0
   own-words lo hi own n p k l h = own k (omega (arith, at n)) (omega (arith, at n, wide n))
 
-  pub holds-kept : (lo hi : ℕ) (t : Term) → ((k : ℕ) → 8 * (base + lo) ≤ k → k < 8 * (base + hi) → getD s′ k 0 ≡ getD s k 0)
+  pub holds-kept : (lo hi : ℕ) (t : Term) → ((k : ℕ) → item-place base lo ≤ k → k < item-place base hi → getD s′ k 0 ≡ getD s k 0)
       → Numbered lo hi t → Holds s places t → Holds s′ places t
   holds-kept lo hi t own k =
       holds-alike s s′ places (λ n. (lo ≤ n) × (n < hi)) size (own-words lo hi own) t
       (numbered-every lo hi t (λ n. (lo ≤ n) × (n < hi)) (λ n l h. (l, h)) k)
 
-  pub holds-from-kept : (n i lo hi : ℕ) (ts : Terms) → ((k : ℕ) → 8 * (base + lo) ≤ k → k < 8 * (base + hi) → getD s′ k 0 ≡ getD s k 0)
+  pub holds-from-kept : (n i lo hi : ℕ) (ts : Terms) → ((k : ℕ) → item-place base lo ≤ k → k < item-place base hi → getD s′ k 0 ≡ getD s k 0)
       → ((k : ℕ) → places .compound n + 1 + i ≤ k → k < places .compound n + places .width n → getD s′ k 0 ≡ getD s k 0)
       → i + count ts < places .width n → AllNumbered lo hi ts → HoldsFrom s places n i ts → HoldsFrom s′ places n i ts
   holds-from-kept n i lo hi ts own first few k =
@@ -122,13 +123,13 @@ module _ (places : Places) (base : ℕ) (at : (n : ℕ) → places .compound n �
       (all-numbered-every lo hi ts (λ n. (lo ≤ n) × (n < hi)) (λ n l h. (l, h)) k)
 
 -- What storing leaves.
-module _ (places : Places) (base : ℕ) (at : (n : ℕ) → places .compound n ≡ 8 * (base + n)) (wide : (n : ℕ) → places .width n ≡ 8) where
+module _ (places : Places) (base : ℕ) (at : (n : ℕ) → places .compound n ≡ item-place base n) (wide : (n : ℕ) → places .width n ≡ 8) where
   -- The arguments from the i-th on, stored, change only their words in the place of their compound, and their own compounds.
   arguments-two : (n i lo hi : ℕ) (ts : Terms) (s : List ℕ) → n < lo → i + count ts ≤ 6 → AllNumbered lo hi ts
-      → OnlyTwo (places .compound n + 1 + i) (places .compound n + 8) (8 * (base + lo)) (8 * (base + hi)) s (arguments-stored places n i ts s)
+      → OnlyTwo (places .compound n + 1 + i) (places .compound n + 8) (item-place base lo) (item-place base hi) s (arguments-stored places n i ts s)
   unfolding AllNumbered arguments-stored count
   arguments-two n i lo hi end s b few k =
-      two-same (places .compound n + 1 + i) (places .compound n + 8) (8 * (base + lo)) (8 * (base + hi)) s
+      two-same (places .compound n + 1 + i) (places .compound n + 8) (item-place base lo) (item-place base hi) s
   arguments-two n i lo hi (more t ts) s b few k =
       let p = places .compound n in
       let v = base + lo in
@@ -136,30 +137,30 @@ module _ (places : Places) (base : ℕ) (at : (n : ℕ) → places .compound n �
       let mid = k .0 in
       let low : lo ≤ mid = numbered-order lo mid t (k .1) in
       let high : mid ≤ hi = all-numbered-order mid hi ts (k .2) in
-      let place : places .compound n ≡ 8 * (base + n) = at n in
+      let place : places .compound n ≡ item-place base n = at n in
       let s₁ = stored places t s in
       let s₂ = set s₁ (p + 1 + i) (term-word places t) in
       let s₃ = arguments-stored places n (i + 1) ts s₂ in
       two-then (p + 1 + i) (p + 8) (8 * v) (8 * w) s s₁ s₃
-      (two-second (p + 1 + i) (p + 8) (8 * v) (8 * w) (8 * v) (8 * (base + mid)) s s₁ (omega arith) (omega arith) (omega arith)
+      (two-second (p + 1 + i) (p + 8) (8 * v) (8 * w) (8 * v) (item-place base mid) s s₁ (omega arith) (omega arith) (omega arith)
       (stored-only places base at lo mid t s (k .1)))
       (two-then (p + 1 + i) (p + 8) (8 * v) (8 * w) s₁ s₂ s₃
       (two-first (p + 1 + i) (p + 8) (8 * v) (8 * w) (p + 1 + i) (p + 8) s₁ s₂ (omega arith) (omega arith) (omega arith)
       (only-set (p + 1 + i) (p + 8) s₁ (p + 1 + i) (term-word places t) (omega arith) (omega arith)))
-      (two-wider (p + 1 + (i + 1)) (p + 8) (8 * (base + mid)) (8 * w) (p + 1 + i) (p + 8) (8 * v) (8 * w) s₂ s₃
+      (two-wider (p + 1 + (i + 1)) (p + 8) (item-place base mid) (8 * w) (p + 1 + i) (p + 8) (8 * v) (8 * w) s₂ s₃
       (omega arith) (omega arith) (omega arith) (omega arith)
       (arguments-two n (i + 1) mid hi ts s₂ (omega arith) (omega arith) (k .2))))
 
   mutual
     unfolding Numbered AllNumbered stored arguments-stored count Holds HoldsFrom
 
-    pub stored-holds : (lo hi : ℕ) (t : Term) (s : List ℕ) → Numbered lo hi t → 8 * (base + hi) ≤ length s → Holds (stored places t s) places t
+    pub stored-holds : (lo hi : ℕ) (t : Term) (s : List ℕ) → Numbered lo hi t → item-place base hi ≤ length s → Holds (stored places t s) places t
     stored-holds lo hi (Term.variable h n) s k room = tt
     stored-holds lo hi (Term.constant c) s k room = tt
     stored-holds lo hi (Term.compound n f ts) s k room =
         let p = places .compound n in
         let w = functor-word places f (count ts) in
-        let place : places .compound n ≡ 8 * (base + n) = at n in
+        let place : places .compound n ≡ item-place base n = at n in
         let first : n ≡ lo = k .0 in
         let order : lo + 1 ≤ hi = all-numbered-order (lo + 1) hi ts (k .2) in
         let few : 0 + count ts ≤ 6 = omega (arith, k .1) in
@@ -174,7 +175,7 @@ module _ (places : Places) (base : ℕ) (at : (n : ℕ) → places .compound n �
               (arguments-hold n 0 (lo + 1) hi ts s (omega arith) few (k .2) room),
         )
 
-    pub arguments-hold : (n i lo hi : ℕ) (ts : Terms) (s : List ℕ) → n < lo → i + count ts ≤ 6 → AllNumbered lo hi ts → 8 * (base + hi) ≤ length s
+    pub arguments-hold : (n i lo hi : ℕ) (ts : Terms) (s : List ℕ) → n < lo → i + count ts ≤ 6 → AllNumbered lo hi ts → item-place base hi ≤ length s
         → HoldsFrom (arguments-stored places n i ts s) places n i ts
     arguments-hold n i lo hi end s b few k room = tt
     arguments-hold n i lo hi (more t ts) s b few k room =
@@ -183,13 +184,13 @@ module _ (places : Places) (base : ℕ) (at : (n : ℕ) → places .compound n �
         let mid = k .0 in
         let low : lo ≤ mid = numbered-order lo mid t (k .1) in
         let high : mid ≤ hi = all-numbered-order mid hi ts (k .2) in
-        let place : places .compound n ≡ 8 * (base + n) = at n in
+        let place : places .compound n ≡ item-place base n = at n in
         let s₁ = stored places t s in
         let s₂ = set s₁ (p + 1 + i) v in
         let s₃ = arguments-stored places n (i + 1) ts s₂ in
         let size₁ : length s₁ ≡ length s = stored-only places base at lo mid t s (k .1) .size in
         let size₂ : length s₂ ≡ length s₁ = length-set s₁ (p + 1 + i) v in
-        let rest : OnlyTwo (p + 1 + (i + 1)) (p + 8) (8 * (base + mid)) (8 * (base + hi)) s₂ s₃
+        let rest : OnlyTwo (p + 1 + (i + 1)) (p + 8) (item-place base mid) (item-place base hi) s₂ s₃
         = arguments-two n (i + 1) mid hi ts s₂ (omega arith) (omega arith) (k .2) in (
           rest .below (p + 1 + i) (omega arith) ∙ getD-set-same s₁ (p + 1 + i) v 0 (omega arith),
           holds-kept places base at wide s₁ s₃ (omega (arith, rest .size)) lo mid t

@@ -12,27 +12,12 @@ use Rattle.meaning.specs.Terms.{Named, Clause, Query, Job, as-term, count}
 use Rattle.meaning.specs.Trial.{procedure}
 use Rattle.term.specs.Cells.{Places, KnownName, number-of}
 use Rattle.term.specs.Frames.{Only}
-use Rattle.term.specs.Jobs.{
-  places-from,
-  clause-record,
-  clause-base,
-  query-record,
-  query-base,
-  GoalsNumbered,
-  HoldsGoals,
-  HoldsClause,
-  HoldsQuery,
-  EachFrom,
-  Linked,
-  procedure-place,
-  ClauseAt,
-  HoldsJob,
-  JobKept,
-}
+use Rattle.term.specs.Jobs.{places-from, GoalsNumbered, HoldsGoals, HoldsClause, HoldsQuery, EachFrom, Linked, procedure-place, ClauseAt, HoldsJob, JobKept}
 use Rattle.term.proofs.Cells.{numbered-order}
 use Rattle.term.proofs.Frames.{only-set}
 use Rattle.term.proofs.Holds.{holds-kept}
 use Rattle.term.proofs.Numbers.{number-below}
+use Rattle.term.specs.Layout.{trial-region, item-start, item-end, item-place, clause-record, clause-base, query-record, query-base, query-goals-from, clause-goals-from}
 
 -- Each of a list, one by one; a condition that follows for those below a bound.
 pub each-at : {A : Type 0} (P : ℕ → A → Type 0) (k i : ℕ) (l : List A) (d : A) → i < length l → EachFrom P k l → P (k + i) (getD l i d)
@@ -68,10 +53,10 @@ goals-numbered-order lo hi (g ∷ gs) k =
     omega (arith, numbered-order lo (k .0) (as-term g) (k .1), goals-numbered-order (k .0) hi gs (k .2))
 
 -- Goals stay held where their words and the words of their compounds stay.
-module _ (places : Places) (base : ℕ) (at : (n : ℕ) → places .compound n ≡ 8 * (base + n)) (wide : (n : ℕ) → places .width n ≡ 8) (s s′ : List ℕ) (size : length s ≤ length s′) where
+module _ (places : Places) (base : ℕ) (at : (n : ℕ) → places .compound n ≡ item-place base n) (wide : (n : ℕ) → places .width n ≡ 8) (s s′ : List ℕ) (size : length s ≤ length s′) where
   pub holds-goals-kept : (place i lo hi : ℕ) (gs : List Named)
       → ((k : ℕ) → i ≤ k → k < i + length gs → getD s′ (place + k) 0 ≡ getD s (place + k) 0)
-      → ((k : ℕ) → 8 * (base + lo) ≤ k → k < 8 * (base + hi) → getD s′ k 0 ≡ getD s k 0)
+      → ((k : ℕ) → item-place base lo ≤ k → k < item-place base hi → getD s′ k 0 ≡ getD s k 0)
       → GoalsNumbered lo hi gs → HoldsGoals s places place i gs → HoldsGoals s′ places place i gs
   unfolding GoalsNumbered HoldsGoals
   holds-goals-kept place i lo hi [] own cells k h = tt
@@ -87,7 +72,7 @@ module _ (places : Places) (base : ℕ) (at : (n : ℕ) → places .compound n �
 -- A clause stays held where the words of its record behind the first stay, and those of its compounds.
 module _ (s s′ : List ℕ) (names : List Bytes) (k : ℕ) (size : length s ≤ length s′) where
   pub holds-clause-kept : (c : Clause) → ((i : ℕ) → 1 ≤ i → i < 16 → getD s′ (clause-record k + i) 0 ≡ getD s (clause-record k + i) 0)
-      → ((i : ℕ) → 8 * clause-base k ≤ i → i < 8 * (clause-base k + 32) → getD s′ i 0 ≡ getD s i 0)
+      → ((i : ℕ) → item-start (clause-base k) ≤ i → i < item-end (clause-base k) → getD s′ i 0 ≡ getD s i 0)
       → HoldsClause s names k c → HoldsClause s′ names k c
   unfolding GoalsNumbered
   holds-clause-kept c own cells h =
@@ -105,15 +90,15 @@ module _ (s s′ : List ℕ) (names : List Bytes) (k : ℕ) (size : length s ≤
         goals = own 3 (omega arith) (omega arith) ∙ h .goals;
         head = holds-kept (places-from names (clause-base k)) (clause-base k) (λ n. refl) (λ n. refl) s s′ size 0 mid (as-term (c .head))
             (λ j l m. cells j (omega arith) (omega arith)) (numbered .1) (h .head);
-        body = holds-goals-kept (places-from names (clause-base k)) (clause-base k) (λ n. refl) (λ n. refl) s s′ size (clause-record k + 4) 0 mid hi (c .body)
-            (λ j l m. let e : clause-record k + 4 + j ≡ clause-record k + (4 + j) = omega arith in rw e (own (4 + j) (omega arith) (omega arith)))
+        body = holds-goals-kept (places-from names (clause-base k)) (clause-base k) (λ n. refl) (λ n. refl) s s′ size (clause-goals-from k) 0 mid hi (c .body)
+            (λ j l m. let e : clause-goals-from k + j ≡ clause-record k + (4 + j) = omega arith in rw e (own (4 + j) (omega arith) (omega arith)))
             (λ j l m. cells j (omega arith) (omega arith)) (numbered .2) (h .body);
       }
 
   -- A query, where the words of its record but 3 and 4 stay.
   pub holds-query-kept : (q : Query)
       → ((i : ℕ) → i < 16 → i ≢ 3 → i ≢ 4 → getD s′ (query-record k + i) 0 ≡ getD s (query-record k + i) 0)
-      → ((i : ℕ) → 8 * query-base k ≤ i → i < 8 * (query-base k + 32) → getD s′ i 0 ≡ getD s i 0)
+      → ((i : ℕ) → item-start (query-base k) ≤ i → i < item-end (query-base k) → getD s′ i 0 ≡ getD s i 0)
       → HoldsQuery s names k q → HoldsQuery s′ names k q
   holds-query-kept q own cells h =
       let hi = q .compounds in
@@ -125,8 +110,8 @@ module _ (s s′ : List ℕ) (names : List Bytes) (k : ℕ) (size : length s ≤
         goals = (rw first at (own 0 (omega arith) (omega arith) (omega arith))) ∙ h .goals;
         pairs = own 1 (omega arith) (omega arith) (omega arith) ∙ h .pairs;
         compounds = own 2 (omega arith) (omega arith) (omega arith) ∙ h .compounds;
-        words = holds-goals-kept (places-from names (query-base k)) (query-base k) (λ n. refl) (λ n. refl) s s′ size (query-record k + 8) 0 0 hi (q .goals)
-            (λ j l m. let e : query-record k + 8 + j ≡ query-record k + (8 + j) = omega arith in
+        words = holds-goals-kept (places-from names (query-base k)) (query-base k) (λ n. refl) (λ n. refl) s s′ size (query-goals-from k) 0 0 hi (q .goals)
+            (λ j l m. let e : query-goals-from k + j ≡ query-record k + (8 + j) = omega arith in
             rw e (own (8 + j) (omega arith) (omega arith) (omega arith)))
             (λ j l m. cells j (omega arith) (omega arith)) (h .laid .numbered) (h .words);
       }
@@ -179,7 +164,7 @@ job-kept-then s t u a b = record {
   items = λ k l h. b .items k l h ∙ a .items k l h;
 }
 
-pub job-kept-above : (lo hi : ℕ) (s s′ : List ℕ) → 39936 ≤ lo → Only lo hi s s′ → JobKept s s′
+pub job-kept-above : (lo hi : ℕ) (s s′ : List ℕ) → trial-region ≤ lo → Only lo hi s s′ → JobKept s s′
 job-kept-above lo hi s s′ above only = record {
   size = omega (arith, only .size);
   before = λ k h. only .below k (omega arith);
@@ -187,7 +172,7 @@ job-kept-above lo hi s s′ above only = record {
   items = λ k l h. only .below k (omega arith);
 }
 
-pub job-kept-set : (s : List ℕ) (k v : ℕ) → 39936 ≤ k → JobKept s (set s k v)
+pub job-kept-set : (s : List ℕ) (k v : ℕ) → trial-region ≤ k → JobKept s (set s k v)
 job-kept-set s k v above = job-kept-above k (k + 1) s (set s k v) above (only-set k (k + 1) s k v (omega arith) (omega arith))
 
 module _ (s : List ℕ) (p w v : ℕ) (query : p < 8) (low : 3 ≤ w) (high : w ≤ 4) where

@@ -6,9 +6,10 @@ use native.Mathlib.Omega.{arith}
 use lib.ListN.{length, getD}
 use Rattle.meaning.specs.Bytes.{Bytes}
 use Rattle.meaning.specs.Terms.{Job}
-use Rattle.term.specs.Jobs.{query-record, HoldsJob, JobKept}
+use Rattle.term.specs.Jobs.{HoldsJob, JobKept}
 use Rattle.term.specs.Spellings.{SpelledAt, HoldsSpellings, HoldsVariables, HoldsText}
 use Rattle.term.proofs.Jobs.{each-map}
+use Rattle.term.specs.Layout.{query-record, query-variables-from, query-end}
 
 pub holds-spellings-kept : (s s′ : List ℕ) (text : Bytes) (place : ℕ) (fs : List Bytes)
     → ((k : ℕ) → place ≤ k → k < place + 2 * length fs → getD s′ k 0 ≡ getD s k 0)
@@ -41,12 +42,12 @@ holds-text-kept s s′ text names job held kept h =
           (λ k q l m v. let few : length (q .variables) ≤ 16 = v .few in
           record {
             few = v .few;
-            held = holds-spellings-kept s s′ text (query-record k + 16) (q .variables) (λ w a b. record-word k w (omega arith) a (omega arith)) (v .held);
+            held = holds-spellings-kept s s′ text (query-variables-from k) (q .variables) (λ w a b. record-word k w (omega arith) a (omega arith)) (v .held);
           })
           (h .variables-held);
     }
   where
-    record-word : (k w : ℕ) → k < 8 → query-record k + 16 ≤ w → w < query-record k + 64 → getD s′ w 0 ≡ getD s w 0
+    record-word : (k w : ℕ) → k < 8 → query-variables-from k ≤ w → w < query-end k → getD s′ w 0 ≡ getD s w 0
     record-word k w few low high =
         let i = w - query-record k in
         let whole : query-record k + i ≡ w = omega arith in

@@ -3,10 +3,10 @@ use Prim.Native.Nat.{ℕ, zero, suc, _+_, _*_, _/_, _%_, _<_}
 use mathlib.Core.Path.{_≡_, refl}
 use native.Mathlib.Omega.{arith}
 use Rattle.meaning.specs.Terms.{Half, writer, reader}
-use Rattle.term.specs.Words.{Content, nothing, variable, integer, name, empty, compound, word, view, view-of}
+use Rattle.term.specs.Words.{Content, nothing, variable, integer, name, empty, compound, word, view, view-of, packed}
 use Rattle.term.specs.declared.word.View.the-variants.{Compound}
 
-apart : (tag n : ℕ) → tag < 8 → ((tag + 8 * n) % 8 ≡ tag) × ((tag + 8 * n) / 8 ≡ n)
+apart : (tag n : ℕ) → tag < 8 → ((packed tag n) % 8 ≡ tag) × ((packed tag n) / 8 ≡ n)
 apart tag n h = (omega arith, omega arith)
 
 pub view-word : (t : Content) → view (word t % 8) (word t / 8) ≡ view-of t

@@ -19,7 +19,7 @@ use Rattle.meaning.specs.Terms.{
   more,
   count,
 }
-use Rattle.term.specs.Words.{Content, word}
+use Rattle.term.specs.Words.{Content, word, packed}
 
 -- Which number each name has, at which place each pair lies and at which word each compound, and how many words are the compound's own.
 pub record Places : Type 0 where
@@ -58,7 +58,7 @@ functor-number places cell = 0
 functor-number places (named f) = number-of f (places .names) + 1
 
 abbrev pub functor-word : Places → Functor → ℕ → ℕ
-functor-word places f k = k + 8 * functor-number places f
+functor-word places f k = packed k (functor-number places f)
 
 -- The scratch with a term's compounds stored: of each the arguments' own compounds and words from left to right, then its functor.
 unfoldable mutual

@@ -11,23 +11,11 @@ use Rattle.meaning.specs.Terms.{Named, named, Clause, Query, Job, count, as-ter
 use Rattle.meaning.specs.Trial.{procedure}
 use Rattle.term.specs.Cells.{Places, term-word, functor-word, Numbered, KnownName, Known}
 use Rattle.term.specs.Holds.{Holds}
+use Rattle.term.specs.Layout.{queries-region, items-region, trial-region, compounds-region, item-place, procedure-slot, clause-record, clause-base, query-record, query-base, query-pairs-word, query-compounds-word, query-goals-from, clause-pairs-word, clause-compounds-word, clause-goals-word, clause-goals-from}
 
 -- An item's own places: pairs by their numbers, compounds from the item's first place on.
 abbrev pub places-from : List Bytes → ℕ → Places
-places-from names base = record { names = names; pair = λ n. n; compound = λ n. 8 * (base + n); width = λ n. 8 }
-
--- Where the clause k has its record and its first compound, and where the query k has them.
-abbrev pub clause-record : ℕ → ℕ
-clause-record k = 2560 + 16 * k
-
-abbrev pub clause-base : ℕ → ℕ
-clause-base k = 640 + 32 * k
-
-abbrev pub query-record : ℕ → ℕ
-query-record k = 4608 + 64 * k
-
-abbrev pub query-base : ℕ → ℕ
-query-base k = 640 + 32 * (128 + k)
+places-from names base = record { names = names; pair = λ n. n; compound = λ n. item-place base n; width = λ n. 8 }
 
 -- Heads and goals one behind the other, their compounds numbered from lo up to hi.
 unfoldable pub GoalsNumbered : ℕ → ℕ → List Named → Type 0
@@ -63,19 +51,19 @@ HoldsGoals s places place i (g ∷ gs) =
 -- The clause k: how many pairs, compounds and body goals it has, then its body goals. The record's first word is the link.
 pub record HoldsClause (s : List ℕ) (names : List Bytes) (k : ℕ) (c : Clause) : Type 0 where
   pub laid : ClauseLaid names c
-  pub pairs : getD s (clause-record k + 1) 0 ≡ c .pairs
-  pub compounds : getD s (clause-record k + 2) 0 ≡ c .compounds
-  pub goals : getD s (clause-record k + 3) 0 ≡ length (c .body)
+  pub pairs : getD s (clause-pairs-word k) 0 ≡ c .pairs
+  pub compounds : getD s (clause-compounds-word k) 0 ≡ c .compounds
+  pub goals : getD s (clause-goals-word k) 0 ≡ length (c .body)
   pub head : Holds s (places-from names (clause-base k)) (as-term (c .head))
-  pub body : HoldsGoals s (places-from names (clause-base k)) (clause-record k + 4) 0 (c .body)
+  pub body : HoldsGoals s (places-from names (clause-base k)) (clause-goals-from k) 0 (c .body)
 
 -- The query k: how many goals, pairs and compounds it has, and its goals. The record's words 3 and 4 are no part of it.
 pub record HoldsQuery (s : List ℕ) (names : List Bytes) (k : ℕ) (q : Query) : Type 0 where
   pub laid : QueryLaid names q
   pub goals : getD s (query-record k) 0 ≡ length (q .goals)
-  pub pairs : getD s (query-record k + 1) 0 ≡ length (q .variables)
-  pub compounds : getD s (query-record k + 2) 0 ≡ q .compounds
-  pub words : HoldsGoals s (places-from names (query-base k)) (query-record k + 8) 0 (q .goals)
+  pub pairs : getD s (query-pairs-word k) 0 ≡ length (q .variables)
+  pub compounds : getD s (query-compounds-word k) 0 ≡ q .compounds
+  pub words : HoldsGoals s (places-from names (query-base k)) (query-goals-from k) 0 (q .goals)
 
 -- Each of a list, by its place counted from k on.
 unfoldable pub EachFrom : {A : Type 0} → (ℕ → A → Type 0) → ℕ → List A → Type 0
@@ -89,7 +77,7 @@ Linked s At w (c ∷ cs) = (k : ℕ) × (w ≡ k + 1) × At k c × Linked s At (
 
 -- Where the procedure of a goal has its word: by the first word of the goal's compound.
 abbrev pub procedure-place : List Bytes → Named → ℕ
-procedure-place names goal = 504 + functor-word (places-from names 0) (named (goal .name)) (count (goal .arguments))
+procedure-place names goal = procedure-slot (functor-word (places-from names 0) (named (goal .name)) (count (goal .arguments)))
 
 -- No name stands twice.
 unfoldable pub Distinct : List Bytes → Type 0
@@ -101,7 +89,7 @@ pub record ClauseAt (s : List ℕ) (names : List Bytes) (k : ℕ) (c : Clause) :
   pub held : HoldsClause s names k c
 
 pub record HoldsJob (s : List ℕ) (names : List Bytes) (job : Job) : Type 0 where
-  pub inside : 40704 ≤ length s
+  pub inside : compounds-region ≤ length s
   pub few-names : length names ≤ 256
   pub distinct : Distinct names
   pub few-clauses : length (job .clauses) ≤ 128
@@ -115,6 +103,6 @@ pub record HoldsJob (s : List ℕ) (names : List Bytes) (job : Job) : Type 0 whe
 -- compounds.
 pub record JobKept (s s′ : List ℕ) : Type 0 where
   pub size : length s ≤ length s′
-  pub before : (k : ℕ) → k < 4608 → getD s′ k 0 ≡ getD s k 0
+  pub before : (k : ℕ) → k < queries-region → getD s′ k 0 ≡ getD s k 0
   pub records : (q i : ℕ) → q < 8 → i < 64 → i ≢ 3 → i ≢ 4 → getD s′ (query-record q + i) 0 ≡ getD s (query-record q + i) 0
-  pub items : (k : ℕ) → 5120 ≤ k → k < 39936 → getD s′ k 0 ≡ getD s k 0
+  pub items : (k : ℕ) → items-region ≤ k → k < trial-region → getD s′ k 0 ≡ getD s k 0

@@ -1,7 +1,24 @@
--- The regions of the scratch, each by its first word, and how many words a call needs for its room figures.
-use Prim.Native.Nat.{ℕ, _+_, _*_, _≤_}
+-- The scratch: each region, each part of one, each stride by its name; how many words a call needs for its room figures. The drawing stands in
+-- src/layout.rt, whose constants have the same names. Nothing outside this crate has a number of a region: to move one, move it here and there.
+use Prim.Native.Nat.{ℕ, _+_, _*_, _-_, _/_, _≤_}
 use Rattle.meaning.specs.State.{Room}
 use Rattle.term.specs.declared.layout.Room.{Room as Figures}
+
+-- Strides: a clause's record, a query's record; the compounds of an item, and the words of a compound there and in the room.
+abbrev pub clause-stride : ℕ
+clause-stride = 16
+
+abbrev pub query-stride : ℕ
+query-stride = 64
+
+abbrev pub item-compounds : ℕ
+item-compounds = 32
+
+abbrev pub compound-words : ℕ
+compound-words = 8
+
+abbrev pub item-words : ℕ
+item-words = item-compounds * compound-words
 
 -- The names of the text, two words a name: where it first stands, and its length.
 abbrev pub names-region : ℕ
@@ -9,31 +26,143 @@ names-region = 0
 
 -- For each name and number of arguments the first clause of that procedure, plus one.
 abbrev pub procedures-region : ℕ
-procedures-region = 512
+procedures-region = names-region + 512
 
--- The clauses' records, 16 words a clause.
+-- The clauses' records.
 abbrev pub clauses-region : ℕ
-clauses-region = 2560
+clauses-region = procedures-region + 2048
 
--- The queries' records, 64 words a query.
+-- The queries' records.
 abbrev pub queries-region : ℕ
-queries-region = 4608
+queries-region = clauses-region + 128 * clause-stride
 
--- The compounds of the clauses and then of the queries, 32 an item, 8 words a compound.
+-- The compounds of the clauses and then of the queries.
 abbrev pub items-region : ℕ
-items-region = 5120
+items-region = queries-region + 8 * query-stride
 
 -- What a trial works with.
 abbrev pub trial-region : ℕ
-trial-region = 39936
+trial-region = items-region + 136 * item-words
 
 -- The compounds of the room; its pairs and goals stand behind them.
 abbrev pub compounds-region : ℕ
-compounds-region = 40704
+compounds-region = trial-region + 768
+
+-- A procedure has its word by the first word of a goal: the number of arguments and eight times the name's number and one, so at least eight.
+abbrev pub procedure-slot : ℕ → ℕ
+procedure-slot w = procedures-region - 8 + w
+
+-- The record of the clause k: the next clause of its procedure, plus one; its pairs, compounds and body goals counted; the body goals' words.
+abbrev pub clause-record : ℕ → ℕ
+clause-record k = clauses-region + clause-stride * k
+
+abbrev pub clause-pairs-word : ℕ → ℕ
+clause-pairs-word k = clause-record k + 1
+
+abbrev pub clause-compounds-word : ℕ → ℕ
+clause-compounds-word k = clause-record k + 2
+
+abbrev pub clause-goals-word : ℕ → ℕ
+clause-goals-word k = clause-record k + 3
+
+abbrev pub clause-goals-from : ℕ → ℕ
+clause-goals-from k = clause-record k + 4
+
+abbrev pub clause-end : ℕ → ℕ
+clause-end k = clause-record k + clause-stride
+
+-- The record of the query k: its goals, pairs and compounds counted; the run's first pair and tries; the goals' words; the variables' spellings.
+abbrev pub first-pair-at : ℕ
+first-pair-at = 3
+
+abbrev pub tries-at : ℕ
+tries-at = 4
+
+abbrev pub query-record : ℕ → ℕ
+query-record k = queries-region + query-stride * k
+
+abbrev pub query-pairs-word : ℕ → ℕ
+query-pairs-word k = query-record k + 1
+
+abbrev pub query-compounds-word : ℕ → ℕ
+query-compounds-word k = query-record k + 2
+
+abbrev pub query-first-pair-word : ℕ → ℕ
+query-first-pair-word k = query-record k + first-pair-at
+
+abbrev pub query-tries-word : ℕ → ℕ
+query-tries-word k = query-record k + tries-at
+
+abbrev pub query-goals-from : ℕ → ℕ
+query-goals-from k = query-record k + 8
+
+abbrev pub query-variables-from : ℕ → ℕ
+query-variables-from k = query-record k + 16
+
+abbrev pub query-end : ℕ → ℕ
+query-end k = query-record k + query-stride
+
+-- The compounds of an item stand from its base on, a base counted in compounds: the clause k has one, and the query k behind all clauses.
+abbrev pub items-base : ℕ
+items-base = items-region / compound-words
+
+abbrev pub clause-base : ℕ → ℕ
+clause-base k = items-base + item-compounds * k
+
+abbrev pub query-base : ℕ → ℕ
+query-base k = items-base + item-compounds * (128 + k)
+
+abbrev pub trial-base : ℕ
+trial-base = items-base + item-compounds * 136
+
+abbrev pub item-place : ℕ → ℕ → ℕ
+item-place base n = compound-words * (base + n)
+
+abbrev pub item-start : ℕ → ℕ
+item-start base = compound-words * base
+
+abbrev pub item-end : ℕ → ℕ
+item-end base = compound-words * (base + item-compounds)
+
+abbrev pub clause-head : ℕ → ℕ
+clause-head k = items-region + item-words * k
+
+abbrev pub query-items-region : ℕ
+query-items-region = items-region + 128 * item-words
+
+-- The parts of the trial's region: 16 words for what the head's writers are given; two words for each of 192 of the goal's pairs that are given a
+-- term, the pair and the term; the pairs of the readers waited on; the goals woken; the goal's arguments, followed.
+abbrev pub gifts-part : ℕ
+gifts-part = trial-region + 16
+
+abbrev pub gift-pair : ℕ → ℕ
+gift-pair n = gifts-part + 2 * n
+
+abbrev pub gift-term : ℕ → ℕ
+gift-term n = gifts-part + 1 + 2 * n
+
+abbrev pub readers-part : ℕ
+readers-part = gifts-part + 384
+
+abbrev pub woken-part : ℕ
+woken-part = readers-part + 128
+
+abbrev pub followed-part : ℕ
+followed-part = woken-part + 192
+
+abbrev pub followed-from : ℕ
+followed-from = followed-part + 1
+
+abbrev pub followed-end : ℕ
+followed-end = followed-part + 7
+
+-- When the run has ended, the report has the room's pairs told in the second word of the trial's region.
+abbrev pub pairs-told : ℕ
+pairs-told = trial-region + 1
 
 -- Behind the compounds: of each pair its value, its waiter, the next pair of the same waiting goal, its mark, the end of its chain.
 abbrev pub values-region : Room → ℕ
-values-region room = 40704 + 8 * room .compounds
+values-region room = compounds-region + compound-words * room .compounds
 
 abbrev pub waiters-region : Room → ℕ
 waiters-region room = values-region room + room .pairs
@@ -44,8 +173,16 @@ sets-region room = values-region room + 2 * room .pairs
 abbrev pub marks-region : Room → ℕ
 marks-region room = values-region room + 3 * room .pairs
 
+-- The ends stand behind the values at four words a pair of the room.
+abbrev pub ends-after : ℕ
+ends-after = 4
+
 abbrev pub ends-region : Room → ℕ
-ends-region room = values-region room + 4 * room .pairs
+ends-region room = values-region room + ends-after * room .pairs
+
+-- What the report keeps of a pair, in the four words from its waiter to its end.
+abbrev pub pair-facts : ℕ
+pair-facts = 4
 
 -- The goals: the queue, the waiting log of two places a goal and two words a place, the failed goals.
 abbrev pub queue-region : Room → ℕ
@@ -59,7 +196,11 @@ failed-region room = queue-region room + 5 * room .goals
 
 -- The need in 64-bit words: 8 a compound, 5 a pair and 6 a goal behind the regions of fixed size.
 abbrev pub need-of : Room → ℕ
-need-of room = 40704 + 8 * room .compounds + 5 * room .pairs + 6 * room .goals
+need-of room = compounds-region + compound-words * room .compounds + 5 * room .pairs + 6 * room .goals
+
+-- The need by its three figures.
+abbrev pub need-for : ℕ → ℕ → ℕ → ℕ
+need-for pairs compounds goals = need-of (record { pairs = pairs; compounds = compounds; goals = goals })
 
 -- The figures that the code has, as those of the definitions.
 abbrev pub figures : Figures → Room

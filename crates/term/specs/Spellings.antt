@@ -6,7 +6,8 @@ use lib.ListN.{length, getD}
 use lib.Seq.{slice}
 use Rattle.meaning.specs.Bytes.{Bytes}
 use Rattle.meaning.specs.Terms.{Query, Job}
-use Rattle.term.specs.Jobs.{query-record, EachFrom}
+use Rattle.term.specs.Jobs.{EachFrom}
+use Rattle.term.specs.Layout.{query-variables-from}
 
 -- So many bytes of the text from an offset on are this spelling.
 pub record SpelledAt (text : Bytes) (at size : ℕ) (f : Bytes) : Type 0 where
@@ -21,7 +22,7 @@ HoldsSpellings s text place (f ∷ fs) = SpelledAt text (getD s place 0) (getD s
 -- The variables of the query k, in its record.
 pub record HoldsVariables (s : List ℕ) (text : Bytes) (k : ℕ) (q : Query) : Type 0 where
   pub few : length (q .variables) ≤ 16
-  pub held : HoldsSpellings s text (query-record k + 16) (q .variables)
+  pub held : HoldsSpellings s text (query-variables-from k) (q .variables)
 
 -- The names of the text, and the variables of its queries.
 pub record HoldsText (s : List ℕ) (text : Bytes) (names : List Bytes) (job : Job) : Type 0 where

@@ -13,13 +13,14 @@ use Rattle.meaning.specs.Items.{job, reading}
 use Rattle.meaning.specs.State.{Room, QueryUnit, Goal, Waiting, Goals, State, unit-at, number-of}
 use Rattle.meaning.specs.Run.{Verdict, rest, budget, room, Ended, run, queries-fit}
 use Rattle.term.specs.Cells.{Places}
-use Rattle.term.specs.Jobs.{query-record, EachFrom, HoldsJob}
+use Rattle.term.specs.Jobs.{EachFrom, HoldsJob}
 use Rattle.term.specs.Spellings.{HoldsText}
 use Rattle.term.specs.Setting.{Setting, UnitTerm, UnitStands}
-use Rattle.term.specs.Layout.{values-region, queue-region, waiting-region, failed-region, need-of, InRange}
+use Rattle.term.specs.Layout.{values-region, queue-region, waiting-region, failed-region, need-of, InRange, trial-region, compounds-region, compound-words, query-record, query-first-pair-word, query-tries-word}
 use Rattle.term.specs.declared.state.Standing.{Standing}
 use Rattle.term.specs.declared.state.Verdict.{Verdict as Told}
 use Rattle.term.specs.declared.state.Verdict.the-variants.{Rest, Budget, Room as NoRoom}
+use Rattle.term.specs.Words.{packed}
 
 -- Where the pairs and compounds of each query's unit lie, by the query's place.
 abbrev pub Atlas : Type 0
@@ -34,7 +35,7 @@ setting-at figures atlas units k = setting figures (atlas k) (unit-at k units)
 
 -- A goal is one word: eight times its compound's place, and its query.
 abbrev pub goal-word : Atlas → Goal → ℕ
-goal-word atlas g = g .query + 8 * atlas (g .query) .compound (g .goal .number)
+goal-word atlas g = packed (g .query) (atlas (g .query) .compound (g .goal .number))
 
 -- Where everything lies: the units' pairs at places of their own below the pairs charged, their compounds below the first free word, which is no
 -- further on than eight words for each compound charged.
@@ -42,20 +43,20 @@ pub record Lies (names : List Bytes) (figures : Room) (atlas : Atlas) (units : L
   pub names-are : (k : ℕ) → atlas k .names ≡ names
   pub pairs-fit : pairs ≤ figures .pairs
   pub compounds-fit : compounds ≤ figures .compounds
-  pub cells-fit : cells ≤ 40704 + 8 * compounds
+  pub cells-fit : cells ≤ compounds-region + compound-words * compounds
   pub pair-below : (k n : ℕ) → k < length units → n < length (unit-at k units .values) → atlas k .pair n < pairs
   pub pair-apart : (k l n m : ℕ) → k < length units → l < length units → n < length (unit-at k units .values) → m < length (unit-at l units .values)
       → atlas k .pair n ≡ atlas l .pair m → (k ≡ l) × (n ≡ m)
-  pub compound-behind : (k n : ℕ) → k < length units → n < unit-at k units .compounds → 40704 ≤ atlas k .compound n
+  pub compound-behind : (k n : ℕ) → k < length units → n < unit-at k units .compounds → compounds-region ≤ atlas k .compound n
   pub compound-below : (k n : ℕ) → k < length units → n < unit-at k units .compounds → atlas k .compound n + atlas k .width n ≤ cells
 
 -- Of each query: its unit, its number of tries, and where its own pairs begin.
 pub record UnitsStand (s : List ℕ) (figures : Room) (atlas : Atlas) (units : List QueryUnit) : Type 0 where
   pub unit : (k : ℕ) → k < length units → UnitStands s (setting-at figures atlas units k) (values-region figures)
-  pub tries : (k : ℕ) → k < length units → getD s (query-record k + 4) 0 ≡ unit-at k units .tries
+  pub tries : (k : ℕ) → k < length units → getD s (query-tries-word k) 0 ≡ unit-at k units .tries
 
 abbrev pub FirstPair : List ℕ → Atlas → ℕ → Query → Type 0
-FirstPair s atlas k q = (n : ℕ) → n < length (q .variables) → atlas k .pair n ≡ getD s (query-record k + 3) 0 + n
+FirstPair s atlas k q = (n : ℕ) → n < length (q .variables) → atlas k .pair n ≡ getD s (query-first-pair-word k) 0 + n
 
 -- A goal: a compound of its query's unit.
 pub record GoalStands (s : List ℕ) (figures : Room) (atlas : Atlas) (units : List QueryUnit) (g : Goal) : Type 0 where
@@ -130,7 +131,7 @@ pub record Ready (s : List ℕ) (text : Bytes) (names : List Bytes) (figures : R
   pub held : HoldsJob s names j
   pub text-held : HoldsText s text names j
   pub records-zero : (q i : ℕ) → q < 8 → (i ≡ 3) ⊎ (i ≡ 4) → getD s (query-record q + i) 0 ≡ 0
-  pub zero : (k : ℕ) → 39936 ≤ k → k < need-of figures → getD s k 0 ≡ 0
+  pub zero : (k : ℕ) → trial-region ≤ k → k < need-of figures → getD s k 0 ≡ 0
 
 abbrev pub verdict-of : Told → Verdict
 verdict-of Rest = rest

@@ -13,14 +13,44 @@ pub data Content : Type 0 where
   empty : Content
   compound : ℕ → Content
 
+-- A tag and the rest in one word, and a word taken apart. A functor's word and a goal's word are packed alike.
+abbrev pub packed : ℕ → ℕ → ℕ
+packed tag rest = tag + 8 * rest
+
+abbrev pub tag-in : ℕ → ℕ
+tag-in w = w % 8
+
+abbrev pub rest-in : ℕ → ℕ
+rest-in w = w / 8
+
+-- The words by their tags.
+abbrev pub writer-word : ℕ → ℕ
+writer-word place = packed 1 place
+
+abbrev pub reader-word : ℕ → ℕ
+reader-word place = packed 2 place
+
+abbrev pub integer-word : ℕ → ℕ
+integer-word bits = packed 3 bits
+
+abbrev pub name-word : ℕ → ℕ
+name-word number = packed 4 number
+
+abbrev pub compound-word : ℕ → ℕ
+compound-word place = packed 6 place
+
+-- No term has the tag 7: it stands before a number of the code's own among words of terms.
+abbrev pub probe-word : ℕ → ℕ
+probe-word number = packed 7 number
+
 abbrev pub word : Content → ℕ
 word nothing = 0
-word (variable writer place) = 1 + 8 * place
-word (variable reader place) = 2 + 8 * place
-word (integer bits) = 3 + 8 * bits
-word (name number) = 4 + 8 * number
+word (variable writer place) = writer-word place
+word (variable reader place) = reader-word place
+word (integer bits) = integer-word bits
+word (name number) = name-word number
 word empty = 5
-word (compound place) = 6 + 8 * place
+word (compound place) = compound-word place
 
 abbrev pub view-of : Content → View
 view-of nothing = Nothing

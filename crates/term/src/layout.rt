@@ -1,38 +1,96 @@
-// The regions of the scratch, in 64-bit words. A compound's place is the number of its first word: its functor's, behind which its arguments' stand.
+// The regions of the scratch, in 64-bit words, for the room figures P pairs, C compounds and G goals. Every region, part of a region and stride has its
+// name here and, in the same words, in specs/Layout; no other crate has its number. A compound's place is the number of its first word: its functor's,
+// behind which its arguments' stand.
 //
-//      0  names       2 a name, 256 names: where it first stands in the text, and its length
-//    512  procedures  at 8 * name + arguments: the first clause of that procedure, plus one
-//   2560  clauses     16 a clause, 128 clauses: the next clause of its procedure, plus one; pairs; compounds; body goals; their places at 4
-//   4608  queries     64 a query, 8 queries: goals; pairs; compounds; first pair and tries of the run; the goals' places at 8;
-//                     the variables' first bytes and lengths, 2 a variable, at 16
-//   5120  items       8 a compound, 32 compounds an item, 128 clauses and 8 queries
-//  39936  trial       what a trial has given, its waiting readers, the goals that it wakes and the goal's arguments, followed
-//  40704  compounds   8 a compound of the room; one behind the other, each with as many words as it has arguments and one
+//      0  NAMES       2 a name, 256 names: where it first stands in the text, and its length
+//    512  PROCEDURES  at 8 * name + arguments: the first clause of that procedure, plus one
+//   2560  CLAUSES     CLAUSE_STRIDE = 16 a clause, 128 clauses: at CLAUSE_NEXT the next clause of its procedure, plus one; at CLAUSE_PAIRS,
+//                     CLAUSE_COMPOUNDS and CLAUSE_GOALS how many it has; at CLAUSE_BODY the body goals' words
+//   4608  QUERIES     QUERY_STRIDE = 64 a query, 8 queries: at QUERY_GOALS, QUERY_PAIRS and QUERY_COMPOUNDS how many it has; at QUERY_FIRST_PAIR and
+//                     QUERY_TRIES what the run counts; at QUERY_BODY the goals' words; at QUERY_VARIABLES the variables' first bytes and lengths,
+//                     2 a variable
+//   5120  ITEMS       COMPOUND_WORDS = 8 a compound, ITEM_COMPOUNDS = 32 compounds an item, 128 clauses and 8 queries
+//  39936  TRIAL       what a step works with, in five parts:
+//  39936                the head's writers: 16 words, what each is given, or 0
+//  39952  GIFTS         2 words for each of the goal's pairs that is given a term of the head, 192 of them: the pair, the term
+//  40336  READERS       128 words: the pairs of the readers waited on
+//  40464  WOKEN         192 words: the places in the waiting log of the goals woken
+//  40656  FOLLOWED      at 1 to 6 the goal's arguments, followed; 48 words in all
+//                     When the run has ended, the report keeps the pairs numbered so far in the first word, and P in the second.
+//  40704  COMPOUNDS   8 C: one behind the other, each with as many words as it has arguments and one
 //         values      1 a pair: what it was assigned, or 0
 //         waiters     1 a pair: the place in the waiting log of the goal that waits on it, plus one
 //         sets        1 a pair: the next pair that the same goal waits on, plus one
 //         marks       1 a pair: 0; 1 if no unassigned pair is reached from it; or the stamp of the last search of the circle test that visited it
-//         ends        1 a pair: where its chain was seen to lead, or 0
+//         ends        1 a pair: where its chain was seen to lead, or 0; ENDS_AFTER = 4 words a pair behind the values
 //         queue       1 a goal
 //         waiting     4 a goal: two places a goal, each with the goal and the first pair it waits on
 //         failed      1 a goal
 //
-// The report has waiters to ends as four words a pair for purposes of its own.
+// The report has waiters to ends as PAIR_FACTS = 4 words a pair for purposes of its own.
 
 ghost use mathlib.Core.Path.{_≡_};
 ghost use Rattle.term.specs.Layout.{need-of, figures, InRange, values-region, waiters-region, sets-region, marks-region, ends-region, queue-region, waiting-region, failed-region};
 
-pub const PROCEDURES: usize = 512;
+pub const NAMES: usize = 0;
 
-pub const CLAUSES: usize = 2560;
+pub const PROCEDURES: usize = NAMES + 512;
 
-pub const QUERIES: usize = 4608;
+pub const CLAUSES: usize = PROCEDURES + 2048;
 
-pub const ITEMS: usize = 5120;
+pub const CLAUSE_STRIDE: usize = 16;
 
-pub const TRIAL: usize = 39936;
+pub const CLAUSE_NEXT: usize = 0;
 
-pub const COMPOUNDS: usize = 40704;
+pub const CLAUSE_PAIRS: usize = 1;
+
+pub const CLAUSE_COMPOUNDS: usize = 2;
+
+pub const CLAUSE_GOALS: usize = 3;
+
+pub const CLAUSE_BODY: usize = 4;
+
+pub const QUERIES: usize = CLAUSES + 128 * CLAUSE_STRIDE;
+
+pub const QUERY_STRIDE: usize = 64;
+
+pub const QUERY_GOALS: usize = 0;
+
+pub const QUERY_PAIRS: usize = 1;
+
+pub const QUERY_COMPOUNDS: usize = 2;
+
+pub const QUERY_FIRST_PAIR: usize = 3;
+
+pub const QUERY_TRIES: usize = 4;
+
+pub const QUERY_BODY: usize = 8;
+
+pub const QUERY_VARIABLES: usize = 16;
+
+pub const ITEMS: usize = QUERIES + 8 * QUERY_STRIDE;
+
+pub const ITEM_COMPOUNDS: usize = 32;
+
+pub const COMPOUND_WORDS: usize = 8;
+
+pub const ITEM_WORDS: usize = ITEM_COMPOUNDS * COMPOUND_WORDS;
+
+pub const TRIAL: usize = ITEMS + 136 * ITEM_WORDS;
+
+pub const GIFTS: usize = TRIAL + 16;
+
+pub const READERS: usize = GIFTS + 384;
+
+pub const WOKEN: usize = READERS + 128;
+
+pub const FOLLOWED: usize = WOKEN + 192;
+
+pub const COMPOUNDS: usize = TRIAL + 768;
+
+pub const ENDS_AFTER: usize = 4;
+
+pub const PAIR_FACTS: usize = 4;
 
 // The room figures that a call is given.
 pub struct Room {
@@ -46,7 +104,7 @@ pub fn need(room: Room) -> usize
     requires { ⌜ InRange (figures room) ⌝ }
     ensures { λ r. ⌜ r ≡ need-of (figures room) ⌝ }
 {
-    40704 + 8 * room.compounds + 5 * room.pairs + 6 * room.goals
+    COMPOUNDS + COMPOUND_WORDS * room.compounds + 5 * room.pairs + 6 * room.goals
 }
 
 // The first words of the regions behind the compounds.
@@ -54,54 +112,54 @@ pub fn values(room: Room) -> usize
     requires { ⌜ InRange (figures room) ⌝ }
     ensures { λ r. ⌜ r ≡ values-region (figures room) ⌝ }
 {
-    40704 + 8 * room.compounds
+    COMPOUNDS + COMPOUND_WORDS * room.compounds
 }
 
 pub fn waiters(room: Room) -> usize
     requires { ⌜ InRange (figures room) ⌝ }
     ensures { λ r. ⌜ r ≡ waiters-region (figures room) ⌝ }
 {
-    40704 + 8 * room.compounds + room.pairs
+    COMPOUNDS + COMPOUND_WORDS * room.compounds + room.pairs
 }
 
 pub fn sets(room: Room) -> usize
     requires { ⌜ InRange (figures room) ⌝ }
     ensures { λ r. ⌜ r ≡ sets-region (figures room) ⌝ }
 {
-    40704 + 8 * room.compounds + 2 * room.pairs
+    COMPOUNDS + COMPOUND_WORDS * room.compounds + 2 * room.pairs
 }
 
 pub fn marks(room: Room) -> usize
     requires { ⌜ InRange (figures room) ⌝ }
     ensures { λ r. ⌜ r ≡ marks-region (figures room) ⌝ }
 {
-    40704 + 8 * room.compounds + 3 * room.pairs
+    COMPOUNDS + COMPOUND_WORDS * room.compounds + 3 * room.pairs
 }
 
 pub fn ends(room: Room) -> usize
     requires { ⌜ InRange (figures room) ⌝ }
     ensures { λ r. ⌜ r ≡ ends-region (figures room) ⌝ }
 {
-    40704 + 8 * room.compounds + 4 * room.pairs
+    COMPOUNDS + COMPOUND_WORDS * room.compounds + 4 * room.pairs
 }
 
 pub fn queue(room: Room) -> usize
     requires { ⌜ InRange (figures room) ⌝ }
     ensures { λ r. ⌜ r ≡ queue-region (figures room) ⌝ }
 {
-    40704 + 8 * room.compounds + 5 * room.pairs
+    COMPOUNDS + COMPOUND_WORDS * room.compounds + 5 * room.pairs
 }
 
 pub fn waiting(room: Room) -> usize
     requires { ⌜ InRange (figures room) ⌝ }
     ensures { λ r. ⌜ r ≡ waiting-region (figures room) ⌝ }
 {
-    40704 + 8 * room.compounds + 5 * room.pairs + room.goals
+    COMPOUNDS + COMPOUND_WORDS * room.compounds + 5 * room.pairs + room.goals
 }
 
 pub fn failed(room: Room) -> usize
     requires { ⌜ InRange (figures room) ⌝ }
     ensures { λ r. ⌜ r ≡ failed-region (figures room) ⌝ }
 {
-    40704 + 8 * room.compounds + 5 * room.pairs + 5 * room.goals
+    COMPOUNDS + COMPOUND_WORDS * room.compounds + 5 * room.pairs + 5 * room.goals
 }

@@ -1,6 +1,10 @@
 // The call for hosts: one exported function, with the number as its result and line and length through references.
+// `troscunel_call` requires nothing and promises number, line and length of the definition's answer, and both buffers; proofs/OneAnswer has that two
+// answers to one call are equal.
+// Read specs/Exported for the contract, include/troscunel.h for what a host has to know.
 use job::call::Answer;
 use job::call::call;
+use loader::refusal::Refusal;
 ghost use mathlib.Core.Path.{_≡_};
 ghost use Rattle.meaning.specs.Call.{number, line-of, length-of, call as call-of};
 ghost use Rattle.term.specs.Layout.{need-of};
@@ -16,9 +20,11 @@ fn number_of(a: Answer) -> u32
         Answer::OutOfRange => 1,
         Answer::ScratchShort => 2,
         Answer::TextLong => 3,
-        Answer::NoItems(_) => 4,
-        Answer::OccurrenceBroken(_) => 5,
-        Answer::FigurePassed(_) => 6,
+        Answer::Refused(why) => match why {
+            Refusal::NoItems(_) => 4,
+            Refusal::OccurrenceBroken(_) => 5,
+            Refusal::FigurePassed(_) => 6,
+        },
         Answer::QueriesPassRoom => 7,
         Answer::ReportLong(_) => 8,
     }
@@ -28,9 +34,11 @@ fn line_of(a: Answer) -> usize
     ensures { λ r. ⌜ r ≡ line-of (answer-of a) ⌝ }
 {
     match a {
-        Answer::NoItems(at) => at,
-        Answer::OccurrenceBroken(at) => at,
-        Answer::FigurePassed(at) => at,
+        Answer::Refused(why) => match why {
+            Refusal::NoItems(at) => at,
+            Refusal::OccurrenceBroken(at) => at,
+            Refusal::FigurePassed(at) => at,
+        },
         Answer::Ran(_) => 0,
         Answer::OutOfRange => 0,
         Answer::ScratchShort => 0,
@@ -49,9 +57,7 @@ fn length_of(a: Answer) -> usize
         Answer::OutOfRange => 0,
         Answer::ScratchShort => 0,
         Answer::TextLong => 0,
-        Answer::NoItems(_) => 0,
-        Answer::OccurrenceBroken(_) => 0,
-        Answer::FigurePassed(_) => 0,
+        Answer::Refused(_) => 0,
         Answer::QueriesPassRoom => 0,
     }
 }

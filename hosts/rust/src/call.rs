@@ -2,7 +2,7 @@
 //! here.
 #![allow(unsafe_code)]
 
-use crate::machine::Room;
+use crate::room::Room;
 
 extern "C" {
     /// `include/troscunel.h` has it in C. It keeps no pointer and calls nothing back.

@@ -48,10 +48,12 @@
 mod answer;
 mod call;
 mod machine;
+mod room;
 
 pub use answer::{Answer, Refusal};
 pub use call::{call, Given};
-pub use machine::{Job, Machine, Room};
+pub use machine::{Job, Machine};
+pub use room::Room;
 
 /// The longest report of any call, in bytes. A buffer that is longer has no use.
 pub const LONGEST_REPORT: usize = 16_777_216;

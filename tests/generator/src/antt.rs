@@ -1,7 +1,8 @@
 //! Jobs as cases of the definitions: what the proof checker is given to compute.
 //!
-//! A case is the record `Case` of the definitions, with the reference's answer as the expected one. Its text and its
-//! report are definitions of their own. The statement over a list of one case is that none of its cases fails.
+//! A case is the record `Case` of the definitions, with the reference's answer as the expected one. What it expects of
+//! report buffer and scratch follows from that answer by `expected-buffer` and `expected-scratch` there, which use none
+//! of the call's own definitions. Its text and its report are definitions of their own. The statement over a list of one case is that none of its cases fails.
 
 use std::fmt::Write;
 

@@ -35,17 +35,20 @@ refused-requires-3 c κs = search needs
 enum-known-answer-2 : tie.Need-enum-known-answer-2
 enum-known-answer-2 c = search needs
 
+enum-known-why : tie.Need-enum-known-why
+enum-known-why c = search needs
+
 refused-requires-4 : tie.Need-refused-requires-4
 refused-requires-4 c κs = search needs
 
-enum-known-answer-3 : tie.Need-enum-known-answer-3
-enum-known-answer-3 c = search needs
+enum-known-why-2 : tie.Need-enum-known-why-2
+enum-known-why-2 c = search needs
 
 refused-requires-5 : tie.Need-refused-requires-5
 refused-requires-5 c κs = search needs
 
-enum-known-answer-4 : tie.Need-enum-known-answer-4
-enum-known-answer-4 c = search needs
+enum-known-why-3 : tie.Need-enum-known-why-3
+enum-known-why-3 c = search needs
 
 refused-requires-6 : tie.Need-refused-requires-6
 refused-requires-6 c κs = search needs
@@ -103,10 +106,11 @@ show-spec =
     enum-told-3
     refused-requires-3
     enum-known-answer-2
+    enum-known-why
     refused-requires-4
-    enum-known-answer-3
+    enum-known-why-2
     refused-requires-5
-    enum-known-answer-4
+    enum-known-why-3
     refused-requires-6
     enum-told-4
     refused-requires-7

@@ -14,7 +14,7 @@ use Rattle.meaning.specs.Step.{unit-after, step}
 use Rattle.meaning.specs.Run.{choice-for, run}
 use Rattle.laws.proofs.Lists.{differ}
 use Rattle.laws.proofs.Trial.{value-replicate, unit-at-set, reduces-by-trial, trial-succeeds}
-use Rattle.laws.proofs.Runs.{Kept, run-keeps}
+use Rattle.laws.proofs.Runs.{KeptByStep, run-keeps}
 use Rattle.laws.proofs.Circle.Leaning.{Leans, Links, one, first}
 use Rattle.laws.proofs.Circle.Search.{no-circle-says}
 
@@ -58,7 +58,7 @@ unit-after-no-circle clauses unit goal before = go (choice clauses unit goal) re
     go (joins-waiting readers) e = before
     go joins-failed e = before
 
-step-no-circle : (clauses : List Clause) (figures : Room) → Kept clauses figures NoCircle
+step-no-circle : (clauses : List Clause) (figures : Room) → KeptByStep clauses figures NoCircle
 unfolding step choice-for
 step-no-circle clauses figures state g others queue fit before place =
     unit-at-set (λ u. circle (u .values) ≡ false) (state .units) (g .query) place

@@ -37,7 +37,7 @@ use Rattle.meaning.specs.Report.{
   variable-bytes,
   number-in,
   integer-bytes,
-  Standing,
+  Role,
   alone,
   tail,
   behind-bar,
@@ -113,19 +113,19 @@ unfolding integer-bytes no-break bytes byte
 integer-plain (plus n) = decimal-plain n
 integer-plain (minus n) = plain-append (bytes "-") (decimal n) refl (decimal-plain n)
 
-behind-bar-plain : (standing : Standing) (cs : Bytes) → Plain cs → Plain (behind-bar standing cs)
+behind-bar-plain : (standing : Role) (cs : Bytes) → Plain cs → Plain (behind-bar standing cs)
 unfolding behind-bar no-break bytes byte
 behind-bar-plain alone cs p = p
 behind-bar-plain tail cs p = plain-append (bytes "|" ++ cs) (bytes "]") (plain-append (bytes "|") cs refl p) refl
 
-constant-plain : (standing : Standing) (k : Constant) → Constant-spelled Plain k → Plain (constant-bytes standing k)
+constant-plain : (standing : Role) (k : Constant) → Constant-spelled Plain k → Plain (constant-bytes standing k)
 unfolding constant-bytes empty-bytes Constant-spelled no-break bytes byte
 constant-plain standing (integer i) s = behind-bar-plain standing (integer-bytes i) (integer-plain i)
 constant-plain standing (name f) s = behind-bar-plain standing f s
 constant-plain alone empty s = refl
 constant-plain tail empty s = refl
 
-before-element-plain : (standing : Standing) → Plain (before-element standing)
+before-element-plain : (standing : Role) → Plain (before-element standing)
 unfolding before-element no-break bytes byte
 before-element-plain alone = refl
 before-element-plain tail = refl
@@ -143,7 +143,7 @@ module _ (pairs : List ℕ) where
   mutual
     unfolding written element-and-tail tail-bytes first-argument other-arguments Spelled All-spelled Functor-spelled no-break
 
-    pub written-plain : (standing : Standing) (t : Term) → Spelled Plain t → Plain (written pairs standing t)
+    pub written-plain : (standing : Role) (t : Term) → Spelled Plain t → Plain (written pairs standing t)
     written-plain standing (variable h p) s = behind-bar-plain standing (variable-bytes pairs h p) (variable-plain pairs h p)
     written-plain standing (constant k) s = constant-plain standing k s
     written-plain standing (compound n cell ts) s =

@@ -10,8 +10,8 @@ use Rattle.meaning.specs.Step.{step, without-front}
 use Rattle.meaning.specs.Run.{fits, choice-for, room, ended, onward, run}
 
 -- A property is kept by the steps that a run takes.
-abbrev pub Kept : List Clause → Room → (State → Type 0) → Type 0
-Kept clauses figures P =
+abbrev pub KeptByStep : List Clause → Room → (State → Type 0) → Type 0
+KeptByStep clauses figures P =
     (state : State) (g : Goal) (others : List Goal)
     → state .goals .queue ≡ g ∷ others
     → fits figures (choice-for clauses state g) state (without-front others (state .goals)) ≡ true
@@ -33,7 +33,7 @@ module _ (clauses : List Clause) (figures : Room) (left : ℕ) (state : State) (
   unfolding onward
   onward-stops f = rw (f, onward)
 
-module _ (clauses : List Clause) (figures : Room) (P : State → Type 0) (kept : Kept clauses figures P) where
+module _ (clauses : List Clause) (figures : Room) (P : State → Type 0) (kept : KeptByStep clauses figures P) where
   onward-keeps : (left : ℕ) (state : State) (queue : List Goal) → state .goals .queue ≡ queue → P state
       → P (onward left clauses figures state queue .state)
   unfolding onward ended after
@@ -50,7 +50,7 @@ module _ (clauses : List Clause) (figures : Room) (P : State → Type 0) (kept :
       go true f further = rw (onward-takes clauses figures left state g others f) (further (kept state g others e f p))
       go false f further = rw (onward-stops clauses figures left state g others f) p
 
-pub run-keeps : (job : Job) (figures : Room) (P : State → Type 0) → Kept (job .clauses) figures P → P (start (job .queries))
+pub run-keeps : (job : Job) (figures : Room) (P : State → Type 0) → KeptByStep (job .clauses) figures P → P (start (job .queries))
     → (limit : ℕ) → P (run job limit figures .state)
 unfolding run
 run-keeps job figures P kept p limit =

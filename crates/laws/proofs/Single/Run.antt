@@ -11,7 +11,7 @@ use Rattle.meaning.specs.State.{Room, value, State, unit-at, first-unit, goals-
 use Rattle.meaning.specs.Run.{choice-for, run}
 use Rattle.laws.proofs.Lists.{Each, sum, sum-append, differ}
 use Rattle.laws.proofs.Trial.{value-replicate}
-use Rattle.laws.proofs.Runs.{Kept, run-keeps}
+use Rattle.laws.proofs.Runs.{KeptByStep, run-keeps}
 use Rattle.laws.proofs.Runs.Charges.{step-units}
 use Rattle.laws.proofs.Reading.{QueryOk, JobOk}
 use Rattle.laws.proofs.Single.Balance.{Balanced, balanced-less}
@@ -79,7 +79,7 @@ pub run-sound : (job : Job) → JobOk job → (limit : ℕ) (figures : Room) →
 unfolding start
 run-sound job ok limit figures = run-keeps job figures (SoundAll (length (job .queries))) kept first limit
   where
-    kept : Kept (job .clauses) figures (SoundAll (length (job .queries)))
+    kept : KeptByStep (job .clauses) figures (SoundAll (length (job .queries)))
     kept state g others front fit s =
         record {
           units = step-units (choice-for (job .clauses) state g) g others state ∙ s .units;

@@ -21,12 +21,19 @@ fine label goal = of-bytes label (query-of goal) (fails-with goal)
 unfoldable pub refused-behind : String → Bytes → ℕ → ℕ → Case
 refused-behind label written number line = of-bytes label (bytes "p(a).\n?- " ++ written) (refuses number line)
 
+-- 51 clauses with 255 names: a head's, a functor's inside it and three constants' in each.
+unfoldable pub names-255 : Bytes
+names-255 =
+    for-each 51
+    (λ k. bytes "a" ++ decimal k ++ bytes "(b" ++ decimal k ++ bytes "(c" ++ decimal k ++ bytes ",d" ++ decimal k ++ bytes "),e" ++ decimal k ++ bytes ",0).\n")
+
 unfoldable pub figures-cases : List Case
 figures-cases =
     fine "6 arguments" (bytes "p(1,2,3,4,5,6)")
     ∷ refused-behind "7 arguments" (bytes "p(1,2,3,4,5,6,\n7).") 6 2
     ∷ refused-behind "a seventh argument that cannot stand" (bytes "p(1,2,3,4,5,6,\n).") 4 3
     ∷ refused-behind "a seventh argument that is a bad token" (bytes "p(1,2,3,4,5,6,\n12abc).") 4 3
+    ∷ refused-behind "a seventh argument is judged by its first token" (bytes "p(1,2,3,4,5,6,f(\n!") 6 2
     ∷ refused-behind "cut off behind the sixth argument's comma" (bytes "p(1,2,3,4,5,6,\n") 4 2
     ∷ refused-behind "an earlier 4 is before a later 6" (bytes "p(a\nb,1,2,3,4,5,6,7).") 4 3
     ∷ refused-behind "an earlier 6 is before a later 4" (bytes "p(1,2,3,4,5,6,7,\n!") 6 2
@@ -38,10 +45,10 @@ figures-cases =
     ∷ fine "32 compounds, by list cells" (bytes "p([1" ++ times 30 ",1" ++ bytes "])")
     ∷ refused-behind "33 compounds, by list cells" (bytes "p([1" ++ times 30 ",1" ++ bytes ",\n1]).") 6 2
     ∷ refused-behind "a thirty-third element that cannot stand" (bytes "p([1" ++ times 30 ",1" ++ bytes ",\n]).") 4 3
-    ∷ refused-behind "a cell is counted at its element's first token" (bytes "p([1" ++ times 30 ",1" ++ bytes ",\n1 1]).") 6 2
+    ∷ refused-behind "a cell is counted at its element's first token" (bytes "p([1" ++ times 30 ",1" ++ bytes ",[\n!") 6 2
     ∷ of-bytes "32 compounds, by parentheses" (bytes "q(a).\n?- p([" ++ times 14 "f(1)," ++ bytes "f(1)],2), q(a).") (prints (bytes "run rest steps 2\nquery 1 tries 2 active 0 waiting 0 failed 1\nfailed p([" ++ times 14 "f(1)," ++ bytes "f(1)],2)\n"))
-    ∷ refused-behind "33 compounds, by parentheses" (bytes "p([" ++ times 14 "f(1)," ++ bytes "f(1)],2), q(a),\nr(1).") 6 2
-    ∷ refused-behind "a cell before the compounds inside its element" (bytes "p([" ++ times 14 "f(1)," ++ bytes "f(1),\nf(1)],2).") 6 2
+    ∷ refused-behind "33 compounds, by parentheses" (bytes "p([" ++ times 14 "f(1)," ++ bytes "f(1)],2), q(a), r(\n!") 6 2
+    ∷ refused-behind "a cell before the compounds inside its element" (bytes "p([" ++ times 14 "f(1)," ++ bytes "f(1),f(\n!") 6 2
     ∷ refused-behind "a bare name where the thirty-third compound would open" (bytes "p([" ++ times 14 "f(1)," ++ bytes "f(1)],2), q(a), r\n.") 4 3
     ∷ fine "16 brackets" (bytes "p(" ++ times 15 "[" ++ bytes "1" ++ times 15 "]" ++ bytes ")")
     ∷ refused-behind "17 brackets" (bytes "p(" ++ times 15 "[" ++ bytes "\n[1" ++ times 16 "]" ++ bytes ").") 6 2
@@ -49,7 +56,7 @@ figures-cases =
     ∷ fine "16 brackets, the last an empty list's" (bytes "p(" ++ times 14 "[" ++ bytes "[]" ++ times 14 "]" ++ bytes ")")
     ∷ refused-behind "17 brackets, the last an empty list's" (bytes "p(" ++ times 15 "[" ++ bytes "\n[]" ++ times 15 "]" ++ bytes ").") 6 2
     ∷ refused-behind "a seventeenth bracket that cannot stand" (bytes "p(" ++ times 15 "[" ++ bytes "1\n[1" ++ times 16 "]" ++ bytes ").") 4 3
-    ∷ refused-behind "closed brackets are open no more" (times 7 "p([[[[[[[[1]]]]]]]]),\n" ++ bytes "p(!).") 6 2
+    ∷ fine "closed brackets are open no more" (bytes "p([[]" ++ times 17 ",[]" ++ bytes "])")
     ∷ of-bytes "8 query goals" (bytes "p(a).\n?- " ++ times 7 "p(a), " ++ bytes "p(a).") (shows "run rest steps 8\nquery 1 tries 8 active 0 waiting 0 failed 0\n")
     ∷ refused-behind "9 query goals" (times 8 "p(a)," ++ bytes "\np(a).") 6 2
     ∷ refused-behind "a ninth goal that cannot stand" (times 8 "p(a)," ++ bytes "\n[].") 4 3
@@ -62,11 +69,12 @@ figures-cases =
     ∷ of-bytes "128 clauses" (times 128 "p(a).\n" ++ bytes "?- p(a).") (shows "run rest steps 1\nquery 1 tries 1 active 0 waiting 0 failed 0\n")
     ∷ of-bytes "129 clauses, whatever follows" (times 128 "p(a).\n" ++ bytes "p!") (refuses 6 129)
     ∷ of-bytes "behind 128 clauses a token that begins no item" (times 128 "p(a).\n" ++ bytes "X") (refuses 4 129)
-    ∷ of-bytes "256 names, integers and lists none of them" (for-each 51 (λ k. bytes "a" ++ decimal k ++ bytes "(b" ++ decimal k ++ bytes ",c" ++ decimal k ++ bytes ",d" ++ decimal k ++ bytes ",e" ++ decimal k ++ bytes ",0).\n") ++ bytes "?- last([1,2]).") (shows "run rest steps 1\nquery 1 tries 1 active 0 waiting 0 failed 1\nfailed last([1,2])\n")
-    ∷ of-bytes "257 names" (for-each 51 (λ k. bytes "a" ++ decimal k ++ bytes "(b" ++ decimal k ++ bytes ",c" ++ decimal k ++ bytes ",d" ++ decimal k ++ bytes ",e" ++ decimal k ++ bytes ",0).\n") ++ bytes "?- last(a1,\na1,\none,!).") (refuses 6 52)
-    ∷ of-bytes "a 257th name that cannot stand" (for-each 51 (λ k. bytes "a" ++ decimal k ++ bytes "(b" ++ decimal k ++ bytes ",c" ++ decimal k ++ bytes ",d" ++ decimal k ++ bytes ",e" ++ decimal k ++ bytes ",0).\n") ++ bytes "?- last(a1\none).") (refuses 4 53)
+    ∷ of-bytes "256 names, integers and lists none of them" (names-255 ++ bytes "?- last([1,2]).") (shows "run rest steps 1\nquery 1 tries 1 active 0 waiting 0 failed 1\nfailed last([1,2])\n")
+    ∷ of-bytes "257 names" (names-255 ++ bytes "?- last(a1,\na1,\none,!).") (refuses 6 52)
+    ∷ of-bytes "257 names, the last a head's before its parenthesis, one a query's" (names-255 ++ bytes "?- last(a1).\none\n!") (refuses 6 53)
+    ∷ of-bytes "a 257th name that cannot stand" (names-255 ++ bytes "?- last(a1\none).") (refuses 4 53)
     ∷ []
 
 unfoldable pub figures-words : Unit {0}
-unfolding words-words fails-with query-of fine refused-behind figures-cases
+unfolding words-words fails-with query-of fine refused-behind names-255 figures-cases
 figures-words = tt

@@ -1,5 +1,9 @@
 -- `troscunel::length_of` meets its contract.
+use mathlib.Core.Path.{_≡_, refl}
 use Rattle.meaning.specs.Call.{length-of}
+use Rattle.loader.specs.Refusals.{refusal-answer}
+use Rattle.loader.specs.declared.refusal.Refusal.{Refusal}
+use Rattle.loader.specs.declared.refusal.Refusal.the-variants.{NoItems, OccurrenceBroken, FigurePassed}
 use borrow.Author.Needs.{needs}
 use Rattle.troscunel.proofs.length_of.Statement.{statement}
 use Rattle.troscunel.proofs.length_of.Tie as tie
@@ -25,47 +29,39 @@ enum-told-4 c = search needs
 enum-told-5 : tie.Need-enum-told-5
 enum-told-5 c = search needs
 
-enum-told-6 : tie.Need-enum-told-6
-enum-told-6 c = search needs
-
-enum-told-7 : tie.Need-enum-told-7
-enum-told-7 c = search needs
-
 returns : tie.Need-returns
 unfolding length-of
-returns c = rw (c .before .a .given .1)
+returns c = search needs
 
 returns-2 : tie.Need-returns-2
 unfolding length-of
-returns-2 c = rw (c .before .a2 .given .1)
+returns-2 c = search needs
 
 returns-3 : tie.Need-returns-3
 unfolding length-of
-returns-3 c = rw (c .enum-told .given .1)
+returns-3 c = search needs
 
 returns-4 : tie.Need-returns-4
 unfolding length-of
-returns-4 c = rw (c .enum-told2 .given .1)
+returns-4 c = search needs
 
 returns-5 : tie.Need-returns-5
 unfolding length-of
-returns-5 c = rw (c .enum-told3 .given .1)
+returns-5 c = search needs
+
+-- No refusal of the text has a length.
+refused-length : (why : Refusal) → 0 ≡ length-of (refusal-answer why)
+unfolding length-of
+refused-length (NoItems at) = refl
+refused-length (OccurrenceBroken at) = refl
+refused-length (FigurePassed at) = refl
 
 returns-6 : tie.Need-returns-6
-unfolding length-of
-returns-6 c = rw (c .enum-told4 .given .1)
+returns-6 c = rw (c .enum-told4 .given .1) (refused-length (c .enum-told4 .given .0 .0))
 
 returns-7 : tie.Need-returns-7
 unfolding length-of
-returns-7 c = rw (c .enum-told5 .given .1)
-
-returns-8 : tie.Need-returns-8
-unfolding length-of
-returns-8 c = rw (c .enum-told6 .given .1)
-
-returns-9 : tie.Need-returns-9
-unfolding length-of
-returns-9 c = rw (c .enum-told7 .given .1)
+returns-7 c = search needs
 
 pub length-of-spec : {M : Type 1} → statement M
 length-of-spec =
@@ -78,14 +74,10 @@ length-of-spec =
     enum-told-3
     enum-told-4
     enum-told-5
-    enum-told-6
-    enum-told-7
     returns
     returns-2
     returns-3
     returns-4
     returns-5
     returns-6
-    returns-7
-    returns-8
-    returns-9)
+    returns-7)

@@ -16,6 +16,9 @@ enum-told-3 c = search needs
 enum-told-4 : tie.Need-enum-told-4
 enum-told-4 c = search needs
 
+enum-known-a : tie.Need-enum-known-a
+enum-known-a c = search needs
+
 enum-told-5 : tie.Need-enum-told-5
 enum-told-5 c = search needs
 
@@ -33,39 +36,39 @@ enum-told-9 c = search needs
 
 returns : tie.Need-returns
 unfolding number
-returns c = rw (c .enum-told .given .1)
+returns c = search needs
 
 returns-2 : tie.Need-returns-2
 unfolding number
-returns-2 c = rw (c .enum-told2 .given .1)
+returns-2 c = search needs
 
 returns-3 : tie.Need-returns-3
 unfolding number
-returns-3 c = rw (c .enum-told3 .given .1)
+returns-3 c = search needs
 
 returns-4 : tie.Need-returns-4
 unfolding number
-returns-4 c = rw (c .enum-told4 .given .1)
+returns-4 c = search needs
 
 returns-5 : tie.Need-returns-5
 unfolding number
-returns-5 c = rw (c .enum-told5 .given .1)
+returns-5 c = search needs
 
 returns-6 : tie.Need-returns-6
 unfolding number
-returns-6 c = rw (c .enum-told6 .given .1)
+returns-6 c = search needs
 
 returns-7 : tie.Need-returns-7
 unfolding number
-returns-7 c = rw (c .enum-told7 .given .1)
+returns-7 c = search needs
 
 returns-8 : tie.Need-returns-8
 unfolding number
-returns-8 c = rw (c .enum-told8 .given .1)
+returns-8 c = search needs
 
 returns-9 : tie.Need-returns-9
 unfolding number
-returns-9 c = rw (c .enum-told9 .given .1)
+returns-9 c = search needs
 
 pub number-of-spec : {M : Type 1} → statement M
 number-of-spec =
@@ -75,6 +78,7 @@ number-of-spec =
     enum-told-2
     enum-told-3
     enum-told-4
+    enum-known-a
     enum-told-5
     enum-told-6
     enum-told-7

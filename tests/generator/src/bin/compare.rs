@@ -1,8 +1,9 @@
 //! `compare --seed S --count N`, from the repository's root: the definitions compute every job, and the reference too.
 //!
 //! A small repository under target/compare/ has a copy of the definitions, and crates whose statements say that the
-//! definitions give the reference's answer: number, line, length, report buffer and scratch. The proof checker
-//! computes them. One more crate has falsified answers, and the checker must refuse every statement of it.
+//! definitions give the reference's answer: number, line, length and report. Of report buffer and scratch they say what
+//! document 01 does after that answer; the reference has neither. The proof checker computes them. One more crate has
+//! falsified answers, and the checker must refuse every statement of it.
 //! Exit status 0 if every job agreed and everything occurred, 1 if not, 2 for bad usage.
 
 use std::path::Path;

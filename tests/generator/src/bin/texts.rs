@@ -1,4 +1,4 @@
-//! `texts --seed S --count N`: the texts of a seed's jobs with the answers of the reference's reading, for the program `loads`.
+//! `texts --seed S --count N`: the texts of a seed's jobs with the answers of the reference's reading, for the program `test_loader`.
 //!
 //! Standard output has the frames: `000001`, LF, the text's length in six digits, LF, the text, LF. Standard error has a line for each: number and
 //! line, `0 0` for a job. Texts above 16,384 bytes are left out: they are refused before they are read.

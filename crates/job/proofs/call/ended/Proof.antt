@@ -1,4 +1,5 @@
 -- `job::call::ended` meets its contract.
+use native.Mathlib.Omega.{arith}
 use lib.ListN.{length}
 use Rattle.meaning.specs.Run.{run}
 use Rattle.meaning.specs.Report.{report}
@@ -37,7 +38,7 @@ returns c = λ names j limit f q short.
     delivered-is (need-of room) (a .text .now) limit room written (a .s .now) (a .buffer .now)
     (c .told .ensures (length written) (got .length-is)) (got .buffer-is)
     (cleared-by (need-of room) (c .before .before .before .before .before .before .before .before .before .before .before .before .need .result) (a .s .now) (c .before .before .before .before .before .before .before .before .before .report .last .1 .0)
-    (c .before .before .before .before .before .before .before .before .before .before .before .before .need .ensures) (got .size) (got .behind) (c .before .before .before .clear .ensures))
+    (c .before .before .before .before .before .before .before .before .before .before .before .before .need .ensures) (got .size) (λ k h. got .behind k (omega arith)) (c .before .before .before .clear .ensures))
 
 pub ended-spec : {M : Type 1} → statement M
 ended-spec =

@@ -1,9 +1,6 @@
 -- `job::call::taken` meets its contract.
 use Rattle.term.specs.Layout.{need-of, figures}
-use Rattle.tables.specs.Places.{spellings}
-use Rattle.image.specs.Image.{text-names}
-use Rattle.job.proofs.Readying.{loaded-ready, loaded-clears}
-use Rattle.job.proofs.Answers.{taken-job, taken-refused}
+use Rattle.job.proofs.Answers.{taken-job, taken-refused, cleared-same}
 use borrow.Author.Needs.{needs}
 use Rattle.job.proofs.call.taken.Statement.{statement}
 use Rattle.job.proofs.call.taken.Tie as tie
@@ -21,20 +18,10 @@ loaded-requires c κs =
     let room = figures (a .room) in
     let t = c .before .before .before .before .before .before .before .load .last .1 .0 in
     let got = rw (c .before .before .before .queries .given .1) at (c .before .before .before .before .before .before .before .load .ensures) in
-    let ready = loaded-ready (a .text .now) (got .0) room (a .s .now) t (q .0) (q .1) (got .1) (got .4) in
-    (spellings (text-names (a .text .now)), got .0, ready, q .2, got .3, q .3)
+    (got .5, got .0, got .6, q .2, got .3, q .3)
 
-enum-known-n : tie.Need-enum-known-n
-enum-known-n c = search needs
-
-refused-requires : tie.Need-refused-requires
-refused-requires c κs =
-    let a = c .before .before .before .before .before .before .before .before .before .before .args in
-    let q = c .before .before .before .before .before .before .before .before .before .before .pre in
-    let room = figures (a .room) in
-    let t = c .before .before .before .before .before .load .last .1 .0 in
-    let got = rw (c .before .n .given .1) at (c .before .before .before .before .before .load .ensures) in
-    (a .text .now, got .0, got .2, got .3)
+enum-known-why : tie.Need-enum-known-why
+enum-known-why c = search needs
 
 same-length : tie.Need-same-length
 same-length c = search needs
@@ -49,23 +36,22 @@ returns c =
     let room = figures (a .room) in
     let t = c .before .before .before .before .before .before .before .before .before .before .before .before .load .last .1 .0 in
     let got = rw (c .before .before .before .before .before .before .before .before .queries .given .1) at (c .before .before .before .before .before .before .before .before .before .before .before .before .load .ensures) in
-    let ready = loaded-ready (a .text .now) (got .0) room (a .s .now) t (q .0) (q .1) (got .1) (got .4) in
     taken-job (need-of room) (a .text .now) (a .budget) room (got .0) (a .s .now) t (a .buffer .now) (got .1)
-    (loaded-clears (a .text .now) (got .0) room (a .s .now) t (q .1) (got .1) (got .4))
-    (c .before .before .before .before .loaded .ensures (spellings (text-names (a .text .now))) (got .0) ready (got .3) (q .3))
+    (cleared-same (need-of room) (a .s .now) t (got .7 .size) (got .7 .above))
+    (c .before .before .before .before .loaded .ensures (got .5) (got .0) (got .6) (got .3) (q .3))
 
 same-length-3 : tie.Need-same-length-3
 same-length-3 c = search needs
 
 returns-2 : tie.Need-returns-2
 returns-2 c =
-    let a = c .before .before .before .before .before .before .before .before .before .before .before .args in
-    let q = c .before .before .before .before .before .before .before .before .before .before .before .pre in
+    let a = c .before .before .before .before .before .before .before .before .before .before .args in
+    let q = c .before .before .before .before .before .before .before .before .before .before .pre in
     let room = figures (a .room) in
-    let t = c .before .before .before .before .before .before .load .last .1 .0 in
-    let got = rw (c .before .before .n .given .1) at (c .before .before .before .before .before .before .load .ensures) in
+    let t = c .before .before .before .before .before .load .last .1 .0 in
+    let got = rw (c .before .why .given .1) at (c .before .before .before .before .before .load .ensures) in
     taken-refused (need-of room) (a .text .now) (a .budget) room (got .0) (a .s .now) t (a .buffer .now) (got .1)
-    (c .refused .ensures (a .text .now) (got .0) (got .2) (got .3)) (got .4)
+    (got .2) (got .3)
 
 pub taken-spec : {M : Type 1} → statement M
 taken-spec =
@@ -74,8 +60,7 @@ taken-spec =
     load-requires
     enum-known-queries
     loaded-requires
-    enum-known-n
-    refused-requires
+    enum-known-why
     same-length
     same-length-2
     returns

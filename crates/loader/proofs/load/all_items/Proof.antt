@@ -4,11 +4,12 @@ use Prim.Native.Nat.{ℕ, _+_, _-_, _≤_, _<_}
 use mathlib.Core.Path.{_≡_, refl, ap, sym, _∙_}
 use mathlib.Core.List.{List, []}
 use lib.ListN.{length, length-drop}
-use Rattle.meaning.specs.Items.{no-item, occurrence-rule, figure, line as line-of-place}
-use Rattle.meaning.specs.Call.{refusal, number, line-of}
+use Rattle.meaning.specs.Items.{no-item, occurrence-rule, figure}
+use Rattle.meaning.specs.Call.{refusal}
 use Rattle.term.proofs.Frames.{only-then}
-use Rattle.tables.specs.Places.{Place}
-use Rattle.image.specs.Image.{Entry}
+use Rattle.term.specs.Layout.{trial-region}
+use Rattle.load_names.specs.Places.{Place}
+use Rattle.load_image.specs.Image.{Entry}
 use Rattle.loader.specs.Loading.{Reached}
 use Rattle.loader.proofs.Reaching.{reached-none, reached-clause, reached-query, next-inside, here}
 use Rattle.loader.proofs.Stopping.{stopped}
@@ -152,7 +153,7 @@ same-length-3 : tie.Need-same-length-3 Inv-loop μ-loop
 same-length-3 c = c .before .before .before .before .before .before .before .before .before .item-at .kept .1 .1 .1 .1 .0 ∙ c .before .before .before .before .before .before .before .before .before .before .before .before .before .loop .inv .3
 
 returns : tie.Need-returns Inv-loop μ-loop
-unfolding refusal number line-of
+unfolding refusal
 returns c =
     let a = c .before .before .before .before .before .before .before .before .before .before .before .before .before .before .before .before .before .before .args in
     let l = c .before .before .before .before .before .before .before .before .before .before .before .before .before .loop in
@@ -161,13 +162,13 @@ returns c =
     let done = l .inv .0 .1 in
     let got = rw (c .before .a .given .1) at (c .before .before .before .before .before .before .before .before .before .item-at .ensures places (r .inside) (r .names-table) (r .count-is)) in
     let p = l .from + c .before .a .given .0 .0 in
-    (no-item p, stopped (a .text .now) (a .s .now) (l .s) (l .names) (l .heads) (l .from) (l .clauses) (l .queries) (l .known) places done r (no-item p) (got .0), refl, refl, only-then 0 39936 (a .s .now) (l .s) (c .before .before .before .before .before .before .before .before .before .item-at .last .1 .1 .0) (r .only) (got .2))
+    (no-item p, stopped (a .text .now) (a .s .now) (l .s) (l .names) (l .heads) (l .from) (l .clauses) (l .queries) (l .known) places done r (no-item p) (got .0), refl, only-then 0 trial-region (a .s .now) (l .s) (c .before .before .before .before .before .before .before .before .before .item-at .last .1 .1 .0) (r .only) (got .2))
 
 enum-known-a-2 : tie.Need-enum-known-a-2 Inv-loop μ-loop
 enum-known-a-2 c = search needs
 
-add-t24 : tie.Need-add-t24 Inv-loop μ-loop
-add-t24 c =
+add-t25 : tie.Need-add-t25 Inv-loop μ-loop
+add-t25 c =
     let a = c .before .before .before .before .before .before .before .before .before .before .before .before .before .before .before .before .before .before .args in
     let l = c .before .before .before .before .before .before .before .before .before .before .before .before .before .loop in
     let r = l .inv .0 .2 in
@@ -186,7 +187,7 @@ same-length-6 : tie.Need-same-length-6 Inv-loop μ-loop
 same-length-6 c = c .before .before .before .before .before .before .before .before .before .item-at .kept .1 .1 .1 .1 .0 ∙ c .before .before .before .before .before .before .before .before .before .before .before .before .before .loop .inv .3
 
 returns-2 : tie.Need-returns-2 Inv-loop μ-loop
-unfolding refusal number line-of
+unfolding refusal
 returns-2 c =
     let a = c .before .before .before .before .before .before .before .before .before .before .before .before .before .before .before .before .before .before .args in
     let l = c .before .before .before .before .before .before .before .before .before .before .before .before .before .loop in
@@ -195,13 +196,13 @@ returns-2 c =
     let done = l .inv .0 .1 in
     let got = rw (c .before .a2 .given .1) at (c .before .before .before .before .before .before .before .before .before .item-at .ensures places (r .inside) (r .names-table) (r .count-is)) in
     let p = l .from + c .before .a2 .given .0 .0 in
-    (occurrence-rule p, stopped (a .text .now) (a .s .now) (l .s) (l .names) (l .heads) (l .from) (l .clauses) (l .queries) (l .known) places done r (occurrence-rule p) (got .0), refl, refl, only-then 0 39936 (a .s .now) (l .s) (c .before .before .before .before .before .before .before .before .before .item-at .last .1 .1 .0) (r .only) (got .2))
+    (occurrence-rule p, stopped (a .text .now) (a .s .now) (l .s) (l .names) (l .heads) (l .from) (l .clauses) (l .queries) (l .known) places done r (occurrence-rule p) (got .0), refl, only-then 0 trial-region (a .s .now) (l .s) (c .before .before .before .before .before .before .before .before .before .item-at .last .1 .1 .0) (r .only) (got .2))
 
 enum-known-a-3 : tie.Need-enum-known-a-3 Inv-loop μ-loop
 enum-known-a-3 c = search needs
 
-add-t25 : tie.Need-add-t25 Inv-loop μ-loop
-add-t25 c =
+add-t27 : tie.Need-add-t27 Inv-loop μ-loop
+add-t27 c =
     let a = c .before .before .before .before .before .before .before .before .before .before .before .before .before .before .before .before .before .before .args in
     let l = c .before .before .before .before .before .before .before .before .before .before .before .before .before .loop in
     let r = l .inv .0 .2 in
@@ -220,7 +221,7 @@ same-length-9 : tie.Need-same-length-9 Inv-loop μ-loop
 same-length-9 c = c .before .before .before .before .before .before .before .before .before .item-at .kept .1 .1 .1 .1 .0 ∙ c .before .before .before .before .before .before .before .before .before .before .before .before .before .loop .inv .3
 
 returns-3 : tie.Need-returns-3 Inv-loop μ-loop
-unfolding refusal number line-of
+unfolding refusal
 returns-3 c =
     let a = c .before .before .before .before .before .before .before .before .before .before .before .before .before .before .before .before .before .before .args in
     let l = c .before .before .before .before .before .before .before .before .before .before .before .before .before .loop in
@@ -229,7 +230,7 @@ returns-3 c =
     let done = l .inv .0 .1 in
     let got = rw (c .before .a3 .given .1) at (c .before .before .before .before .before .before .before .before .before .item-at .ensures places (r .inside) (r .names-table) (r .count-is)) in
     let p = l .from + c .before .a3 .given .0 .0 in
-    (figure p, stopped (a .text .now) (a .s .now) (l .s) (l .names) (l .heads) (l .from) (l .clauses) (l .queries) (l .known) places done r (figure p) (got .0), refl, refl, only-then 0 39936 (a .s .now) (l .s) (c .before .before .before .before .before .before .before .before .before .item-at .last .1 .1 .0) (r .only) (got .2))
+    (figure p, stopped (a .text .now) (a .s .now) (l .s) (l .names) (l .heads) (l .from) (l .clauses) (l .queries) (l .known) places done r (figure p) (got .0), refl, only-then 0 trial-region (a .s .now) (l .s) (c .before .before .before .before .before .before .before .before .before .item-at .last .1 .1 .0) (r .only) (got .2))
 
 enum-told : tie.Need-enum-told Inv-loop μ-loop
 enum-told c = search needs
@@ -278,13 +279,13 @@ all-items-spec =
     same-length-3
     returns
     enum-known-a-2
-    add-t24
+    add-t25
     same-length-4
     same-length-5
     same-length-6
     returns-2
     enum-known-a-3
-    add-t25
+    add-t27
     same-length-7
     same-length-8
     same-length-9

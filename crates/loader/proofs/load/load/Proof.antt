@@ -4,11 +4,14 @@ use Prim.Native.Nat.{ℕ, _+_, _-_, _≤_, _<_}
 use mathlib.Core.Path.{_≡_, refl, ap, sym, _∙_}
 use lib.ListN.{length}
 use Rattle.meaning.specs.Items.{no-query}
-use Rattle.meaning.specs.Call.{refusal, number, line-of, cleared}
+use Rattle.meaning.specs.Call.{refusal, cleared}
 use Rattle.term.specs.Layout.{need-of, figures}
+use Rattle.load_names.specs.Places.{spellings}
+use Rattle.load_image.specs.Image.{text-names, image}
+use Rattle.loader.specs.Refusals.{refusal-answer}
+use Rattle.loader.proofs.Readying.{loaded-ready, loaded-only}
 use Rattle.loader.proofs.Finishing.{first-clear, second-clear, no-queries, some-queries, the-job, imaged, link-heads}
 use native.Mathlib.Omega.{arith}
-use borrow.Author.Needs.{needs}
 use borrow.Author.Needs.{needs}
 use Rattle.loader.proofs.load.load.Statement.{statement}
 use Rattle.loader.proofs.load.load.Tie as tie
@@ -38,14 +41,20 @@ same-length : tie.Need-same-length
 same-length c = search needs
 
 returns : tie.Need-returns
-unfolding refusal number line-of
+unfolding refusal
 returns c =
     let a = c .before .before .before .before .before .before .before .before .before .before .before .before .before .before .before .before .before .before .before .before .before .before .before .args in
     let q = c .before .before .before .before .before .before .before .before .before .before .before .before .before .before .before .before .before .before .before .before .before .before .before .pre in
-    let cleared-is : c .before .before .before .before .before .before .before .before .before .before .before .before .before .before .before .before .before .before .clear .last .0 ≡ cleared (need-of (figures (a .room))) (a .s .now) = first-clear (need-of (figures (a .room))) (c .before .before .before .before .before .before .before .before .before .before .before .before .before .before .before .before .before .before .before .before .need .result) (a .s .now) (c .before .before .before .before .before .before .before .before .before .before .before .before .before .before .before .before .before .before .clear .last .0) (c .before .before .before .before .before .before .before .before .before .before .before .before .before .before .before .before .before .before .before .before .need .ensures) (c .before .before .before .before .before .before .before .before .before .before .before .before .before .before .before .before .before .before .clear .ensures) in
-    let got = rw (c .before .before .before .before .before .before .clauses .given .1) at (c .before .before .before .before .before .before .before .before .before .before .before .before .all-items .ensures) in
+    let words = c .before .before .before .before .before .before .before .before .before .before .before .before .before .before .before .before .before .before .before .before .need in
+    let emptied = c .before .before .before .before .before .before .before .before .before .before .before .before .before .before .before .before .before .before .clear in
+    let read = c .before .before .before .before .before .before .before .before .before .before .before .before .all-items in
+    let found = c .before .before .before .before .before .before .clauses in
+    let again = c .before .before .clear2 in
+    let need = need-of (figures (a .room)) in
+    let cleared-is : emptied .last .0 ≡ cleared need (a .s .now) = first-clear need (words .result) (a .s .now) (emptied .last .0) (words .ensures) (emptied .ensures) in
+    let got = rw (found .given .1) at (read .ensures) in
     let r = got .4 in
-    (no-query, no-queries (a .text .now) (c .before .before .before .before .before .before .before .before .before .before .before .before .before .before .before .before .before .before .clear .last .0) (c .before .before .before .before .before .before .before .before .before .before .before .before .all-items .last .1 .0) (c .before .before .before .before .before .before .before .before .before .before .before .before .all-items .last .1 .1 .0) (c .before .before .before .before .before .before .before .before .before .before .before .before .all-items .last .1 .1 .1 .0) (got .3) (c .before .before .before .before .before .before .clauses .given .0 .0) (c .before .before .before .before .before .before .clauses .given .0 .1 .0) (c .before .before .before .before .before .before .clauses .given .0 .1 .1 .0) (got .2) (got .0) (got .1) r (got .5) (c .before .before .before .before .if1 .taken), refl, refl, second-clear (need-of (figures (a .room))) (c .before .before .before .before .before .before .before .before .before .before .before .before .before .before .before .before .before .before .before .before .need .result) (a .s .now) (c .before .before .before .before .before .before .before .before .before .before .before .before .all-items .last .1 .0) (c .before .before .clear2 .last .0) (c .before .before .before .before .before .before .before .before .before .before .before .before .before .before .before .before .before .before .before .before .need .ensures) (omega arith) (rw cleared-is at (r .only)) (c .before .before .clear2 .ensures))
+    (no-query, no-queries (a .text .now) (emptied .last .0) (read .last .1 .0) (read .last .1 .1 .0) (read .last .1 .1 .1 .0) (got .3) (found .given .0 .0) (found .given .0 .1 .0) (found .given .0 .1 .1 .0) (got .2) (got .0) (got .1) r (got .5) (c .before .before .before .before .if1 .taken), refl, second-clear need (words .result) (a .s .now) (read .last .1 .0) (again .last .0) (words .ensures) (omega arith) (rw cleared-is at (r .only)) (again .ensures))
 
 slice-aggregate-link : tie.Need-slice-aggregate-link
 slice-aggregate-link c = search needs
@@ -54,9 +63,12 @@ link-requires : tie.Need-link-requires
 link-requires c κs =
     let a = c .before .before .before .before .before .before .before .before .before .before .before .before .before .before .before .before .before .before .before .before .before .args in
     let q = c .before .before .before .before .before .before .before .before .before .before .before .before .before .before .before .before .before .before .before .before .before .pre in
-    let got = rw (c .before .before .before .before .clauses .given .1) at (c .before .before .before .before .before .before .before .before .before .before .all-items .ensures) in
+    let emptied = c .before .before .before .before .before .before .before .before .before .before .before .before .before .before .before .before .clear in
+    let read = c .before .before .before .before .before .before .before .before .before .before .all-items in
+    let found = c .before .before .before .before .clauses in
+    let got = rw (found .given .1) at (read .ensures) in
     let r = got .4 in
-    ((omega (arith, r .few .0, r .heads-size), r .few .0, omega (arith, c .before .before .before .before .before .before .before .before .before .before .all-items .kept .1 .0, c .before .before .before .before .before .before .before .before .before .before .before .before .before .before .before .before .clear .kept .0, q .1, q .0 .pairs)), link-heads (a .text .now) (c .before .before .before .before .before .before .before .before .before .before .before .before .before .before .before .before .clear .last .0) (c .before .before .before .before .before .before .before .before .before .before .all-items .last .1 .0) (c .before .before .before .before .before .before .before .before .before .before .all-items .last .1 .1 .0) (c .before .before .before .before .before .before .before .before .before .before .all-items .last .1 .1 .1 .0) (got .3) (c .before .before .before .before .clauses .given .0 .0) (c .before .before .before .before .clauses .given .0 .1 .0) (c .before .before .before .before .clauses .given .0 .1 .1 .0) (got .2) (got .0) (got .1) r (got .5))
+    ((omega (arith, r .few .0, r .heads-size), r .few .0, omega (arith, read .kept .1 .0, emptied .kept .0, q .1, q .0 .pairs)), link-heads (a .text .now) (emptied .last .0) (read .last .1 .0) (read .last .1 .1 .0) (read .last .1 .1 .1 .0) (got .3) (found .given .0 .0) (found .given .0 .1 .0) (found .given .0 .1 .1 .0) (got .2) (got .0) (got .1) r (got .5))
 
 slice-aggregate-keep-places : tie.Need-slice-aggregate-keep-places
 slice-aggregate-keep-places c = search needs
@@ -65,18 +77,22 @@ keep-places-requires : tie.Need-keep-places-requires
 keep-places-requires c κs =
     let a = c .before .before .before .before .before .before .before .before .before .before .before .before .before .before .before .before .before .before .before .before .before .before .before .before .before .before .args in
     let q = c .before .before .before .before .before .before .before .before .before .before .before .before .before .before .before .before .before .before .before .before .before .before .before .before .before .before .pre in
-    let got = rw (c .before .before .before .before .before .before .before .before .before .clauses .given .1) at (c .before .before .before .before .before .before .before .before .before .before .before .before .before .before .before .all-items .ensures) in
+    let emptied = c .before .before .before .before .before .before .before .before .before .before .before .before .before .before .before .before .before .before .before .before .before .clear in
+    let read = c .before .before .before .before .before .before .before .before .before .before .before .before .before .before .before .all-items in
+    let found = c .before .before .before .before .before .before .before .before .before .clauses in
+    let linking = c .before .before .before .before .link in
+    let got = rw (found .given .1) at (read .ensures) in
     let r = got .4 in
-    ((omega (arith, c .before .before .before .before .link .kept .0, c .before .before .before .before .before .before .before .before .before .before .before .before .before .before .before .all-items .kept .1 .0, c .before .before .before .before .before .before .before .before .before .before .before .before .before .before .before .before .before .before .before .before .before .clear .kept .0, q .1, r .count-is, r .names-table .few), omega (arith, r .names-table .size, r .count-is, r .names-table .few)), (λ i l. let low : i < length (got .0) = omega (arith, r .count-is) in omega (arith, r .names-table .starts i low, r .names-table .inside i low, c .before .before .before .before .before .before .before .before .before .before .before .before .before .before .before .before .before .before .before .before .before .before .before .before .before .before .good .0 .0)))
+    ((omega (arith, linking .kept .0, read .kept .1 .0, emptied .kept .0, q .1, r .count-is, r .names-table .few), omega (arith, r .names-table .size, r .count-is, r .names-table .few)), (λ i l. let low : i < length (got .0) = omega (arith, r .count-is) in omega (arith, r .names-table .starts i low, r .names-table .inside i low, c .before .before .before .before .before .before .before .before .before .before .before .before .before .before .before .before .before .before .before .before .before .before .before .before .before .before .good .0 .0)))
 
-enum-known-n : tie.Need-enum-known-n
-enum-known-n c = search needs
+enum-known-why : tie.Need-enum-known-why
+enum-known-why c = search needs
 
 clear-requires-3 : tie.Need-clear-requires-3
 clear-requires-3 c κs = search needs
 
-line-requires : tie.Need-line-requires
-line-requires c κs = search needs
+told-at-line-requires : tie.Need-told-at-line-requires
+told-at-line-requires c κs = search needs
 
 same-length-2 : tie.Need-same-length-2
 same-length-2 c = search needs
@@ -86,10 +102,23 @@ unfolding the-job
 returns-2 c =
     let a = c .before .before .before .before .before .before .before .before .before .before .before .before .before .before .before .before .before .before .before .before .before .before .before .before .before .before .before .before .before .args in
     let q = c .before .before .before .before .before .before .before .before .before .before .before .before .before .before .before .before .before .before .before .before .before .before .before .before .before .before .before .before .before .pre in
-    let cleared-is : c .before .before .before .before .before .before .before .before .before .before .before .before .before .before .before .before .before .before .before .before .before .before .before .before .clear .last .0 ≡ cleared (need-of (figures (a .room))) (a .s .now) = first-clear (need-of (figures (a .room))) (c .before .before .before .before .before .before .before .before .before .before .before .before .before .before .before .before .before .before .before .before .before .before .before .before .before .before .need .result) (a .s .now) (c .before .before .before .before .before .before .before .before .before .before .before .before .before .before .before .before .before .before .before .before .before .before .before .before .clear .last .0) (c .before .before .before .before .before .before .before .before .before .before .before .before .before .before .before .before .before .before .before .before .before .before .before .before .before .before .need .ensures) (c .before .before .before .before .before .before .before .before .before .before .before .before .before .before .before .before .before .before .before .before .before .before .before .before .clear .ensures) in
-    let got = rw (c .before .before .before .before .before .before .before .before .before .before .before .before .clauses .given .1) at (c .before .before .before .before .before .before .before .before .before .before .before .before .before .before .before .before .before .before .all-items .ensures) in
+    let words = c .before .before .before .before .before .before .before .before .before .before .before .before .before .before .before .before .before .before .before .before .before .before .before .before .before .before .need in
+    let emptied = c .before .before .before .before .before .before .before .before .before .before .before .before .before .before .before .before .before .before .before .before .before .before .before .before .clear in
+    let read = c .before .before .before .before .before .before .before .before .before .before .before .before .before .before .before .before .before .before .all-items in
+    let found = c .before .before .before .before .before .before .before .before .before .before .before .before .clauses in
+    let linking = c .before .before .before .before .before .before .before .link in
+    let keeping = c .before .before .keep-places in
+    let need = need-of (figures (a .room)) in
+    let cleared-is : emptied .last .0 ≡ cleared need (a .s .now) = first-clear need (words .result) (a .s .now) (emptied .last .0) (words .ensures) (emptied .ensures) in
+    let got = rw (found .given .1) at (read .ensures) in
     let r = got .4 in
-    (the-job (a .text .now) (c .before .before .before .before .before .before .before .before .before .before .before .before .before .before .before .before .before .before .before .before .before .before .before .before .clear .last .0) (c .before .before .before .before .before .before .before .before .before .before .before .before .before .before .before .before .before .before .all-items .last .1 .0) (c .before .before .before .before .before .before .before .before .before .before .before .before .before .before .before .before .before .before .all-items .last .1 .1 .0) (c .before .before .before .before .before .before .before .before .before .before .before .before .before .before .before .before .before .before .all-items .last .1 .1 .1 .0) (got .3) (c .before .before .before .before .before .before .before .before .before .before .before .before .clauses .given .0 .0) (c .before .before .before .before .before .before .before .before .before .before .before .before .clauses .given .0 .1 .0) (c .before .before .before .before .before .before .before .before .before .before .before .before .clauses .given .0 .1 .1 .0) (got .2) (got .0) (got .1) r (got .5), some-queries (a .text .now) (c .before .before .before .before .before .before .before .before .before .before .before .before .before .before .before .before .before .before .before .before .before .before .before .before .clear .last .0) (c .before .before .before .before .before .before .before .before .before .before .before .before .before .before .before .before .before .before .all-items .last .1 .0) (c .before .before .before .before .before .before .before .before .before .before .before .before .before .before .before .before .before .before .all-items .last .1 .1 .0) (c .before .before .before .before .before .before .before .before .before .before .before .before .before .before .before .before .before .before .all-items .last .1 .1 .1 .0) (got .3) (c .before .before .before .before .before .before .before .before .before .before .before .before .clauses .given .0 .0) (c .before .before .before .before .before .before .before .before .before .before .before .before .clauses .given .0 .1 .0) (c .before .before .before .before .before .before .before .before .before .before .before .before .clauses .given .0 .1 .1 .0) (got .2) (got .0) (got .1) r (got .5) (c .before .before .before .before .before .before .before .before .before .before .if1 .left), r .clauses-are, r .queries-are, rw cleared-is at (imaged (a .text .now) (c .before .before .before .before .before .before .before .before .before .before .before .before .before .before .before .before .before .before .before .before .before .before .before .before .clear .last .0) (c .before .before .before .before .before .before .before .before .before .before .before .before .before .before .before .before .before .before .all-items .last .1 .0) (c .before .before .before .before .before .before .before .before .before .before .before .before .before .before .before .before .before .before .all-items .last .1 .1 .0) (c .before .before .before .before .before .before .before .before .before .before .before .before .before .before .before .before .before .before .all-items .last .1 .1 .1 .0) (got .3) (c .before .before .before .before .before .before .before .before .before .before .before .before .clauses .given .0 .0) (c .before .before .before .before .before .before .before .before .before .before .before .before .clauses .given .0 .1 .0) (c .before .before .before .before .before .before .before .before .before .before .before .before .clauses .given .0 .1 .1 .0) (got .2) (got .0) (got .1) r (got .5) (c .before .before .before .before .before .before .before .link .last .0) (c .before .before .keep-places .last .0) (c .before .before .before .before .before .before .before .link .ensures) (c .before .before .keep-places .ensures)))
+    let j = the-job (a .text .now) (emptied .last .0) (read .last .1 .0) (read .last .1 .1 .0) (read .last .1 .1 .1 .0) (got .3) (found .given .0 .0) (found .given .0 .1 .0) (found .given .0 .1 .1 .0) (got .2) (got .0) (got .1) r (got .5) in
+    let reads = some-queries (a .text .now) (emptied .last .0) (read .last .1 .0) (read .last .1 .1 .0) (read .last .1 .1 .1 .0) (got .3) (found .given .0 .0) (found .given .0 .1 .0) (found .given .0 .1 .1 .0) (got .2) (got .0) (got .1) r (got .5) (c .before .before .before .before .before .before .before .before .before .before .if1 .left) in
+    let image-is : keeping .last .0 ≡ image (a .text .now) (cleared need (a .s .now)) =
+    rw cleared-is at (imaged (a .text .now) (emptied .last .0) (read .last .1 .0) (read .last .1 .1 .0) (read .last .1 .1 .1 .0) (got .3) (found .given .0 .0) (found .given .0 .1 .0) (found .given .0 .1 .1 .0) (got .2) (got .0) (got .1) r (got .5) (linking .last .0) (keeping .last .0) (linking .ensures) (keeping .ensures)) in
+    let ready = loaded-ready (a .text .now) j (figures (a .room)) (a .s .now) (keeping .last .0) (q .1) reads image-is (q .0) in
+    let only = loaded-only (a .text .now) j (figures (a .room)) (a .s .now) (keeping .last .0) (q .1) reads image-is in
+    (j, reads, r .clauses-are, r .queries-are, image-is, spellings (text-names (a .text .now)), ready, only)
 
 same-length-3 : tie.Need-same-length-3
 same-length-3 c = search needs
@@ -98,9 +127,15 @@ returns-3 : tie.Need-returns-3
 returns-3 c =
     let a = c .before .before .before .before .before .before .before .before .before .before .before .before .before .before .before .before .before .before .before .before .before .before .before .args in
     let q = c .before .before .before .before .before .before .before .before .before .before .before .before .before .before .before .before .before .before .before .before .before .before .before .pre in
-    let cleared-is : c .before .before .before .before .before .before .before .before .before .before .before .before .before .before .before .before .before .before .clear .last .0 ≡ cleared (need-of (figures (a .room))) (a .s .now) = first-clear (need-of (figures (a .room))) (c .before .before .before .before .before .before .before .before .before .before .before .before .before .before .before .before .before .before .before .before .need .result) (a .s .now) (c .before .before .before .before .before .before .before .before .before .before .before .before .before .before .before .before .before .before .clear .last .0) (c .before .before .before .before .before .before .before .before .before .before .before .before .before .before .before .before .before .before .before .before .need .ensures) (c .before .before .before .before .before .before .before .before .before .before .before .before .before .before .before .before .before .before .clear .ensures) in
-    let got = rw (c .before .before .before .before .before .before .n .given .1) at (c .before .before .before .before .before .before .before .before .before .before .before .before .all-items .ensures) in
-    (got .0, got .1, got .2, c .line .ensures ∙ got .3, second-clear (need-of (figures (a .room))) (c .before .before .before .before .before .before .before .before .before .before .before .before .before .before .before .before .before .before .before .before .need .result) (a .s .now) (c .before .before .before .before .before .before .before .before .before .before .before .before .all-items .last .1 .0) (c .before .before .before .clear3 .last .0) (c .before .before .before .before .before .before .before .before .before .before .before .before .before .before .before .before .before .before .before .before .need .ensures) (omega arith) (rw cleared-is at (got .4)) (c .before .before .before .clear3 .ensures))
+    let words = c .before .before .before .before .before .before .before .before .before .before .before .before .before .before .before .before .before .before .before .before .need in
+    let emptied = c .before .before .before .before .before .before .before .before .before .before .before .before .before .before .before .before .before .before .clear in
+    let read = c .before .before .before .before .before .before .before .before .before .before .before .before .all-items in
+    let found = c .before .before .before .before .before .before .why in
+    let again = c .before .before .before .clear3 in
+    let need = need-of (figures (a .room)) in
+    let cleared-is : emptied .last .0 ≡ cleared need (a .s .now) = first-clear need (words .result) (a .s .now) (emptied .last .0) (words .ensures) (emptied .ensures) in
+    let got = rw (found .given .1) at (read .ensures) in
+    (got .0, got .1, ap refusal-answer (c .told-at-line .ensures) ∙ got .2, second-clear need (words .result) (a .s .now) (read .last .1 .0) (again .last .0) (words .ensures) (omega arith) (rw cleared-is at (got .3)) (again .ensures))
 
 pub load-spec : {M : Type 1} → statement M
 load-spec =
@@ -119,9 +154,9 @@ load-spec =
     link-requires
     slice-aggregate-keep-places
     keep-places-requires
-    enum-known-n
+    enum-known-why
     clear-requires-3
-    line-requires
+    told-at-line-requires
     same-length-2
     returns-2
     same-length-3

@@ -8,9 +8,9 @@ use Rattle.meaning.specs.Bytes.{Bytes}
 use Rattle.meaning.specs.Terms.{Job}
 use Rattle.term.specs.Layout.{figures}
 use Rattle.term.specs.States.{Atlas}
-use Rattle.queues.specs.Log.{Slot}
-use Rattle.running.specs.Running.{Running}
-use Rattle.running.proofs.FramesRunning.{run-only-then}
+use Rattle.run_queues.specs.Log.{Slot}
+use Rattle.run_between.specs.Running.{Running}
+use Rattle.run_between.proofs.FramesRunning.{run-only-then}
 use Rattle.machine.proofs.GoingOn.{GoesOn, goes-starts, front, goes-to-rest, goes-to-budget, steps-few, goes-to-next, goes-to-room}
 use Rattle.machine.proofs.run.go_on.Statement.{statement}
 use Rattle.machine.proofs.run.go_on.Tie as tie

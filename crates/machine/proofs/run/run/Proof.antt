@@ -32,7 +32,7 @@ go-on-requires c κs =
     let fits = sym (c .before .before .before .before .before .before .fit .ensures (a .1) (a .2) (a .3 .held) (a .5)) ∙ not-false _ (c .before .before .before .before .before .if1 .left) in
     let e = c .before .before .before .enter-all .ensures (a .0) (a .1) (a .2) (a .3) fits (a .5) in
     let g = entered-running _ (a .0) (a .1) (a .2) (figures (S .args .room)) (e .1 .0) _ (e .1 .1) in
-    (a .0, a .1, a .2, e .1 .0, [], g .0, g .1, a .4)
+    (a .0, a .1, a .2, e .1 .0, [], g .0, g .1, omega (arith, a .4))
 
 same-length-2 : tie.Need-same-length-2
 same-length-2 c = search needs
@@ -43,7 +43,7 @@ returns-2 c = λ text names j ready few count.
     let fits = sym (c .before .before .before .before .before .before .before .before .before .fit .ensures names j (ready .held) count) ∙ not-false _ (c .before .before .before .before .before .before .before .before .if1 .left) in
     let e = c .before .before .before .before .before .before .enter-all .ensures text names j ready fits count in
     let g = entered-running _ text names j (figures (S .args .room)) (e .1 .0) _ (e .1 .1) in
-    let k = c .before .before .go-on .ensures text names j (e .1 .0) [] (g .0) (g .1) few in
+    let k = c .before .before .go-on .ensures text names j (e .1 .0) [] (g .0) (g .1) (omega (arith, few)) in
     ran-is (figures (S .args .room)) _ _ _ text names j (e .1 .0) (c .before .before .before .before .before .before .enter-all .result) (S .args .budget) (c .before .before .go-on .result)
     ready (e .0) (e .1 .1) (k .0) few (k .1)
 

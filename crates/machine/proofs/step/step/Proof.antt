@@ -11,12 +11,12 @@ use Rattle.meaning.specs.Compare.{Assignment}
 use Rattle.meaning.specs.Run.{run}
 use Rattle.term.specs.Layout.{figures}
 use Rattle.term.specs.States.{Atlas}
-use Rattle.trial.specs.Choosing.{Trying, MarksBelow, ChoiceIs}
-use Rattle.queues.specs.Log.{Slot}
-use Rattle.running.specs.Running.{Running, StepIs}
-use Rattle.running.specs.Taking.{Taken, Reducing, JoiningWaiting, JoiningFailed}
-use Rattle.running.specs.declared.stepped.Stepped.{Stepped}
-use Rattle.trial.specs.declared.choice.Fate.the-variants.{Reduces, Waits, Fails}
+use Rattle.run_trial.specs.Choosing.{Trying, MarksBelow, ChoiceIs}
+use Rattle.run_queues.specs.Log.{Slot}
+use Rattle.run_between.specs.Running.{Running, StepIs}
+use Rattle.run_between.specs.Taking.{Taken, Reducing, JoiningWaiting, JoiningFailed}
+use Rattle.run_between.specs.declared.stepped.Stepped.{Stepped}
+use Rattle.run_trial.specs.declared.choice.ChoiceResult.the-variants.{Reduces, Waits, Fails}
 use Rattle.machine.proofs.FrontGoal.{
   Fetched,
   front-inside,

@@ -5,7 +5,7 @@ use native.Mathlib.Omega.{arith}
 use lib.ListN.{length}
 use Rattle.meaning.specs.Bytes.{Bytes}
 use Rattle.term.specs.Layout.{figures, waiters-region}
-use Rattle.sections.specs.Whole.{Uncounted}
+use Rattle.report_sections.specs.Whole.{Uncounted}
 use Rattle.report.specs.All.{Made, Sections}
 use Rattle.report.proofs.Sectionwise.{run-line-short, Sofar, sofar-none, sofar-more, all-counted}
 use borrow.Author.Needs.{needs}
@@ -13,8 +13,8 @@ use Rattle.report.proofs.report.count_report.Statement.{statement}
 use Rattle.report.proofs.report.count_report.Tie as tie
 use Rattle.report.proofs.report.count_report.Reads as reads
 use Rattle.report.proofs.report.count_report.Lts as lts
-use Rattle.tallies.proofs.header.run_length.Reads as run-length-reads
-use Rattle.sections.proofs.sections.count_section.Reads as count-section-reads
+use Rattle.report_tallies.proofs.header.run_length.Reads as run-length-reads
+use Rattle.report_sections.proofs.sections.count_section.Reads as count-section-reads
 
 abbrev Inv-loop : tie.InvT-loop
 Inv-loop s₀ room queries t to₀ q₀ s to q =

@@ -7,7 +7,7 @@ use Rattle.report.proofs.report.report.Statement.{statement}
 use Rattle.report.proofs.report.report.Tie as tie
 use Rattle.report.proofs.report.report.Reads as reads
 use Rattle.report.proofs.report.report.Lts as lts
-use Rattle.facts.proofs.ends.forget.Reads as forget-reads
+use Rattle.report_pairs.proofs.ends.forget.Reads as forget-reads
 use Rattle.report.proofs.report.count_report.Reads as count-report-reads
 use Rattle.report.proofs.report.note_pairs.Reads as note-pairs-reads
 use Rattle.report.proofs.report.write_report.Reads as write-report-reads

@@ -4,18 +4,18 @@ use mathlib.Core.Path.{_≡_, refl, ap, _∙_}
 use native.Mathlib.Omega.{arith}
 use lib.ListN.{length, length-append}
 use Rattle.term.specs.Layout.{figures, waiters-region}
-use Rattle.facts.specs.Laid.{Puts}
-use Rattle.tallies.specs.Header.{run-line-of}
-use Rattle.sections.specs.Whole.{Numbers}
+use Rattle.report_pairs.specs.Laid.{Puts}
+use Rattle.report_tallies.specs.Header.{run-line-of}
+use Rattle.report_sections.specs.Whole.{Numbers}
 use Rattle.report.specs.All.{Made, Sections, order-of, sections-bytes}
-use Rattle.facts.proofs.Laid.{puts-behind, puts-as}
+use Rattle.report_pairs.proofs.Laid.{puts-behind, puts-as}
 use Rattle.report.proofs.Sectionwise.{sections-fit, none-put, more-put}
 use Rattle.report.proofs.report.write_report.Statement.{statement}
 use Rattle.report.proofs.report.write_report.Tie as tie
 use Rattle.report.proofs.report.write_report.Reads as reads
 use Rattle.report.proofs.report.write_report.Lts as lts
-use Rattle.tallies.proofs.header.run_line.Reads as run-line-reads
-use Rattle.sections.proofs.sections.write_section.Reads as write-section-reads
+use Rattle.report_tallies.proofs.header.run_line.Reads as run-line-reads
+use Rattle.report_sections.proofs.sections.write_section.Reads as write-section-reads
 
 abbrev Inv-loop : tie.InvT-loop
 Inv-loop text s room buffer₀ queries t to₀ q₀ buffer to q =

@@ -1,2 +1,0 @@
-// Items: clauses and queries, each read into its places of the scratch.
-pub mod items;

@@ -1,3 +1,0 @@
-// The goal at the front joins the waiting goals, with the ends to which its arguments lead kept, or the failed goals. `join_waiting` and
-// `join_failed` promise a step of the run, by `StepIs` in specs/Running of crate `running`.
-pub mod join;

@@ -1,0 +1,255 @@
+-- Goals, clauses and queries that are read are laid out, up to their full stop; and so is the item that a piece of the text holds.
+use Prim.Native.Nat.{ℕ, zero, suc, _+_, _≤_, _<_}
+use mathlib.Core.Path.{_≡_, refl, ap, sym, _∙_}
+use mathlib.Core.Bool.{Bool, true, false, _&&_}
+use mathlib.Core.List.{List, [], _∷_}
+use native.Mathlib.Omega.{arith}
+use lib.Dec.{ltb}
+use lib.ListN.{length}
+use borrow.Author.Tests.{ltb-true}
+use Rattle.meaning.specs.Bytes.{Bytes, if_then_else_}
+use Rattle.meaning.specs.Terms.{Named, Clause, Query, as-term}
+use Rattle.meaning.specs.Tokens.{Token, name, variable, integer, sign, bad, Tokens, ends, token}
+use Rattle.meaning.specs.Items.{
+  Counted,
+  Read,
+  read,
+  malformed,
+  passed,
+  Rule,
+  give,
+  is,
+  is-name,
+  term,
+  goal-from,
+  goal,
+  goals,
+  rule,
+  nothing-twice,
+  both-halves,
+  occurrence-rule,
+  figure,
+  no-item,
+  Piece,
+  nothing,
+  clause,
+  query,
+  refused,
+  clause-piece,
+  query-piece,
+  fresh,
+  clause-from,
+  query-from,
+  item-from,
+  item,
+}
+use Rattle.term.specs.Jobs.{GoalsNumbered, GoalsKnown, ClauseLaid, QueryLaid}
+use Rattle.load_image.proofs.Steps.{
+  name-added,
+  variable-added,
+  names-after,
+  variables-after,
+  Ends,
+  Cut,
+  Onward,
+  Good,
+  Steps,
+  StepsFrom,
+  then-steps,
+  behind-steps,
+  give-steps,
+  next-steps,
+  passes-steps,
+  cannot-stand-steps,
+  if-steps,
+  sign-adds,
+}
+use Rattle.load_image.proofs.SmallSteps.{standing-steps, expect-steps, either-steps, count-name-steps}
+use Rattle.load_image.proofs.Laid.{
+  numbered-wider,
+  known-wider,
+  TermLaid,
+  GoalsLaid,
+  compound-of-steps,
+  term-steps,
+}
+
+goal-from-steps : (place : ℕ) (t : Token) (c : Counted) (s : Tokens)
+    → Steps (name-added t (c .names)) (variable-added t (c .variables)) c s (λ d u g. TermLaid (c .compounds) d (as-term g)) (goal-from place t)
+unfolding goal-from name-added variable-added
+goal-from-steps place (name f) c s =
+    behind-steps (count-name-steps f c s) (λ d u w o h.
+    behind-steps (expect-steps d u "(") (λ e v x p q.
+    let same : c .compounds ≡ e .compounds = sym (ap (λ x. x .compounds) q ∙ h .1) in
+    rw same (compound-of-steps (term 15) (term-steps 15) f e v (p .wider f (h .0)))))
+goal-from-steps place (variable h x) c s = cannot-stand-steps place
+goal-from-steps place (integer i) c s = cannot-stand-steps place
+goal-from-steps place (sign b) c s = cannot-stand-steps place
+goal-from-steps place bad c s = cannot-stand-steps place
+
+goal-steps : (c : Counted) (ts : Tokens) → StepsFrom c ts (λ d s g. TermLaid (c .compounds) d (as-term g)) goal
+unfolding goal
+goal-steps c ts = next-steps (λ p t s. goal-from-steps p t c s)
+
+-- Goals up to the full stop, behind which nothing comes.
+goals-steps : (left : ℕ) (c : Counted) (ts : Tokens) → StepsFrom c ts (λ d s gs. GoalsLaid (c .compounds) left d gs × Ends s) (goals left)
+unfolding goals GoalsNumbered GoalsKnown
+goals-steps zero c ts = behind-steps (standing-steps c ts is-name) (λ d s u o h. passes-steps)
+goals-steps (suc left) c ts =
+    then-steps (goal-steps c ts) (λ d s g o laid.
+    then-steps (either-steps d s "," ".") (λ e u another p h.
+    if-steps another
+    (λ test. then-steps (goals-steps left e u) (λ f v gs q all.
+    give-steps (g ∷ gs) (
+      record {
+        numbered = (e .compounds, numbered-wider (c .compounds) (d .compounds) (e .compounds) (as-term g) (p .order) (laid .numbered), all .0 .numbered);
+        known = (known-wider (d .names) (f .names) (λ x k. q .wider x (p .wider x k)) (as-term g) (laid .known), all .0 .known);
+        few = omega (arith, all .0 .few);
+      },
+      all .1,
+    )))
+    (λ test. give-steps (g ∷ []) (
+      record {
+        numbered = (e .compounds, numbered-wider (c .compounds) (d .compounds) (e .compounds) (as-term g) (p .order) (laid .numbered), omega arith);
+        known = (known-wider (d .names) (e .names) (p .wider) (as-term g) (laid .known), tt);
+        few = omega arith;
+      },
+      h .1 test (λ t stop. stop),
+    ))))
+
+pub record RuleLaid (from : ℕ) (d : Counted) (r : Rule) : Type 0 where
+  pub numbered : GoalsNumbered from (d .compounds) (r .head ∷ r .body)
+  pub known : GoalsKnown (d .names) (r .head ∷ r .body)
+  pub few : length (r .body) ≤ 8
+
+body-steps : (implied : Bool) (c : Counted) (ts : Tokens) → (implied ≡ false → Ends ts)
+    → StepsFrom c ts (λ d s gs. GoalsLaid (c .compounds) 8 d gs × Ends s) (if implied then goals 8 else give [])
+unfolding GoalsNumbered GoalsKnown
+body-steps implied c ts stops =
+    if-steps implied (λ test. goals-steps 8 c ts)
+    (λ test. give-steps [] (record { numbered = omega arith; known = tt; few = omega arith }, stops test))
+
+rule-steps : (c : Counted) (ts : Tokens) → StepsFrom c ts (λ d s r. RuleLaid (c .compounds) d r × Ends s) rule
+unfolding rule GoalsNumbered GoalsKnown
+rule-steps c ts =
+    then-steps (goal-steps c ts) (λ d s head o laid.
+    then-steps (either-steps d s ":" ".") (λ e u implied p h.
+    then-steps (body-steps implied e u (λ test. h .1 test (λ t stop. stop))) (λ f v body q all.
+    give-steps (record { head = head; body = body }) (
+      record {
+        numbered = (e .compounds, numbered-wider (c .compounds) (d .compounds) (e .compounds) (as-term head) (p .order) (laid .numbered), all .0 .numbered);
+        known = (known-wider (d .names) (f .names) (λ x k. q .wider x (p .wider x k)) (as-term head) (laid .known), all .0 .known);
+        few = all .0 .few;
+      },
+      all .1,
+    ))))
+
+-- What is said of a piece of the text by what it reads as.
+pub record ClausePiece (piece : Tokens) (known : List Bytes) (k : ℕ) (c : Clause) (names : List Bytes) : Type 0 where
+  pub number : k < 128
+  pub names-are : names ≡ names-after piece known
+  pub laid : ClauseLaid names c
+  pub few-names : length known ≤ 256 → length names ≤ 256
+
+pub record QueryPiece (piece : Tokens) (known : List Bytes) (k : ℕ) (q : Query) (names : List Bytes) : Type 0 where
+  pub number : k < 8
+  pub names-are : names ≡ names-after piece known
+  pub variables-are : q .variables ≡ variables-after piece []
+  pub laid : QueryLaid names q
+  pub few-names : length known ≤ 256 → length names ≤ 256
+
+unfoldable pub PieceIs : Tokens → List Bytes → ℕ → ℕ → Piece → Type 0
+PieceIs piece known k q nothing = Ends piece
+PieceIs piece known k q (clause c names) = ClausePiece piece known k c names
+PieceIs piece known k q (query g names) = QueryPiece piece known q g names
+PieceIs piece known k q (refused r) = Unit {0}
+
+names-at-end : (s : Tokens) (known : List Bytes) → Ends s → names-after s known ≡ known
+unfolding Ends names-after
+names-at-end (ends n) known h = refl
+names-at-end (token at t s) known h = absurd h
+
+variables-at-end : (s : Tokens) (known : List Bytes) → Ends s → variables-after s known ≡ known
+unfolding Ends variables-after
+variables-at-end (ends n) known h = refl
+variables-at-end (token at t s) known h = absurd h
+
+module _ (known : List Bytes) (k q : ℕ) (begins : ℕ) where
+  clause-piece-is : (piece : Tokens) → k < 128 → (x : Read Rule)
+      → Good (λ r d s. Onward known [] (fresh known) piece d s × (RuleLaid 0 d r × Ends s)) x → PieceIs piece known k q (clause-piece begins x)
+  unfolding Good clause-piece PieceIs fresh if_then_else_
+  clause-piece-is piece few (malformed place) g = tt
+  clause-piece-is piece few passed g = tt
+  clause-piece-is piece few (read r d s) g =
+      by (nothing-twice (length (d .variables)) (r .head ∷ r .body) && both-halves (length (d .variables)) (r .head ∷ r .body))
+    where
+      by : (b : Bool) → PieceIs piece known k q
+          (if b then clause (record { head = r .head; body = r .body; pairs = length (d .variables); compounds = d .compounds }) (d .names)
+          else refused (occurrence-rule begins))
+      by true = record {
+        number = few;
+        names-are = sym (g .0 .names ∙ names-at-end s (d .names) (g .1 .1));
+        laid = record {
+          few-pairs = g .0 .few-variables (omega arith);
+          few-compounds = g .0 .few-compounds (omega arith);
+          few-goals = g .1 .0 .few;
+          numbered = g .1 .0 .numbered;
+          known = g .1 .0 .known;
+        };
+        few-names = g .0 .few-names;
+      }
+      by false = tt
+
+  query-piece-is : (place : ℕ) (t : Token) (behind : Tokens) → is "?" t ≡ true → q < 8 → (x : Read (List Named))
+      → Good (λ gs d s. Onward known [] (fresh known) behind d s × (GoalsLaid 0 8 d gs × Ends s)) x
+      → PieceIs (token place t behind) known k q (query-piece begins x)
+  unfolding Good query-piece PieceIs fresh if_then_else_ names-after variables-after
+  query-piece-is place t behind asks few (malformed p) g = tt
+  query-piece-is place t behind asks few passed g = tt
+  query-piece-is place t behind asks few (read gs d s) g = by (nothing-twice (length (d .variables)) gs)
+    where
+      by : (b : Bool) → PieceIs (token place t behind) known k q
+          (if b then query (record { goals = gs; variables = d .variables; compounds = d .compounds }) (d .names) else refused (occurrence-rule begins))
+      by true = record {
+        number = few;
+        names-are = sym (ap (names-after behind) (sign-adds "?" t known asks .0) ∙ (g .0 .names ∙ names-at-end s (d .names) (g .1 .1)));
+        variables-are = sym (ap (variables-after behind) (sign-adds "?" t [] asks .1) ∙ (g .0 .variables ∙ variables-at-end s (d .variables) (g .1 .1)));
+        laid = record {
+          few-pairs = g .0 .few-variables (omega arith);
+          few-compounds = g .0 .few-compounds (omega arith);
+          few-goals = g .1 .0 .few;
+          numbered = g .1 .0 .numbered;
+          known = g .1 .0 .known;
+        };
+        few-names = g .0 .few-names;
+      }
+      by false = tt
+
+-- The item that a piece holds.
+module _ (known : List Bytes) (k q : ℕ) where
+  clause-from-is : (begins : ℕ) (piece : Tokens) → Cut piece → (b : Bool) → ltb k 128 ≡ b
+      → PieceIs piece known k q (if b then clause-piece begins (rule (fresh known) piece) else refused (figure begins))
+  unfolding if_then_else_ PieceIs fresh
+  clause-from-is begins piece cut true h =
+      clause-piece-is known k q begins piece (ltb-true k 128 h) (rule (fresh known) piece) (rule-steps (fresh known) piece .go cut)
+  clause-from-is begins piece cut false h = tt
+
+  query-from-is : (begins : ℕ) (t : Token) (behind : Tokens) → is "?" t ≡ true → Cut behind → (b : Bool) → ltb q 8 ≡ b
+      → PieceIs (token begins t behind) known k q (if b then query-piece begins (goals 8 (fresh known) behind) else refused (figure begins))
+  unfolding if_then_else_ PieceIs fresh
+  query-from-is begins t behind asks cut true h =
+      query-piece-is known k q begins begins t behind asks (ltb-true q 8 h) (goals 8 (fresh known) behind) (goals-steps 8 (fresh known) behind .go cut)
+  query-from-is begins t behind asks cut false h = tt
+
+  pub item-is : (piece : Tokens) → Cut piece → PieceIs piece known k q (item (record { names = known; clauses = k; queries = q }) piece)
+  unfolding item item-from clause-from query-from PieceIs Cut Ends if_then_else_
+  item-is (ends place) cut = tt
+  item-is (token begins t rest) cut = by (is-name t) (is "?" t) refl
+    where
+      by : (a b : Bool) → is "?" t ≡ b → PieceIs (token begins t rest) known k q
+          (if a then clause-from (record { names = known; clauses = k; queries = q }) begins (token begins t rest)
+          else if b then query-from (record { names = known; clauses = k; queries = q }) begins rest
+          else refused (no-item begins))
+      by true b h = clause-from-is begins (token begins t rest) cut (ltb k 128) refl
+      by false true h = query-from-is begins t rest h (cut .1) (ltb q 8) refl
+      by false false h = tt

@@ -1,0 +1,163 @@
+-- A query read: nothing occurs twice in it, and its words are the definitions', with where its variables first stand.
+use Prim.Native.Nat.{ℕ, zero, suc, _+_, _*_, _≤_, _<_, min}
+use mathlib.Core.Path.{_≡_, refl, ap, sym, _∙_}
+use mathlib.Core.Bool.{Bool, true, false, _&&_}
+use mathlib.Core.List.{List, [], _∷_, map}
+use native.Mathlib.Omega.{arith}
+use lib.ListN.{length, set}
+use Rattle.meaning.specs.Bytes.{Bytes, byte, if_then_else_}
+use Rattle.meaning.specs.Terms.{Named, Query}
+use Rattle.meaning.specs.Tokens.{sign, Tokens, ends, token}
+use Rattle.meaning.specs.Items.{
+  Counted,
+  Piece,
+  query,
+  refused,
+  no-item,
+  occurrence-rule,
+  figure,
+  read,
+  malformed,
+  passed,
+  is,
+  goals,
+  nothing-twice,
+  query-piece,
+  item,
+}
+use Rattle.term.specs.Frames.{Only}
+use Rattle.term.proofs.Frames.{only-set, only-then}
+use Rattle.term.specs.Layout.{trial-region, query-record, query-base, query-pairs-word, query-compounds-word, query-goals-from, query-variables-from}
+use Rattle.load_tokens.specs.Fronts.{tokens-in}
+use Rattle.load_names.specs.Places.{Place, Placed, spellings, before, names-over, variables-over, with-name, with-variable}
+use Rattle.load_openings.specs.Reading.{piece, counted-at, Stands, Open}
+use Rattle.load_names.specs.Rules.{none-twice}
+use Rattle.load_image.specs.Kept.{pairs-kept}
+use Rattle.load_image.specs.Image.{so-far, query-stored, places-stored}
+use Rattle.load_goals.specs.Endings.{goals-part, Ended}
+use Rattle.load_items.specs.Outcomes.{Begins, TookQuery, Took, shifted}
+use Rattle.load_openings.specs.declared.cursor.Cursor.{Cursor}
+use Rattle.load_names.proofs.Numbering.{spellings-length}
+use Rattle.load_items.proofs.Occurrence.{twice-is}
+use Rattle.load_items.proofs.Clauses.{three-words}
+use Rattle.load_items.proofs.PlacesKept.{kept-places, kept-only}
+use Rattle.load_items.proofs.Starts.{halves-from-none, query-many, query-reads}
+
+module _ (p : ℕ) (gs : List Named) (names vars : List Place) (compounds : ℕ) (ts : Tokens) where
+  judged-kept : nothing-twice (length vars) gs ≡ true
+      → query-piece p (read gs (counted-at names vars compounds) ts)
+      ≡ query (record { goals = gs; variables = spellings vars; compounds = compounds }) (spellings names)
+  unfolding query-piece counted-at if_then_else_
+  judged-kept h = rw (spellings-length vars, h)
+
+  judged-twice : nothing-twice (length vars) gs ≡ false → query-piece p (read gs (counted-at names vars compounds) ts) ≡ refused (occurrence-rule p)
+  unfolding query-piece counted-at if_then_else_
+  judged-twice h = rw (spellings-length vars, h)
+
+module _ (text rest : Bytes) (from : ℕ) (names item₀ : List ℕ) (count₀ : ℕ) (known : List Place) (b : Begins text rest from names item₀ count₀ known)
+    (clauses k begins : ℕ) (s heads : List ℕ)
+    (tokens : tokens-in from rest 0 ≡ token (from + begins) (sign 63) (tokens-in from rest (begins + 2))) where
+  pub query-passes : 8 ≤ k → item (so-far known clauses k) (piece (tokens-in from rest 0)) ≡ refused (figure (from + begins))
+  query-passes h = rw tokens (query-many known clauses k (from + begins) (tokens-in from rest (begins + 2)) h)
+
+  module _ (few : k < 8) (c : Cursor) (at-first : c .at ≡ begins + 2) (none : c .compounds ≡ 0) where
+    reads-goals : item (so-far known clauses k) (piece (tokens-in from rest 0))
+        ≡ query-piece (from + begins) (goals 8 (counted-at known [] (c .compounds)) (piece (tokens-in from rest (c .at))))
+    reads-goals = rw (at-first, none, tokens) (query-reads known clauses k (from + begins) (tokens-in from rest (begins + 2)) few)
+
+    pub query-malformed : (a : ℕ) → goals 8 (counted-at known [] (c .compounds)) (piece (tokens-in from rest (c .at))) ≡ malformed (from + a)
+        → item (so-far known clauses k) (piece (tokens-in from rest 0)) ≡ refused (no-item (from + a))
+    unfolding query-piece
+    query-malformed a h = rw (reads-goals, h)
+
+    pub query-passed : goals 8 (counted-at known [] (c .compounds)) (piece (tokens-in from rest (c .at))) ≡ passed
+        → item (so-far known clauses k) (piece (tokens-in from rest 0)) ≡ refused (figure (from + begins))
+    unfolding query-piece
+    query-passed h = rw (reads-goals, h)
+
+    module _ (s′ names′ item′ : List ℕ) (w : ℕ) (c′ : Cursor) (gs : List Named) (ps : List Placed) (stop : ℕ)
+        (t : Ended (goals-part (query-goals-from k)) (goals 8) text rest from (query-base k) known [] c s item₀ s′ names′ item′ w c′ gs ps stop) where
+      abbrev known′ : List Place
+      known′ = names-over ps known
+
+      abbrev vars′ : List Place
+      vars′ = variables-over from ps []
+
+      pub many : c′ .variables ≤ 16
+      many = omega (arith, t .stands .variables-count, t .stands .variables-in .few)
+
+      twice : none-twice item′ (c′ .variables) ≡ nothing-twice (c′ .variables) gs
+      unfolding goals-part
+      twice = twice-is item′ gs (c′ .variables) many (halves-from-none item₀ item′ gs (b .empty) (t .halves))
+
+      reads-all : item (so-far known clauses k) (piece (tokens-in from rest 0))
+          ≡ query-piece (from + begins) (read gs (counted-at known′ vars′ (c′ .compounds)) (ends stop))
+      reads-all = rw (reads-goals, t .reads)
+
+      pub query-twice : none-twice item′ (c′ .variables) ≡ false
+          → item (so-far known clauses k) (piece (tokens-in from rest 0)) ≡ refused (occurrence-rule (from + begins))
+      query-twice h =
+          let n = t .stands .variables-count in
+          rw reads-all (judged-twice (from + begins) gs known′ vars′ (c′ .compounds) (ends stop) (rw n at (sym twice ∙ h)))
+
+      the-query : Query
+      the-query = record { goals = gs; variables = spellings vars′; compounds = c′ .compounds }
+
+      query-kept : none-twice item′ (c′ .variables) ≡ true
+          → item (so-far known clauses k) (piece (tokens-in from rest 0)) ≡ query the-query (spellings known′)
+      unfolding the-query
+      query-kept h =
+          let n = t .stands .variables-count in
+          rw reads-all (judged-kept (from + begins) gs known′ vars′ (c′ .compounds) (ends stop) (rw n at (sym twice ∙ h)))
+
+      abbrev counted-words : ℕ → ℕ → List ℕ
+      counted-words v n = set (set (set s′ (query-record k) w) (query-pairs-word k) v) (query-compounds-word k) n
+
+      kept-words : (v n : ℕ) → v ≡ c′ .variables → n ≡ c′ .compounds
+          → pairs-kept item′ from (query-variables-from k) (c′ .variables) (counted-words v n)
+          ≡ query-stored known′ k the-query (map (shifted from) vars′) s
+      unfolding the-query goals-part query-stored
+      kept-words v n ev en =
+          let counts = t .stands .variables-count in
+          rw counts
+          (kept-places item′ from (query-variables-from k) vars′ (counted-words v n) (t .stands .variables-in .starts) (t .stands .variables-in .lengths))
+          ∙ ap (places-stored (query-variables-from k) (map (shifted from) vars′))
+          (three-words s′ _ (query-record k) (query-pairs-word k) (query-compounds-word k) w (length gs) v (length (spellings vars′)) n (c′ .compounds)
+          (t .stored-is) (t .size-is) (ev ∙ counts ∙ sym (spellings-length vars′)) en)
+
+      pub query-took : (s″ : List ℕ) (v n : ℕ) → none-twice item′ (c′ .variables) ≡ true → v ≡ c′ .variables → n ≡ c′ .compounds
+          → s″ ≡ pairs-kept item′ from (query-variables-from k) (c′ .variables) (counted-words v n)
+          → (q : Query) × (ps : List Placed) × (stop : ℕ)
+          × TookQuery text rest from known clauses k s heads s″ names′ heads (c′ .at) (c′ .names) q ps stop
+          × Only 0 trial-region s s″
+      unfolding the-query goals-part before names-over variables-over with-name with-variable Open is byte
+      query-took s″ v n h ev en e =
+          let s₁ = set s′ (query-record k) w in
+          let s₂ = set s₁ (query-pairs-word k) v in
+          let s₃ = set s₂ (query-compounds-word k) n in (
+            the-query,
+            record { at = from + begins; token = sign 63 } ∷ ps,
+            stop,
+            record {
+              took = record {
+                follows = tokens ∙ ap (λ ts. token (from + begins) (sign 63) ts) (rw at-first at (t .follows));
+                no-stop = (refl, t .no-stop);
+                forward = t .forward;
+                inside = t .stands .inside;
+                names-in = t .stands .names-in;
+                count-is = t .stands .names-count;
+              };
+              reads = query-kept h;
+              stored-is = e ∙ kept-words v n ev en;
+              noted = refl;
+              known-names = t .known-names;
+              few = few;
+            },
+            rw e
+                (only-then 0 trial-region s s₃ (pairs-kept item′ from (query-variables-from k) (c′ .variables) s₃)
+                (only-then 0 trial-region s s₂ s₃
+                (only-then 0 trial-region s s₁ s₂ (only-then 0 trial-region s s′ s₁ (t .only) (only-set 0 trial-region s′ (query-record k) w (omega arith) (omega arith)))
+                (only-set 0 trial-region s₁ (query-pairs-word k) v (omega arith) (omega arith)))
+                (only-set 0 trial-region s₂ (query-compounds-word k) n (omega arith) (omega arith)))
+                (kept-only item′ from (query-variables-from k) (c′ .variables) trial-region s₃ (omega (arith, many)))),
+          )

@@ -1,0 +1,242 @@
+// Items: "`head.`, `head :- goal,..,goal.` or `?- goal,..,goal.`", each read into its places of the scratch.
+use load_goals::goals::goal;
+use load_goals::goals::goals;
+use load_image::keep::keep_places;
+use load_names::rules::both_halves;
+use load_names::rules::nothing_twice;
+use load_openings::cursor::Cursor;
+use load_openings::cursor::Read;
+use load_tokens::next::Next;
+use load_tokens::next::next_of;
+use load_tokens::token::Token;
+use load_tokens::token::front;
+use term::layout::CLAUSE_BODY;
+use term::layout::CLAUSE_COMPOUNDS;
+use term::layout::CLAUSE_GOALS;
+use term::layout::CLAUSE_PAIRS;
+use term::layout::CLAUSE_STRIDE;
+use term::layout::CLAUSES;
+use term::layout::COMPOUND_WORDS;
+use term::layout::ITEM_COMPOUNDS;
+use term::layout::ITEMS;
+use term::layout::QUERIES;
+use term::layout::QUERY_BODY;
+use term::layout::QUERY_COMPOUNDS;
+use term::layout::QUERY_PAIRS;
+use term::layout::QUERY_STRIDE;
+use term::layout::QUERY_VARIABLES;
+use term::word::word;
+ghost use mathlib.Core.Path.{_≡_};
+ghost use mathlib.Core.List.{List};
+ghost use Prim.Native.Nat.{ℕ, _+_, _*_, _≤_, _<_};
+ghost use lib.ListN.{length};
+ghost use Rattle.load_names.specs.Places.{Place};
+ghost use Rattle.meaning.specs.Bytes.{Bytes};
+ghost use Rattle.meaning.specs.Tokens.{Tokens, token, name, sign};
+ghost use Rattle.term.specs.Layout.{trial-region, trial-base, item-compounds};
+ghost use Rattle.load_tokens.specs.Fronts.{tokens-in};
+ghost use Rattle.load_items.specs.Outcomes.{ItemIs, Begins, Lent};
+ghost use Rattle.load_openings.specs.Reading.{Stands};
+ghost use Rattle.load_goals.specs.Endings.{RuleIs};
+
+// Head and body of a clause: how many body goals there are. The head's own word is noted for the clause of this number.
+fn rule(
+    text: &[u8],
+    rest: &[u8],
+    from: usize,
+    s: &mut [u64],
+    names: &mut [u64],
+    item: &mut [u64],
+    heads: &mut [u64],
+    base: usize,
+    place: usize,
+    k: usize,
+    c: Cursor,
+) -> Read
+    requires { ⌜ (base + item-compounds ≤ trial-base) × (place + 8 ≤ trial-region) × (trial-region ≤ length (now s)) × (length (now s) < 1152921504606846976) × (k < 128) × (length (now heads) ≡ 128) × (c .compounds ≡ 0) ⌝ }
+    requires { ⌜ ((known : List Place) × (vars : List Place) × Stands (now text) (now rest) from (now names) (now item) c known vars) ⌝ }
+    ensures { λ r. ⌜ ((known : List Place) (vars : List Place) → Stands (now (text .entry)) (now (rest .entry)) from (now (names .entry)) (now (item .entry)) c known vars
+        → RuleIs place k (now (text .entry)) (now (rest .entry)) from base known vars c (now (s .entry)) (now (item .entry)) (now (heads .entry)) (now (s .exit)) (now (names .exit)) (now (item .exit)) (now (heads .exit)) r) ⌝ }
+{
+    match goal(text, rest, from, s, names, item, base, c) {
+        Read::Got(_, e) => {
+            heads[k] = s[COMPOUND_WORDS * base];
+            let at = e.at;
+            match next_of(rest, at, b':', b'.', b'.') {
+                Next::First(behind) => goals(
+                    text,
+                    rest,
+                    from,
+                    s,
+                    names,
+                    item,
+                    base,
+                    place,
+                    Cursor { at: behind, ..e },
+                ),
+                Next::Second(behind) => Read::Got(0, Cursor { at: behind, ..e }),
+                Next::Third(a) => Read::Malformed(a),
+                Next::Other(a) => Read::Malformed(a),
+            }
+        }
+        Read::Malformed(a) => Read::Malformed(a),
+        Read::Exceeded => Read::Exceeded,
+    }
+}
+
+// An item read, up to the byte behind its full stop, with the names counted so far; or 4 at a place, 5 or 6; or nothing is left.
+pub enum Item {
+    Clause(usize, usize),
+    Query(usize, usize),
+    Malformed(usize),
+    Broken(usize),
+    Exceeded(usize),
+    Nothing,
+}
+
+fn first(names: usize, at: usize) -> Cursor
+    ensures { λ r. ⌜ (r .at ≡ at) × (r .names ≡ names) × (r .variables ≡ 0) × (r .compounds ≡ 0) ⌝ }
+{
+    Cursor {
+        at,
+        names,
+        variables: 0,
+        compounds: 0,
+    }
+}
+
+// The clause of this number, whose first token is a name at an offset of the rest.
+fn clause(
+    text: &[u8],
+    rest: &[u8],
+    from: usize,
+    s: &mut [u64],
+    names: &mut [u64],
+    item: &mut [u64],
+    heads: &mut [u64],
+    k: usize,
+    known: usize,
+    begins: usize,
+) -> Item
+    requires { ⌜ Lent (now s) (now heads) ⌝ }
+    requires { ⌜ ((places : List Place) × Begins (now text) (now rest) from (now names) (now item) known places) ⌝ }
+    requires { ⌜ ((f : Bytes) × (ts : Tokens) × (begins ≤ length (now rest)) × (tokens-in from (now rest) 0 ≡ token (from + begins) (name f) ts)) ⌝ }
+    ensures { λ r. ⌜ ((places : List Place) (queries : ℕ) → Begins (now (text .entry)) (now (rest .entry)) from (now (names .entry)) (now (item .entry)) known places
+        → ItemIs (now (text .entry)) (now (rest .entry)) from places k queries (now (s .entry)) (now (heads .entry)) (now (s .exit)) (now (names .entry)) (now (names .exit)) (now (heads .exit)) r) ⌝ }
+{
+    if 128 <= k {
+        return Item::Exceeded(begins);
+    }
+    let record = CLAUSES + CLAUSE_STRIDE * k;
+    match rule(
+        text,
+        rest,
+        from,
+        s,
+        names,
+        item,
+        heads,
+        ITEMS / COMPOUND_WORDS + ITEM_COMPOUNDS * k,
+        record + CLAUSE_BODY,
+        k,
+        first(known, 0),
+    ) {
+        Read::Got(body, c) => {
+            if !nothing_twice(item, c.variables) {
+                return Item::Broken(begins);
+            }
+            if !both_halves(item, c.variables) {
+                return Item::Broken(begins);
+            }
+            s[record + CLAUSE_PAIRS] = word(c.variables);
+            s[record + CLAUSE_COMPOUNDS] = word(c.compounds);
+            s[record + CLAUSE_GOALS] = body;
+            Item::Clause(c.at, c.names)
+        }
+        Read::Malformed(a) => Item::Malformed(a),
+        Read::Exceeded => Item::Exceeded(begins),
+    }
+}
+
+// The query of this number, whose `?-` is at an offset of the rest.
+fn query(
+    text: &[u8],
+    rest: &[u8],
+    from: usize,
+    s: &mut [u64],
+    names: &mut [u64],
+    item: &mut [u64],
+    heads: &mut [u64],
+    k: usize,
+    known: usize,
+    begins: usize,
+) -> Item
+    requires { ⌜ Lent (now s) (now heads) ⌝ }
+    requires { ⌜ ((places : List Place) × Begins (now text) (now rest) from (now names) (now item) known places) ⌝ }
+    requires { ⌜ (begins + 2 ≤ length (now rest)) × (tokens-in from (now rest) 0 ≡ token (from + begins) (sign 63) (tokens-in from (now rest) (begins + 2))) ⌝ }
+    ensures { λ r. ⌜ ((places : List Place) (clauses : ℕ) → Begins (now (text .entry)) (now (rest .entry)) from (now (names .entry)) (now (item .entry)) known places
+        → ItemIs (now (text .entry)) (now (rest .entry)) from places clauses k (now (s .entry)) (now (heads .entry)) (now (s .exit)) (now (names .entry)) (now (names .exit)) (now (heads .exit)) r) ⌝ }
+{
+    if 8 <= k {
+        return Item::Exceeded(begins);
+    }
+    let record = QUERIES + QUERY_STRIDE * k;
+    match goals(
+        text,
+        rest,
+        from,
+        s,
+        names,
+        item,
+        ITEMS / COMPOUND_WORDS + ITEM_COMPOUNDS * (128 + k),
+        record + QUERY_BODY,
+        first(known, begins + 2),
+    ) {
+        Read::Got(count, c) => {
+            if !nothing_twice(item, c.variables) {
+                return Item::Broken(begins);
+            }
+            s[record] = count;
+            s[record + QUERY_PAIRS] = word(c.variables);
+            s[record + QUERY_COMPOUNDS] = word(c.compounds);
+            keep_places(s, item, from, record + QUERY_VARIABLES, c.variables);
+            Item::Query(c.at, c.names)
+        }
+        Read::Malformed(a) => Item::Malformed(a),
+        Read::Exceeded => Item::Exceeded(begins),
+    }
+}
+
+// The item in front of the rest of the text, which begins at the byte after the full stop before it.
+pub fn next_item(
+    text: &[u8],
+    rest: &[u8],
+    from: usize,
+    s: &mut [u64],
+    names: &mut [u64],
+    item: &mut [u64],
+    heads: &mut [u64],
+    clauses: usize,
+    queries: usize,
+    known: usize,
+) -> Item
+    requires { ⌜ Lent (now s) (now heads) ⌝ }
+    requires { ⌜ ((places : List Place) × Begins (now text) (now rest) from (now names) (now item) known places) ⌝ }
+    ensures { λ r. ⌜ ((places : List Place) → Begins (now (text .entry)) (now (rest .entry)) from (now (names .entry)) (now (item .entry)) known places
+        → ItemIs (now (text .entry)) (now (rest .entry)) from places clauses queries (now (s .entry)) (now (heads .entry)) (now (s .exit)) (now (names .entry)) (now (names .exit)) (now (heads .exit)) r) ⌝ }
+{
+    match front(rest, 0) {
+        Token::Name(a, _) => clause(text, rest, from, s, names, item, heads, clauses, known, a),
+        Token::Sign(c, a) => {
+            if c == b'?' {
+                return query(text, rest, from, s, names, item, heads, queries, known, a);
+            }
+            Item::Malformed(a)
+        }
+        Token::Writer(a, _) => Item::Malformed(a),
+        Token::Reader(a, _) => Item::Malformed(a),
+        Token::Integer(_, a, _) => Item::Malformed(a),
+        Token::Bad(a) => Item::Malformed(a),
+        Token::End => Item::Nothing,
+    }
+}

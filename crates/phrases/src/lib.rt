@@ -1,2 +1,0 @@
-// Terms of an item, read from left to right into the item's compounds.
-pub mod terms;

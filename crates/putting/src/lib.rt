@@ -1,3 +1,0 @@
-// Bytes put into the buffer: one, all of a slice, a spelling of the text, a number in decimal.
-// Each function promises its bytes at their place, every other byte as it was, and the place behind them (`Puts` in crate `facts`).
-pub mod put;

@@ -1,0 +1,61 @@
+-- The `NAME = value` lines in the section's whole order, one more behind so many.
+use Prim.Native.Nat.{ℕ, suc, _+_, _≤_, _<_}
+use mathlib.Core.Path.{_≡_, refl, sym, ap, _∙_}
+use mathlib.Core.List.{List, [], _∷_, _++_, append-assoc, append-nil}
+use native.Mathlib.Numerals.{add-one}
+use native.Mathlib.Omega.{arith}
+use lib.ListN.{length, getD, take, drop, length-take, length-append, take-append-drop}
+use lib.Seq.{take-suc, take-all}
+use Rattle.meaning.specs.Bytes.{Bytes, bytes}
+use Rattle.meaning.specs.Terms.{writer, Term}
+use Rattle.meaning.specs.State.{Values}
+use Rattle.meaning.specs.Report.{alone, written}
+use Rattle.report_pairs.specs.Threaded.{full, written-values}
+use Rattle.report_pairs.specs.Laid.{Puts}
+use Rattle.report_pairs.proofs.Laid.{puts-behind, puts-as}
+
+pub written-values-append : (values : Values) (order : List ℕ) (xs ys : List Bytes) (p : ℕ)
+    → written-values values order p (xs ++ ys) ≡ written-values values order p xs ++ written-values values order (p + length xs) ys
+unfolding written-values
+written-values-append values order [] ys p =
+    let none : p + 0 ≡ p = omega arith in ap (λ (n : ℕ). written-values values order n ys) (sym none)
+written-values-append values order (x ∷ xs) ys p =
+    let line = (x ++ bytes " = ") ++ (written order alone (full values (Term.variable writer p)) ++ bytes "\n") in
+    let next : suc p + length xs ≡ p + suc (length xs) = omega arith in
+    ap (_++_ line) (written-values-append values order xs ys (suc p))
+    ∙ ap (λ (n : ℕ). line ++ (written-values values order (suc p) xs ++ written-values values order n ys)) next
+    ∙ sym (append-assoc line (written-values values order (suc p) xs) (written-values values order (p + suc (length xs)) ys))
+
+module _ (values : Values) (order : List ℕ) (xs : List Bytes) (v : ℕ) (h : v < length xs) where
+  abbrev pub value-line : Bytes
+  value-line = (getD xs v [] ++ bytes " = ") ++ (written order alone (full values (Term.variable writer v)) ++ bytes "\n")
+
+  last-line : (p : ℕ) → written-values values order p (getD xs v [] ∷ [])
+      ≡ (getD xs v [] ++ bytes " = ") ++ (written order alone (full values (Term.variable writer p)) ++ bytes "\n")
+  unfolding written-values
+  last-line p = append-nil _
+
+  pub values-more : written-values values order 0 (take v xs) ++ value-line ≡ written-values values order 0 (take (v + 1) xs)
+  values-more =
+      let place : 0 + length (take v xs) ≡ v = simp length-take (omega arith) in
+      sym (ap (written-values values order 0) (ap (λ (n : ℕ). take n xs) (add-one v) ∙ take-suc xs v [] h)
+      ∙ written-values-append values order (take v xs) (getD xs v [] ∷ []) 0
+      ∙ ap (λ (p : ℕ). written-values values order 0 (take v xs) ++ written-values values order p (getD xs v [] ∷ [])) place
+      ∙ ap (_++_ (written-values values order 0 (take v xs))) (last-line v))
+
+  -- What is written with this line is no longer than the whole.
+  pub values-fit : length (written-values values order 0 (take v xs)) + length value-line ≤ length (written-values values order 0 xs)
+  values-fit =
+      let all : length (written-values values order 0 xs) ≡ length (written-values values order 0 (take (v + 1) xs)) + length (written-values values order (0 + length (take (v + 1) xs)) (drop (v + 1) xs)) =
+      ap (λ (l : List Bytes). length (written-values values order 0 l)) (sym (take-append-drop (v + 1) xs))
+      ∙ ap length (written-values-append values order (take (v + 1) xs) (drop (v + 1) xs) 0)
+      ∙ length-append (written-values values order 0 (take (v + 1) xs)) (written-values values order (0 + length (take (v + 1) xs)) (drop (v + 1) xs)) in
+      omega (arith, length-append (written-values values order 0 (take v xs)) value-line, ap length values-more)
+
+  pub value-line-size : length value-line ≡ length (getD xs v []) + 3 + length (written order alone (full values (Term.variable writer v))) + 1
+  unfolding bytes
+  value-line-size = simp length-append (omega arith)
+
+pub no-values-written : (values : Values) (order : List ℕ) (xs : List Bytes) → [] ≡ written-values values order 0 (take 0 xs)
+unfolding written-values
+no-values-written values order xs = refl

@@ -1,0 +1,71 @@
+-- `run_table::table::against_constant` meets its contract: a row for what is seen.
+use mathlib.Core.Path.{_≡_, refl, ap, _∙_}
+use lib.Dec.{eqb}
+use borrow.Author.Tests.{eq-eqb, ne-eqb}
+use Rattle.term.specs.declared.word.View.the-variants.{Writer, Reader}
+use Rattle.run_table.specs.Rows.{gives-goal, waits, fails, agrees, writer-row, reader-row, constant-row, compound-row, equal-row, row, answer, behind}
+use Rattle.run_table.proofs.Seen.{seen}
+use Rattle.run_table.proofs.Rows.{constant-row-other, done-by}
+use borrow.Author.Needs.{needs}
+use Rattle.run_table.proofs.table.against_constant.Statement.{statement}
+use Rattle.run_table.proofs.table.against_constant.Tie as tie
+
+look-requires : tie.Need-look-requires
+look-requires c κs = search needs
+
+enum-known-z : tie.Need-enum-known-z
+enum-known-z c = search needs
+
+give-requires : tie.Need-give-requires
+give-requires c κs = search needs
+
+enum-known-z-2 : tie.Need-enum-known-z-2
+enum-known-z-2 c = search needs
+
+returns : tie.Need-returns
+unfolding writer-row reader-row constant-row compound-row equal-row row answer behind
+returns c =
+    let start = c .before .before .before .before in
+    done-by (start .args .s .now) (start .args .s .now) (start .args .n) (start .args .h) (start .args .w) _ agrees _
+    (constant-row-other (eqb (start .args .h) (start .args .w)) (seen (start .args .w)) (rw (c .before .before .look .ensures) at (c .before .match .keys3)) ∙ ap equal-row (eq-eqb (start .args .h) (start .args .w) (c .if1 .taken))) refl refl
+
+same-length : tie.Need-same-length
+same-length c = search needs
+
+returns-2 : tie.Need-returns-2
+unfolding writer-row reader-row constant-row compound-row equal-row row answer behind
+returns-2 c =
+    let start = c .before .before .before .before .before .before .before .before .before in
+    let z = c .before .before .before .before .before .z .given .0 .0 in
+    let at : seen (start .args .w) ≡ Writer z = cc in
+    done-by (start .args .s .now) (c .before .before .give .last .0) (start .args .n) (start .args .h) (start .args .w) _ (gives-goal z) _
+    (rw at) (rw (c .before .before .give .ensures .0)) (c .before .before .give .ensures .1)
+
+returns-3 : tie.Need-returns-3
+unfolding writer-row reader-row constant-row compound-row equal-row row answer behind
+returns-3 c =
+    let start = c .before .before .before .before .before in
+    let z = c .before .z2 .given .0 .0 in
+    let at : seen (start .args .w) ≡ Reader z = cc in
+    done-by (start .args .s .now) (start .args .s .now) (start .args .n) (start .args .h) (start .args .w) _ (waits z) _ (rw at) refl refl
+
+returns-4 : tie.Need-returns-4
+unfolding writer-row reader-row constant-row compound-row equal-row row answer behind
+returns-4 c =
+    let start = c .before .before .before .before in
+    done-by (start .args .s .now) (start .args .s .now) (start .args .n) (start .args .h) (start .args .w) _ fails _
+    (constant-row-other (eqb (start .args .h) (start .args .w)) (seen (start .args .w)) (rw (c .before .before .look .ensures) at (c .before .match .keys3)) ∙ ap equal-row (ne-eqb (start .args .h) (start .args .w) (c .if1 .left))) refl refl
+
+pub against-constant-spec : {M : Type 1} → statement M
+against-constant-spec =
+    tie.close
+    (tie.spec
+    look-requires
+    enum-known-z
+    give-requires
+    enum-known-z-2
+    returns
+    same-length
+    returns-2
+    returns-3
+    returns-4)

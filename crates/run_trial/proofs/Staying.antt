@@ -1,0 +1,235 @@
+-- What a change of the trial's region and of marks alone leaves as it was: the job, the goal and its unit, a clause's head, what a trial gave.
+use Prim.Native.Nat.{ℕ, zero, suc, _+_, _*_, _≤_, _<_}
+use mathlib.Core.Path.{_≡_, refl, _∙_}
+use mathlib.Core.Logic.{_⊎_, inl, inr}
+use mathlib.Core.List.{List, [], _∷_}
+use native.Mathlib.Omega.{arith}
+use lib.ListN.{length, getD, set, length-set}
+use lib.Seq.{getD-set-other}
+use Rattle.meaning.specs.Bytes.{Bytes}
+use Rattle.meaning.specs.Terms.{Term, Clause, Job, as-term}
+use Rattle.meaning.specs.State.{Room, Goal, Values}
+use Rattle.term.specs.Cells.{Places}
+use Rattle.term.specs.Chains.{end-place, EndsStand}
+use Rattle.term.specs.Frames.{Only}
+use Rattle.term.specs.Holds.{Holds}
+use Rattle.term.specs.Jobs.{ClauseAt, Linked, JobKept}
+use Rattle.term.specs.Setting.{Setting, Within, UnitTerm, UnitStands}
+use Rattle.term.specs.States.{setting, listed}
+use Rattle.term.proofs.Holds.{holds-alike}
+use Rattle.term.proofs.Jobs.{holds-clause-kept, holds-job-kept, linked-map}
+use Rattle.term.proofs.Units.{within-every, unit-stands-alike, ends-stand-alike}
+use Rattle.term.specs.Layout.{trial-region, compounds-region, gifts-part, gift-pair, gift-term, woken-part, clause-record, query-record, ends-after}
+use Rattle.run_circle.specs.Ground.{NewGrounds}
+use Rattle.run_circle.proofs.Grounds.{new-same, grounds-on}
+use Rattle.run_compare.specs.Gifts.{Gift, to-head, to-goal, Entry, EntriesAt}
+use Rattle.run_compare.specs.Compare.{Template, item, HeadTerm, AllEntries, AllGiven}
+use Rattle.run_chains.proofs.Followed.{followed-alike}
+use Rattle.run_trial.specs.Choosing.{unit-of, Trying, ArgumentsStand, TrialOnly, MarksBelow}
+
+-- Frames: nothing changed, one change after another, a wider region, a change of the trial's region, of marks, of one word.
+pub trial-only-same : (top marks pairs : ℕ) (s : List ℕ) → TrialOnly top marks pairs s s
+trial-only-same top marks pairs s = record { size = refl; same = λ k a b. refl }
+
+pub trial-only-then : {top marks pairs : ℕ} {s t u : List ℕ} → TrialOnly top marks pairs s t → TrialOnly top marks pairs t u
+    → TrialOnly top marks pairs s u
+trial-only-then f g = record { size = g .size ∙ f .size; same = λ k a b. g .same k a b ∙ f .same k a b }
+
+above : (low high k : ℕ) → low ≤ high → (k < trial-region) ⊎ (high ≤ k) → (k < trial-region) ⊎ (low ≤ k)
+above low high k h (inl a) = inl a
+above low high k h (inr a) = inr (omega arith)
+
+pub trial-only-wider : {top marks pairs : ℕ} {s t : List ℕ} (top′ : ℕ) → top ≤ top′ → TrialOnly top marks pairs s t → TrialOnly top′ marks pairs s t
+trial-only-wider {top} top′ h f = record { size = f .size; same = λ k a b. f .same k (above top top′ k h a) b }
+
+pub trial-only-region : {hi : ℕ} {s t : List ℕ} (top marks pairs : ℕ) → hi ≤ top → Only trial-region hi s t → TrialOnly top marks pairs s t
+trial-only-region {hi} {s} {t} top marks pairs h f = record { size = f .size; same = λ k a b. go k a }
+  where
+    go : (k : ℕ) → (k < trial-region) ⊎ (top ≤ k) → getD t k 0 ≡ getD s k 0
+    go k (inl a) = f .below k a
+    go k (inr a) = f .above k (omega arith)
+
+pub trial-only-marks : {marks pairs : ℕ} {s t : List ℕ} (top : ℕ) → Only marks (marks + pairs) s t → TrialOnly top marks pairs s t
+trial-only-marks {marks} {pairs} {s} {t} top f = record { size = f .size; same = λ k a b. go k b }
+  where
+    go : (k : ℕ) → (k < marks) ⊎ (marks + pairs ≤ k) → getD t k 0 ≡ getD s k 0
+    go k (inl a) = f .below k a
+    go k (inr a) = f .above k a
+
+pub trial-only-set : (top marks pairs i v : ℕ) (s : List ℕ) → trial-region ≤ i → i < top → TrialOnly top marks pairs s (set s i v)
+trial-only-set top marks pairs i v s l h = record { size = length-set s i v; same = λ k a b. go k a }
+  where
+    go : (k : ℕ) → (k < trial-region) ⊎ (top ≤ k) → getD (set s i v) k 0 ≡ getD s k 0
+    go k (inl a) = getD-set-other s i k v 0 (λ e. omega arith)
+    go k (inr a) = getD-set-other s i k v 0 (λ e. omega arith)
+
+-- A compound's own words are below the trial's region, or behind it and before the marks.
+abbrev pub Apart : ℕ → Places → ℕ → Type 0
+Apart marks at n = (at .compound n + at .width n ≤ trial-region) ⊎ ((compounds-region ≤ at .compound n) × (at .compound n + at .width n ≤ marks))
+
+module _ (marks pairs : ℕ) (s s′ : List ℕ) (o : TrialOnly compounds-region marks pairs s s′) (behind : compounds-region ≤ marks) where
+  pub low-stays : (k : ℕ) → k < trial-region → getD s′ k 0 ≡ getD s k 0
+  low-stays k h = o .same k (inl h) (inl (omega arith))
+
+  pub high-stays : (k : ℕ) → compounds-region ≤ k → k < marks → getD s′ k 0 ≡ getD s k 0
+  high-stays k a b = o .same k (inr a) (inl b)
+
+  place-stays : (at : Places) (n k : ℕ) → Apart marks at n → at .compound n ≤ k → k < at .compound n + at .width n → getD s′ k 0 ≡ getD s k 0
+  place-stays at n k (inl low) a b = low-stays k (omega arith)
+  place-stays at n k (inr high) a b = high-stays k (omega (arith, high .0)) (omega (arith, high .1))
+
+  module _ (places : Places) (p c : ℕ) (apart : (n : ℕ) → n < c → Apart marks places n) where
+    pub holds-stays : (t : Term) → Within p c t → Holds s places t → Holds s′ places t
+    holds-stays t w h =
+        holds-alike s s′ places (λ n. n < c) (omega (arith, o .size)) (λ n l k. place-stays places n k (apart n l)) t
+        (within-every p c t w) h
+
+  module _ (x : Setting) (apart : (n : ℕ) → n < x .compounds → Apart marks (x .places) n) where
+    pub unit-term-stays : (t : Term) → UnitTerm s x t → UnitTerm s′ x t
+    unit-term-stays t k = record {
+      held = holds-stays (x .places) (length (x .values)) (x .compounds) apart t (k .of .within) (k .held);
+      of = k .of;
+    }
+
+    words-stay : (n : ℕ) → n < x .compounds → (k : ℕ) → x .places .compound n ≤ k → k < x .places .compound n + x .places .width n → getD s′ k 0 ≡ getD s k 0
+    words-stay n l k = place-stays (x .places) n k (apart n l)
+
+    pub unit-stays : (from : ℕ) → compounds-region ≤ from → from + x .pairs ≤ marks → UnitStands s x from → UnitStands s′ x from
+    unit-stays from a b u =
+        unit-stands-alike s s′ x (omega (arith, o .size)) words-stay from (λ k l h. high-stays k (omega arith) (omega arith)) u
+
+    pub ends-stay : (from : ℕ) → marks + pairs ≤ from + ends-after * x .pairs → EndsStand s x from → EndsStand s′ x from
+    ends-stay from a e =
+        ends-stand-alike s s′ x (omega (arith, o .size)) words-stay from
+        (λ n h. o .same (end-place x from n) (inr (omega arith)) (inr (omega arith))) e
+
+  module _ (x : Setting) (y : Template) (small : y .number < 128) (few : y .compounds ≤ 32) where
+    head-apart : (n : ℕ) → n < y .compounds → Apart marks (item x y) n
+    head-apart n h = inl (omega arith)
+
+    pub head-term-stays : (lo hi : ℕ) (t : Term) → HeadTerm s x y lo hi t → HeadTerm s′ x y lo hi t
+    head-term-stays lo hi t k = record {
+      held = holds-stays (item x y) (y .pairs) (y .compounds) head-apart t (k .within) (k .held);
+      within = k .within;
+      known = k .known;
+      ranged = k .ranged;
+      numbered = k .numbered;
+      high = k .high;
+    }
+
+    pub all-entries-stay : (lo hi : ℕ) (es : List Entry) → AllEntries s x y lo hi es → AllEntries s′ x y lo hi es
+    unfolding AllEntries
+    all-entries-stay lo hi [] k = k
+    all-entries-stay lo hi (e ∷ es) k =
+        (k .0, k .1, k .2, k .3, head-term-stays (k .1) (k .2) (e .term) (k .4), all-entries-stay (k .2) hi es (k .5))
+
+    pub all-given-stay : ((n : ℕ) → n < x .compounds → Apart marks (x .places) n) → (lo hi : ℕ) (gs : List Gift) → AllGiven s x y lo hi gs
+        → AllGiven s′ x y lo hi gs
+    unfolding AllGiven
+    all-given-stay apart lo hi [] k = k
+    all-given-stay apart lo hi (to-head n u ∷ gs) k = ((k .0 .0, unit-term-stays x apart u (k .0 .1)), all-given-stay apart lo hi gs (k .1))
+    all-given-stay apart lo hi (to-goal z t ∷ gs) k =
+        (k .0, k .1, k .2, k .3, head-term-stays (k .1) (k .2) t (k .4), all-given-stay apart (k .2) hi gs (k .5))
+
+  -- The job, and a clause of it.
+  pub job-stays : JobKept s s′
+  job-stays = record {
+    size = omega (arith, o .size);
+    before = λ k h. low-stays k (omega arith);
+    records = λ q i h m a b. low-stays (query-record q + i) (omega arith);
+    items = λ k l h. low-stays k h;
+  }
+
+  pub clause-stays : (names : List Bytes) (k : ℕ) (c : Clause) → ClauseAt s names k c → ClauseAt s′ names k c
+  clause-stays names k c a =
+      let number : k < 128 = a .number in
+      record {
+        number = number;
+        held = holds-clause-kept s s′ names k (omega (arith, o .size)) c (λ i l m. low-stays (clause-record k + i) (omega arith))
+            (λ i l m. low-stays i (omega arith)) (a .held);
+      }
+
+  pub linked-stays : (names : List Bytes) (w : ℕ) (cs : List Clause) → Linked s (ClauseAt s names) w cs → Linked s′ (ClauseAt s′ names) w cs
+  linked-stays names w cs l =
+      linked-map s s′ (ClauseAt s names) (ClauseAt s′ names) w cs
+      (λ k c a. (clause-stays names k c a, low-stays (clause-record k) (omega (arith, a .number)))) l
+
+-- Where the goal's unit has its compounds.
+pub compounds-apart : {s : List ℕ} {text : Bytes} {names : List Bytes} {j : Job} {limit : ℕ} {figures : Room} {at : Places}
+    {g : Goal} {others : List Goal} {values marks links goal : ℕ}
+    → Trying s text names j limit figures at g others values marks links goal
+    → (n : ℕ) → n < unit-of j limit figures g .compounds → Apart marks at n
+compounds-apart t n h = inr (t .compound-behind n h, omega (arith, t .compound-before n h, t .marks-behind))
+
+-- All that a trial leans on.
+pub trying-stays : {s s′ : List ℕ} {text : Bytes} {names : List Bytes} {j : Job} {limit : ℕ} {figures : Room} {at : Places}
+    {g : Goal} {others : List Goal} {values marks links goal : ℕ}
+    → TrialOnly compounds-region marks (figures .pairs) s s′
+    → NewGrounds at (unit-of j limit figures g .values) marks s s′
+    → Trying s text names j limit figures at g others values marks links goal
+    → Trying s′ text names j limit figures at g others values marks links goal
+trying-stays {s} {s′} {names = names} {j} {limit} {figures} {at} {g} {values = values} {marks} o new t =
+    let x = setting figures at (unit-of j limit figures g) in
+    let behind : compounds-region ≤ marks = omega (arith, t .values-behind, t .marks-behind) in
+    record {
+      reads = t .reads;
+      front = t .front;
+      held = holds-job-kept s s′ names (job-stays marks (figures .pairs) s s′ o behind) j (t .held);
+      names-are = t .names-are;
+      unit = unit-stays marks (figures .pairs) s s′ o behind x (compounds-apart t) values (t .values-behind) (t .marks-behind) (t .unit);
+      goal-held = unit-term-stays marks (figures .pairs) s s′ o behind x (compounds-apart t)
+          (as-term (g .goal)) (t .goal-held);
+      goal-place = t .goal-place;
+      apart = t .apart;
+      compound-behind = t .compound-behind;
+      compound-before = t .compound-before;
+      values-behind = t .values-behind;
+      marks-behind = t .marks-behind;
+      inside = omega (arith, t .inside, o .size);
+      enough = t .enough;
+      links-are = t .links-are;
+      ends-behind = t .ends-behind;
+      ends = ends-stay marks (figures .pairs) s s′ o behind x (compounds-apart t) values (t .ends-behind) (t .ends);
+      grounds = grounds-on at (unit-of j limit figures g .values) marks (t .apart) s s′ new (t .grounds);
+    }
+
+-- The goal's arguments, followed, which stand behind the waiting readers.
+pub arguments-stay : {s s′ : List ℕ} {text : Bytes} {names : List Bytes} {j : Job} {limit : ℕ} {figures : Room} {at : Places}
+    {g : Goal} {others : List Goal} {values marks links goal : ℕ}
+    → Trying s text names j limit figures at g others values marks links goal
+    → TrialOnly woken-part marks (figures .pairs) s s′
+    → ArgumentsStand s j limit figures at g links → ArgumentsStand s′ j limit figures at g links
+unfolding Holds as-term
+arguments-stay {s} {s′} {j = j} {limit} {figures} {at} {g} {marks = marks} {links} t o =
+    let behind : compounds-region ≤ marks = omega (arith, t .values-behind, t .marks-behind) in
+    followed-alike s s′ (setting figures at (unit-of j limit figures g)) (omega (arith, o .size))
+    (words-stay marks (figures .pairs) s s′ (trial-only-wider compounds-region (omega arith) o) behind (setting figures at (unit-of j limit figures g)) (compounds-apart t))
+    links 0 (g .goal .arguments) (λ k l h. o .same k (inr (omega arith)) (inl (omega (arith, t .goal-held .held .0 .few))))
+
+-- The marks, where only the trial's region has changed.
+pub grounds-stay : {hi : ℕ} {s s′ : List ℕ} (places : Places) (values : Values) (marks : ℕ) → hi ≤ marks → Only trial-region hi s s′
+    → NewGrounds places values marks s s′
+grounds-stay {s = s} {s′} places values marks h o = new-same places values marks s s′ (λ p. o .above (marks + p) (omega arith))
+
+pub marks-stay : {hi : ℕ} {s s′ : List ℕ} (marks pairs stamp : ℕ) → hi ≤ marks → Only trial-region hi s s′
+    → MarksBelow s marks pairs stamp → MarksBelow s′ marks pairs stamp
+marks-stay marks pairs stamp h o m k a b = rw (o .above k (omega arith)) (m k a b)
+
+-- The entries, where the words from the first to the last stay.
+pub entries-stay : (s s′ : List ℕ) (item unit : Places) (n : ℕ) (es : List Entry)
+    → ((k : ℕ) → gifts-part ≤ k → k < gift-pair (n + length es) → getD s′ k 0 ≡ getD s k 0)
+    → EntriesAt s item unit n es → EntriesAt s′ item unit n es
+unfolding EntriesAt
+entries-stay s s′ item unit n [] same k = tt
+entries-stay s s′ item unit n (e ∷ es) same k = (
+  same (gift-pair n) (omega arith) (omega arith) ∙ k .0,
+  same (gift-term n) (omega arith) (omega arith) ∙ k .1,
+  entries-stay s s′ item unit (n + 1) es (λ m a b. same m a (omega arith)) (k .2),
+)
+
+-- So many words from one on.
+pub listed-stays : (s s′ : List ℕ) (from n : ℕ) → ((k : ℕ) → from ≤ k → k < from + n → getD s′ k 0 ≡ getD s k 0) → listed s′ from n ≡ listed s from n
+unfolding listed
+listed-stays s s′ from zero same = refl
+listed-stays s s′ from (suc n) same =
+    rw (listed-stays s s′ from n (λ k a b. same k a (omega arith)), same (from + n) (omega arith) (omega arith))

@@ -1,0 +1,384 @@
+-- The trial of a clause: what its comparison asks; what the circle test asks where all places agree; and what the trial tells.
+-- Each pair of the goal is given a term at most once, and had none before.
+use Prim.Native.Nat.{ℕ, _+_, _*_, _≤_, _<_, _^_}
+use mathlib.Core.Path.{_≡_, refl, sym, subst, ap, _∙_}
+use mathlib.Core.Bool.{Bool, true, false}
+use mathlib.Core.Logic.{_⊎_, inl, inr}
+use mathlib.Core.List.{List}
+use mathlib.Core.Option.{none, some}
+use native.Mathlib.Omega.{arith}
+use lib.ListN.{length, getD}
+use Rattle.meaning.specs.Bytes.{Bytes, if_then_else_}
+use Rattle.meaning.specs.Terms.{Functor, Term, Terms, Clause, Job, count, named, renamed}
+use Rattle.meaning.specs.State.{Room, Goal, value}
+use Rattle.meaning.specs.Compare.{Assignment, succeeds, fails, waits-on}
+use Rattle.meaning.specs.Trial.{with-pairs, values-after, compared, tested, trial}
+use Rattle.laws.proofs.Circle.{run-no-circle}
+use Rattle.laws.proofs.Lists.Among.{In}
+use Rattle.laws.proofs.Lists.EachOf.{each-in}
+use Rattle.laws.proofs.Single.{AssignedOnce, trial-assigns-once}
+use Rattle.laws.proofs.Trial.Values.{
+  length-with-pairs,
+  length-values-after,
+  value-after-cases,
+  value-assigned-other,
+  value-with-pairs,
+  assigned-below,
+}
+use Rattle.term.specs.Cells.{Places}
+use Rattle.term.specs.Frames.{Only}
+use Rattle.term.specs.Jobs.{GoalsNumbered}
+use Rattle.term.specs.Setting.{Setting, UnitTerm}
+use Rattle.term.specs.States.{setting}
+use Rattle.term.specs.Layout.{trial-region, compounds-region, gifts-part, readers-part, woken-part, clause-head}
+use Rattle.run_compare.specs.declared.compare.CompareResult.{CompareResult}
+use Rattle.run_compare.specs.declared.compare.CompareResult.the-variants.{Agrees, Waits, Fails}
+use Rattle.run_trial.specs.declared.choice.TrialResult.the-variants.{Succeeds, Waits as WaitsOn, Fails as FailsAll}
+use Rattle.run_compare.specs.Gifts.{Gift, assignments, Entry as GiftEntry, entries-of, EntriesAt}
+use Rattle.run_circle.specs.Circle.{Trial, Entry, Tried, Tested, entry-pair}
+use Rattle.run_circle.specs.Ground.{NewGrounds}
+use Rattle.run_circle.proofs.Grounds.{new-then}
+use Rattle.run_compare.specs.Compare.{Template, item, HeadAgainst, AllEntries, Agreed, Answers, Gave, places-outcome}
+use Rattle.run_trial.specs.Choosing.{unit-of, Trying, ArgumentsStand, TrialOnly, MarksBelow, template, Candidate, TrialIs}
+use Rattle.run_compare.proofs.Given.{entries-length, entries-at, entries-held, gave}
+use Rattle.run_trial.proofs.Heads.{rules-kept, one-of-the-job, head-end, body-numbered, against, compared-is}
+use Rattle.run_trial.proofs.Once.{once-apart, assigned-is, no-entry, entry-assigned, entries-differ, to-clause, to-unit, entry-words, entry-held}
+use Rattle.run_trial.proofs.Staying.{
+  trial-only-then,
+  trial-only-wider,
+  trial-only-region,
+  trial-only-marks,
+  compounds-apart,
+  grounds-stay,
+  trying-stays,
+  arguments-stay,
+  clause-stays,
+  unit-term-stays,
+  head-term-stays,
+  all-entries-stay,
+  all-given-stay,
+  entries-stay,
+  marks-stay,
+}
+
+module _ {s s₁ : List ℕ} {text : Bytes} {names : List Bytes} {j : Job} {limit : ℕ} {figures : Room} {at : Places} {g : Goal} {others : List Goal}
+    {values marks links goal k : ℕ} {c : Clause}
+    (t : Trying s text names j limit figures at g others values marks links goal) (f : ArgumentsStand s j limit figures at g links)
+    (m : Candidate s names j g k c) (begun : Only trial-region gifts-part s s₁) where
+  pub begun-frame : TrialOnly compounds-region marks (figures .pairs) s s₁
+  begun-frame = trial-only-region compounds-region marks (figures .pairs) (omega arith) begun
+
+  marks-high : readers-part ≤ marks
+  marks-high = omega (arith, t .values-behind, t .marks-behind)
+
+  begun-grounds : NewGrounds at (unit-of j limit figures g .values) marks s s₁
+  begun-grounds = grounds-stay at (unit-of j limit figures g .values) marks (omega (arith, marks-high)) begun
+
+  pub begun-trying : Trying s₁ text names j limit figures at g others values marks links goal
+  begun-trying = trying-stays begun-frame begun-grounds t
+
+  pub begun-candidate : Candidate s₁ names j g k c
+  begun-candidate = record {
+    at = clause-stays marks (figures .pairs) s s₁ begun-frame (omega (arith, t .values-behind, t .marks-behind)) names k c (m .at);
+    before = m .before;
+    after = m .after;
+    in-procedure = m .in-procedure;
+  }
+
+  -- How far the head's compounds are numbered.
+  abbrev pub to : ℕ
+  to = head-end begun-trying begun-candidate
+
+  pub comparing : HeadAgainst s₁ (setting figures at (unit-of j limit figures g)) (template k c) values links
+      (c .head .number) (named (c .head .name)) (c .head .arguments) 1 to (g .goal .arguments) (clause-head k)
+  comparing =
+      against begun-trying begun-candidate
+      (arguments-stay t (trial-only-region woken-part marks (figures .pairs) (omega arith) begun) f)
+
+  -- What comparing tells.
+  abbrev pub Comparison : List ℕ → CompareResult → Type 0
+  Comparison s₂ r =
+      Answers s₁ s₂ (setting figures at (unit-of j limit figures g)) (template k c) 0 1 to (count (c .head .arguments))
+      (places-outcome (setting figures at (unit-of j limit figures g)) links (c .head .arguments) (g .goal .arguments)) r
+
+  pub comparison : (s₂ : List ℕ) (r r′ : CompareResult)
+      → ((x : Setting) (y : Template) (h : ℕ) (f : Functor) (us : Terms) (lo hi : ℕ) (ts : Terms)
+      → HeadAgainst s₁ x y values links h f us lo hi ts (clause-head k)
+      → Answers s₁ s₂ x y 0 lo hi (count us) (places-outcome x links us ts) r)
+      → r ≡ r′ → Comparison s₂ r′
+  comparison s₂ r r′ tells e =
+      subst (λ o. Comparison s₂ o) e
+      (tells (setting figures at (unit-of j limit figures g)) (template k c) (c .head .number) (named (c .head .name)) (c .head .arguments) 1 to
+      (g .goal .arguments) comparing)
+
+  -- The head's writers are given nothing before it.
+  pub cleared-all : ((a : ℕ) → a < 16 → getD s₁ (trial-region + a) 0 ≡ 0) → (a : ℕ) → a < c .pairs → getD s₁ (trial-region + a) 0 ≡ 0
+  cleared-all cleared a h = cleared a (omega (arith, m .at .held .laid .few-pairs))
+
+  -- Before the circle test, where all places agree.
+  module _ {s₂ : List ℕ} {n stamp : ℕ} (new : MarksBelow s marks (figures .pairs) stamp) (fit : (1 < stamp) × (stamp + 256 < 2 ^ 64))
+      (cleared : (a : ℕ) → a < c .pairs → getD s₁ (trial-region + a) 0 ≡ 0)
+      (told : Comparison s₂ (Agrees n)) where
+    abbrev pub x : Setting
+    x = setting figures at (unit-of j limit figures g)
+
+    abbrev pub y : Template
+    y = template k c
+
+    abbrev pub gifts : List Gift
+    gifts = told .told .1 .gifts
+
+    abbrev pub list : List GiftEntry
+    list = entries-of (told .told .1 .gifts)
+
+    abbrev pub given : List Assignment
+    given = assignments (length (unit-of j limit figures g .values)) (unit-of j limit figures g .compounds) (told .told .1 .gifts)
+
+    pub agrees : compared c (unit-of j limit figures g) (g .goal) ≡ succeeds given
+    agrees = compared-is t m ∙ told .told .1 .outcome
+
+    once : AssignedOnce (unit-of j limit figures g .values) (c .pairs) given
+    once = trial-assigns-once j (rules-kept t m) limit figures g others (t .front) c (one-of-the-job m) given agrees
+
+    pub few-entries : n ≤ 192
+    few-entries = omega (arith, told .told .0, comparing .head .room)
+
+    large : readers-part ≤ length s₁
+    large = comparing .head .trial .large
+
+    few : c .pairs ≤ 16
+    few = m .at .held .laid .few-pairs
+
+    counted : n ≡ length list
+    counted = omega (arith, told .told .1 .counted, entries-length gifts)
+
+    stand : EntriesAt s₂ (item x y) at 0 list
+    stand =
+        subst (λ u. EntriesAt u (item x y) at 0 list) (sym (told .told .1 .scratch))
+        (entries-at (item x y) at gifts s₁ x y 1 to 0 s₁ few (told .told .1 .given) large (omega (arith, few-entries, told .told .1 .counted)))
+
+    held : AllEntries s₁ x y 1 to list
+    held = entries-held gifts s₁ x y 1 to (told .told .1 .given)
+
+    agreed-frame : TrialOnly compounds-region marks (figures .pairs) s₁ s₂
+    agreed-frame = trial-only-region compounds-region marks (figures .pairs) (omega arith) (told .only)
+
+    agreed-grounds : NewGrounds at (unit-of j limit figures g .values) marks s₁ s₂
+    agreed-grounds = grounds-stay at (unit-of j limit figures g .values) marks marks-high (told .only)
+
+    agreed-trying : Trying s₂ text names j limit figures at g others values marks links goal
+    agreed-trying = trying-stays agreed-frame agreed-grounds begun-trying
+
+    given-then : (all : Gave s₁ s₂ x y given n) × (all .high ≡ to)
+    given-then =
+        gave s₁ s₂ x y 1 to given n
+        (subst (λ o. Agreed s₁ s₂ x y 0 1 to o n) (told .told .1 .outcome) (told .told .1))
+        large few-entries few cleared
+
+    abbrev pub tried-as : Trial
+    tried-as = record {
+      unit = x;
+      after = values-after c given (unit-of j limit figures g);
+      item = item x y;
+      pairs = c .pairs;
+      compounds = c .compounds;
+    }
+
+    base-long : length (with-pairs (c .pairs) (x .values)) ≡ length (x .values) + c .pairs
+    base-long = length-with-pairs (c .pairs) (x .values)
+
+    entry : (i : ℕ) → i < n → Entry s₂ tried-as i
+    unfolding values-after
+    entry i h =
+        let e = getD list i no-entry in
+        let inside : i < length list = omega (arith, counted) in
+        let own = entry-held s₁ x y 1 to list i inside held in
+        let words = entry-words s₂ (item x y) at 0 list i inside stand in
+        let is : 0 + i ≡ i = omega arith in
+        let one = entry-assigned (length (x .values)) (x .compounds) gifts i inside in
+        let term = head-term-stays marks (figures .pairs) s₁ s₂ agreed-frame (omega (arith, t .values-behind, t .marks-behind)) x y
+        (m .at .number) (m .at .held .laid .few-compounds) (own .1) (own .2) (e .term) (own .3) in
+        record {
+          pair = e .pair;
+          term = e .term;
+          of-unit = own .0;
+          place = rw is at (words .0);
+          word = rw is at (words .1);
+          held = term .held;
+          within = term .within;
+          unassigned = each-in (λ a. value (x .values) (a .pair) ≡ none) (once .unassigned-before) one;
+          given = assigned-is given (with-pairs (c .pairs) (x .values))
+              (record { pair = e .pair; value = renamed (length (x .values)) (x .compounds) (e .term) })
+              (once-apart once) one (omega (arith, base-long, own .0));
+        }
+
+    apart-entries : (i l : ℕ) → i < n → l < n → entry-pair s₂ i ≡ entry-pair s₂ l → i ≡ l
+    apart-entries i l h q same =
+        let inside : i < length list = omega (arith, counted) in
+        let inside′ : l < length list = omega (arith, counted) in
+        let is : 0 + i ≡ i = omega arith in
+        let is′ : 0 + l ≡ l = omega arith in
+        let words = rw is at (entry-words s₂ (item x y) at 0 list i inside stand .0) in
+        let words′ = rw is′ at (entry-words s₂ (item x y) at 0 list l inside′ stand .0) in
+        entries-differ (length (x .values)) (x .compounds) gifts i l (once-apart once) inside inside′
+        (t .apart (getD list i no-entry .pair) (getD list l no-entry .pair)
+        (entry-held s₁ x y 1 to list i inside held .0) (entry-held s₁ x y 1 to list l inside′ held .0)
+        (sym words ∙ same ∙ words′))
+
+    -- What the clause's pairs are given.
+    to-pair : (a : ℕ) (u : Term) → value (values-after c given (unit-of j limit figures g)) (length (x .values) + a) ≡ some u → UnitTerm s₂ x u
+    to-pair a u e = go (value-after-cases c given (unit-of j limit figures g) (length (x .values) + a) u e)
+      where
+        go : ((b : Assignment) × In b given × (b .pair ≡ length (x .values) + a) × (b .value ≡ u))
+            ⊎ (value (x .values) (length (x .values) + a) ≡ some u)
+            → UnitTerm s₂ x u
+        go (inl (b, one, place, is)) =
+            unit-term-stays marks (figures .pairs) s₁ s₂ agreed-frame (omega (arith, t .values-behind, t .marks-behind)) x (compounds-apart t) u
+            (subst (λ v. UnitTerm s₁ x v) is
+            (each-in (λ d. length (x .values) ≤ d .pair → UnitTerm s₁ x (d .value))
+            (to-clause (length (x .values)) (x .compounds) s₁ x y 1 to gifts (told .told .1 .given) refl) one (omega arith)))
+        go (inr q) = absurd (omega (arith, assigned-below (x .values) (length (x .values) + a) u q))
+
+    pub tried : Tried s₂ tried-as values marks n stamp
+    unfolding values-after
+    tried = record {
+      unit = agreed-trying .unit;
+      unit-apart = t .apart;
+      unit-before = t .compound-before;
+      item-before = λ a h. omega (arith, m .at .number, m .at .held .laid .few-compounds, t .values-behind);
+      item-pair = λ a. refl;
+      few = few;
+      entries-before = omega (arith, few-entries, t .values-behind);
+      marks-behind = t .marks-behind;
+      room = agreed-trying .inside;
+      entry = entry;
+      entries-apart = apart-entries;
+      given = λ a h. record {
+        word = given-then .0 .clause-values a h;
+        held = λ u e. to-pair a u e .held;
+        within = λ u e. to-pair a u e .of .within;
+      };
+      after-length = length-values-after c given (unit-of j limit figures g);
+      others = λ a h none-here.
+          value-assigned-other given (with-pairs (c .pairs) (x .values)) a
+          (λ b one e.
+          let low : b .pair < length (x .values) = omega arith in
+          let r = to-unit (length (x .values)) (x .compounds) s₂ (item x y) at gifts 0 b stand one low in
+          none-here (r .0) (omega (arith, r .1, counted)) (ap (at .pair) e ∙ r .2))
+          ∙ value-with-pairs (c .pairs) (x .values) a;
+      no-circle = run-no-circle j limit figures (g .query);
+      stamps-fit = omega (arith, few-entries, fit .1);
+      stamps-new =
+          marks-stay marks (figures .pairs) stamp (omega (arith, t .values-behind, t .marks-behind)) (told .only)
+          (marks-stay marks (figures .pairs) stamp (omega (arith, t .values-behind, t .marks-behind)) begun new);
+      stamp-above = fit .0;
+      grounds = agreed-trying .grounds;
+    }
+
+    -- After the circle test.
+    module _ {s₃ : List ℕ} {found : Bool} (answer : Tested s₂ s₃ tried-as marks n stamp found) where
+      tested-frame : TrialOnly readers-part marks (figures .pairs) s₂ s₃
+      tested-frame = trial-only-marks readers-part (answer .only)
+
+      whole-frame : TrialOnly readers-part marks (figures .pairs) s s₃
+      whole-frame =
+          trial-only-then (trial-only-region readers-part marks (figures .pairs) (omega arith) begun)
+          (trial-only-then (trial-only-region readers-part marks (figures .pairs) (omega arith) (told .only)) tested-frame)
+
+      grounds-after : NewGrounds at (unit-of j limit figures g .values) marks s s₃
+      grounds-after =
+          new-then at (unit-of j limit figures g .values) marks s s₁ s₃ begun-grounds
+          (new-then at (unit-of j limit figures g .values) marks s₁ s₂ s₃ agreed-grounds (answer .grounds))
+
+      marks-after : MarksBelow s₃ marks (figures .pairs) (stamp + 256)
+      marks-after a l h = omega (arith, answer .stamps-new a l h, few-entries)
+
+      tested-is : trial c (unit-of j limit figures g) (g .goal) ≡ (if found then fails else succeeds given)
+      unfolding trial tested
+      tested-is = rw (agrees, tested, answer .answer) refl
+
+      before-marks : (a : ℕ) → a < readers-part → getD s₃ a 0 ≡ getD s₂ a 0
+      before-marks a h = answer .only .below a (omega (arith, t .values-behind, t .marks-behind))
+
+      pub circle-fails : found ≡ true → TrialIs s s₃ j limit figures at g marks stamp k c FailsAll
+      unfolding if_then_else_
+      circle-fails e = record { only = whole-frame; marks-now = marks-after; told = rw e at tested-is; grounds = grounds-after }
+
+      pub no-circle-succeeds : found ≡ false → TrialIs s s₃ j limit figures at g marks stamp k c (Succeeds n)
+      unfolding if_then_else_
+      no-circle-succeeds e =
+          let all = given-then .0 in
+          record {
+            only = whole-frame;
+            marks-now = marks-after;
+            told = (
+              given,
+              rw e at tested-is,
+              record {
+                few = few-entries;
+                gave = record {
+                  list = all .list;
+                  size = all .size;
+                  stand = entries-stay s₂ s₃ (item x y) at 0 (all .list) (λ a l h. before-marks a (omega (arith, all .size, few-entries))) (all .stand);
+                  held = all-entries-stay marks (figures .pairs) s₁ s₃
+                      (trial-only-then agreed-frame (trial-only-wider compounds-region (omega arith) tested-frame))
+                      (omega (arith, t .values-behind, t .marks-behind)) x y (m .at .number) (m .at .held .laid .few-compounds) (all .low) (all .high) (all .list) (all .held);
+                  unit-values = all .unit-values;
+                  clause-values = λ a h. before-marks (trial-region + a) (omega (arith, few)) ∙ all .clause-values a h;
+                  gifts = all .gifts;
+                  given-are = all .given-are;
+                  low = all .low;
+                  high = all .high;
+                  list-is = all .list-is;
+                  gifts-held = all-given-stay marks (figures .pairs) s₁ s₃
+                      (trial-only-then agreed-frame (trial-only-wider compounds-region (omega arith) tested-frame))
+                      (omega (arith, t .values-behind, t .marks-behind)) x y (m .at .number) (m .at .held .laid .few-compounds) (compounds-apart t)
+                      (all .low) (all .high) (all .gifts) (all .gifts-held);
+                  pairs-are = all .pairs-are;
+                };
+                body = subst (λ h. GoalsNumbered h (c .compounds) (c .body)) (sym (given-then .1)) (body-numbered begun-trying begun-candidate);
+              },
+            );
+            grounds = grounds-after;
+          }
+
+  -- Where a place waits or fails.
+  module _ {s₂ : List ℕ} {stamp : ℕ} (new : MarksBelow s marks (figures .pairs) stamp) where
+    frame : (r : CompareResult) → Comparison s₂ r → TrialOnly readers-part marks (figures .pairs) s s₂
+    frame r told =
+        trial-only-then (trial-only-region readers-part marks (figures .pairs) (omega arith) begun)
+        (trial-only-region readers-part marks (figures .pairs) (omega arith) (told .only))
+
+    grounds-still : (r : CompareResult) → Comparison s₂ r → NewGrounds at (unit-of j limit figures g .values) marks s s₂
+    grounds-still r told =
+        new-then at (unit-of j limit figures g .values) marks s s₁ s₂ begun-grounds
+        (grounds-stay at (unit-of j limit figures g .values) marks marks-high (told .only))
+
+    marks-still : (r : CompareResult) → Comparison s₂ r → MarksBelow s₂ marks (figures .pairs) (stamp + 256)
+    marks-still r told a l h =
+        let still =
+        marks-stay marks (figures .pairs) stamp (omega (arith, t .values-behind, t .marks-behind)) (told .only)
+        (marks-stay marks (figures .pairs) stamp (omega (arith, t .values-behind, t .marks-behind)) begun new) a l h in
+        omega (arith, still)
+
+    pub place-waits : (z : ℕ) → Comparison s₂ (Waits z) → TrialIs s s₂ j limit figures at g marks stamp k c (WaitsOn z)
+    unfolding trial tested waits-on
+    place-waits z told =
+        let waits-is : compared c (unit-of j limit figures g) (g .goal) ≡ waits-on (told .told .pair) = compared-is t m ∙ told .told .outcome in
+        record {
+          only = frame (Waits z) told;
+          marks-now = marks-still (Waits z) told;
+          told = (told .told .pair, rw (waits-is, tested) refl, told .told .inside, told .told .place);
+          grounds = grounds-still (Waits z) told;
+        }
+
+    pub place-fails : Comparison s₂ Fails → TrialIs s s₂ j limit figures at g marks stamp k c FailsAll
+    unfolding trial tested
+    place-fails told =
+        let fails-is : compared c (unit-of j limit figures g) (g .goal) ≡ fails = compared-is t m ∙ told .told in
+        record {
+          only = frame Fails told;
+          marks-now = marks-still Fails told;
+          told = rw (fails-is, tested) refl;
+          grounds = grounds-still Fails told;
+        }

@@ -1,0 +1,137 @@
+-- `run_trial::choice::trial` meets its contract: the head is compared with the goal, and where all places agree the circle test follows.
+use borrow.Author.Needs.{needs}
+use Rattle.meaning.specs.Terms.{named}
+use Rattle.term.specs.States.{setting}
+use Rattle.run_compare.specs.declared.compare.CompareResult.the-variants.{Agrees, Waits, Fails}
+use Rattle.run_trial.specs.Choosing.{unit-of, template}
+use Rattle.run_trial.proofs.Trials as trials
+use Rattle.run_trial.proofs.choice.trial.Statement.{statement}
+use Rattle.run_trial.proofs.choice.trial.Tie as tie
+
+begin-requires : tie.Need-begin-requires
+begin-requires c κs = search needs
+
+mul-head : tie.Need-mul-head
+mul-head c = search needs
+
+add-head : tie.Need-add-head
+add-head c = search needs
+
+head-requires : tie.Need-head-requires
+head-requires c κs =
+    let B = c .before .before .before in
+    let S = B .before .before .before in
+    let (text, names, j, limit, figures, at, g, others, goal, k, trying, stand, candidate, new, fit) = S .pre in
+    let begun = B .begin .ensures .0 in (
+      setting figures at (unit-of j limit figures g),
+      template (S .args .k) k,
+      k .head .number,
+      named (k .head .name),
+      k .head .arguments,
+      1,
+      trials.to trying stand candidate begun,
+      g .goal .arguments,
+      trials.comparing trying stand candidate begun,
+    )
+
+enum-known-n : tie.Need-enum-known-n
+enum-known-n c = search needs
+
+circle-requires : tie.Need-circle-requires
+circle-requires c κs =
+    let N = c .before .before in
+    let P = N .before .before .before .before in
+    let B = P .before .before .before .before in
+    let S = B .before .before .before in
+    let (text, names, j, limit, figures, at, g, others, goal, k, t, f, m, new, fit) = S .pre in
+    let begun = B .begin .ensures .0 in
+    let cleared = trials.cleared-all t f m begun (B .begin .ensures .1) in
+    let told = trials.comparison t f m begun (P .head .last .0) (P .head .result) (Agrees (N .n .given .0 .0)) (P .head .ensures) (N .n .given .1) in
+    (trials.tried-as t f m begun new fit cleared told, trials.tried t f m begun new fit cleared told)
+
+same-length : tie.Need-same-length
+same-length c = search needs
+
+returns : tie.Need-returns
+returns c =
+    let C = c .before .before .before in
+    let N = C .before .before .before in
+    let P = N .before .before .before .before in
+    let B = P .before .before .before .before in
+    let S = B .before .before .before in
+    let fit = S .pre .14 in
+    λ text names j limit figures at g others goal k t f m new.
+    let begun = B .begin .ensures .0 in
+    let cleared = trials.cleared-all t f m begun (B .begin .ensures .1) in
+    let told = trials.comparison t f m begun (P .head .last .0) (P .head .result) (Agrees (N .n .given .0 .0)) (P .head .ensures) (N .n .given .1) in
+    trials.circle-fails t f m begun new fit cleared told
+    (C .circle .ensures (trials.tried-as t f m begun new fit cleared told) (trials.tried t f m begun new fit cleared told)) (c .if1 .taken)
+
+enum-known-p : tie.Need-enum-known-p
+enum-known-p c = search needs
+
+enum-told : tie.Need-enum-told
+enum-told c = search needs
+
+same-length-2 : tie.Need-same-length-2
+same-length-2 c = search needs
+
+returns-2 : tie.Need-returns-2
+returns-2 c =
+    let C = c .before .before .before in
+    let N = C .before .before .before in
+    let P = N .before .before .before .before in
+    let B = P .before .before .before .before in
+    let S = B .before .before .before in
+    let fit = S .pre .14 in
+    λ text names j limit figures at g others goal k t f m new.
+    let begun = B .begin .ensures .0 in
+    let cleared = trials.cleared-all t f m begun (B .begin .ensures .1) in
+    let told = trials.comparison t f m begun (P .head .last .0) (P .head .result) (Agrees (N .n .given .0 .0)) (P .head .ensures) (N .n .given .1) in
+    trials.no-circle-succeeds t f m begun new fit cleared told
+    (C .circle .ensures (trials.tried-as t f m begun new fit cleared told) (trials.tried t f m begun new fit cleared told)) (c .if1 .left)
+
+same-length-3 : tie.Need-same-length-3
+same-length-3 c = search needs
+
+returns-3 : tie.Need-returns-3
+returns-3 c =
+    let W = c .before in
+    let P = W .before .before .before .before in
+    let begun = P .before .before .before .before .begin .ensures .0 in
+    let z = W .p .given .0 .0 in
+    λ text names j limit figures at g others goal k t f m new.
+    trials.place-waits t f m begun new z
+    (trials.comparison t f m begun (P .head .last .0) (P .head .result) (Waits z) (P .head .ensures) (W .p .given .1))
+
+same-length-4 : tie.Need-same-length-4
+same-length-4 c = search needs
+
+returns-4 : tie.Need-returns-4
+returns-4 c =
+    let P = c .before .before .before .before in
+    let begun = P .before .before .before .before .begin .ensures .0 in
+    λ text names j limit figures at g others goal k t f m new.
+    trials.place-fails t f m begun new
+    (trials.comparison t f m begun (P .head .last .0) (P .head .result) Fails (P .head .ensures) (c .enum-told .given .1))
+
+pub trial-spec : {M : Type 1} → statement M
+trial-spec =
+    tie.close
+    (tie.spec
+    begin-requires
+    mul-head
+    add-head
+    head-requires
+    enum-known-n
+    circle-requires
+    same-length
+    returns
+    enum-known-p
+    enum-told
+    same-length-2
+    returns-2
+    same-length-3
+    returns-3
+    same-length-4
+    returns-4)

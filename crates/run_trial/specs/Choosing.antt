@@ -1,0 +1,124 @@
+-- What the trial of a clause and the choice of a clause ask and give. Both work for the goal in front, in a state of the run of the job that a
+-- text was read as: what the laws say of such states is what they lean on.
+use Prim.Native.Nat.{ℕ, _+_, _*_, _≤_, _<_, _^_}
+use mathlib.Core.Path.{_≡_}
+use mathlib.Core.Logic.{_⊎_}
+use mathlib.Core.List.{List, [], _∷_, _++_, map}
+use lib.ListN.{length, getD}
+use Rattle.meaning.specs.Bytes.{Bytes}
+use Rattle.meaning.specs.Terms.{Clause, Job, as-term}
+use Rattle.meaning.specs.Items.{job, reading}
+use Rattle.meaning.specs.State.{Room, QueryUnit, Goal, unit-at}
+use Rattle.meaning.specs.Compare.{Assignment, Result, succeeds, waits-on, fails}
+use Rattle.meaning.specs.Trial.{Choice, reduces, joins-waiting, joins-failed, procedure, trial, choice}
+use Rattle.meaning.specs.Run.{run}
+use Rattle.term.specs.Cells.{Places}
+use Rattle.term.specs.Chains.{EndsStand}
+use Rattle.term.specs.Jobs.{GoalsNumbered, HoldsJob, ClauseAt}
+use Rattle.term.specs.Setting.{Setting, UnitTerm, UnitStands}
+use Rattle.term.specs.States.{setting, listed}
+use Rattle.term.specs.Layout.{trial-region, compounds-region, readers-part, ends-after, clause-record}
+use Rattle.run_chains.specs.Follow.{FollowedAt}
+use Rattle.run_compare.specs.Compare.{Template, Gave}
+use Rattle.run_circle.specs.Ground.{Grounds, NewGrounds}
+use Rattle.run_trial.specs.declared.choice.TrialResult.{TrialResult}
+use Rattle.run_trial.specs.declared.choice.TrialResult.the-variants.{Succeeds, Waits, Fails}
+use Rattle.run_trial.specs.declared.choice.ChoiceResult.{ChoiceResult}
+use Rattle.run_trial.specs.declared.choice.ChoiceResult.the-variants.{Reduces, Waits as WaitsOn, Fails as FailsAll}
+
+-- The unit of a goal's query, in the state after so many steps.
+abbrev pub unit-of : Job → ℕ → Room → Goal → QueryUnit
+unit-of j limit figures g = unit-at (g .query) (run j limit figures .state .units)
+
+-- The scratch holds the job, the goal at a place, and its unit: values from a word on, marks and then ends behind them, compounds before them.
+pub record Trying (s : List ℕ) (text : Bytes) (names : List Bytes) (j : Job) (limit : ℕ) (figures : Room) (places : Places)
+    (g : Goal) (others : List Goal) (values marks links goal : ℕ) : Type 0 where
+  pub reads : reading text ≡ job j
+  pub front : run j limit figures .state .goals .queue ≡ g ∷ others
+  pub held : HoldsJob s names j
+  pub names-are : places .names ≡ names
+  pub unit : UnitStands s (setting figures places (unit-of j limit figures g)) values
+  pub goal-held : UnitTerm s (setting figures places (unit-of j limit figures g)) (as-term (g .goal))
+  pub goal-place : goal ≡ places .compound (g .goal .number)
+  pub apart : (n m : ℕ) → n < length (unit-of j limit figures g .values) → m < length (unit-of j limit figures g .values)
+      → places .pair n ≡ places .pair m → n ≡ m
+  pub compound-behind : (n : ℕ) → n < unit-of j limit figures g .compounds → compounds-region ≤ places .compound n
+  pub compound-before : (n : ℕ) → n < unit-of j limit figures g .compounds → places .compound n + places .width n ≤ values
+  pub values-behind : compounds-region ≤ values
+  pub marks-behind : values + figures .pairs ≤ marks
+  pub inside : marks + figures .pairs ≤ length s
+  pub enough : length (unit-of j limit figures g .values) ≤ links
+  pub links-are : links ≡ figures .pairs
+  pub ends-behind : marks + figures .pairs ≤ values + ends-after * figures .pairs
+  pub ends : EndsStand s (setting figures places (unit-of j limit figures g)) values
+  pub grounds : Grounds places (unit-of j limit figures g .values) marks s
+
+-- The goal's arguments stand followed in the trial's region.
+abbrev pub ArgumentsStand : List ℕ → Job → ℕ → Room → Places → Goal → ℕ → Type 0
+ArgumentsStand s j limit figures places g links =
+    FollowedAt s (setting figures places (unit-of j limit figures g)) links 0 (g .goal .arguments)
+
+-- Stamps from this one on are unused.
+abbrev pub MarksBelow : List ℕ → ℕ → ℕ → ℕ → Type 0
+MarksBelow s marks pairs stamp = (k : ℕ) → marks ≤ k → k < marks + pairs → getD s k 0 < stamp
+
+-- Only words of the trial's region below a top, and marks, differ.
+pub record TrialOnly (top marks pairs : ℕ) (s s′ : List ℕ) : Type 0 where
+  pub size : length s′ ≡ length s
+  pub same : (k : ℕ) → (k < trial-region) ⊎ (top ≤ k) → (k < marks) ⊎ (marks + pairs ≤ k) → getD s′ k 0 ≡ getD s k 0
+
+-- Clause k as comparing sees it.
+abbrev pub template : ℕ → Clause → Template
+template k c = record { number = k; pairs = c .pairs; compounds = c .compounds }
+
+-- A clause of the goal's procedure, in the scratch as clause k.
+pub record Candidate (s : List ℕ) (names : List Bytes) (j : Job) (g : Goal) (k : ℕ) (c : Clause) : Type 0 where
+  pub at : ClauseAt s names k c
+  pub before : List Clause
+  pub after : List Clause
+  pub in-procedure : procedure (j .clauses) (g .goal) ≡ before ++ c ∷ after
+
+-- What a trial has given stands in the trial's region: the assignments of n of the goal's pairs, and of the head's writers; the compounds of the
+-- body's goals are numbered behind those of what is given.
+pub record Succeeded (s : List ℕ) (x : Setting) (k : ℕ) (c : Clause) (given : List Assignment) (n : ℕ) : Type 0 where
+  pub few : n ≤ 192
+  pub gave : Gave s s x (template k c) given n
+  pub body : GoalsNumbered (gave .high) (c .compounds) (c .body)
+
+abbrev pub TrialTold : List ℕ → Setting → ℕ → Clause → Result → TrialResult → Type 0
+TrialTold s x k c o (Succeeds n) = (given : List Assignment) × (o ≡ succeeds given) × Succeeded s x k c given n
+TrialTold s x k c o (Waits p) = (pair : ℕ) × (o ≡ waits-on pair) × (pair < length (x .values)) × (p ≡ x .places .pair pair)
+TrialTold s x k c o Fails = o ≡ fails
+
+-- The clause to try behind clause k, by its number plus one, or 0 if there is none.
+abbrev pub clause-after : List ℕ → ℕ → TrialResult → ℕ
+clause-after s k (Succeeds n) = 0
+clause-after s k (Waits p) = getD s (clause-record k) 0
+clause-after s k Fails = getD s (clause-record k) 0
+
+-- The answer of a trial.
+pub record TrialIs (s s′ : List ℕ) (j : Job) (limit : ℕ) (figures : Room) (places : Places) (g : Goal) (marks stamp k : ℕ) (c : Clause) (r : TrialResult) : Type 0 where
+  pub only : TrialOnly readers-part marks (figures .pairs) s s′
+  pub marks-now : MarksBelow s′ marks (figures .pairs) (stamp + 256)
+  pub told : TrialTold s′ (setting figures places (unit-of j limit figures g)) k c (trial c (unit-of j limit figures g) (g .goal)) r
+  pub grounds : NewGrounds places (unit-of j limit figures g .values) marks s s′
+
+abbrev pub AllBelow : ℕ → List ℕ → Type 0
+AllBelow n [] = Unit {0}
+AllBelow n (r ∷ rs) = (r < n) × AllBelow n rs
+
+abbrev pub ChoiceTold : List ℕ → List Bytes → Setting → Choice → ChoiceResult → Type 0
+ChoiceTold s names x o (Reduces k n) =
+    (c : Clause) × (given : List Assignment) × (o ≡ reduces c given) × ClauseAt s names k c × Succeeded s x k c given n
+ChoiceTold s names x o (WaitsOn n) =
+    (readers : List ℕ) × (o ≡ joins-waiting readers) × (n ≤ 128) × (listed s readers-part n ≡ map (λ p. x .places .pair p) readers)
+    × AllBelow (length (x .values)) readers
+ChoiceTold s names x o FailsAll = o ≡ joins-failed
+
+-- The answer of the choice.
+pub record ChoiceIs (s s′ : List ℕ) (names : List Bytes) (j : Job) (limit : ℕ) (figures : Room) (places : Places) (g : Goal) (marks stamp : ℕ) (r : ChoiceResult)
+    : Type 0 where
+  pub only : TrialOnly compounds-region marks (figures .pairs) s s′
+  pub marks-now : MarksBelow s′ marks (figures .pairs) (stamp + 32768)
+  pub told : ChoiceTold s′ names (setting figures places (unit-of j limit figures g)) (choice (j .clauses) (unit-of j limit figures g) (g .goal)) r
+  pub grounds : NewGrounds places (unit-of j limit figures g .values) marks s s′

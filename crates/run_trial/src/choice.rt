@@ -1,0 +1,161 @@
+// The trial of a clause, and the choice of a clause among those of a procedure.
+use run_chains::arguments::follow_arguments;
+use run_circle::circle::circle;
+use run_compare::compare::CompareResult;
+use run_compare::heads::head;
+use term::layout::CLAUSE_NEXT;
+use term::layout::CLAUSE_STRIDE;
+use term::layout::CLAUSES;
+use term::layout::ITEM_WORDS;
+use term::layout::ITEMS;
+use term::layout::PROCEDURES;
+use term::layout::READERS;
+use term::layout::TRIAL;
+use term::scratch::set_at;
+use term::scratch::word_at;
+use term::word::index;
+use term::word::word;
+ghost use mathlib.Core.Path.{_≡_};
+ghost use mathlib.Core.List.{List};
+ghost use Prim.Native.Nat.{ℕ, _+_, _*_, _≤_, _<_, _^_};
+ghost use lib.ListN.{length, getD};
+ghost use Rattle.meaning.specs.Bytes.{Bytes};
+ghost use Rattle.meaning.specs.Terms.{Clause, Job};
+ghost use Rattle.meaning.specs.State.{Room, Goal};
+ghost use Rattle.term.specs.Cells.{Places};
+ghost use Rattle.term.specs.Frames.{Only};
+ghost use Rattle.term.specs.Layout.{clauses-region, trial-region, compounds-region, gifts-part, procedure-slot, clause-record};
+ghost use Rattle.run_trial.specs.Choosing.{Trying, ArgumentsStand, MarksBelow, Candidate, clause-after, TrialIs, ChoiceIs};
+
+// "Each trial of a clause gives one of three results": it succeeds, with so many of the goal's pairs given a term; it waits on the reader of a
+// pair; it fails.
+pub enum TrialResult {
+    Succeeds(usize),
+    Waits(usize),
+    Fails,
+}
+
+// What becomes of the goal: reduced by a clause, with so many of its pairs given a term; waiting on so many readers; failed.
+pub enum ChoiceResult {
+    Reduces(usize, usize),
+    Waits(usize),
+    Fails,
+}
+
+// The head's writers are given nothing yet. All 16 words are set, whatever the clause has: a number that the compiler knows.
+fn begin(s: &mut [u64])
+    requires { ⌜ compounds-region ≤ length (now s) ⌝ }
+    ensures only { λ r. ⌜ Only trial-region gifts-part (now (s .entry)) (now (s .exit)) ⌝ }
+    ensures nothing { λ r. ⌜ ((x : ℕ) → x < 16 → getD (now (s .exit)) (trial-region + x) 0 ≡ 0) ⌝ }
+{
+    let mut x = 0;
+    while x < 16 {
+        set_at(s, TRIAL, x, 0);
+        x += 1;
+    }
+}
+
+// The trial of clause k on the goal whose arguments were followed.
+fn trial(
+    s: &mut [u64],
+    values: usize,
+    marks: usize,
+    links: usize,
+    k: usize,
+    stamp: u64,
+) -> TrialResult
+    requires { ⌜ ((text : Bytes) × (names : List Bytes) × (j : Job) × (limit : ℕ) × (figures : Room) × (at : Places) × (g : Goal) × (others : List Goal) × (goal : ℕ) × (c : Clause)
+        × Trying (now s) text names j limit figures at g others values marks links goal
+        × ArgumentsStand (now s) j limit figures at g links
+        × Candidate (now s) names j g k c
+        × MarksBelow (now s) marks (figures .pairs) stamp × ((1 < stamp) × (stamp + 256 < 2 ^ 64))) ⌝ }
+    ensures { λ r. ⌜ ((text : Bytes) (names : List Bytes) (j : Job) (limit : ℕ) (figures : Room) (at : Places) (g : Goal) (others : List Goal) (goal : ℕ) (c : Clause)
+        → Trying (now (s .entry)) text names j limit figures at g others values marks links goal
+        → ArgumentsStand (now (s .entry)) j limit figures at g links
+        → Candidate (now (s .entry)) names j g k c
+        → MarksBelow (now (s .entry)) marks (figures .pairs) stamp
+        → TrialIs (now (s .entry)) (now (s .exit)) j limit figures at g marks stamp k c r) ⌝ }
+{
+    begin(s);
+    match head(s, values, links, ITEMS + ITEM_WORDS * k) {
+        CompareResult::Agrees(n) => {
+            if circle(s, values, marks, n, stamp) {
+                return TrialResult::Fails;
+            }
+            TrialResult::Succeeds(n)
+        }
+        CompareResult::Waits(p) => TrialResult::Waits(p),
+        CompareResult::Fails => TrialResult::Fails,
+    }
+}
+
+// "Name and number of arguments together select the procedure": the number of its first clause plus one, or 0.
+fn first_clause(s: &[u64], goal: usize) -> usize
+    requires { ⌜ (goal < length (now s)) × (procedure-slot (getD (now s) goal 0) < length (now s)) ⌝ }
+    ensures { λ r. ⌜ r ≡ getD (now (s .entry)) (procedure-slot (getD (now (s .entry)) goal 0)) 0 ⌝ }
+{
+    let functor = index(word_at(s, goal, 0));
+    index(word_at(s, PROCEDURES - 8, functor))
+}
+
+// The number of the next clause of the same procedure plus one, or 0.
+fn next_clause(s: &[u64], k: usize) -> usize
+    requires { ⌜ clause-record k < length (now s) ⌝ }
+    ensures { λ r. ⌜ r ≡ getD (now (s .entry)) (clause-record k) 0 ⌝ }
+{
+    index(word_at(s, CLAUSES + CLAUSE_STRIDE * k, CLAUSE_NEXT))
+}
+
+// The clause to try when clause k was tried, in the same way: the next, "also when an earlier one waits"; behind one that succeeds none.
+fn clause_after(s: &[u64], k: usize, t: TrialResult) -> usize
+    requires { ⌜ clause-record k < length (now s) ⌝ }
+    ensures { λ r. ⌜ r ≡ clause-after (now (s .entry)) k t ⌝ }
+{
+    let next = next_clause(s, k);
+    match t {
+        TrialResult::Succeeds(_) => 0,
+        TrialResult::Waits(_) => next,
+        TrialResult::Fails => next,
+    }
+}
+
+// "The first clause that succeeds is taken, also when an earlier one waits." Stamps from this one on are unused.
+pub fn choice(
+    s: &mut [u64],
+    values: usize,
+    marks: usize,
+    links: usize,
+    goal: usize,
+    first: u64,
+) -> ChoiceResult
+    requires { ⌜ ((text : Bytes) × (names : List Bytes) × (j : Job) × (limit : ℕ) × (figures : Room) × (at : Places) × (g : Goal) × (others : List Goal)
+        × Trying (now s) text names j limit figures at g others values marks links goal
+        × MarksBelow (now s) marks (figures .pairs) first × ((1 < first) × (first + 32768 < 2 ^ 64))) ⌝ }
+    ensures { λ r. ⌜ ((text : Bytes) (names : List Bytes) (j : Job) (limit : ℕ) (figures : Room) (at : Places) (g : Goal) (others : List Goal)
+        → Trying (now (s .entry)) text names j limit figures at g others values marks links goal
+        → MarksBelow (now (s .entry)) marks (figures .pairs) first
+        → ChoiceIs (now (s .entry)) (now (s .exit)) names j limit figures at g marks first r) ⌝ }
+{
+    let mut readers = 0;
+    let mut stamp = first;
+    follow_arguments(s, values, links, goal);
+    let mut next = first_clause(s, goal);
+    'clauses: while next != 0 {
+        let k = next - 1;
+        let t = trial(s, values, marks, links, k, stamp);
+        let TrialResult::Succeeds(n) = t else {
+            if let TrialResult::Waits(p) = t {
+                set_at(s, READERS, readers, word(p));
+                readers += 1;
+            }
+            stamp += 256;
+            next = clause_after(s, k, t);
+            continue 'clauses;
+        };
+        return ChoiceResult::Reduces(k, n);
+    }
+    if readers == 0 {
+        return ChoiceResult::Fails;
+    }
+    ChoiceResult::Waits(readers)
+}

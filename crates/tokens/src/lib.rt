@@ -1,5 +1,0 @@
-// The tokens of a text: `token` reads the one in front of a part of the text, `next` says whether it can begin a term and which sign it is,
-// `lines` counts lines.
-pub mod lines;
-pub mod next;
-pub mod token;

@@ -1,3 +1,0 @@
-// The trial of a clause, and the choice of a clause among those of a procedure. It reads the scratch of crate `term`; afterwards only the trial's
-// region and the marks have changed. Read specs/Choosing for what each promises.
-pub mod choice;
