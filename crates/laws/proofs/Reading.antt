@@ -1,5 +1,6 @@
 -- Reading: every accepted text keeps the occurrence rules and the figures, and what an item is depends on its tokens alone.
 -- Two readers that stand beside each other on the same tokens read alike; each reader's law is put together like the reader itself.
+pub mod NameBytes
 pub mod EachToken
 pub mod Rules
 pub mod Numbering
@@ -25,6 +26,8 @@ use Rattle.laws.proofs.Lists.{each-paired, getD-from-getElem?, paired-e
 use Rattle.laws.proofs.Reading.Figures.{ClauseFits, QueryFits}
 use Rattle.laws.proofs.Reading.Accepted.{clause-ok, clause-fits, query-ok, query-fits}
 use Rattle.laws.proofs.Reading.Pieces.{same-tokens-same-clause, same-tokens-same-query}
+-- Which bytes make a name: the row of ranges is the former test, on every number.
+pub use NameBytes.{former-test, former-run, row-is-the-former-test, runs-are-the-former-runs}
 -- The occurrence rules, the figures, and the tokens of a text, cut behind each full stop into clause items and query items.
 pub use Rules.{ClauseOk, QueryOk, JobOk}
 pub use Figures.{JobFits}

@@ -26,6 +26,7 @@ use Rattle.meaning.specs.Tokens.{
   underscore,
   separates,
   single-sign,
+  in-run,
   run,
   next-is,
   unless-overlong,
@@ -75,7 +76,7 @@ spelled-here text before f behind at e size = record {
 run-here : (cs : Bytes) → (behind : Bytes) × (cs ≡ run cs ++ behind)
 unfolding run
 run-here [] = ([], refl)
-run-here (c ∷ cs) = by (lowercase c || uppercase c || digit c || underscore c) (run-here cs)
+run-here (c ∷ cs) = by (in-run c) (run-here cs)
   where
     by : (b : Bool) → ((behind : Bytes) × (cs ≡ run cs ++ behind))
         → (behind : Bytes) × (c ∷ cs ≡ elim b [ true ↦ c ∷ run cs | false ↦ [] ] ++ behind)

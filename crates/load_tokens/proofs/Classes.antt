@@ -3,10 +3,10 @@
 use Prim.Native.Nat.{ℕ, _≤_, _<_}
 use Prim.Native.Char.{Char}
 use mathlib.Core.Path.{_≡_, refl}
-use mathlib.Core.Bool.{Bool, true, false, _&&_, _||_}
+use mathlib.Core.Bool.{Bool, true, false, _&&_, _||_, and-false}
 use native.Mathlib.Omega.{arith}
 use lib.Dec.{leb, eqb}
-use borrow.Author.Tests.{leb-true, lt-leb, eqb-true, ne-eqb}
+use borrow.Author.Tests.{leb-true, le-leb, lt-leb, eqb-true, ne-eqb}
 use Rattle.meaning.specs.Bytes.{byte}
 use Rattle.meaning.specs.Tokens.{tokens-words, between, lowercase, uppercase, digit, separates, single-sign}
 
@@ -19,6 +19,18 @@ unfolding between
 in-between low high c e =
     let t = both (leb (byte low) c) (leb c (byte high)) e in
     (leb-true _ _ (t .0), leb-true _ _ (t .1))
+
+pub inside : (low high : Char) (c : ℕ) → byte low ≤ c → c ≤ byte high → between low high c ≡ true
+unfolding between
+inside low high c l h = rw (le-leb (byte low) c l, le-leb c (byte high) h)
+
+pub below : (low high : Char) (c : ℕ) → c < byte low → between low high c ≡ false
+unfolding between
+below low high c h = rw (lt-leb (byte low) c h)
+
+pub above : (low high : Char) (c : ℕ) → byte high < c → between low high c ≡ false
+unfolding between
+above low high c h = rw (lt-leb c (byte high) h, and-false (leb (byte low) c))
 
 pub lowercase-bytes : (c : ℕ) → lowercase c ≡ true → (97 ≤ c) × (c ≤ 122)
 unfolding lowercase byte

@@ -2,15 +2,15 @@
 -- A run is the part of the text up to its end.
 use Prim.Native.Nat.{ℕ, suc, _+_, _≤_, _<_}
 use mathlib.Core.Path.{_≡_, refl, sym, ap, _∙_}
-use mathlib.Core.Bool.{Bool, true, false, _||_, or-true}
+use mathlib.Core.Bool.{Bool, true, false}
 use mathlib.Core.List.{[], _∷_}
 use native.Mathlib.Omega.{arith}
 use lib.Dec.{eqb}
 use lib.ListN.{length, take, drop, getD, length-drop}
 use lib.Seq.{drop-length, slice}
 use Rattle.meaning.specs.Bytes.{Bytes, byte}
-use Rattle.meaning.specs.Tokens.{lowercase, uppercase, digit, run, remark}
-use Rattle.load_tokens.specs.Ends.{in-run, end-of-run, end-of-remark}
+use Rattle.meaning.specs.Tokens.{digit, in-run, run, remark}
+use Rattle.load_tokens.specs.Ends.{end-of-run, end-of-remark}
 use Rattle.load_tokens.proofs.Parts.{drop-next, slice-next, take-drop}
 
 run-in : (c : ℕ) (cs : Bytes) → in-run c ≡ true → run (c ∷ cs) ≡ c ∷ run cs
@@ -77,7 +77,8 @@ run-inside rest i h = omega (arith, run-length (drop i rest), length-drop i rest
 
 -- A run behind a digit.
 digit-in-run : (c : ℕ) → digit c ≡ true → in-run c ≡ true
-digit-in-run c d = rw (d, or-true (lowercase c || uppercase c))
+unfolding in-run digit
+digit-in-run c d = rw d
 
 pub run-of-digit : (rest : Bytes) (i : ℕ) → i < length rest → digit (getD rest i 0) ≡ true → run (drop i rest) ≡ getD rest i 0 ∷ run (drop (i + 1) rest)
 run-of-digit rest i h d = rw (drop-next rest i h) (run-in (getD rest i 0) (drop (i + 1) rest) (digit-in-run (getD rest i 0) d))

@@ -1,7 +1,7 @@
 -- What stands in front by its first byte: one case of `front` for each kind of token.
 -- The tests before a kind's own fail by the number of its byte; the byte behind may decide too.
 use Prim.Native.Nat.{ℕ, _≤_, _<_}
-use mathlib.Core.Path.{_≡_, refl, _∙_}
+use mathlib.Core.Path.{_≡_, refl, sym, _∙_}
 use mathlib.Core.Bool.{Bool, true, false, _||_}
 use native.Mathlib.Omega.{arith}
 use lib.Dec.{eqb}
@@ -9,9 +9,9 @@ use lib.ListN.{length, drop, getD, length-drop, drop-of-length-le}
 use mathlib.Core.List.{[], _∷_}
 use borrow.Author.Tests.{eqb-true}
 use Rattle.meaning.specs.Bytes.{Bytes, byte, if_then_else_}
-use Rattle.meaning.specs.Tokens.{tokens-words, Front, bad, sign, lowercase, uppercase, digit, underscore, separates, single-sign, run, next-is, unsigned, name-front, variable-front, double-front, minus-front, front}
+use Rattle.meaning.specs.Tokens.{tokens-words, Front, bad, sign, lowercase, uppercase, digit, underscore, separates, single-sign, in-run, run, next-is, unsigned, name-front, variable-front, double-front, minus-front, front}
+use Rattle.laws.proofs.Reading.NameBytes.{row-is-the-former-test}
 use Rattle.load_tokens.proofs.Parts.{drop-next}
-use Rattle.load_tokens.specs.Ends.{in-run}
 use Rattle.load_tokens.specs.Fronts.{begins-sign}
 use Rattle.load_tokens.proofs.Classes.{either, of-signs, lowercase-bytes, uppercase-bytes, digit-bytes, not-lowercase, not-uppercase, not-separates, not-remark}
 
@@ -94,7 +94,7 @@ module _ (c : ℕ) (cs : Bytes) where
         double-leads t ∙ rw behind
     bad-by false t =
         let single = either (single-sign c) _ (o .no-sign) .0 in
-        let k = either (lowercase c || uppercase c || digit c) (underscore c) (o .no-run) in
+        let k = either (lowercase c || uppercase c || digit c) (underscore c) (sym (row-is-the-former-test c) ∙ o .no-run) in
         let d = either (lowercase c || uppercase c) (digit c) (k .0) in
         let l = either (lowercase c) (uppercase c) (d .0) in
         rw (o .no-separator, o .no-remark, l .0, l .1, d .1, k .1, o .no-minus, t, single)

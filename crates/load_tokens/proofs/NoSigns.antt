@@ -10,6 +10,7 @@ use borrow.Author.Tests.{eqb-true}
 use Rattle.meaning.specs.Bytes.{Bytes, byte, bytes, same, if_then_else_}
 use Rattle.meaning.specs.Terms.{writer, reader, plus, minus}
 use Rattle.meaning.specs.Tokens.{Token, name, variable, integer, bad, Front, lowercase, uppercase, digit, underscore, separates, run, next-is, unless-overlong, value, no-leading-zero, unsigned, negative, name-front, variable-front, minus-front, front}
+use Rattle.laws.proofs.Reading.NameBytes.{row-is-the-former-test}
 use Rattle.load_tokens.specs.Fronts.{tokens-in, begins-sign}
 use Rattle.load_tokens.specs.Nexts.{one-of, Stops}
 use Rattle.load_tokens.proofs.Leads.{name-leads, variable-leads, digit-leads, minus-leads, underscore-leads, bad-leads, Nothing}
@@ -62,7 +63,7 @@ module _ (x y z : ℕ) where
     unfolding one-of byte
     by-minus l u d k true e = rw (minus-leads c cs (eqb-true c (byte "-") e)) (a-minus cs)
     by-minus l u d k false e =
-        let o : Nothing c cs = record { no-separator = s; no-remark = r; no-run = rw (l, u, d, k); no-minus = e; no-sign = g } in
+        let o : Nothing c cs = record { no-separator = s; no-remark = r; no-run = row-is-the-former-test c ∙ rw (l, u, d, k); no-minus = e; no-sign = g } in
         rw (bad-leads c cs o) (plain 0 bad refl)
 
     by-underscore : lowercase c ≡ false → uppercase c ≡ false → digit c ≡ false → (b : Bool) → underscore c ≡ b → NoSign x y z (front c cs)

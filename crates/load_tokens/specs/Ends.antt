@@ -1,16 +1,12 @@
 -- Where a run or a remark that begins at an offset ends, and what is known behind the bytes between tokens.
 use Prim.Native.Nat.{ℕ, _+_, _≤_, _<_}
 use mathlib.Core.Path.{_≡_}
-use mathlib.Core.Bool.{Bool, false, _||_}
+use mathlib.Core.Bool.{false}
 use lib.Dec.{eqb}
 use lib.ListN.{length, drop, getD}
 use Rattle.meaning.specs.Bytes.{Bytes, byte}
-use Rattle.meaning.specs.Tokens.{lowercase, uppercase, digit, underscore, run, remark, separates}
+use Rattle.meaning.specs.Tokens.{run, remark, separates}
 use Rattle.load_tokens.specs.Fronts.{tokens-in}
-
--- "Letters, digits and `_`": the bytes of a run.
-abbrev pub in-run : ℕ → Bool
-in-run c = lowercase c || uppercase c || digit c || underscore c
 
 abbrev pub end-of-run : Bytes → ℕ → ℕ
 end-of-run rest at = at + length (run (drop at rest))

@@ -9,7 +9,7 @@ ghost use lib.Seq.{slice};
 ghost use Rattle.meaning.specs.Bytes.{byte, if_then_else_, all};
 ghost use Rattle.meaning.specs.Tokens.{value, next-is};
 ghost use Rattle.meaning.specs.Tokens as tokens;
-ghost use Rattle.load_tokens.specs.Ends.{Skipped, in-run, end-of-run, end-of-remark};
+ghost use Rattle.load_tokens.specs.Ends.{Skipped, end-of-run, end-of-remark};
 ghost use Rattle.load_tokens.specs.Fronts.{FrontIs, begins-sign, behind};
 
 // What stands in front, with where it begins and where it ends; of a reader the `?` is not counted in its end.
@@ -61,14 +61,14 @@ fn separates(c: u8) -> bool
     }
 }
 
-// Letters, digits and `_`; most are lowercase letters, so these are asked for first.
+// The bytes of a name: document 02's 'one visible row of ranges in rising order'. Variables and integers share them.
 fn in_run(c: u8) -> bool
-    ensures { λ r. ⌜ r ≡ in-run c ⌝ }
+    ensures { λ r. ⌜ r ≡ tokens.in-run c ⌝ }
 {
-    if lowercase(c) {
-        return true;
+    match c {
+        b'0'..=b'9' | b'A'..=b'Z' | b'_' | b'a'..=b'z' => true,
+        _ => false,
     }
-    uppercase(c) | digit(c) | (c == b'_')
 }
 
 // The signs of a single byte.
@@ -277,7 +277,7 @@ fn minus(rest: &[u8], a: usize) -> Token
 
 // A run, by its first byte: a name, a variable or an integer; one led by `_` is bad.
 fn led(rest: &[u8], a: usize, e: usize, c: u8) -> Token
-    requires { ⌜ (a < length (now rest)) × (e ≡ end-of-run (now rest) (a + 1)) × (getD (now rest) a 0 ≡ c) × (in-run c ≡ true) ⌝ }
+    requires { ⌜ (a < length (now rest)) × (e ≡ end-of-run (now rest) (a + 1)) × (getD (now rest) a 0 ≡ c) × (tokens.in-run c ≡ true) ⌝ }
     ensures { λ r. ⌜ FrontIs (now (rest .entry)) a r ⌝ }
 {
     if lowercase(c) {

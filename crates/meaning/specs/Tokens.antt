@@ -46,10 +46,14 @@ unfoldable pub single-sign : ℕ → Bool
 single-sign c =
     eqb c (byte "(") || eqb c (byte ")") || eqb c (byte "[") || eqb c (byte "]") || eqb c (byte ",") || eqb c (byte "|") || eqb c (byte ".")
 
+-- Document 02: "The test for a byte of a name shall be written as one visible row of ranges in rising order." Variables and integers share it.
+unfoldable pub in-run : ℕ → Bool
+in-run c = between "0" "9" c || between "A" "Z" c || between "_" "_" c || between "a" "z" c
+
 -- "The longest run of letters, digits and `_`" in front.
 unfoldable pub run : Bytes → Bytes
 run [] = []
-run (c ∷ cs) = elim (lowercase c || uppercase c || digit c || underscore c) [ true ↦ c ∷ run cs | false ↦ [] ]
+run (c ∷ cs) = elim (in-run c) [ true ↦ c ∷ run cs | false ↦ [] ]
 
 -- "A remark up to LF or the end of the text": its length.
 unfoldable pub remark : Bytes → ℕ
@@ -135,5 +139,5 @@ unfoldable pub tokens : Bytes → Tokens
 tokens text = tokens-from 0 0 text
 
 unfoldable pub tokens-words : Unit {0}
-unfolding bytes-words between lowercase uppercase digit underscore separates single-sign run remark next-is unless-overlong value no-leading-zero unsigned negative name-front variable-front double-front minus-front front placed tokens-from tokens
+unfolding bytes-words between lowercase uppercase digit underscore separates single-sign in-run run remark next-is unless-overlong value no-leading-zero unsigned negative name-front variable-front double-front minus-front front placed tokens-from tokens
 tokens-words = tt

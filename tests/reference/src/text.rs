@@ -93,8 +93,12 @@ fn pass_over(text: &[u8], from: usize) -> usize {
 
 /// Where the run of letters, digits and `_` from `begin` ends.
 fn run_end(text: &[u8], begin: usize) -> usize {
-    let in_run = |b: &u8| b.is_ascii_alphanumeric() || *b == b'_';
-    begin + text[begin..].iter().take_while(|b| in_run(b)).count()
+    begin + text[begin..].iter().take_while(|byte| in_run(**byte)).count()
+}
+
+/// 'The test for a byte of a name shall be written as one visible row of ranges in rising order' (document 02).
+fn in_run(byte: u8) -> bool {
+    matches!(byte, b'0'..=b'9' | b'A'..=b'Z' | b'_' | b'a'..=b'z')
 }
 
 fn name(text: &[u8], begin: usize) -> Token {

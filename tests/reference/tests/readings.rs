@@ -83,6 +83,18 @@ fn r08_a_full_stop_wherever_it_stands() {
     assert_eq!(refused("p(a).."), (4, 1));
 }
 
+/// Document 02, T-04. Of all bytes between two letters, besides those of a name, only a comma makes arguments of it.
+#[test]
+fn t04_the_bytes_of_a_name() {
+    assert!(shows(&report("?- p(aZ09_z)."), "failed p(aZ09_z)"));
+    let of_a_name = b"0123456789ABCDEFGHIJKLMNOPQRSTUVWXYZ_abcdefghijklmnopqrstuvwxyz";
+    for byte in 0..=255u8 {
+        let text = [b"?- p(a", &[byte][..], b"b)."].concat();
+        let answer = if of_a_name.contains(&byte) || byte == b',' { (0, 0) } else { (4, 1 + (byte == b'\n') as u32) };
+        assert_eq!(refused(text), answer, "byte {byte}");
+    }
+}
+
 // 4, 5 and 6.
 
 #[test]

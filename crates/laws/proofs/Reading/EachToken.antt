@@ -26,6 +26,7 @@ use Rattle.meaning.specs.Tokens.{
   underscore,
   separates,
   single-sign,
+  in-run,
   run,
   next-is,
   unless-overlong,
@@ -41,7 +42,7 @@ use Rattle.meaning.specs.Tokens.{
   tokens,
 }
 use Rattle.meaning.specs.Items.{is, onto, pieces}
-use Rattle.laws.proofs.Lists.{Each, if-holds, false-not-true, or-true-right}
+use Rattle.laws.proofs.Lists.{Each, if-holds, false-not-true}
 
 -- Each token has the property.
 abbrev pub EachToken : (Token → Type 0) → Tokens → Type 0
@@ -50,15 +51,8 @@ EachToken P (token place t rest) = P t × EachToken P rest
 
 -- A run that begins with a digit.
 digit-run : (c : ℕ) (cs : Bytes) → digit c ≡ true → run (c ∷ cs) ≡ c ∷ run cs
-unfolding run
-digit-run c cs e = go (lowercase c || uppercase c || digit c || underscore c) refl
-  where
-    led : lowercase c || uppercase c || digit c || underscore c ≡ true
-    led = rw e (rw (or-true-right (lowercase c || uppercase c) true refl))
-
-    go : (b : Bool) → lowercase c || uppercase c || digit c || underscore c ≡ b → run (c ∷ cs) ≡ c ∷ run cs
-    go true t = rw (t, run)
-    go false t = absurd (false-not-true _ t led)
+unfolding run in-run digit
+digit-run c cs e = rw (e, run)
 
 -- What holds of names, variables, integers and signs as they are made, and of a bad token.
 pub record OfEveryToken (P : Token → Type 0) : Type 0 where

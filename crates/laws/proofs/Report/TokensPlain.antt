@@ -2,12 +2,12 @@
 -- So every job that a text gives is lined, and its reports are cut by their bytes alone.
 use Prim.Native.Nat.{ℕ}
 use mathlib.Core.Path.{_≡_, refl}
-use mathlib.Core.Bool.{Bool, true, false, _||_}
+use mathlib.Core.Bool.{Bool, true, false}
 use mathlib.Core.List.{[], _∷_}
 use lib.Dec.{eqb}
 use Rattle.meaning.specs.Bytes.{Bytes, byte}
 use Rattle.meaning.specs.Terms.{Job}
-use Rattle.meaning.specs.Tokens.{between, lowercase, uppercase, digit, underscore, run, unsigned, negative, tokens}
+use Rattle.meaning.specs.Tokens.{between, lowercase, uppercase, in-run, run, unsigned, negative, tokens}
 use Rattle.meaning.specs.Items.{job, reading}
 use Rattle.laws.proofs.Lists.{each-implies, if-holds, not-this}
 use Rattle.laws.proofs.Reading.EachToken.{EachToken, each-token-of-text}
@@ -16,12 +16,9 @@ use Rattle.laws.proofs.Report.SpelledText.{Reading-good, reading-good}
 use Rattle.laws.proofs.Report.Cut.{Plain, no-break, begins-q, Inner}
 use Rattle.laws.proofs.Report.Sections.{Lined}
 
-abbrev letter : ℕ → Bool
-letter c = lowercase c || uppercase c || digit c || underscore c
-
-letter-no-break : (c : ℕ) → letter c ≡ true → eqb c (byte "\n") ≡ false
-unfolding lowercase uppercase digit underscore between byte
-letter-no-break c e = not-this letter c (byte "\n") refl e
+in-run-no-break : (c : ℕ) → in-run c ≡ true → eqb c (byte "\n") ≡ false
+unfolding in-run between byte
+in-run-no-break c e = not-this in-run c (byte "\n") refl e
 
 lowercase-no-break : (c : ℕ) → lowercase c ≡ true → eqb c (byte "\n") ≡ false
 unfolding lowercase between byte
@@ -42,10 +39,10 @@ plain-more c cs e p = rw e p
 run-plain : (cs : Bytes) → Plain (run cs)
 unfolding run no-break
 run-plain [] = refl
-run-plain (c ∷ cs) = go (letter c) refl (run-plain cs)
+run-plain (c ∷ cs) = go (in-run c) refl (run-plain cs)
   where
-    go : (b : Bool) → letter c ≡ b → Plain (run cs) → Plain (run (c ∷ cs))
-    go true e further = rw (e, run) (plain-more c (run cs) (letter-no-break c e) further)
+    go : (b : Bool) → in-run c ≡ b → Plain (run cs) → Plain (run (c ∷ cs))
+    go true e further = rw (e, run) (plain-more c (run cs) (in-run-no-break c e) further)
     go false e further = rw (e, run)
 
 variable-inner : (c : ℕ) (cs : Bytes) → uppercase c ≡ true → Inner (c ∷ run cs)

@@ -4,6 +4,7 @@ use mathlib.Core.Path.{_≡_, sym, _∙_}
 use mathlib.Core.Bool.{true}
 use lib.ListN.{length, drop, getD}
 use Rattle.meaning.specs.Tokens.{lowercase, underscore, run}
+use Rattle.laws.proofs.Reading.NameBytes.{row-is-the-former-test}
 use Rattle.load_tokens.proofs.Leads.{underscore-leads}
 use Rattle.load_tokens.proofs.Spelled.{named}
 use Rattle.load_tokens.proofs.TokensIn.{bad-in-front}
@@ -55,7 +56,7 @@ returns-4 c =
     let small = sym (l .before .lowercase .ensures) ∙ l .if1 .left in
     let large = sym (d .before .uppercase .ensures) ∙ d .if2 .left in
     let number = sym (c .before .digit .ensures) ∙ c .if3 .left in
-    let line : underscore (a .c) ≡ true = rw (small, large, number) at (s .pre .3) in
+    let line : underscore (a .c) ≡ true = rw (small, large, number) at (sym (row-is-the-former-test (a .c)) ∙ s .pre .3) in
     let behind = drop (a .a + 1) (a .rest .now) in
     bad-in-front (a .rest .now) (a .a) (s .pre .0) (length (run behind)) (rw (s .pre .2) (underscore-leads (a .c) behind line))
 
