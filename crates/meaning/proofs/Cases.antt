@@ -14,13 +14,13 @@ pub mod Alone
 use Session.{session, errors, session-words}
 use Texts.{tokens-cases, items-cases, texts-words}
 use Figures.{figures-cases, figures-words}
-use Calls.{calls-cases, calls-words}
+use Calls.{calls-cases, longest-cases, calls-words}
 use Runs.{machine-cases, report-cases, runs-words}
 
 -- The long texts last: a wrong definition is then refused by a short case, where one shows it.
 unfoldable pub cases : List Case
 cases =
-    session ++ errors ++ machine-cases ++ report-cases ++ tokens-cases ++ items-cases ++ figures-cases ++ calls-cases
+    session ++ errors ++ machine-cases ++ report-cases ++ tokens-cases ++ items-cases ++ calls-cases ++ figures-cases ++ longest-cases
 
 -- No case fails.
 pub all-hold : failing cases ≡ []

@@ -35,9 +35,6 @@ calls-cases =
     ∷ with-scratch 4 (asked "scratch of just its need" done)
     ∷ with-scratch 3 (asked "scratch one word short" (refuses 2 0))
     ∷ with-scratch 0 (asked "no scratch" (refuses 2 0))
-    ∷ of-bytes "16,384 bytes" (bytes "p(1).\n?- p(1)." ++ replicate 16370 32) done
-    ∷ of-bytes "16,384 bytes, unfinished" (bytes "p(1).\n?- p(1)" ++ replicate 16371 10) (refuses 4 16372)
-    ∷ of-bytes "16,385 bytes" (bytes "p(1).\n?- p(1)." ++ replicate 16371 32) (refuses 3 0)
     ∷ with-scratch 3 (with-budget 1000001 (of-bytes "1 before 2 and 3" (replicate 16385 33) (refuses 1 0)))
     ∷ with-scratch 3 (of-bytes "2 before 3" (replicate 16385 33) (refuses 2 0))
     ∷ of-bytes "3 before 4" (replicate 16385 33) (refuses 3 0)
@@ -57,6 +54,14 @@ calls-cases =
     ∷ with-buffer 0 (asked "no buffer" (too-long 61))
     ∷ []
 
+-- Texts of the largest length, and of one byte more: of all cases those that take longest.
+unfoldable pub longest-cases : List Case
+longest-cases =
+    of-bytes "16,384 bytes" (bytes "p(1).\n?- p(1)." ++ replicate 16370 32) done
+    ∷ of-bytes "16,384 bytes, unfinished" (bytes "p(1).\n?- p(1)" ++ replicate 16371 10) (refuses 4 16372)
+    ∷ of-bytes "16,385 bytes" (bytes "p(1).\n?- p(1)." ++ replicate 16371 32) (refuses 3 0)
+    ∷ []
+
 unfoldable pub calls-words : Unit {0}
-unfolding words-words asked done small small-done calls-cases
+unfolding words-words asked done small small-done calls-cases longest-cases
 calls-words = tt
