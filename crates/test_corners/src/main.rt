@@ -1,4 +1,6 @@
 // Prints the answers of document 01's cases and of further corners, through the compiled call: number, line and length, and the report.
+// What is printed is not stated: its file `stdout` is held to the reference, which `tests/corners` gives the same calls, read out of this file.
+// Read on: crate `job`, and crates/meaning/proofs/Cases/Session for the same cases computed.
 use job::call::Answer;
 use job::call::call;
 use loader::refusal::Refusal;
