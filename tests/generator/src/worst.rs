@@ -46,6 +46,7 @@ pub fn jobs() -> Vec<Worst> {
             ALL,
             "c([X?|Xs?]) :- c(Xs), d(X).\nd(a).\nw([a|Xs]) :- w(Xs?).\n?- c(Z), w(Z?).\n".to_string(),
         ),
+        job("waits: a goal that needs 71 readers by 75 clauses", "steps × readers × clauses", ALL, readers(75)),
         job(
             "doubling: the longest report",
             "bytes written",
@@ -108,6 +109,16 @@ fn failing() -> String {
 /// Goals that wait, each on a pair of its own, and are then woken one by one.
 fn waits() -> String {
     "make([X|Xs?]) :- w(X?), make(Xs).\nw(a).\ngive([a|Xs]) :- give(Xs?).\nnet(a) :- make(S), late(S?).\nlate(S) :- give(S?).\n?- net(a).\n".to_string()
+}
+
+/// A goal that so many clauses need 71 readers of, 70 in a value of 14 levels; the chain behind the last of them grows,
+/// and each link wakes the goal.
+fn readers(clauses: usize) -> String {
+    let levels = "a,".repeat(13) + "a";
+    let row = nested(14, "a", |inner| format!("f(a,a,a,a,a,{inner})"));
+    let facts: String = (0..clauses).map(|k| format!("w({row},{k}).\n")).collect();
+    let rules = "v([a|T],f(A?,B?,C?,D?,E?,F?)) :- v(T?,F), no(A,B,C,D,E).\nv([],a).\nc(X?) :- c(X).\n";
+    format!("{rules}{facts}?- v([{levels}],V), c(Z), w(V?,Z?).\n")
 }
 
 /// A chain of readers that grows, and a goal at its end that so many clauses follow whenever it is woken.
