@@ -30,7 +30,7 @@ enum troscunel_number {
 #define TROSCUNEL_LONGEST_REPORT 16777216 /* bytes; one more is 8 */
 
 /* How many 64-bit words of scratch a call needs for its room figures, each 1 to 65,535. */
-#define TROSCUNEL_NEED(pairs, compounds, goals) (40704 + 5 * (size_t)(pairs) + 8 * (size_t)(compounds) + 6 * (size_t)(goals))
+#define TROSCUNEL_NEED(pairs, compounds, goals) (40576 + 7 * (size_t)(pairs) + 8 * (size_t)(compounds) + 6 * (size_t)(goals))
 
 /* Bytes of stack that are enough for a call at any room (docs/LIMITS.md). It is measured, not proved, and scratch and buffer are not in it. */
 #define TROSCUNEL_STACK 8388608

@@ -42,7 +42,7 @@ fn show(answer: Answer, buffer: &[u8])
 }
 
 // As many words as the room needs.
-const NEED: usize = COMPOUNDS + COMPOUND_WORDS * 1024 + 5 * 1024 + 6 * 128;
+const NEED: usize = COMPOUNDS + COMPOUND_WORDS * 1024 + 7 * 1024 + 6 * 128;
 
 fn scratch() -> [u64; NEED]
     ensures { λ r. ⌜ need-for 1024 1024 128 ≡ length r ⌝ }

@@ -8,6 +8,8 @@ pub mod Following
 pub mod Written
 pub mod Starts
 pub mod ValuesStay
+pub mod FailsLater
+pub mod FailsLaterExample
 use Prim.Native.Nat.{ℕ, _≤_}
 use mathlib.Core.Path.{_≡_}
 use mathlib.Core.Option.{none}
@@ -31,6 +33,8 @@ pub use Written.{applied-within, applied-unassigned}
 pub use Starts.{assigns, circle-from, circle-by-starts, circle-by-pairs, circle-by-assignments}
 -- A trial assigns pairs that had no value; so a value, once given, stays.
 pub use ValuesStay.{given-unassigned, values-after-stay, step-values-stay}
+-- A clause whose comparison failed fails as long as the goal's own writers are unassigned.
+pub use FailsLater.{HoldsWriter, ValuesGrew, StillOpen, compared-fails-later, trial-fails-later}
 
 -- What these say of a state of a run: the values of a query's pairs where a run ends, under any budget, in any room.
 module _ (job : Job) (limit : ℕ) (figures : Room) (place : ℕ) where

@@ -8,6 +8,7 @@ pub mod EachOf
 pub mod OneByOne
 pub mod Places
 pub mod Pigeonhole
+pub mod AnyOrder
 pub use Tests.*
 pub use Among.*
 pub use Filters.*
@@ -16,3 +17,4 @@ pub use EachOf.*
 pub use OneByOne.*
 pub use Places.*
 unfoldable pub use Pigeonhole.*
+pub use AnyOrder.*

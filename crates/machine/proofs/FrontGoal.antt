@@ -1,6 +1,6 @@
 -- The goal in front: what the step reads of it, what it hands to the choice, and what each answer of the choice is to the rest of the step.
 use Prim.Native.Nat.{ℕ, _+_, _*_, _/_, _%_, _<_, _^_}
-use mathlib.Core.Path.{_≡_, ap, _∙_}
+use mathlib.Core.Path.{_≡_, sym, ap, _∙_}
 use mathlib.Core.List.{List, _∷_}
 use native.Mathlib.Omega.{arith}
 use lib.ListN.{length, getD}
@@ -10,8 +10,8 @@ use Rattle.meaning.specs.State.{Room, Goal}
 use Rattle.meaning.specs.Compare.{Assignment}
 use Rattle.meaning.specs.Trial.{choice}
 use Rattle.meaning.specs.Run.{choice-for, run}
-use Rattle.term.specs.Layout.{values-region, marks-region, queue-region}
-use Rattle.term.specs.States.{Atlas, goal-word, setting, GoalStands}
+use Rattle.term.specs.Layout.{values-region, marks-region, readers-region, queue-region}
+use Rattle.term.specs.States.{Atlas, goal-word, setting, GoalStands, listed}
 use Rattle.term.specs.declared.state.Standing.{Standing}
 use Rattle.term.specs.Words.{tag-in, rest-in}
 use Rattle.run_trial.specs.Choosing.{unit-of, Trying, MarksBelow, ChoiceTold, ChoiceIs}
@@ -92,7 +92,7 @@ module _ (s : List ℕ) (text : Bytes) (names : List Bytes) (j : Job) (figures :
         → (c : Clause) × (given : List Assignment) × Reducing s₁ names j figures limit atlas g query k n c given
     unfolding choice-for
     choice-reduces k n e =
-        let its : ChoiceTold s₁ names (setting figures (atlas (g .query)) (unit-of j limit figures g))
+        let its : ChoiceTold s₁ names (setting figures (atlas (g .query)) (unit-of j limit figures g)) (marks + figures .pairs)
         (choice (j .clauses) (unit-of j limit figures g) (g .goal)) (Reduces k n) = rw e at (told .told)
         in
         (its .0, its .1, record { query-is = its-query; chosen = its .2; at = its .3; gave = its .4 })
@@ -100,11 +100,12 @@ module _ (s : List ℕ) (text : Bytes) (names : List Bytes) (j : Job) (figures :
     pub choice-waits : (n : ℕ) → fate ≡ Waits n → (readers : List ℕ) × JoiningWaiting s₁ j figures limit atlas g goal query n readers
     unfolding choice-for
     choice-waits n e =
-        let its : ChoiceTold s₁ names (setting figures (atlas (g .query)) (unit-of j limit figures g))
+        let its : ChoiceTold s₁ names (setting figures (atlas (g .query)) (unit-of j limit figures g)) (marks + figures .pairs)
         (choice (j .clauses) (unit-of j limit figures g) (g .goal)) (Waits n) = rw e at (told .told)
-        in (
+        in
+        let here : marks + figures .pairs ≡ readers-region figures = omega (arith, f .marks-is) in (
           its .0,
-          record { goal-is = its-word; query-is = its-query; chosen = its .1; few = its .2; listed-are = its .3; inside = its .4 },
+          record { goal-is = its-word; query-is = its-query; chosen = its .1; few = its .2; listed-are = ap (λ b. listed s₁ b n) (sym here) ∙ its .3; inside = its .4 },
         )
 
     pub choice-fails : fate ≡ Fails → JoiningFailed j figures limit atlas g goal query

@@ -1,4 +1,4 @@
--- Document 01, 'One step': following a goal's term, and the table by which a head is compared with a goal.
+-- Document 01, 'One step', with document 02, T-03: following a goal's term, and the table by which a head is compared with a goal.
 use Prim.Native.Nat.{ℕ, zero, suc}
 use mathlib.Core.Bool.{Bool, true, false, _&&_}
 use mathlib.Core.List.{List, [], _∷_, _++_}
@@ -37,7 +37,7 @@ pub record Assignment : Type 0 where
   pub pair : ℕ
   pub value : Term
 
--- "It succeeds, it waits on a reader, or it fails": with what is assigned, or the pairs of the readers.
+-- "It succeeds, it waits on a reader, or it fails": with what is assigned, or the pairs of the readers needed.
 pub data Result : Type 0 where
   succeeds : List Assignment → Result
   waits : List ℕ → Result
@@ -49,15 +49,21 @@ gives pair value = succeeds (record { pair = pair; value = value } ∷ [])
 unfoldable pub waits-on : ℕ → Result
 waits-on pair = waits (pair ∷ [])
 
--- "The comparison stops at the first place that fails or waits."
+-- "The comparison shall go through all places: any failing place fails the trial, and otherwise the trial waits on every reader needed" (02, T-03):
+-- behind places that agree, and behind places that wait.
 unfoldable pub with-assignments : List Assignment → Result → Result
 with-assignments first (succeeds others) = succeeds (first ++ others)
 with-assignments first (waits readers) = waits readers
 with-assignments first fails = fails
 
+unfoldable pub with-readers : List ℕ → Result → Result
+with-readers first (succeeds given) = waits first
+with-readers first (waits others) = waits (first ++ others)
+with-readers first fails = fails
+
 unfoldable pub and-then : Result → Result → Result
 and-then (succeeds first) others = with-assignments first others
-and-then (waits readers) others = waits readers
+and-then (waits readers) others = with-readers readers others
 and-then fails others = fails
 
 -- The table: the head's term against the goal's, which was followed; `look` follows the goal's arguments.
@@ -89,5 +95,5 @@ unfoldable mutual
   places look (more u us) (more t ts) = and-then (place look u (look t)) (places look us ts)
 
 unfoldable pub compare-words : Unit {0}
-unfolding state-words followed gives waits-on with-assignments and-then place places
+unfolding state-words followed gives waits-on with-assignments with-readers and-then place places
 compare-words = tt

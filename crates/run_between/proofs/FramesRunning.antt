@@ -130,8 +130,8 @@ module _ (s : List ℕ) (text : Bytes) (names : List Bytes) (j : Job) (figures :
     grounds = grounds;
   }
 
--- What the choice changes: the trial's region and the marks.
-module _ (figures : Room) (s s′ : List ℕ) (only : TrialOnly compounds-region (marks-region figures) (figures .pairs) s s′) where
+-- What the choice changes: the trial's region, the marks, and the readers with their ranks.
+module _ (figures : Room) (s s′ : List ℕ) (only : TrialOnly compounds-region (marks-region figures) (3 * figures .pairs) s s′) where
   pub trial-state-kept : StateKept figures s s′
   trial-state-kept = record {
     size = only .size;
@@ -168,7 +168,7 @@ run-only-then figures s t u a b = record {
 }
 
 pub running-tried : (s s′ : List ℕ) (text : Bytes) (names : List Bytes) (j : Job) (figures : Room) (limit : ℕ) (atlas : Atlas) (slots : List Slot) (t : Standing)
-    (stamp stamp′ : ℕ) → Running s text names j figures limit atlas slots t stamp → TrialOnly compounds-region (marks-region figures) (figures .pairs) s s′
+    (stamp stamp′ : ℕ) → Running s text names j figures limit atlas slots t stamp → TrialOnly compounds-region (marks-region figures) (3 * figures .pairs) s s′
     → MarksBelow s′ (marks-region figures) (figures .pairs) stamp′ → GroundMarks s′ figures atlas (run j limit figures .state .units)
     → Running s′ text names j figures limit atlas slots t stamp′
 running-tried s s′ text names j figures limit atlas slots t stamp stamp′ r only marks grounds =

@@ -11,8 +11,9 @@ use Rattle.meaning.specs.Terms.{Term}
 use Rattle.meaning.specs.State.{Room, QueryUnit, value, unit-at}
 use Rattle.term.specs.Layout.{marks-region}
 use Rattle.term.specs.States.{Atlas, Lies}
-use Rattle.run_circle.specs.Ground.{Ground, Grounds, NewGrounds}
+use Rattle.run_circle.specs.Ground.{Ground, Grounds}
 use Rattle.run_circle.proofs.Grounds.{ground-stays}
+use Rattle.run_trial.specs.Choosing.{NewMarks}
 use Rattle.run_between.specs.Running.{GroundMarks}
 use Rattle.run_between.proofs.Frames.{UnitsAlike}
 
@@ -27,8 +28,8 @@ grounds-of s names figures atlas units pairs compounds cells lies all q inside n
 
 -- After a choice for a goal of query q.
 pub grounds-tried : (s s′ : List ℕ) (figures : Room) (atlas : Atlas) (units : List QueryUnit) (q : ℕ) → q < length units
-    → NewGrounds (atlas q) (unit-at q units .values) (marks-region figures) s s′ → GroundMarks s figures atlas units → GroundMarks s′ figures atlas units
-grounds-tried s s′ figures atlas units q inside new all p l e = ⊎-elim (all p l) (λ g. (q, inside, g)) (new p e)
+    → NewMarks (atlas q) (unit-at q units .values) (marks-region figures) (figures .pairs) s s′ → GroundMarks s figures atlas units → GroundMarks s′ figures atlas units
+grounds-tried s s′ figures atlas units q inside new all p l e = ⊎-elim (all p l) (λ g. (q, inside, g)) (new p l e)
 
 -- Where units have grown and values have stayed.
 pub grounds-grow : (s s′ : List ℕ) (figures : Room) (atlas atlas′ : Atlas) (units units′ : List QueryUnit)

@@ -10,9 +10,10 @@ use Rattle.meaning.specs.Compare.{Assignment}
 use Rattle.meaning.specs.Trial.{reduces, joins-waiting, joins-failed}
 use Rattle.meaning.specs.Run.{choice-for, run}
 use Rattle.term.specs.Jobs.{ClauseAt}
-use Rattle.term.specs.Layout.{waiters-region, sets-region, waiting-region, readers-part}
+use Rattle.term.specs.Layout.{waiters-region, sets-region, readers-region, waiting-region}
 use Rattle.term.specs.States.{Atlas, setting-at, goal-word, listed}
 use Rattle.term.specs.declared.state.Standing.{Standing}
+use Rattle.run_readers.specs.Readers.{all-met}
 use Rattle.run_trial.specs.Choosing.{Succeeded, AllBelow}
 use Rattle.run_queues.specs.Log.{Slot, present, LogOk, LogOnly}
 use Rattle.run_between.specs.Running.{Running}
@@ -32,13 +33,13 @@ pub record Reducing (s : List ℕ) (names : List Bytes) (j : Job) (figures : Roo
   pub at : ClauseAt s names k c
   pub gave : Succeeded s (setting-at figures atlas (run j limit figures .state .units) (g .query)) k c given n
 
--- It waits on the readers whose pairs' places stand in the part of the readers.
+-- It waits on the readers whose pairs' places stand in the region of the readers, each once.
 pub record JoiningWaiting (s : List ℕ) (j : Job) (figures : Room) (limit : ℕ) (atlas : Atlas) (g : Goal) (goal query n : ℕ) (readers : List ℕ) : Type 0 where
   pub goal-is : goal ≡ goal-word atlas g
   pub query-is : query ≡ g .query
   pub chosen : choice-for (j .clauses) (run j limit figures .state) g ≡ joins-waiting readers
-  pub few : n ≤ 128
-  pub listed-are : listed s readers-part n ≡ map (λ p. atlas (g .query) .pair p) readers
+  pub few : n ≤ figures .pairs
+  pub listed-are : listed s (readers-region figures) n ≡ all-met [] (map (λ p. atlas (g .query) .pair p) readers)
   pub inside : AllBelow (length (unit-at (g .query) (run j limit figures .state .units) .values)) readers
 
 -- It fails.

@@ -13,7 +13,7 @@ use Rattle.term.specs.Frames.{Only}
 use Rattle.term.specs.Setting.{Setting, UnitTerms}
 use Rattle.term.proofs.Frames.{only-same, only-set, only-then, only-wider}
 use Rattle.term.proofs.Units.{unit-term-alike, unit-terms-alike, unit-stands-alike, ends-stand-alike}
-use Rattle.term.specs.Layout.{followed-part, followed-from, followed-end}
+use Rattle.term.specs.Layout.{compounds-region, followed-part, followed-from, followed-end}
 use Rattle.term.specs.Words.{tag-in}
 use Rattle.run_chains.specs.Follow.{Chained, FollowedTo, FollowedAt, Follows, ArgumentsFollowed}
 use Rattle.run_chains.proofs.Compounds.{
@@ -64,7 +64,7 @@ pub record Midway (s₀ s : List ℕ) (x : Setting) (from links l : ℕ) (ts : T
   pub on : (s′ : List ℕ) → Only (followed-from + j) followed-end s s′ → FollowedAt s′ x links j rest → FollowedAt s′ x links 0 ts
 
 module _ {s₀ : List ℕ} {x : Setting} {from links l : ℕ} {f : Functor} {ts : Terms} {goal : ℕ} (a : Follows s₀ x from links l f ts goal) where
-  large : 40712 ≤ length s₀
+  large : compounds-region ≤ length s₀
   large = omega (arith, compound-inside (a .term) (a .place), a .place, a .compounds-behind l (compound-number (a .term) (a .place)))
 
   pub first-midway : (k : ℕ) → k ≡ tag-in (getD s₀ goal 0) → Midway s₀ s₀ x from links l ts k 1

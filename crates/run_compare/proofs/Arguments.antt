@@ -1,27 +1,30 @@
--- Argument by argument: what was given so far, and what is left of both lists; the outcome of the whole is that of what is left, with what was given.
+-- Argument by argument: what was noted so far, and what is left of both lists; the outcome of the whole is that of what was noted, and then of what is
+-- left.
 -- How the goal's arguments stand in the scratch is left open: G says it of those that are left.
 use Prim.Native.Nat.{ℕ, _+_, _*_, _%_, _≤_, _<_}
 use mathlib.Core.Path.{_≡_, refl, sym, subst, ap, _∙_}
-use mathlib.Core.List.{List, [], _++_, append-nil}
+use mathlib.Core.List.{List, [], _++_}
 use native.Mathlib.Omega.{arith}
 use lib.ListN.{length, getD}
 use Rattle.meaning.specs.Terms.{Functor, Term, Terms, end, more, count, all-renamed}
-use Rattle.meaning.specs.Compare.{Result, succeeds, waits-on, followed, with-assignments, and-then, place, places}
+use Rattle.laws.proofs.Trial.Places.{and-then-nothing-before, and-then-nothing-behind, and-then-associative}
+use Rattle.meaning.specs.Compare.{Result, succeeds, fails, followed, and-then, place, places}
 use Rattle.term.specs.Cells.{term-word, AllKnown, AllNumbered}
 use Rattle.term.specs.Holds.{HoldsFrom}
 use Rattle.term.specs.Frames.{Only}
 use Rattle.term.proofs.Cells.{numbered-order, all-numbered-order}
 use Rattle.term.proofs.Frames.{only-same, only-then}
-use Rattle.run_compare.specs.declared.compare.CompareResult.the-variants.{Agrees, Waits, Fails}
+use Rattle.run_compare.specs.declared.compare.CompareResult.the-variants.{Noted, Fails}
 use Rattle.term.specs.Setting.{Setting, AllWithin, AllRanged}
-use Rattle.term.specs.Layout.{trial-region, readers-part, item-place, clause-base}
+use Rattle.term.specs.Layout.{trial-region, woken-part, item-place, clause-base}
 use Rattle.term.specs.Words.{tag-in}
 use Rattle.run_chains.specs.Follow.{Reads}
 use Rattle.run_chains.proofs.Compounds.{first-count}
-use Rattle.run_compare.specs.Gifts.{Gift, assignments, entries, recorded}
-use Rattle.run_compare.specs.Compare.{Template, item, HeadTerm, HeadTerms, TrialStands, Against, HeadArguments, AllGiven, Answers, place-outcome, places-outcome}
-use Rattle.run_compare.proofs.Kept.{only-back, trial-kept, head-terms-kept, all-given-kept}
-use Rattle.run_compare.proofs.Gifts.{assignments-append, entries-append, recorded-append, given-wider, given-append, with-none, with-both}
+use Rattle.run_compare.specs.Gifts.{assignments}
+use Rattle.run_compare.specs.Notes.{Note, gifts-in, asks-in, judged, outcome-of, noted, written}
+use Rattle.run_compare.specs.Compare.{Template, item, HeadTerm, HeadTerms, TrialStands, Against, HeadArguments, AllNoted, Answers, place-outcome, places-outcome}
+use Rattle.run_compare.proofs.Kept.{only-back, trial-kept, head-terms-kept, all-noted-kept}
+use Rattle.run_compare.proofs.Notes.{then-fails, outcome-append, noted-append, written-append, noted-wider, all-noted-append}
 
 -- The next argument of both, where one is left.
 pub record Facing (s : List ℕ) (x : Setting) (y : Template) (m j lo hi : ℕ) (heads goals : Terms) : Type 0 where
@@ -79,7 +82,7 @@ facing s x y m j lo hi (more t us) (more u ts) a e p =
       mid-high = high;
     }
 
--- So far, before the i-th argument: s₀ was the scratch at first, given the entries made.
+-- So far, before the i-th argument: s₀ was the scratch at first, made the entries made.
 pub record Partly (G : List ℕ → ℕ → Terms → Type 0) (s₀ s : List ℕ) (x : Setting) (y : Template) (from links m : ℕ) (us : Terms) (lo hi : ℕ)
     (ts : Terms) (n k given i : ℕ) : Type 0 where
   pub whole : k ≡ count us
@@ -88,19 +91,18 @@ pub record Partly (G : List ℕ → ℕ → Terms → Type 0) (s₀ s : List ℕ
   pub heads : Terms
   pub goals : Terms
   pub low : ℕ
-  pub gifts : List Gift
-  pub only : Only trial-region readers-part s₀ s
-  pub scratch : s ≡ recorded (item x y) (x .places) n gifts s₀
-  pub counted : given ≡ n + entries gifts
-  pub held : AllGiven s₀ x y lo low gifts
+  pub notes : List Note
+  pub only : Only trial-region woken-part s₀ s
+  pub scratch : s ≡ written (item x y) (x .places) n notes s₀
+  pub counted : given ≡ n + noted notes
+  pub held : AllNoted s₀ x y lo low notes
   pub trial : TrialStands s x y from links
   pub head : HeadTerms s x y m j low hi heads
   pub goal : G s j goals
   pub counts : count heads ≡ count goals
   pub left : j + count heads ≡ count us
   pub fits : given + count heads + 6 * lo ≤ n + count us + 6 * low
-  pub outcome : places-outcome x links us ts
-      ≡ with-assignments (assignments (length (x .values)) (x .compounds) gifts) (places-outcome x links heads goals)
+  pub outcome : places-outcome x links us ts ≡ and-then (outcome-of (length (x .values)) (x .compounds) notes) (places-outcome x links heads goals)
 
 module _ (links : ℕ) {s₀ : List ℕ} {x : Setting} {y : Template} {from m : ℕ} {g : Functor} {us : Terms} {lo hi p n : ℕ}
     (a : HeadArguments s₀ x y from links m g us lo hi p n) where
@@ -112,7 +114,7 @@ module _ (links : ℕ) {s₀ : List ℕ} {x : Setting} {y : Template} {from m : 
 
   pub first-partly : (G : List ℕ → ℕ → Terms → Type 0) (ts : Terms) → G s₀ 0 ts → count us ≡ count ts → (k : ℕ) → k ≡ tag-in (getD s₀ p 0)
       → Partly G s₀ s₀ x y from links m us lo hi ts n k n 1
-  unfolding assignments entries recorded AllGiven
+  unfolding assignments gifts-in asks-in judged noted written AllNoted
   first-partly G ts goals counts k e = record {
     whole = e ∙ head-count;
     j = 0;
@@ -120,8 +122,8 @@ module _ (links : ℕ) {s₀ : List ℕ} {x : Setting} {y : Template} {from m : 
     heads = us;
     goals = ts;
     low = lo;
-    gifts = [];
-    only = only-same trial-region readers-part s₀;
+    notes = [];
+    only = only-same trial-region woken-part s₀;
     scratch = refl;
     counted = omega arith;
     held = omega arith;
@@ -131,7 +133,7 @@ module _ (links : ℕ) {s₀ : List ℕ} {x : Setting} {y : Template} {from m : 
     counts = counts;
     left = omega arith;
     fits = omega arith;
-    outcome = sym (with-none (places-outcome x links us ts));
+    outcome = sym (and-then-nothing-before (places-outcome x links us ts));
   }
 
   module _ {G : List ℕ → ℕ → Terms → Type 0} {ts : Terms} {s : List ℕ} {k given i : ℕ} (P : Partly G s₀ s x y from links m us lo hi ts n k given i) where
@@ -184,8 +186,7 @@ module _ (links : ℕ) {s₀ : List ℕ} {x : Setting} {y : Template} {from m : 
       one = place-outcome x links (F .t) (followed links (x .values) (F .u))
 
       split : places-outcome x links us ts
-          ≡ with-assignments (assignments (length (x .values)) (x .compounds) (P .gifts))
-          (and-then one (places-outcome x links (F .us) (F .ts)))
+          ≡ and-then (outcome-of (length (x .values)) (x .compounds) (P .notes)) (and-then one (places-outcome x links (F .us) (F .ts)))
       unfolding places all-renamed
       split = rw (F .heads-are, F .goals-are) at (P .outcome)
 
@@ -201,10 +202,9 @@ module _ (links : ℕ) {s₀ : List ℕ} {x : Setting} {y : Template} {from m : 
       pub goals-few : P .j + 1 + count (F .ts) ≡ count us
       goals-few = omega (arith, counted-heads, counted-goals, P .counts, P .left)
 
-      -- One argument more agrees.
-      module _ {s′ : List ℕ} {m′ : ℕ} (r : Answers s s′ x y given (P .low) (F .mid) 1 one (Agrees m′)) (goals-on : G s′ (P .j + 1) (F .ts)) where
+      -- One argument more does not fail.
+      module _ {s′ : List ℕ} {m′ : ℕ} (r : Answers s s′ x y given (P .low) (F .mid) 1 one (Noted m′)) (goals-on : G s′ (P .j + 1) (F .ts)) where
         pub one-more : Partly G s₀ s′ x y from links m us lo hi ts n k m′ (i + 1)
-        unfolding and-then
         one-more = record {
           whole = P .whole;
           j = P .j + 1;
@@ -212,13 +212,13 @@ module _ (links : ℕ) {s₀ : List ℕ} {x : Setting} {y : Template} {from m : 
           heads = F .us;
           goals = F .ts;
           low = F .mid;
-          gifts = P .gifts ++ more-gifts;
-          only = only-then trial-region readers-part s₀ s s′ (P .only) (r .only);
-          scratch = recorded-on;
-          counted = omega (arith, P .counted, r .told .1 .counted, entries-append (P .gifts) more-gifts);
+          notes = P .notes ++ more-notes;
+          only = only-then trial-region woken-part s₀ s s′ (P .only) (r .only);
+          scratch = written-on;
+          counted = omega (arith, P .counted, r .told .1 .counted, noted-append (P .notes) more-notes);
           held =
-              given-append s₀ x y lo (P .low) (F .mid) (P .gifts) more-gifts (P .held)
-              (all-given-kept s s₀ (only-back trial-region readers-part s₀ s (P .only)) x y from links (P .trial) (P .low) (F .mid) more-gifts (r .told .1 .given));
+              all-noted-append s₀ x y lo (P .low) (F .mid) (P .notes) more-notes (P .held)
+              (all-noted-kept s s₀ (only-back trial-region woken-part s₀ s (P .only)) x y from links (P .trial) (P .low) (F .mid) more-notes (r .told .1 .held));
           trial = trial-kept s s′ (r .only) x y from links (P .trial);
           head =
               head-terms-kept s s′ (r .only) x y (a .trial .number) (a .trial .compounds) m (P .j + 1) (F .mid) hi (F .us)
@@ -232,76 +232,56 @@ module _ (links : ℕ) {s₀ : List ℕ} {x : Setting} {y : Template} {from m : 
           outcome = outcome-on;
         }
           where
-            more-gifts : List Gift
-            more-gifts = r .told .1 .gifts
+            more-notes : List Note
+            more-notes = r .told .1 .notes
 
-            recorded-on : s′ ≡ recorded (item x y) (x .places) n (P .gifts ++ more-gifts) s₀
-            recorded-on =
-                let there : s′ ≡ recorded (item x y) (x .places) given more-gifts s = r .told .1 .scratch in
-                let back = recorded-append (item x y) (x .places) n (P .gifts) more-gifts s₀ in
-                let onward : recorded (item x y) (x .places) given more-gifts s
-                ≡ recorded (item x y) (x .places) (n + entries (P .gifts)) more-gifts (recorded (item x y) (x .places) n (P .gifts) s₀) =
-                ap (λ e. recorded (item x y) (x .places) e more-gifts s) (P .counted)
-                ∙ ap (λ e. recorded (item x y) (x .places) (n + entries (P .gifts)) more-gifts e) (P .scratch)
+            written-on : s′ ≡ written (item x y) (x .places) n (P .notes ++ more-notes) s₀
+            written-on =
+                let there : s′ ≡ written (item x y) (x .places) given more-notes s = r .told .1 .scratch in
+                let back = written-append (item x y) (x .places) n (P .notes) more-notes s₀ in
+                let onward : written (item x y) (x .places) given more-notes s
+                ≡ written (item x y) (x .places) (n + noted (P .notes)) more-notes (written (item x y) (x .places) n (P .notes) s₀) =
+                ap (λ e. written (item x y) (x .places) e more-notes s) (P .counted)
+                ∙ ap (λ e. written (item x y) (x .places) (n + noted (P .notes)) more-notes e) (P .scratch)
                 in
                 there ∙ onward ∙ sym back
 
             outcome-on : places-outcome x links us ts
-                ≡ with-assignments (assignments (length (x .values)) (x .compounds) (P .gifts ++ more-gifts)) (places-outcome x links (F .us) (F .ts))
+                ≡ and-then (outcome-of (length (x .values)) (x .compounds) (P .notes ++ more-notes)) (places-outcome x links (F .us) (F .ts))
             outcome-on =
                 let b = length (x .values) in
                 let c = x .compounds in
                 let rest = places-outcome x links (F .us) (F .ts) in
                 let first = rw (r .told .1 .outcome) at split in
                 first
-                ∙ with-both (assignments b c (P .gifts)) (assignments b c more-gifts) rest
-                ∙ ap (λ e. with-assignments e rest) (sym (assignments-append b c (P .gifts) more-gifts))
+                ∙ sym (and-then-associative (outcome-of b c (P .notes)) (outcome-of b c more-notes) rest)
+                ∙ ap (λ e. and-then e rest) (outcome-append b c (P .notes) more-notes)
 
-      -- It waits, or fails, at the first argument that does.
-      pub waits-here : {s′ : List ℕ} {z : ℕ} → Answers s s′ x y given (P .low) (F .mid) 1 one (Waits z)
-          → Answers s₀ s′ x y n lo hi (count us) (places-outcome x links us ts) (Waits z)
-      unfolding and-then with-assignments waits-on
-      waits-here {s′} r = record {
-        only = only-then trial-region readers-part s₀ s s′ (P .only) (r .only);
-        told = record {
-          pair = r .told .pair;
-          outcome = rw (r .told .outcome) at split;
-          inside = r .told .inside;
-          place = r .told .place;
-        };
-      }
-
+      -- It fails at the first argument that does.
       pub fails-here : {s′ : List ℕ} → Answers s s′ x y given (P .low) (F .mid) 1 one Fails
           → Answers s₀ s′ x y n lo hi (count us) (places-outcome x links us ts) Fails
-      unfolding and-then with-assignments
+      unfolding and-then
       fails-here {s′} r = record {
-        only = only-then trial-region readers-part s₀ s s′ (P .only) (r .only);
-        told = rw (r .told) at split;
+        only = only-then trial-region woken-part s₀ s s′ (P .only) (r .only);
+        told = (rw (r .told) at split) ∙ then-fails (outcome-of (length (x .values)) (x .compounds) (P .notes));
       }
 
     -- What is left agrees and gives nothing.
     pub rest-agrees : places-outcome x links (P .heads) (P .goals) ≡ succeeds []
-        → Answers s₀ s x y n lo hi (count us) (places-outcome x links us ts) (Agrees given)
-    unfolding with-assignments
+        → Answers s₀ s x y n lo hi (count us) (places-outcome x links us ts) (Noted given)
     rest-agrees rest = record {
       only = P .only;
       told = (
         omega (arith, P .fits, all-numbered-order (P .low) hi (P .heads) (P .head .numbered)),
         record {
-          gifts = P .gifts;
-          outcome = outcome-end;
+          notes = P .notes;
+          outcome = (rw rest at (P .outcome)) ∙ and-then-nothing-behind (outcome-of (length (x .values)) (x .compounds) (P .notes));
           scratch = P .scratch;
           counted = P .counted;
-          given = given-wider s₀ x y lo (P .low) lo hi (P .gifts) (omega arith) (all-numbered-order (P .low) hi (P .heads) (P .head .numbered)) (P .held);
+          held = noted-wider s₀ x y lo (P .low) lo hi (P .notes) (omega arith) (all-numbered-order (P .low) hi (P .heads) (P .head .numbered)) (P .held);
         },
       );
     }
-      where
-        outcome-end : places-outcome x links us ts ≡ succeeds (assignments (length (x .values)) (x .compounds) (P .gifts))
-        outcome-end =
-            let g = assignments (length (x .values)) (x .compounds) (P .gifts) in
-            let whole = rw rest at (P .outcome) in
-            whole ∙ ap succeeds (append-nil g)
 
     -- No argument is left.
     none-left : (heads goals : Terms) → count heads ≡ count goals → count heads ≡ 0 → places-outcome x links heads goals ≡ succeeds []
@@ -310,5 +290,5 @@ module _ (links : ℕ) {s₀ : List ℕ} {x : Setting} {y : Template} {from m : 
     none-left end (more u ts′) e z = absurd (omega arith)
     none-left (more t us′) goals e z = absurd (omega arith)
 
-    pub all-agree : k < i → Answers s₀ s x y n lo hi (count us) (places-outcome x links us ts) (Agrees given)
+    pub all-agree : k < i → Answers s₀ s x y n lo hi (count us) (places-outcome x links us ts) (Noted given)
     all-agree h = rest-agrees (none-left (P .heads) (P .goals) (P .counts) (omega (arith, P .at, P .left, P .whole)))

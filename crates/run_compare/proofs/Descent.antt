@@ -14,11 +14,11 @@ use Rattle.laws.proofs.Lists.Tests.{and-right}
 use Rattle.term.specs.Cells.{Known, Numbered}
 use Rattle.term.specs.Holds.{Holds}
 use Rattle.run_compare.specs.declared.compare.CompareResult.{CompareResult}
-use Rattle.run_compare.specs.declared.compare.CompareResult.the-variants.{Agrees, Waits, Fails}
+use Rattle.run_compare.specs.declared.compare.CompareResult.the-variants.{Noted, Fails}
 use Rattle.term.specs.Setting.{Setting, Within, Ranged}
 use Rattle.term.specs.Layout.{item-place, clause-base}
 use Rattle.run_compare.specs.Compare.{Template, item, Against, AllAgainst, Answers, place-outcome, places-outcome}
-use Rattle.run_compare.proofs.Gifts.{given-wider}
+use Rattle.run_compare.proofs.Notes.{noted-wider}
 use Rattle.run_compare.proofs.Equal.{functors-equal}
 
 count-renamed : (p c : ℕ) (ts : Terms) → count (all-renamed p c ts) ≡ count ts
@@ -30,7 +30,7 @@ count-renamed p c (more t ts) = ap suc (count-renamed p c ts)
 pub answers-as : (s s′ : List ℕ) (x : Setting) (y : Template) (n lo hi k lo′ k′ : ℕ) (o o′ : Result) (r : CompareResult)
     → o′ ≡ o → lo′ ≤ lo → k + 6 * lo′ ≤ k′ + 6 * lo
     → Answers s s′ x y n lo hi k o r → Answers s s′ x y n lo′ hi k′ o′ r
-answers-as s s′ x y n lo hi k lo′ k′ o o′ (Agrees m) e low f a =
+answers-as s s′ x y n lo hi k lo′ k′ o o′ (Noted m) e low f a =
     let told = a .told .1 in
     rw e (
     record {
@@ -38,16 +38,15 @@ answers-as s s′ x y n lo hi k lo′ k′ o o′ (Agrees m) e low f a =
       told = (
         omega (arith, a .told .0),
         record {
-          gifts = told .gifts;
+          notes = told .notes;
           outcome = told .outcome;
           scratch = told .scratch;
           counted = told .counted;
-          given = given-wider s x y lo hi lo′ hi (told .gifts) low (omega arith) (told .given);
+          held = noted-wider s x y lo hi lo′ hi (told .notes) low (omega arith) (told .held);
         },
       );
     }
     )
-answers-as s s′ x y n lo hi k lo′ k′ o o′ (Waits z) e low f a = rw e (record { only = a .only; told = a .told })
 answers-as s s′ x y n lo hi k lo′ k′ o o′ Fails e low f a = rw e (record { only = a .only; told = a .told })
 
 module _ (s : List ℕ) (x : Setting) (y : Template) (from lo hi h w n links m : ℕ) (g : Functor) (us : Terms) (l : ℕ) (f : Functor) (ts : Terms)

@@ -18,12 +18,11 @@ use Rattle.meaning.specs.Trial.{with-pairs, assigned, next-pair, compared}
 use Rattle.laws.proofs.Lists.Tests.{eqb-raised}
 use Rattle.term.specs.Cells.{Places, term-word}
 use Rattle.term.specs.Holds.{value-word}
-use Rattle.run_compare.specs.declared.compare.CompareResult.the-variants.{Agrees}
 use Rattle.term.specs.Setting.{Setting}
-use Rattle.term.specs.Layout.{trial-region, gifts-part, gift-pair, gift-term, readers-part}
+use Rattle.term.specs.Layout.{trial-region, gifts-part, gift-pair, gift-term, woken-part}
 use Rattle.run_table.specs.Rows.{head-written, goal-written}
 use Rattle.run_compare.specs.Gifts.{Gift, to-head, to-goal, assignments, entries, recorded, entries-of, EntriesAt, renamed-entries, head-gift}
-use Rattle.run_compare.specs.Compare.{Template, item, HeadArguments, AllGiven, AllEntries, Agreed, Answers, Gave, places-outcome}
+use Rattle.run_compare.specs.Compare.{Template, item, AllGiven, AllEntries, Gave, places-outcome}
 
 pub entries-length : (gs : List Gift) → length (entries-of gs) ≡ entries gs
 unfolding entries entries-of
@@ -48,7 +47,7 @@ module _ (item unit : Places) where
 
   -- The entries stand in order.
   pub entries-at : (gs : List Gift) (s : List ℕ) (x : Setting) (y : Template) (lo hi : ℕ) (n : ℕ) (s₀ : List ℕ) → y .pairs ≤ 16 → AllGiven s₀ x y lo hi gs
-      → readers-part ≤ length s → n + entries gs ≤ 192 → EntriesAt (recorded item unit n gs s) item unit n (entries-of gs)
+      → woken-part ≤ length s → n + entries gs ≤ 192 → EntriesAt (recorded item unit n gs s) item unit n (entries-of gs)
   unfolding recorded AllGiven entries entries-of EntriesAt
   entries-at [] s x y lo hi n s₀ few g large room = tt
   entries-at (to-head a u ∷ gs) s x y lo hi n s₀ few g large room =
@@ -69,7 +68,7 @@ module _ (item unit : Places) where
         entries-at gs after x y (g .2) hi (n + 1) s₀ few (g .5) (omega arith) (omega arith),
       )
 
-  one-head : (s : List ℕ) (a n : ℕ) (u : Term) (o : Option Term) → a < 16 → n < 16 → readers-part ≤ length s
+  one-head : (s : List ℕ) (a n : ℕ) (u : Term) (o : Option Term) → a < 16 → n < 16 → woken-part ≤ length s
       → getD s (trial-region + a) 0 ≡ value-word unit o
       → getD (head-written n (term-word unit u) s) (trial-region + a) 0 ≡ value-word unit (if eqb a n then some u else o)
   unfolding if_then_else_
@@ -84,7 +83,7 @@ module _ (item unit : Places) where
 
   -- The word of a head's writer.
   pub head-word-at : (gs : List Gift) (s : List ℕ) (x : Setting) (y : Template) (lo hi : ℕ) (n a : ℕ) (o : Option Term) (s₀ : List ℕ) → y .pairs ≤ 16
-      → AllGiven s₀ x y lo hi gs → readers-part ≤ length s → a < 16 → getD s (trial-region + a) 0 ≡ value-word unit o
+      → AllGiven s₀ x y lo hi gs → woken-part ≤ length s → a < 16 → getD s (trial-region + a) 0 ≡ value-word unit o
       → getD (recorded item unit n gs s) (trial-region + a) 0 ≡ value-word unit (head-gift gs a o)
   unfolding recorded AllGiven head-gift
   head-word-at [] s x y lo hi n a o s₀ few g large small e = e
@@ -176,33 +175,33 @@ entries-held [] s x y lo hi g = g
 entries-held (to-head n u ∷ gs) s x y lo hi g = entries-held gs s x y lo hi (g .1)
 entries-held (to-goal z t ∷ gs) s x y lo hi g = (g .0, g .1, g .2, g .3, g .4, entries-held gs s x y (g .2) hi (g .5))
 
--- What a trial gave can be read from its region, where the clause's words were 0 before it. Its highest number is that of the head's terms compared.
-pub gave : (s s′ : List ℕ) (x : Setting) (y : Template) (lo hi : ℕ) (given : List Assignment) (m : ℕ) → Agreed s s′ x y 0 lo hi (succeeds given) m
-    → readers-part ≤ length s → m ≤ 192 → y .pairs ≤ 16 → ((a : ℕ) → a < y .pairs → getD s (trial-region + a) 0 ≡ 0)
-    → (g : Gave s s′ x y given m) × (g .high ≡ hi)
+-- What a trial gave that waits on no reader can be read from its region, where the clause's words were 0 before it. Its highest number is that of the
+-- head's terms compared.
+pub gave : (s s′ : List ℕ) (x : Setting) (y : Template) (lo hi : ℕ) (gs : List Gift) (m : ℕ) → AllGiven s x y lo hi gs
+    → s′ ≡ recorded (item x y) (x .places) 0 gs s → m ≡ entries gs
+    → woken-part ≤ length s → m ≤ 192 → y .pairs ≤ 16 → ((a : ℕ) → a < y .pairs → getD s (trial-region + a) 0 ≡ 0)
+    → (g : Gave s s′ x y (assignments (length (x .values)) (x .compounds) gs) m) × (g .high ≡ hi)
 unfolding with-pairs value
-gave s s′ x y lo hi given m k large room few cleared = (
+gave s s′ x y lo hi gs m held scratch counted large room few cleared = (
   record {
-    gifts = k .gifts;
-    given-are = are;
+    gifts = gs;
+    given-are = refl;
     low = lo;
     high = hi;
-    gifts-held = k .given;
-    list = entries-of (k .gifts);
+    gifts-held = held;
+    list = entries-of gs;
     list-is = refl;
-    size = entries-length (k .gifts) ∙ omega (arith, k .counted);
-    stand =
-        rw (k .scratch)
-        (entries-at (item x y) (x .places) (k .gifts) s x y lo hi 0 s few (k .given) large (omega (arith, k .counted)));
-    held = entries-held (k .gifts) s x y lo hi (k .given);
+    size = entries-length gs ∙ sym counted;
+    stand = rw scratch (entries-at (item x y) (x .places) gs s x y lo hi 0 s few held large (omega arith));
+    held = entries-held gs s x y lo hi held;
     unit-values = λ z h.
-        rw are (entry-values p (x .compounds) (k .gifts) base base s x y lo hi (k .given) refl (omega (arith, long)) (omega (arith, long)) (λ i q. refl) z h);
+        entry-values p (x .compounds) gs base base s x y lo hi held refl (omega (arith, long)) (omega (arith, long)) (λ i q. refl) z h;
     clause-values = λ a h.
-        rw (k .scratch, are)
-        (head-word-at (item x y) (x .places) (k .gifts) s x y lo hi 0 a none s few (k .given) large (omega arith) (cleared a h)
-        ∙ ap (λ o. value-word (x .places) (head-gift (k .gifts) a o)) (sym (free a h))
-        ∙ ap (value-word (x .places)) (sym (head-value p (x .compounds) (k .gifts) base a s x y lo hi (k .given) refl (omega (arith, long)))));
-    pairs-are = λ z h. rw are (entry-pairs p (x .compounds) (k .gifts) s x y lo hi (k .given) z h);
+        rw scratch
+        (head-word-at (item x y) (x .places) gs s x y lo hi 0 a none s few held large (omega arith) (cleared a h)
+        ∙ ap (λ o. value-word (x .places) (head-gift gs a o)) (sym (free a h))
+        ∙ ap (value-word (x .places)) (sym (head-value p (x .compounds) gs base a s x y lo hi held refl (omega (arith, long)))));
+    pairs-are = λ z h. entry-pairs p (x .compounds) gs s x y lo hi held z h;
   },
   refl,
 )
@@ -213,26 +212,11 @@ gave s s′ x y lo hi given m k large room few cleared = (
     base : Values
     base = with-pairs (y .pairs) (x .values)
 
-    are : given ≡ assignments p (x .compounds) (k .gifts)
-    are = let e = k .outcome in cc
-
     long : length base ≡ p + y .pairs
     long = length-append (x .values) (replicate (y .pairs) none) ∙ ap (λ n. p + n) (length-replicate (y .pairs) none)
 
     free : (a : ℕ) → a < y .pairs → value base (p + a) ≡ none
     free a h = getD-append-add (x .values) (replicate (y .pairs) none) a none ∙ getD-replicate (y .pairs) a none none h
-
--- The same of the answer to a whole head, whose entries are at most 192.
-pub answers-gave : {s s′ : List ℕ} {x : Setting} {y : Template} {from links h : ℕ} {g : Functor} {us : Terms} {lo hi p m : ℕ} {o : Result}
-    → HeadArguments s x y from links h g us lo hi p 0
-    → Answers s s′ x y 0 lo hi (count us) o (Agrees m)
-    → ((a : ℕ) → a < y .pairs → getD s (trial-region + a) 0 ≡ 0)
-    → (given : List Assignment) × (o ≡ succeeds given) × (k : Gave s s′ x y given m) × (k .high ≡ hi)
-answers-gave {s} {s′} {x} {y} {lo = lo} {hi = hi} {m = m} {o = o} a k cleared =
-    let given = assignments (length (x .values)) (x .compounds) (k .told .1 .gifts) in
-    let e : o ≡ succeeds given = k .told .1 .outcome in
-    let it = gave s s′ x y lo hi given m (rw e at (k .told .1)) (a .trial .large) (omega (arith, k .told .0, a .room)) (a .trial .pairs) cleared in
-    (given, e, it .0, it .1)
 
 -- A trial's comparison is the table on the arguments of the head and the goal, over as many links as the unit has pairs.
 pub compared-outcome : (clause : Clause) (unit : QueryUnit) (goal : Named) (x : Setting) → x .values ≡ unit .values → x .compounds ≡ unit .compounds

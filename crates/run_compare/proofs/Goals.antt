@@ -11,7 +11,7 @@ use Rattle.term.specs.Cells.{AllKnown}
 use Rattle.term.specs.Holds.{HoldsFrom}
 use Rattle.term.specs.Frames.{Only}
 use Rattle.term.specs.Setting.{Setting, AllWithin, AllRanged, UnitTerms}
-use Rattle.term.specs.Layout.{trial-region, readers-part, followed-part, followed-from}
+use Rattle.term.specs.Layout.{trial-region, woken-part, followed-part, followed-from}
 use Rattle.run_chains.specs.Follow.{Reads, FollowedAt}
 use Rattle.run_compare.specs.Compare.{Template, AllAgainst, HeadAgainst}
 use Rattle.run_compare.proofs.Kept.{unit-terms-kept, followed-kept}
@@ -39,7 +39,7 @@ module _ (links : ℕ) {s₀ : List ℕ} {x : Setting} {y : Template} {from m : 
           word = e ∙ ap (λ c. getD s c 0) same ∙ here .held .0;
         }
 
-    pub goals-left : {s′ : List ℕ} → Only trial-region readers-part s s′ → UnitTerms s′ x l (P .j + 1) (F .ts)
+    pub goals-left : {s′ : List ℕ} → Only trial-region woken-part s s′ → UnitTerms s′ x l (P .j + 1) (F .ts)
     unfolding HoldsFrom AllWithin AllKnown AllRanged
     goals-left {s′} o =
         let here = goals-here links (a .head) P F in
@@ -65,6 +65,6 @@ module _ (links : ℕ) {s₀ : List ℕ} {x : Setting} {y : Template} {from m : 
         let here = goals-here links (a .head) P F in
         record { chained = P .trial .unit; term = here .1; word = e ∙ ap (λ c. getD s c 0) same ∙ here .0 }
 
-    pub followed-left : {s′ : List ℕ} → Only trial-region readers-part s s′ → FollowedAt s′ x links (P .j + 1) (F .ts)
+    pub followed-left : {s′ : List ℕ} → Only trial-region woken-part s s′ → FollowedAt s′ x links (P .j + 1) (F .ts)
     unfolding FollowedAt
     followed-left {s′} o = followed-kept s s′ o x (P .trial .outside) links (P .j + 1) (F .ts) (goals-here links (a .head) P F .2)

@@ -19,7 +19,7 @@ use Rattle.term.specs.Layout.{trial-region, item-place, clause-base}
 use Rattle.term.specs.Words.{tag-in}
 use Rattle.run_chains.specs.Follow.{Reads}
 use Rattle.run_compare.specs.declared.compare.CompareResult.{CompareResult}
-use Rattle.run_compare.specs.declared.compare.CompareResult.the-variants.{Agrees, Waits, Fails}
+use Rattle.run_compare.specs.declared.compare.CompareResult.the-variants.{Noted, Fails}
 use Rattle.run_compare.specs.Compare.{Template, Against, AllAgainst, Answers, place-outcome, places-outcome}
 use Rattle.run_compare.specs.Same.{SameConstant, SameBehind}
 use Rattle.run_compare.proofs.Kept.{words-kept}
@@ -27,8 +27,7 @@ use Rattle.run_compare.proofs.Place.{
   Deeper,
   Compounds,
   place-only,
-  place-agrees,
-  place-waits,
+  place-noted,
   place-fails,
   place-cells,
   place-lower,
@@ -46,7 +45,6 @@ use Rattle.run_compare.proofs.Arguments.{
   next,
   next-against,
   one-more,
-  waits-here,
   fails-here,
   rest-agrees,
 }
@@ -144,10 +142,10 @@ module _ (links : ℕ) {s₀ s : List ℕ} {x : Setting} {y : Template} {from fi
       in
       rw (head-kept, goal-kept) (G .behind .same (j + 1) (omega (arith, P .at)) up-to)
 
-  pub ends : k < i → Answers s₀ s x y n lo hi size o (Agrees given)
+  pub ends : k < i → Answers s₀ s x y n lo hi size o (Noted given)
   ends h =
       let P = G .partly in
-      G .back s (Agrees given)
+      G .back s (Noted given)
       (rest-agrees links (G .against .head) P
       (ends-agree x y links s (G .m) (G .l) (P .j) (P .heads) (P .goals) (P .head .held) (P .goal .held) (P .head .known) (P .goal .known)
       (P .head .ranged) (P .goal .ranged) (P .counts) (rest-same h)))
@@ -156,15 +154,12 @@ module _ (links : ℕ) {s₀ s : List ℕ} {x : Setting} {y : Template} {from fi
     abbrev one : Result
     one = place-outcome x links (F .t) (followed links (x .values) (F .u))
 
-    waits-one : {s′ : List ℕ} {z : ℕ} → Answers s s′ x y given (G .partly .low) (F .mid) 1 one (Waits z) → Answers s₀ s′ x y n lo hi size o (Waits z)
-    waits-one {s′} {z} r = G .back s′ (Waits z) (waits-here links (G .against .head) (G .partly) F r)
-
     fails-one : {s′ : List ℕ} → Answers s s′ x y given (G .partly .low) (F .mid) 1 one Fails → Answers s₀ s′ x y n lo hi size o Fails
     fails-one {s′} r = G .back s′ Fails (fails-here links (G .against .head) (G .partly) F r)
 
-    agrees-one : {s′ : List ℕ} {m′ : ℕ} → Answers s s′ x y given (G .partly .low) (F .mid) 1 one (Agrees m′)
+    noted-one : {s′ : List ℕ} {m′ : ℕ} → Answers s s′ x y given (G .partly .low) (F .mid) 1 one (Noted m′)
         → Going s₀ s′ x y from links first n lo hi size o p q k m′ (i + 1)
-    agrees-one r = record {
+    noted-one r = record {
       begun = G .begun;
       made = G .made;
       m = G .m;
@@ -190,8 +185,7 @@ last-one : (links : ℕ) {s₀ s : List ℕ} {x : Setting} {y : Template} {from 
     → i ≡ k → (s′ : List ℕ) (r : CompareResult)
     → Answers s s′ x y given (G .partly .low) (F .mid) 1 (place-outcome x links (F .t) (followed links (x .values) (F .u))) r
     → Answers s₀ s′ x y n lo hi size o r
-last-one links G F e s′ (Agrees m) r = ends links (agrees-one links G F r) (omega arith)
-last-one links G F e s′ (Waits z) r = waits-one links G F r
+last-one links G F e s′ (Noted m) r = ends links (noted-one links G F r) (omega arith)
 last-one links G F e s′ Fails r = fails-one links G F r
 
 -- One turn: the words of the next argument of both, the goal's followed.
@@ -210,11 +204,8 @@ module _ (links : ℕ) {s₀ s : List ℕ} {x : Setting} {y : Template} {from fi
 
     -- What the table answers.
     module _ {s′ : List ℕ} {answer : PlaceResult} (done : Done s s′ given h w (row (eqb h w) (seen h) (seen w)) answer) where
-      pub turn-agrees : {m : ℕ} → answer ≡ met.Agrees m → Going s₀ s′ x y from links first n lo hi size o p q k m (i + 1)
-      turn-agrees e = agrees-one links G facing (place-agrees links turn-against done e)
-
-      pub turn-waits : {z : ℕ} → answer ≡ met.Waits z → Answers s₀ s′ x y n lo hi size o (Waits z)
-      turn-waits e = waits-one links G facing (place-waits links turn-against done e)
+      pub turn-noted : {m : ℕ} → answer ≡ met.Noted m → Going s₀ s′ x y from links first n lo hi size o p q k m (i + 1)
+      turn-noted e = noted-one links G facing (place-noted links turn-against done e)
 
       pub turn-fails : answer ≡ met.Fails → Answers s₀ s′ x y n lo hi size o Fails
       turn-fails e = fails-one links G facing (place-fails links turn-against done e)
@@ -239,11 +230,8 @@ module _ (links : ℕ) {s₀ s : List ℕ} {x : Setting} {y : Template} {from fi
             (answers : Answers s′ s₂ x y given (G .partly .low) (facing .mid) 1
             (place-outcome x links (Term.compound (turn-compounds .m) (turn-compounds .g) (turn-compounds .us))
             (Term.compound (turn-compounds .l) (turn-compounds .f) (turn-compounds .ts))) r) where
-          pub both-agree : {m : ℕ} → r ≡ Agrees m → Going s₀ s₂ x y from links first n lo hi size o p q k m (i + 1)
-          both-agree v = agrees-one links G facing (rw v at (turn-compounds .back s₂ r answers))
-
-          pub both-wait : {z : ℕ} → r ≡ Waits z → Answers s₀ s₂ x y n lo hi size o (Waits z)
-          both-wait v = waits-one links G facing (rw v at (turn-compounds .back s₂ r answers))
+          pub both-noted : {m : ℕ} → r ≡ Noted m → Going s₀ s₂ x y from links first n lo hi size o p q k m (i + 1)
+          both-noted v = noted-one links G facing (rw v at (turn-compounds .back s₂ r answers))
 
           pub both-fail : r ≡ Fails → Answers s₀ s₂ x y n lo hi size o Fails
           both-fail v = fails-one links G facing (rw v at (turn-compounds .back s₂ r answers))

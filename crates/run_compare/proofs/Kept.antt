@@ -11,17 +11,18 @@ use Rattle.term.specs.Holds.{CellAt, Holds, HoldsFrom}
 use Rattle.term.specs.Frames.{Only}
 use Rattle.term.specs.Setting.{Setting, Within, AllWithin, UnitTerm, UnitTerms}
 use Rattle.term.proofs.Units.{unit-term-alike, unit-terms-alike}
-use Rattle.term.specs.Layout.{trial-region, readers-part}
+use Rattle.term.specs.Layout.{trial-region, woken-part}
 use Rattle.run_chains.specs.Follow.{Chained, FollowedAt}
 use Rattle.run_chains.proofs.Followed.{chained-alike, followed-alike}
-use Rattle.run_compare.specs.Gifts.{Gift, to-head, to-goal}
-use Rattle.run_compare.specs.Compare.{Template, item, HeadTerm, HeadTerms, Outside, TrialStands, AllGiven}
+use Rattle.run_compare.specs.Gifts.{to-head, to-goal}
+use Rattle.run_compare.specs.Notes.{Note, given, asked}
+use Rattle.run_compare.specs.Compare.{Template, item, HeadTerm, HeadTerms, Outside, TrialStands, AllNoted}
 
 -- The other way round.
 pub only-back : (lo hi : ℕ) (s s′ : List ℕ) → Only lo hi s s′ → Only lo hi s′ s
 only-back lo hi s s′ o = record { size = sym (o .size); below = λ k h. sym (o .below k h); above = λ k h. sym (o .above k h) }
 
-module _ (s s′ : List ℕ) (o : Only trial-region readers-part s s′) where
+module _ (s s′ : List ℕ) (o : Only trial-region woken-part s s′) where
   cell-kept : (places : Places) (n k : ℕ) → Outside places n → places .compound n ≤ k → k < places .compound n + places .width n
       → getD s′ k 0 ≡ getD s k 0
   cell-kept places n k (inl low) a b = o .below k (omega arith)
@@ -68,7 +69,7 @@ module _ (s s′ : List ℕ) (o : Only trial-region readers-part s s′) where
     pub followed-kept : (links i : ℕ) (ts : Terms) → FollowedAt s x links i ts → FollowedAt s′ x links i ts
     followed-kept links i ts = followed-alike s s′ x (omega (arith, o .size)) words-kept links i ts (λ k l h. o .above k (omega arith))
 
-    chained-kept : (from links : ℕ) → readers-part ≤ from → Chained s x from links → Chained s′ x from links
+    chained-kept : (from links : ℕ) → woken-part ≤ from → Chained s x from links → Chained s′ x from links
     chained-kept from links b = chained-alike s s′ x (omega (arith, o .size)) words-kept from links (λ k l. o .above k (omega arith))
 
   module _ (x : Setting) (y : Template) (small : y .number < 128) (few : y .compounds ≤ 32) where
@@ -109,15 +110,16 @@ module _ (s s′ : List ℕ) (o : Only trial-region readers-part s s′) where
   }
 
   module _ (x : Setting) (y : Template) (from links : ℕ) (t : TrialStands s x y from links) where
-    pub all-given-kept : (lo hi : ℕ) (gs : List Gift) → AllGiven s x y lo hi gs → AllGiven s′ x y lo hi gs
-    unfolding AllGiven
-    all-given-kept lo hi [] k = k
-    all-given-kept lo hi (to-head n u ∷ gs) k = ((k .0 .0, unit-term-kept x (t .outside) u (k .0 .1)), all-given-kept lo hi gs (k .1))
-    all-given-kept lo hi (to-goal z h ∷ gs) k = (
+    pub all-noted-kept : (lo hi : ℕ) (ns : List Note) → AllNoted s x y lo hi ns → AllNoted s′ x y lo hi ns
+    unfolding AllNoted
+    all-noted-kept lo hi [] k = k
+    all-noted-kept lo hi (given (to-head n u) ∷ ns) k = ((k .0 .0, unit-term-kept x (t .outside) u (k .0 .1)), all-noted-kept lo hi ns (k .1))
+    all-noted-kept lo hi (given (to-goal z h) ∷ ns) k = (
       k .0,
       k .1,
       k .2,
       k .3,
       head-term-kept x y (t .number) (t .compounds) (k .1) (k .2) h (k .4),
-      all-given-kept (k .2) hi gs (k .5),
+      all-noted-kept (k .2) hi ns (k .5),
     )
+    all-noted-kept lo hi (asked z ∷ ns) k = (k .0, all-noted-kept lo hi ns (k .1))

@@ -1,11 +1,11 @@
 pub mod Arguments
 pub mod Descent
 pub mod Equal
-pub mod Gifts
 pub mod Given
 pub mod Goals
 pub mod Going
 pub mod Kept
+pub mod Notes
 pub mod Place
 pub mod Same
 pub mod Table

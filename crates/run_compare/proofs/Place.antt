@@ -15,9 +15,9 @@ use Rattle.term.proofs.Frames.{only-same}
 use Rattle.run_table.specs.declared.table.PlaceResult.{PlaceResult}
 use Rattle.run_table.specs.declared.table.PlaceResult.the-variants as met
 use Rattle.run_compare.specs.declared.compare.CompareResult.{CompareResult}
-use Rattle.run_compare.specs.declared.compare.CompareResult.the-variants.{Agrees, Waits, Fails}
+use Rattle.run_compare.specs.declared.compare.CompareResult.the-variants.{Noted, Fails}
 use Rattle.term.specs.Setting.{Setting}
-use Rattle.term.specs.Layout.{trial-region, readers-part, item-place, clause-base}
+use Rattle.term.specs.Layout.{trial-region, woken-part, item-place, clause-base}
 use Rattle.term.specs.Words.{compound-word}
 use Rattle.run_table.specs.Rows.{row, Done}
 use Rattle.run_compare.specs.Compare.{Template, Against, AllAgainst, Answers, place-outcome, places-outcome}
@@ -118,18 +118,13 @@ module _ (links : ℕ) {s s′ : List ℕ} {x : Setting} {y : Template} {from lo
   found : Found s s′ x y n lo hi (place-outcome x links t u) t u a
   found = table-found s s′ x y from links lo hi n h w (followed links (x .values)) a t u k d
 
-  pub place-only : Only trial-region readers-part s s′
+  pub place-only : Only trial-region woken-part s s′
   place-only = found .0
 
-  pub place-agrees : {m : ℕ} → a ≡ met.Agrees m → Answers s s′ x y n lo hi 1 (place-outcome x links t u) (Agrees m)
-  place-agrees {m} e =
+  pub place-noted : {m : ℕ} → a ≡ met.Noted m → Answers s s′ x y n lo hi 1 (place-outcome x links t u) (Noted m)
+  place-noted {m} e =
       let it = rw e at found in
       record { only = it .0; told = (omega (arith, it .1 .0, numbered-order lo hi t (k .head .numbered)), it .1 .1) }
-
-  pub place-waits : {z : ℕ} → a ≡ met.Waits z → Answers s s′ x y n lo hi 1 (place-outcome x links t u) (Waits z)
-  place-waits e =
-      let it = rw e at found in
-      record { only = it .0; told = it .1 }
 
   pub place-fails : a ≡ met.Fails → Answers s s′ x y n lo hi 1 (place-outcome x links t u) Fails
   place-fails e =
@@ -180,7 +175,7 @@ module _ (links : ℕ) {s : List ℕ} {x : Setting} {y : Template} {from lo hi m
   module _ (b : Bool) (c : b ≡ not (eqb (getD s p 0) (getD s q 0))) where
     pub compounds-differ : b ≡ true → Answers s s x y n lo hi 1 (place-outcome x links (Term.compound m g us) (Term.compound l f ts)) Fails
     compounds-differ v =
-        record { only = only-same trial-region readers-part s; told = two-differ s s x y from links lo hi n (compound-word p) (compound-word q) _ _ p q k itself refl b c v }
+        record { only = only-same trial-region woken-part s; told = two-differ s s x y from links lo hi n (compound-word p) (compound-word q) _ _ p q k itself refl b c v }
 
     pub compounds-deeper : b ≡ false → Deeper s s x y from links lo hi n (Term.compound m g us) (Term.compound l f ts) p q
     compounds-deeper v = two-deeper s s x y from links lo hi n (compound-word p) (compound-word q) _ _ p q k itself refl b c v

@@ -17,10 +17,11 @@ use Rattle.term.specs.declared.word.View.the-variants.{Writer}
 use Rattle.term.proofs.Cells.{numbered-order}
 use Rattle.term.proofs.Frames.{only-same, only-set, only-then}
 use Rattle.run_table.specs.declared.table.PlaceResult.{PlaceResult}
-use Rattle.run_table.specs.declared.table.PlaceResult.the-variants.{Agrees, Waits, Fails, Below}
+use Rattle.run_table.specs.declared.table.PlaceResult.the-variants.{Noted, Fails, Below}
 use Rattle.term.specs.Setting.{Setting, Within, Ranged, UnitTerm}
-use Rattle.term.specs.Layout.{trial-region, gift-pair, gift-term, readers-part, item-place, clause-base}
-use Rattle.run_compare.specs.Gifts.{to-head, to-goal, assignments, entries, recorded}
+use Rattle.term.specs.Layout.{trial-region, gift-pair, gift-term, woken-part, item-place, clause-base}
+use Rattle.run_compare.specs.Gifts.{to-head, to-goal, assignments}
+use Rattle.run_compare.specs.Notes.{given, asked, gifts-in, asks-in, judged, noted, written}
 use Rattle.run_table.specs.Rows.{
   head-written,
   goal-written,
@@ -41,7 +42,7 @@ use Rattle.run_table.specs.Rows.{
   behind,
   Done,
 }
-use Rattle.run_compare.specs.Compare.{Template, item, HeadTerm, Against, AllGiven, Agreed, Waited}
+use Rattle.run_compare.specs.Compare.{Template, item, HeadTerm, Against, AllNoted, Notes}
 use Rattle.run_table.proofs.Seen.{seen, seen-term, seen-writer}
 use Rattle.run_compare.proofs.Equal.{constants-equal, constant-no-compound}
 
@@ -59,8 +60,7 @@ pub record Descends (x : Setting) (y : Template) (t u : Term) (p q : ℕ) : Type
   pub goal-place : q ≡ x .places .compound l
 
 abbrev pub Meets : List ℕ → List ℕ → Setting → Template → ℕ → ℕ → ℕ → Result → Term → Term → PlaceResult → Type 0
-Meets s s′ x y n lo hi o t u (Agrees m) = (m ≤ n + 1) × Agreed s s′ x y n lo hi o m
-Meets s s′ x y n lo hi o t u (Waits z) = Waited x o z
+Meets s s′ x y n lo hi o t u (Noted m) = (m ≤ n + 1) × Notes s s′ x y n lo hi o m
 Meets s s′ x y n lo hi o t u Fails = o ≡ fails
 Meets s s′ x y n lo hi o t u (Below p q) = Descends x y t u p q × (s′ ≡ s)
 
@@ -102,42 +102,42 @@ in-order : {s : List ℕ} {x : Setting} {y : Template} {from links lo hi : ℕ} 
 in-order {lo = lo} {hi = hi} {t = t} k = numbered-order lo hi t (k .head .numbered)
 
 -- Only the trial's region changes.
-only-head : (s : List ℕ) (x w : ℕ) → x < 16 → Only trial-region readers-part s (head-written x w s)
-only-head s x w h = only-set trial-region readers-part s (trial-region + x) w (omega arith) (omega arith)
+only-head : (s : List ℕ) (x w : ℕ) → x < 16 → Only trial-region woken-part s (head-written x w s)
+only-head s x w h = only-set trial-region woken-part s (trial-region + x) w (omega arith) (omega arith)
 
-only-goal : (s : List ℕ) (n z h : ℕ) → n < 192 → Only trial-region readers-part s (goal-written n z h s)
+only-goal : (s : List ℕ) (n z h : ℕ) → n < 192 → Only trial-region woken-part s (goal-written n z h s)
 only-goal s n z h b =
     let mid = lib.ListN.set s (gift-pair n) z in
-    only-then trial-region readers-part s mid (goal-written n z h s)
-    (only-set trial-region readers-part s (gift-pair n) z (omega arith) (omega arith))
-    (only-set trial-region readers-part mid (gift-term n) h (omega arith) (omega arith))
+    only-then trial-region woken-part s mid (goal-written n z h s)
+    (only-set trial-region woken-part s (gift-pair n) z (omega arith) (omega arith))
+    (only-set trial-region woken-part mid (gift-term n) h (omega arith) (omega arith))
 
 abbrev pub Found : List ℕ → List ℕ → Setting → Template → ℕ → ℕ → ℕ → Result → Term → Term → PlaceResult → Type 0
-Found s s′ x y n lo hi o t u met = Only trial-region readers-part s s′ × Meets s s′ x y n lo hi o t u met
+Found s s′ x y n lo hi o t u met = Only trial-region woken-part s s′ × Meets s s′ x y n lo hi o t u met
 
 module _ (s s′ : List ℕ) (x : Setting) (y : Template) (n lo hi : ℕ) (order : lo ≤ hi) (h w : ℕ) (t u : Term) (met : PlaceResult) (o : Result) where
   none-given : Done s s′ n h w agrees met → o ≡ succeeds [] → Found s s′ x y n lo hi o t u met
-  unfolding answer behind assignments entries recorded AllGiven
+  unfolding answer behind assignments gifts-in asks-in judged noted written AllNoted
   none-given d e =
       rw (d .answers, d .scratch) (
-        only-same trial-region readers-part s,
-        (omega arith, record { gifts = []; outcome = e; scratch = refl; counted = omega arith; given = order }),
+        only-same trial-region woken-part s,
+        (omega arith, record { notes = []; outcome = e; scratch = refl; counted = omega arith; held = order }),
       )
 
   head-given : (a : ℕ) → Done s s′ n h w (gives-head a) met → a < y .pairs → y .pairs ≤ 16 → UnitTerm s x u → w ≡ term-word (x .places) u
       → o ≡ gives (length (x .values) + a) u → Found s s′ x y n lo hi o t u met
-  unfolding answer behind assignments entries recorded AllGiven gives
+  unfolding answer behind assignments gifts-in asks-in judged noted written AllNoted gives
   head-given a d small few held word e =
       rw (d .answers, d .scratch) (
         only-head s a w (omega arith),
         (
           omega arith,
           record {
-            gifts = to-head a u ∷ [];
+            notes = given (to-head a u) ∷ [];
             outcome = e;
             scratch = ap (λ v. head-written a v s) word;
             counted = omega arith;
-            given = ((small, held), order);
+            held = ((small, held), order);
           },
         ),
       )
@@ -145,31 +145,34 @@ module _ (s s′ : List ℕ) (x : Setting) (y : Template) (n lo hi : ℕ) (order
   goal-given : (z : ℕ) → Done s s′ n h w (gives-goal (x .places .pair z)) met → n < 192 → z < length (x .values)
       → HeadTerm s x y lo hi t → h ≡ term-word (item x y) t → o ≡ gives z (renamed (length (x .values)) (x .compounds) t)
       → Found s s′ x y n lo hi o t u met
-  unfolding answer behind assignments entries recorded AllGiven gives
+  unfolding answer behind assignments gifts-in asks-in judged noted written AllNoted gives
   goal-given z d room inside held word e =
       rw (d .answers, d .scratch) (
         only-goal s n (x .places .pair z) h room,
         (
           omega arith,
           record {
-            gifts = to-goal z t ∷ [];
+            notes = given (to-goal z t) ∷ [];
             outcome = e;
             scratch = ap (λ v. goal-written n (x .places .pair z) v s) word;
             counted = omega arith;
-            given = (inside, lo, hi, omega arith, held, omega arith);
+            held = (inside, lo, hi, omega arith, held, omega arith);
           },
         ),
       )
 
-  waits-found : (z : ℕ) → Done s s′ n h w (waits (x .places .pair z)) met → z < length (x .values) → o ≡ waits-on z
+  waits-found : (z : ℕ) → Done s s′ n h w (waits (x .places .pair z)) met → n < 192 → z < length (x .values) → o ≡ waits-on z
       → Found s s′ x y n lo hi o t u met
-  unfolding answer behind
-  waits-found z d inside e =
-      rw (d .answers, d .scratch) (only-same trial-region readers-part s, record { pair = z; outcome = e; inside = inside; place = refl })
+  unfolding answer behind assignments gifts-in asks-in judged noted written AllNoted waits-on
+  waits-found z d room inside e =
+      rw (d .answers, d .scratch) (
+        only-goal s n (x .places .pair z) 0 room,
+        (omega arith, record { notes = asked z ∷ []; outcome = e; scratch = refl; counted = omega arith; held = (inside, order) }),
+      )
 
   fails-found : Done s s′ n h w fails-row met → o ≡ fails → Found s s′ x y n lo hi o t u met
   unfolding answer behind
-  fails-found d e = rw (d .answers, d .scratch) (only-same trial-region readers-part s, e)
+  fails-found d e = rw (d .answers, d .scratch) (only-same trial-region woken-part s, e)
 
   equal-found : (same : Bool) → Done s s′ n h w (equal-row same) met → o ≡ (if same then succeeds [] else fails) → Found s s′ x y n lo hi o t u met
   unfolding equal-row if_then_else_
@@ -182,7 +185,7 @@ below-found : (s s′ : List ℕ) (x : Setting) (y : Template) (n lo hi h w : �
 unfolding answer behind
 below-found s s′ x y n lo hi h w m g us l f ts met o d =
     rw (d .answers, d .scratch) (
-      only-same trial-region readers-part s,
+      only-same trial-region woken-part s,
       (
         record { m = m; g = g; us = us; l = l; f = f; ts = ts; head = refl; goal = refl; head-place = refl; goal-place = refl },
         refl,
@@ -217,7 +220,7 @@ module _ (s s′ : List ℕ) (x : Setting) (y : Template) (from links lo hi n h 
   by-terms (Term.constant c) (Term.variable writer z) k d =
       goal-given s s′ x y n lo hi (in-order k) h w _ _ met _ z (rw (row-constant (item x y) c) at d) (against-room k) (k .goal .of .within) (k .head) (k .head-word) refl
   by-terms (Term.constant c) (Term.variable reader z) k d =
-      waits-found s s′ x y n lo hi (in-order k) h w _ _ met _ z (rw (row-constant (item x y) c) at d) (k .goal .of .within) refl
+      waits-found s s′ x y n lo hi (in-order k) h w _ _ met _ z (rw (row-constant (item x y) c) at d) (against-room k) (k .goal .of .within) refl
   by-terms (Term.constant c) (Term.constant e) k d =
       equal-found s s′ x y n lo hi (in-order k) h w _ _ met _ (same-constant c e)
       (rw (row-constant (item x y) c, constant-constant (x .places) e, constants-equal (x .places) (item x y) refl c e (k .head .known) (k .goal .of .known) (k .head .ranged) (k .goal .of .ranged)) at d)
@@ -227,7 +230,7 @@ module _ (s s′ : List ℕ) (x : Setting) (y : Template) (from links lo hi n h 
       (rw (row-constant (item x y) c, constant-no-compound (item x y) c (x .places .compound l)) at d) refl
   by-terms (Term.compound m g us) (Term.variable writer z) k d =
       goal-given s s′ x y n lo hi (in-order k) h w _ _ met _ z d (against-room k) (k .goal .of .within) (k .head) (k .head-word) refl
-  by-terms (Term.compound m g us) (Term.variable reader z) k d = waits-found s s′ x y n lo hi (in-order k) h w _ _ met _ z d (k .goal .of .within) refl
+  by-terms (Term.compound m g us) (Term.variable reader z) k d = waits-found s s′ x y n lo hi (in-order k) h w _ _ met _ z d (against-room k) (k .goal .of .within) refl
   by-terms (Term.compound m g us) (Term.constant c) k d =
       fails-found s s′ x y n lo hi (in-order k) h w _ _ met _ (rw (compound-constant (x .places) c) at d) refl
   by-terms (Term.compound m g us) (Term.compound l f ts) k d = below-found s s′ x y n lo hi h w m g us l f ts met _ d
@@ -244,7 +247,7 @@ table-found s s′ x y from links lo hi n h w look met t u k d =
 
 -- What the code's table asks: a head's writer is one of the clause's pairs.
 pub table-asks : (s : List ℕ) (x : Setting) (y : Template) (from links lo hi n h w : ℕ) (t u : Term) → Against s x y from links lo hi t u h w n
-    → (readers-part ≤ length s) × (n < 192) × ((a : ℕ) → seen h ≡ Writer a → a < 16)
+    → (woken-part ≤ length s) × (n < 192) × ((a : ℕ) → seen h ≡ Writer a → a < 16)
 unfolding Within
 table-asks s x y from links lo hi n h w t u k = (k .trial .large, against-room k, λ a e. go t k (seen-writer (item x y) t h a (k .head-word) e))
   where

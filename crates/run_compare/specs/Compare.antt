@@ -10,15 +10,16 @@ use Rattle.meaning.specs.Bytes.{Bytes, any}
 use Rattle.meaning.specs.Terms.{Functor, Term, Terms, count, renamed, all-renamed}
 use Rattle.meaning.specs.State.{value}
 use Rattle.meaning.specs.Trial.{with-pairs, assigned}
-use Rattle.meaning.specs.Compare.{Assignment, Result, succeeds, waits-on, fails, followed, place, places}
+use Rattle.meaning.specs.Compare.{Assignment, Result, fails, followed, place, places}
 use Rattle.term.specs.Cells.{Places, Known, AllKnown, Numbered, AllNumbered, term-word}
 use Rattle.term.specs.Holds.{CellAt, Holds, HoldsFrom, value-word}
 use Rattle.term.specs.Frames.{Only}
 use Rattle.run_compare.specs.declared.compare.CompareResult.{CompareResult}
-use Rattle.run_compare.specs.declared.compare.CompareResult.the-variants.{Agrees, Waits, Fails}
-use Rattle.run_compare.specs.Gifts.{Gift, to-head, to-goal, assignments, entries, recorded, Entry, entries-of, EntriesAt, renamed-entries}
+use Rattle.run_compare.specs.declared.compare.CompareResult.the-variants.{Noted, Fails}
+use Rattle.run_compare.specs.Gifts.{Gift, to-head, to-goal, assignments, Entry, entries-of, EntriesAt, renamed-entries}
+use Rattle.run_compare.specs.Notes.{Note, given, asked, outcome-of, noted, written}
 use Rattle.term.specs.Setting.{Setting, Within, AllWithin, Ranged, AllRanged, UnitTerm, UnitTerms}
-use Rattle.term.specs.Layout.{trial-region, readers-part, followed-end, item-place, clause-base}
+use Rattle.term.specs.Layout.{trial-region, woken-part, followed-end, item-place, clause-base}
 use Rattle.run_chains.specs.Follow.{Chained, FollowedAt}
 
 -- Where the terms of clause k lie: pairs by their own numbers, compounds 32 a clause, each with eight words.
@@ -54,13 +55,13 @@ pub record HeadTerms (s : List ℕ) (x : Setting) (y : Template) (m i lo hi : �
 
 -- A compound's own words are none of the trial's region.
 abbrev pub Outside : Places → ℕ → Type 0
-Outside at n = (at .compound n + at .width n ≤ trial-region) ⊎ (readers-part ≤ at .compound n)
+Outside at n = (at .compound n + at .width n ≤ trial-region) ⊎ (woken-part ≤ at .compound n)
 
 -- The scratch of a trial: the unit's values and ends stand behind the trial's region, and its compounds outside it.
 pub record TrialStands (s : List ℕ) (x : Setting) (y : Template) (from links : ℕ) : Type 0 where
-  pub large : readers-part ≤ length s
+  pub large : woken-part ≤ length s
   pub unit : Chained s x from links
-  pub behind : readers-part ≤ from
+  pub behind : woken-part ≤ from
   pub outside : (n : ℕ) → n < x .compounds → Outside (x .places) n
   pub number : y .number < 128
   pub pairs : y .pairs ≤ 16
@@ -110,30 +111,30 @@ AllGiven s x y lo hi (to-head n u ∷ gs) = ((n < y .pairs) × UnitTerm s x u) �
 AllGiven s x y lo hi (to-goal z t ∷ gs) =
     (z < length (x .values)) × (a : ℕ) × (b : ℕ) × (lo ≤ a) × HeadTerm s x y a b t × AllGiven s x y b hi gs
 
--- It succeeds: the outcome's assignments are gifts that the scratch records from the n-th entry up to the m-th; the head's compounds that were
--- compared are numbered from lo up to hi.
-pub record Agreed (s s′ : List ℕ) (x : Setting) (y : Template) (n lo hi : ℕ) (o : Result) (m : ℕ) : Type 0 where
-  pub gifts : List Gift
-  pub outcome : o ≡ succeeds (assignments (length (x .values)) (x .compounds) gifts)
-  pub scratch : s′ ≡ recorded (item x y) (x .places) n gifts s
-  pub counted : m ≡ n + entries gifts
-  pub given : AllGiven s x y lo hi gifts
+-- The same of notes.
+unfoldable pub AllNoted : List ℕ → Setting → Template → ℕ → ℕ → List Note → Type 0
+AllNoted s x y lo hi [] = lo ≤ hi
+AllNoted s x y lo hi (given (to-head n u) ∷ ns) = ((n < y .pairs) × UnitTerm s x u) × AllNoted s x y lo hi ns
+AllNoted s x y lo hi (given (to-goal z t) ∷ ns) =
+    (z < length (x .values)) × (a : ℕ) × (b : ℕ) × (lo ≤ a) × HeadTerm s x y a b t × AllNoted s x y b hi ns
+AllNoted s x y lo hi (asked z ∷ ns) = (z < length (x .values)) × AllNoted s x y lo hi ns
 
--- It waits on the reader of a pair, whose place is z.
-pub record Waited (x : Setting) (o : Result) (z : ℕ) : Type 0 where
-  pub pair : ℕ
-  pub outcome : o ≡ waits-on pair
-  pub inside : pair < length (x .values)
-  pub place : z ≡ x .places .pair pair
+-- No place fails: the outcome is that of notes which the scratch has from the n-th entry up to the m-th; the head's compounds that were compared are
+-- numbered from lo up to hi.
+pub record Notes (s s′ : List ℕ) (x : Setting) (y : Template) (n lo hi : ℕ) (o : Result) (m : ℕ) : Type 0 where
+  pub notes : List Note
+  pub outcome : o ≡ outcome-of (length (x .values)) (x .compounds) notes
+  pub scratch : s′ ≡ written (item x y) (x .places) n notes s
+  pub counted : m ≡ n + noted notes
+  pub held : AllNoted s x y lo hi notes
 
 abbrev pub Told : List ℕ → List ℕ → Setting → Template → ℕ → ℕ → ℕ → ℕ → Result → CompareResult → Type 0
-Told s s′ x y n lo hi k o (Agrees m) = (m + 6 * lo ≤ n + 6 * hi + k) × Agreed s s′ x y n lo hi o m
-Told s s′ x y n lo hi k o (Waits z) = Waited x o z
+Told s s′ x y n lo hi k o (Noted m) = (m + 6 * lo ≤ n + 6 * hi + k) × Notes s s′ x y n lo hi o m
 Told s s′ x y n lo hi k o Fails = o ≡ fails
 
 -- The answer r to the outcome o of k terms of the head, their compounds numbered from lo up to hi: only the trial's region has changed.
 pub record Answers (s s′ : List ℕ) (x : Setting) (y : Template) (n lo hi k : ℕ) (o : Result) (r : CompareResult) : Type 0 where
-  pub only : Only trial-region readers-part s s′
+  pub only : Only trial-region woken-part s s′
   pub told : Told s s′ x y n lo hi k o r
 
 -- The outcome of the table on the clause renamed apart.
@@ -149,7 +150,7 @@ AllEntries s x y lo hi [] = lo ≤ hi
 AllEntries s x y lo hi (e ∷ es) =
     (e .pair < length (x .values)) × (a : ℕ) × (b : ℕ) × (lo ≤ a) × HeadTerm s x y a b (e .term) × AllEntries s x y b hi es
 
--- What a trial gave, read from its region: m entries in order, and a word for each of the clause's pairs. The head's terms that were given have
+-- What a trial gave that waits on no reader, read from its region: m entries in order, and a word for each of the clause's pairs. The head's terms that were given have
 -- compounds numbered from low up to high. The values after the trial are those of the entries assigned, in order, for the unit's own pairs, and
 -- those of the words for the clause's; of the unit's own pairs those of the entries and no other are assigned.
 pub record Gave (s s′ : List ℕ) (x : Setting) (y : Template) (given : List Assignment) (m : ℕ) : Type 0 where

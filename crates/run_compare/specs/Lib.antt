@@ -1,3 +1,4 @@
 pub mod Compare
 pub mod Gifts
+pub mod Notes
 pub mod Same

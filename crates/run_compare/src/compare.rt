@@ -16,10 +16,10 @@ use term::scratch::count;
 use term::word::View;
 use term::word::look;
 
-// How many of the goal's pairs are given a term so far; or it waits on the reader of a pair; or it fails.
+// How many of the goal's pairs are noted so far, where no place fails: those that are given a term, and those whose readers are waited on; or a place
+// fails.
 pub enum CompareResult {
-    Agrees(usize),
-    Waits(usize),
+    Noted(usize),
     Fails,
 }
 
@@ -76,7 +76,7 @@ fn open(s: &[u64], p: usize, q: usize) -> usize
     0
 }
 
-// "From left to right and depth first", up to "the first place that fails or waits". It goes on to two compounds that stand last in its loop.
+// "From left to right and depth first", through "all places" up to the first that fails. It goes on to two compounds that stand last in its loop.
 pub fn places(
     s: &mut [u64],
     values: usize,
@@ -94,7 +94,7 @@ pub fn places(
     let mut p = first;
     let mut q = second;
     let mut k = open(s, p, q);
-    let mut given = n;
+    let mut noted = n;
     let mut i = 1;
     'places: loop {
         if i > k {
@@ -103,12 +103,9 @@ pub fn places(
         let h = argument(s, p, i);
         let a = argument(s, q, i);
         let w = follow(s, values, links, a);
-        match table(s, h, w, given) {
-            PlaceResult::Agrees(m) => {
-                given = m;
-            }
-            PlaceResult::Waits(z) => {
-                return CompareResult::Waits(z);
+        match table(s, h, w, noted) {
+            PlaceResult::Noted(m) => {
+                noted = m;
             }
             PlaceResult::Fails => {
                 return CompareResult::Fails;
@@ -124,12 +121,9 @@ pub fn places(
                     i = 1;
                     continue 'places;
                 }
-                match compounds(s, values, links, b, c, given) {
-                    CompareResult::Agrees(m) => {
-                        given = m;
-                    }
-                    CompareResult::Waits(z) => {
-                        return CompareResult::Waits(z);
+                match compounds(s, values, links, b, c, noted) {
+                    CompareResult::Noted(m) => {
+                        noted = m;
                     }
                     CompareResult::Fails => {
                         return CompareResult::Fails;
@@ -139,5 +133,5 @@ pub fn places(
         }
         i += 1;
     }
-    CompareResult::Agrees(given)
+    CompareResult::Noted(noted)
 }

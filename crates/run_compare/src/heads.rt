@@ -13,7 +13,7 @@ use term::scratch::argument;
 use term::scratch::count;
 use term::scratch::word_at;
 
-// The arguments of the head at p against the goal's, "from left to right and depth first", up to "the first place that fails or waits".
+// The arguments of the head at p against the goal's, "from left to right and depth first", through "all places" up to the first that fails.
 pub fn head(s: &mut [u64], values: usize, links: usize, p: usize) -> CompareResult
     requires { ⌜ ((x : Setting) × (y : Template) × (m : ℕ) × (g : Functor) × (us : Terms) × (lo : ℕ) × (hi : ℕ) × (ts : Terms)
         × HeadAgainst (now s) x y values links m g us lo hi ts p) ⌝ }
@@ -22,7 +22,7 @@ pub fn head(s: &mut [u64], values: usize, links: usize, p: usize) -> CompareResu
         → Answers (now (s .entry)) (now (s .exit)) x y 0 lo hi (size us) (places-outcome x links us ts) r) ⌝ }
 {
     let k = count(s, p);
-    let mut given = 0;
+    let mut noted = 0;
     let mut i = 1;
     'places: loop {
         if i > k {
@@ -30,12 +30,9 @@ pub fn head(s: &mut [u64], values: usize, links: usize, p: usize) -> CompareResu
         }
         let h = argument(s, p, i);
         let w = word_at(s, FOLLOWED, i);
-        match table(s, h, w, given) {
-            PlaceResult::Agrees(m) => {
-                given = m;
-            }
-            PlaceResult::Waits(z) => {
-                return CompareResult::Waits(z);
+        match table(s, h, w, noted) {
+            PlaceResult::Noted(m) => {
+                noted = m;
             }
             PlaceResult::Fails => {
                 return CompareResult::Fails;
@@ -44,12 +41,9 @@ pub fn head(s: &mut [u64], values: usize, links: usize, p: usize) -> CompareResu
                 if differ(s, a, b) {
                     return CompareResult::Fails;
                 }
-                match places(s, values, links, a, b, given) {
-                    CompareResult::Agrees(m) => {
-                        given = m;
-                    }
-                    CompareResult::Waits(z) => {
-                        return CompareResult::Waits(z);
+                match places(s, values, links, a, b, noted) {
+                    CompareResult::Noted(m) => {
+                        noted = m;
                     }
                     CompareResult::Fails => {
                         return CompareResult::Fails;
@@ -59,5 +53,5 @@ pub fn head(s: &mut [u64], values: usize, links: usize, p: usize) -> CompareResu
         }
         i += 1;
     }
-    CompareResult::Agrees(given)
+    CompareResult::Noted(noted)
 }

@@ -86,7 +86,7 @@ joined-new : (p : ℕ) (ps : List ℕ) → among p ps ≡ false → joined p ps 
 unfolding joined if_then_else_
 joined-new p ps e = rw e
 
-joined-there : (p : ℕ) (ps : List ℕ) → among p ps ≡ true → joined p ps ≡ ps
+pub joined-there : (p : ℕ) (ps : List ℕ) → among p ps ≡ true → joined p ps ≡ ps
 unfolding joined if_then_else_
 joined-there p ps e = rw e
 
@@ -144,7 +144,7 @@ module _ (s : List ℕ) (log waiters sets pairs : ℕ) (slots : List Slot) (plac
           only = log-only-same log waiters sets pairs (length slots) s;
         }
 
-gathered-more : (ps rs : List ℕ) (r : ℕ) → gathered ps (rs ++ (r ∷ [])) ≡ joined r (gathered ps rs)
+pub gathered-more : (ps rs : List ℕ) (r : ℕ) → gathered ps (rs ++ (r ∷ [])) ≡ joined r (gathered ps rs)
 unfolding gathered
 gathered-more ps [] r = refl
 gathered-more ps (q ∷ rs) r = gathered-more (joined q ps) rs r
@@ -168,10 +168,10 @@ module _ (s₀ : List ℕ) (log waiters sets pairs : ℕ) (slots : List Slot) (p
 
   module _ (s : List ℕ) (i : ℕ) (now : LogNow s₀ s log waiters sets pairs (length slots) (slots-after i)) (h : i < n) where
     pub reader-inside : readers + i < length s
-    reader-inside = omega (arith, a .apart, a .at .ok .inside, a .at .ok .waiters-first, a .at .ok .sets-next, now .only .size)
+    reader-inside = omega (arith, a .before-log, a .at .ok .inside, now .only .size)
 
     same-reader : getD s (readers + i) 0 ≡ getD s₀ (readers + i) 0
-    same-reader = now .only .below (readers + i) (omega (arith, a .apart))
+    same-reader = now .only .between (readers + i) (omega (arith, a .behind-sets)) (omega (arith, a .before-log))
 
     pub joining : Joins s log waiters sets pairs (slots-after i) place goal (set-after i) (getD s (readers + i) 0)
     joining =
@@ -222,7 +222,7 @@ module _ (s : List ℕ) (log waiters sets pairs : ℕ) (slots : List Slot) (plac
   before-last i h e = omega (arith, longer, w .last)
 
   same-word : (k : ℕ) → k < n → getD (begun s log place goal) (readers + k) 0 ≡ getD s (readers + k) 0
-  same-word k h = begun-still (readers + k) (omega (arith, w .apart, w .ok .waiters-first, w .ok .sets-next))
+  same-word k h = begun-still (readers + k) (omega (arith, w .before-log))
 
   pub waiting-begins : JoinsAll (begun s log place goal) log waiters sets pairs (with-goal []) place goal [] readers n
   waiting-begins =
@@ -232,7 +232,8 @@ module _ (s : List ℕ) (log waiters sets pairs : ℕ) (slots : List Slot) (plac
           here = omega (arith, longer);
           it = getD-at slots (waits goal []) [] gone place (sym (w .last));
         };
-        apart = w .apart;
+        behind-sets = w .behind-sets;
+        before-log = w .before-log;
         small = λ k h. rw (same-word k h) (w .small k h);
         unclaimed = λ k h i b e.
             let inside = before-last i b e in

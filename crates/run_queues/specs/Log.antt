@@ -84,10 +84,11 @@ pub record Joins (s : List ℕ) (log waiters sets pairs : ℕ) (slots : List Slo
   pub small : p < pairs
   pub unclaimed : Unclaimed slots place p
 
--- Several pairs, which stand in a list below the waiters.
+-- Several pairs, which stand in a list between the sets and the log.
 pub record JoinsAll (s : List ℕ) (log waiters sets pairs : ℕ) (slots : List Slot) (place goal : ℕ) (ps : List ℕ) (readers n : ℕ) : Type 0 where
   pub at : At s log waiters sets pairs slots place goal ps
-  pub apart : readers + n ≤ waiters
+  pub behind-sets : sets + pairs ≤ readers
+  pub before-log : readers + n ≤ log
   pub small : (k : ℕ) → k < n → getD s (readers + k) 0 < pairs
   pub unclaimed : (k : ℕ) → k < n → Unclaimed slots place (getD s (readers + k) 0)
 
@@ -97,7 +98,8 @@ pub record Waits (s : List ℕ) (log waiters sets pairs : ℕ) (slots : List Slo
   pub last : place ≡ length slots
   pub some : 0 < goal
   pub space : log + 2 * place + 2 ≤ length s
-  pub apart : readers + n ≤ waiters
+  pub behind-sets : sets + pairs ≤ readers
+  pub before-log : readers + n ≤ log
   pub small : (k : ℕ) → k < n → getD s (readers + k) 0 < pairs
   pub unclaimed : (k : ℕ) → k < n → (i : ℕ) → i < length slots → among (getD s (readers + k) 0) (pairs-in (slot slots i)) ≡ false
 

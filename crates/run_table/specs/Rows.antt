@@ -8,7 +8,7 @@ use Rattle.term.specs.declared.word.View.{View}
 use Rattle.term.specs.declared.word.View.the-variants.{Nothing, Writer, Reader, Integer, Name, Empty, Compound}
 use Rattle.term.specs.Layout.{trial-region, gift-pair, gift-term}
 use Rattle.run_table.specs.declared.table.PlaceResult.{PlaceResult}
-use Rattle.run_table.specs.declared.table.PlaceResult.the-variants.{Agrees, Waits, Fails, Below}
+use Rattle.run_table.specs.declared.table.PlaceResult.the-variants.{Noted, Fails, Below}
 
 -- Nothing is given, a head's writer or a goal's pair is, it waits on the reader of a pair, it fails, or two compounds are compared.
 pub data Row : Type 0 where
@@ -69,19 +69,23 @@ row same (Name n) v = constant-row same v
 row same Empty v = constant-row same v
 row same (Compound p) v = compound-row p v
 
--- What is given, written into the trial's region: a word of a head's writer; or the n-th entry, a goal's pair with the word of a head's term.
+-- What is noted, written into the trial's region: a word of a head's writer; or the n-th entry, a goal's pair with the word of a head's term, or with 0
+-- where the trial waits on its reader.
 abbrev pub head-written : ℕ → ℕ → List ℕ → List ℕ
 head-written n w s = set s (trial-region + n) w
 
 abbrev pub goal-written : ℕ → ℕ → ℕ → List ℕ → List ℕ
 goal-written n z h s = set (set s (gift-pair n) z) (gift-term n) h
 
+abbrev pub asked-written : ℕ → ℕ → List ℕ → List ℕ
+asked-written n z s = goal-written n z 0 s
+
 -- What a row answers, n entries being made, and the scratch behind it.
 unfoldable pub answer : ℕ → Row → PlaceResult
-answer n agrees = Agrees n
-answer n (gives-head x) = Agrees n
-answer n (gives-goal z) = Agrees (n + 1)
-answer n (waits z) = Waits z
+answer n agrees = Noted n
+answer n (gives-head x) = Noted n
+answer n (gives-goal z) = Noted (n + 1)
+answer n (waits z) = Noted (n + 1)
 answer n fails = Fails
 answer n (below p q) = Below p q
 
@@ -89,7 +93,7 @@ unfoldable pub behind : ℕ → ℕ → ℕ → Row → List ℕ → List ℕ
 behind n h w agrees s = s
 behind n h w (gives-head x) s = head-written x w s
 behind n h w (gives-goal z) s = goal-written n z h s
-behind n h w (waits z) s = s
+behind n h w (waits z) s = asked-written n z s
 behind n h w fails s = s
 behind n h w (below p q) s = s
 

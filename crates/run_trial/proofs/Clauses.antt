@@ -1,21 +1,21 @@
--- The walk over the clauses of a procedure: the clauses passed, those left, and the readers that wait so far.
+-- The walk over the clauses of a procedure: the clauses passed, those left, and the readers that they wait on so far, a set in the region of the
+-- readers.
 use Prim.Native.Nat.{ℕ, zero, suc, _+_, _-_, _*_, _≤_, _<_, _^_}
 use mathlib.Core.Path.{_≡_, refl, sym, subst, ap, _∙_}
 use mathlib.Core.Bool.{Bool, _&&_}
-use mathlib.Core.Logic.{_⊎_, inl, inr, _≢_}
+use mathlib.Core.Logic.{_⊎_, inl, inr, _≢_, ⊎-elim}
 use mathlib.Core.List.{List, [], _∷_, _++_, map, map-append, append-assoc}
-use native.Mathlib.Numerals.{add-one}
 use native.Mathlib.Omega.{arith}
 use lib.Dec.{eqb}
-use lib.ListN.{length, getD, set, length-append, length-map, length-set}
-use lib.Seq.{getD-set-same, getD-set-other}
+use lib.ListN.{length, getD, length-append}
 use types.Run.{OneOf, miss}
 use denote.Enum.Declared.{tagOf}
 use Rattle.meaning.specs.Bytes.{Bytes, same}
 use Rattle.meaning.specs.Terms.{Clause, Job, Named, count, as-term}
 use Rattle.meaning.specs.State.{Room, Goal, QueryUnit}
-use Rattle.meaning.specs.Compare.{Assignment, succeeds, waits, fails, waits-on}
+use Rattle.meaning.specs.Compare.{Assignment, succeeds, waits, fails}
 use Rattle.meaning.specs.Trial.{reduces, joins-waiting, joins-failed, procedure, trial, none-succeeds, choice-from, choice}
+use Rattle.laws.proofs.Lists.Among.{In, in-cons-cases, in-none}
 use Rattle.laws.proofs.Lists.Filters.{length-those}
 use Rattle.term.specs.Cells.{Places, Known, KnownName, number-of}
 use Rattle.term.specs.Holds.{Holds}
@@ -23,27 +23,33 @@ use Rattle.term.specs.Jobs.{ClauseAt, Linked, procedure-place}
 use Rattle.term.specs.States.{listed}
 use Rattle.term.proofs.Held.{linked-none-left, linked-next}
 use Rattle.term.proofs.Numbers.{number-below}
-use Rattle.term.specs.Layout.{compounds-region, readers-part, woken-part, procedure-slot, clause-record}
+use Rattle.term.specs.Layout.{compounds-region, gift-pair, gift-term, woken-part, procedure-slot, clause-record}
 use Rattle.term.specs.Words.{packed}
-use Rattle.run_circle.specs.Ground.{NewGrounds}
-use Rattle.run_circle.proofs.Grounds.{new-none, new-then, new-same}
+use Rattle.run_readers.specs.Readers.{asked-in, all-met, Readers, Met}
+use Rattle.run_readers.proofs.AllMet.{all-met-append, all-met-not-none}
+use Rattle.run_readers.proofs.Ranks.{listed-kept, readers-none, readers-kept}
 use Rattle.run_trial.specs.declared.choice.TrialResult.{TrialResult}
 use Rattle.run_trial.specs.declared.choice.TrialResult.the-variants.{Succeeds, Waits, Fails}
 use Rattle.run_trial.specs.declared.choice.ChoiceResult.the-variants.{Reduces, Waits as WaitsOn, Fails as FailsAll}
-use Rattle.run_trial.specs.Choosing.{unit-of, Trying, ArgumentsStand, MarksBelow, TrialOnly, Candidate, clause-after, TrialIs, AllBelow, ChoiceIs}
+use Rattle.run_trial.specs.Choosing.{unit-of, Trying, ArgumentsStand, MarksBelow, NewMarks, TrialOnly, Candidate, clause-after, TrialIs, AllBelow, ChoiceIs}
 use Rattle.run_trial.proofs.choice.TrialResult.{the-type}
+use Rattle.run_trial.proofs.Asked.{asked-at, below-both}
 use Rattle.run_trial.proofs.Following.{Ready}
 use Rattle.run_trial.proofs.Staying.{
   trial-only-same,
   trial-only-then,
   trial-only-wider,
-  trial-only-set,
+  trial-only-more,
+  trial-only-readers,
+  new-marks-none,
+  new-marks-then,
+  new-marks-same,
+  new-marks-of,
   low-stays,
   clause-stays,
   linked-stays,
   trying-stays,
   arguments-stay,
-  listed-stays,
 }
 
 -- What a clause's trial makes of the choice.
@@ -61,48 +67,35 @@ module _ (readers : List ℕ) (c : Clause) (cs : List Clause) (unit : QueryUnit)
   unfolding choice-from
   from-fails e = rw (e, choice-from) refl
 
--- One more reader behind the others.
-below-behind : (n : ℕ) (readers : List ℕ) (p : ℕ) → AllBelow n readers → p < n → AllBelow n (readers ++ (p ∷ []))
-below-behind n [] p b h = (h, tt)
-below-behind n (r ∷ readers) p b h = (b .0, below-behind n readers p (b .1) h)
-
 length-listed : (s : List ℕ) (from n : ℕ) → length (listed s from n) ≡ n
 unfolding listed
 length-listed s from zero = refl
 length-listed s from (suc n) = length-append (listed s from n) (getD s (from + n) 0 ∷ []) ∙ rw (length-listed s from n) (omega arith)
 
-listed-behind : (s : List ℕ) (from n v : ℕ) → from + n < length s → listed (set s (from + n) v) from (n + 1) ≡ listed s from n ++ (v ∷ [])
-unfolding listed
-listed-behind s from n v h =
-    rw (
-      add-one n,
-      listed-stays s (set s (from + n) v) from n (λ k a b. getD-set-other s (from + n) k v 0 (λ e. omega arith)),
-      getD-set-same s (from + n) v 0 h,
-    )
+none-long : (l : List ℕ) → length l ≡ 0 → l ≡ []
+none-long [] e = refl
+none-long (p ∷ l) e = absurd (omega arith)
 
--- A trial that does not succeed: its reader is noted behind the others, or it fails.
-abbrev pub Noted : List ℕ → ℕ → TrialResult → List ℕ → ℕ → Type 0
-Noted s readers r s′ readers′ =
-    ((p : ℕ) × (r ≡ Waits p) × (s′ ≡ set s (readers-part + readers) p) × (readers′ ≡ readers + 1))
+-- A trial that does not succeed: its readers join those met before, or it fails.
+abbrev pub Passed : List ℕ → ℕ → ℕ → ℕ → TrialResult → List ℕ → ℕ → Type 0
+Passed s marks links readers r s′ readers′ =
+    ((n : ℕ) × (r ≡ Waits n) × Met s s′ (marks + links) links readers (asked-in s n) readers′)
     ⊎ ((r ≡ Fails) × (s′ ≡ s) × (readers′ ≡ readers))
 
-pub noted-length : (s : List ℕ) (readers : ℕ) (r : TrialResult) (s′ : List ℕ) (readers′ : ℕ) → Noted s readers r s′ readers′ → length s′ ≡ length s
-noted-length s readers r s′ readers′ (inl (p, e, is, more)) = ap length is ∙ length-set s (readers-part + readers) p
-noted-length s readers r s′ readers′ (inr (e, is, more)) = ap length is
-
-pub noted-at : {s′ s″ : List ℕ} {v p : ℕ} (s : List ℕ) (readers : ℕ) → s′ ≡ s″ → s″ ≡ set s (readers-part + readers) v → v ≡ p
-    → s′ ≡ set s (readers-part + readers) p
-noted-at s readers e f g = e ∙ f ∙ ap (λ w. set s (readers-part + readers) w) g
+pub passed-length : (s : List ℕ) (marks links readers : ℕ) (r : TrialResult) (s′ : List ℕ) (readers′ : ℕ) → Passed s marks links readers r s′ readers′
+    → length s′ ≡ length s
+passed-length s marks links readers r s′ readers′ (inl (n, e, met)) = met .only .size
+passed-length s marks links readers r s′ readers′ (inr (e, is, more)) = ap length is
 
 pub neither : (r : TrialResult) → OneOf (1 ∷ 2 ∷ []) (tagOf the-type r) → OneOf (0 ∷ 2 ∷ []) (tagOf the-type r) → r ≡ Fails
 neither (Succeeds n) a b = absurd (miss (1 ∷ 2 ∷ []) 0 tt a)
-neither (Waits p) a b = absurd (miss (0 ∷ 2 ∷ []) 1 tt b)
+neither (Waits n) a b = absurd (miss (0 ∷ 2 ∷ []) 1 tt b)
 neither Fails a b = refl
 
 -- Whether the trial waits or fails, the next clause is tried.
 pub goes-on : (s : List ℕ) (k : ℕ) (r : TrialResult) → OneOf (1 ∷ 2 ∷ []) (tagOf the-type r) → clause-after s k r ≡ getD s (clause-record k) 0
 goes-on s k (Succeeds n) a = absurd (miss (1 ∷ 2 ∷ []) 0 tt a)
-goes-on s k (Waits p) a = refl
+goes-on s k (Waits n) a = refl
 goes-on s k Fails a = refl
 
 -- How far the choice has come.
@@ -112,15 +105,15 @@ pub record Walk (s₀ s : List ℕ) (names : List Bytes) (j : Job) (limit : ℕ)
   pub passed : List Clause
   pub rest : List Clause
   pub whole : procedure (j .clauses) (g .goal) ≡ passed ++ rest
-  pub only : TrialOnly woken-part marks (figures .pairs) s₀ s
+  pub only : TrialOnly woken-part marks (3 * figures .pairs) s₀ s
   pub linked : Linked s (ClauseAt s names) next rest
   pub stamp-is : stamp ≡ first + 256 * length passed
   pub marks-now : MarksBelow s marks (figures .pairs) stamp
-  pub words : listed s readers-part readers ≡ map (λ p. at .pair p) waiting
+  pub met : Readers s (marks + figures .pairs) (figures .pairs) readers
+  pub words : listed s (marks + figures .pairs) readers ≡ all-met [] (map (λ p. at .pair p) waiting)
   pub below : AllBelow (length (unit-of j limit figures g .values)) waiting
-  pub few : readers ≤ length passed
   pub same-choice : choice-from waiting rest (unit-of j limit figures g) (g .goal) ≡ choice (j .clauses) (unit-of j limit figures g) (g .goal)
-  pub grounds : NewGrounds at (unit-of j limit figures g .values) marks s₀ s
+  pub grounds : NewMarks at (unit-of j limit figures g .values) marks (figures .pairs) s₀ s
 
 -- For whatever the goal is in front of.
 abbrev pub Walking : List ℕ → ℕ → ℕ → ℕ → ℕ → ℕ → List ℕ → ℕ → ℕ → ℕ → Type 0
@@ -161,23 +154,23 @@ module _ {s : List ℕ} {text : Bytes} {names : List Bytes} {j : Job} {limit : �
   -- Before the first clause.
   pub walk-first : (first next : ℕ) → MarksBelow s marks (figures .pairs) first → next ≡ getD s (procedure-slot (getD s goal 0)) 0
       → Walk s s names j limit figures at g marks first 0 first next
-  unfolding choice listed
+  unfolding choice listed all-met
   walk-first first next new e = record {
     waiting = [];
     passed = [];
     rest = procedure (j .clauses) (g .goal);
     whole = refl;
-    only = trial-only-same woken-part marks (figures .pairs) s;
+    only = trial-only-same woken-part marks (3 * figures .pairs) s;
     linked =
         subst (λ w. Linked s (ClauseAt s names) w (procedure (j .clauses) (g .goal))) (sym (e ∙ ap (λ p. getD s p 0) functor-is))
         (t .held .procedures (g .goal) known few-arguments);
     stamp-is = omega arith;
     marks-now = new;
+    met = readers-none s (marks + figures .pairs) (figures .pairs) (omega (arith, t .inside));
     words = refl;
     below = tt;
-    few = omega arith;
     same-choice = refl;
-    grounds = new-none at (unit-of j limit figures g .values) marks s;
+    grounds = new-marks-none at (unit-of j limit figures g .values) marks (figures .pairs) s;
   }
 
 -- At most 128 clauses.
@@ -191,7 +184,7 @@ module _ {s₀ s : List ℕ} {text : Bytes} {names : List Bytes} {j : Job} {limi
       let test : Clause → Bool = λ d. same (d .head .name) (g .goal .name) && eqb (count (d .head .arguments)) (count (g .goal .arguments)) in
       omega (arith, length-those test (j .clauses), ap length (w .whole), length-append (w .passed) (w .rest), t .held .few-clauses)
 
-  walked : TrialOnly compounds-region marks (figures .pairs) s₀ s
+  walked : TrialOnly compounds-region marks (3 * figures .pairs) s₀ s
   walked = trial-only-wider compounds-region (omega arith) (w .only)
 
   pub walk-trying : Trying s text names j limit figures at g others values marks links goal
@@ -227,11 +220,16 @@ module _ {s₀ s : List ℕ} {text : Bytes} {names : List Bytes} {j : Job} {limi
     behind = omega (arith, t .values-behind, t .marks-behind)
 
     module _ {s₃ : List ℕ} {r : TrialResult} (told : TrialIs s s₃ j limit figures at g marks stamp (next - 1) (turn .0) r) where
-      tried-frame : TrialOnly woken-part marks (figures .pairs) s₀ s₃
-      tried-frame = trial-only-then (w .only) (trial-only-wider woken-part (omega arith) (told .only))
+      one-trial : TrialOnly woken-part marks (3 * figures .pairs) s s₃
+      one-trial = trial-only-more (3 * figures .pairs) (omega arith) (told .only)
 
-      grounds-tried : NewGrounds at (unit-of j limit figures g .values) marks s₀ s₃
-      grounds-tried = new-then at (unit-of j limit figures g .values) marks s₀ s s₃ (w .grounds) (told .grounds)
+      tried-frame : TrialOnly woken-part marks (3 * figures .pairs) s₀ s₃
+      tried-frame = trial-only-then (w .only) one-trial
+
+      grounds-tried : NewMarks at (unit-of j limit figures g .values) marks (figures .pairs) s₀ s₃
+      grounds-tried =
+          new-marks-then at (unit-of j limit figures g .values) marks (figures .pairs) s₀ s s₃ (w .grounds)
+          (new-marks-of at (unit-of j limit figures g .values) marks (figures .pairs) s s₃ (told .grounds))
 
       marks-tried : MarksBelow s₃ marks (figures .pairs) (first + 32768)
       marks-tried a l h = omega (arith, told .marks-now a l h, turn-stamp)
@@ -275,17 +273,22 @@ module _ {s₀ s : List ℕ} {text : Bytes} {names : List Bytes} {j : Job} {limi
       whole-more : procedure (j .clauses) (g .goal) ≡ (w .passed ++ (turn .0 ∷ [])) ++ turn .1
       whole-more = w .whole ∙ ap (λ l. w .passed ++ l) (turn .2) ∙ sym (append-assoc (w .passed) (turn .0 ∷ []) (turn .1))
 
-      linked-more : (s′ : List ℕ) → TrialOnly compounds-region marks (figures .pairs) s s′
+      linked-more : (s′ : List ℕ) → TrialOnly compounds-region marks (3 * figures .pairs) s s′
           → Linked s′ (ClauseAt s′ names) (getD s′ (clause-record (next - 1)) 0) (turn .1)
       linked-more s′ o =
           subst (λ v. Linked s′ (ClauseAt s′ names) v (turn .1))
-          (sym (low-stays marks (figures .pairs) s s′ o behind (clause-record (next - 1)) (omega (arith, turn .3 .number))))
-          (linked-stays marks (figures .pairs) s s′ o behind names (getD s (clause-record (next - 1)) 0) (turn .1) (turn .4))
+          (sym (low-stays marks (3 * figures .pairs) s s′ o behind (clause-record (next - 1)) (omega (arith, turn .3 .number))))
+          (linked-stays marks (3 * figures .pairs) s s′ o behind names (getD s (clause-record (next - 1)) 0) (turn .1) (turn .4))
 
-      tried-words : listed s₃ readers-part readers ≡ map (λ p. at .pair p) (w .waiting)
-      tried-words =
-          listed-stays s s₃ readers-part readers
-          (λ k a b. told .only .same k (inr a) (inl (omega (arith, w .few, turn-few, behind)))) ∙ w .words
+      readers-there : (k : ℕ) → marks + figures .pairs ≤ k → getD s₃ k 0 ≡ getD s k 0
+      readers-there k a = told .only .same k (inr (omega (arith, behind))) (inr a)
+
+      tried-met : Readers s₃ (marks + figures .pairs) (figures .pairs) readers
+      tried-met =
+          readers-kept s s₃ (marks + figures .pairs) (figures .pairs) readers (told .only .size) (λ k a b. readers-there k a) (w .met)
+
+      tried-words : listed s₃ (marks + figures .pairs) readers ≡ all-met [] (map (λ p. at .pair p) (w .waiting))
+      tried-words = listed-kept s s₃ (marks + figures .pairs) readers (λ k a b. readers-there k a) ∙ w .words
 
       pub turn-fails : r ≡ Fails → Walk s₀ s₃ names j limit figures at g marks first readers (stamp + 256) (getD s₃ (clause-record (next - 1)) 0)
       turn-fails e =
@@ -296,55 +299,73 @@ module _ {s₀ s : List ℕ} {text : Bytes} {names : List Bytes} {j : Job} {limi
             rest = turn .1;
             whole = whole-more;
             only = tried-frame;
-            linked = linked-more s₃ (trial-only-wider compounds-region (omega arith) (told .only));
+            linked = linked-more s₃ (trial-only-wider compounds-region (omega arith) one-trial);
             stamp-is = omega (arith, w .stamp-is, one-more);
             marks-now = told .marks-now;
+            met = tried-met;
             words = tried-words;
             below = w .below;
-            few = omega (arith, w .few, one-more);
             same-choice = rest-choice (w .waiting)
                 (from-fails (w .waiting) (turn .0) (turn .1) (unit-of j limit figures g) (g .goal) (is .told));
             grounds = grounds-tried;
           }
 
-      pub turn-waits : (p : ℕ) → r ≡ Waits p
-          → Walk s₀ (set s₃ (readers-part + readers) p) names j limit figures at g marks first (readers + 1) (stamp + 256)
-          (getD (set s₃ (readers-part + readers) p) (clause-record (next - 1)) 0)
-      unfolding waits-on
-      turn-waits p e =
-          let is : TrialIs s s₃ j limit figures at g marks stamp (next - 1) (turn .0) (Waits p) = rw e at told in
-          let v = readers-part + readers in
-          let low : readers < 128 = omega (arith, w .few, turn-few) in
-          let write : TrialOnly woken-part marks (figures .pairs) s₃ (set s₃ v p)
-          = trial-only-set woken-part marks (figures .pairs) v p s₃ (omega arith) (omega arith) in
-          let pair = is .told .0 in
+      -- What `meet_all` asks: the pairs noted are the unit's, and the unit's are the room's.
+      turn-small : (n : ℕ) → r ≡ Waits n → (n ≤ 192)
+          × ((i : ℕ) → i < n → getD s₃ (gift-term i) 0 ≡ 0 → getD s₃ (gift-pair i) 0 < figures .pairs)
+      turn-small n e =
+          let is : TrialIs s s₃ j limit figures at g marks stamp (next - 1) (turn .0) (Waits n) = rw e at told in (
+            is .told .3,
+            λ i h z.
+                mapped-below (is .told .0) (is .told .5) (rw (is .told .4) at (asked-at s₃ n i h z)),
+          )
+        where
+          mapped-below : (l : List ℕ) → AllBelow (length (unit-of j limit figures g .values)) l → {p : ℕ} → In p (map (λ q. at .pair q) l) → p < figures .pairs
+          mapped-below [] b m = absurd (in-none m)
+          mapped-below (q ∷ l) b {p} m =
+              ⊎-elim (λ e. rw e (t .unit .held .place q (b .0))) (mapped-below l (b .1)) (in-cons-cases m)
+
+      pub turn-meets : (n : ℕ) → r ≡ Waits n → Readers s₃ (marks + links) links readers × (woken-part ≤ marks + links) × (n ≤ 192)
+          × ((i : ℕ) → i < n → getD s₃ (gift-term i) 0 ≡ 0 → getD s₃ (gift-pair i) 0 < links)
+      turn-meets n e =
+          let small = turn-small n e in
+          rw (t .links-are) (tried-met, omega (arith, behind), small .0, small .1)
+
+      turn-waits : (n : ℕ) (s₄ : List ℕ) (readers′ : ℕ) → r ≡ Waits n
+          → Met s₃ s₄ (marks + figures .pairs) (figures .pairs) readers (asked-in s₃ n) readers′
+          → Walk s₀ s₄ names j limit figures at g marks first readers′ (stamp + 256) (getD s₄ (clause-record (next - 1)) 0)
+      turn-waits n s₄ readers′ e met =
+          let is : TrialIs s s₃ j limit figures at g marks stamp (next - 1) (turn .0) (Waits n) = rw e at told in
+          let write : TrialOnly woken-part marks (3 * figures .pairs) s₃ s₄ = trial-only-readers woken-part marks (figures .pairs) (met .only) in
+          let others = is .told .0 in
           record {
-            waiting = w .waiting ++ (pair ∷ []);
+            waiting = w .waiting ++ others;
             passed = w .passed ++ (turn .0 ∷ []);
             rest = turn .1;
             whole = whole-more;
             only = trial-only-then tried-frame write;
-            linked = linked-more (set s₃ v p)
-                (trial-only-then (trial-only-wider compounds-region (omega arith) (told .only)) (trial-only-wider compounds-region (omega arith) write));
+            linked = linked-more s₄ (trial-only-wider compounds-region (omega arith) (trial-only-then one-trial write));
             stamp-is = omega (arith, w .stamp-is, one-more);
-            marks-now = λ k a b. rw (getD-set-other s₃ v k p 0 (λ q. omega (arith, behind))) (told .marks-now k a b);
+            marks-now = λ k a b. rw (met .only .below k (omega arith)) (told .marks-now k a b);
+            met = met .ok;
             words =
-                listed-behind s₃ readers-part readers p (omega (arith, t .inside, behind, w .only .size, told .only .size))
-                ∙ rw (tried-words, is .told .3) (sym (map-append (λ q. at .pair q) (w .waiting) (pair ∷ [])));
-            below = below-behind (length (unit-of j limit figures g .values)) (w .waiting) pair (w .below) (is .told .2);
-            few = omega (arith, w .few, one-more);
-            same-choice = rest-choice (w .waiting ++ (pair ∷ []))
-                (from-waits (w .waiting) (turn .0) (turn .1) (unit-of j limit figures g) (g .goal) (pair ∷ []) (is .told .1));
+                met .list
+                ∙ rw (tried-words, is .told .4)
+                (sym (all-met-append [] (map (λ q. at .pair q) (w .waiting)) (map (λ q. at .pair q) others)))
+                ∙ ap (all-met []) (sym (map-append (λ q. at .pair q) (w .waiting) others));
+            below = below-both (length (unit-of j limit figures g .values)) (w .waiting) others (w .below) (is .told .5);
+            same-choice = rest-choice (w .waiting ++ others)
+                (from-waits (w .waiting) (turn .0) (turn .1) (unit-of j limit figures g) (g .goal) others (is .told .1));
             grounds =
-                new-then at (unit-of j limit figures g .values) marks s₀ s₃ (set s₃ v p) grounds-tried
-                (new-same at (unit-of j limit figures g .values) marks s₃ (set s₃ v p)
-                (λ q. getD-set-other s₃ v (marks + q) p 0 (λ f. omega (arith, behind))));
+                new-marks-then at (unit-of j limit figures g .values) marks (figures .pairs) s₀ s₃ s₄ grounds-tried
+                (new-marks-same at (unit-of j limit figures g .values) marks (figures .pairs) s₃ s₄
+                (λ q h. met .only .below (marks + q) (omega arith)));
           }
 
       -- Either way.
-      pub turn-passed : (s′ : List ℕ) (readers′ : ℕ) → Noted s₃ readers r s′ readers′
+      pub turn-passed : (s′ : List ℕ) (readers′ : ℕ) → Passed s₃ marks links readers r s′ readers′
           → Walk s₀ s′ names j limit figures at g marks first readers′ (stamp + 256) (getD s′ (clause-record (next - 1)) 0)
-      turn-passed s′ readers′ (inl (p, e, is, more)) = rw (is, more) (turn-waits p e)
+      turn-passed s′ readers′ (inl (n, e, met)) = turn-waits n s′ readers′ e (rw (t .links-are) at met)
       turn-passed s′ readers′ (inr (e, is, more)) = rw (is, more) (turn-fails e)
 
   -- No clause is left.
@@ -359,50 +380,53 @@ module _ {s₀ s : List ℕ} {text : Bytes} {names : List Bytes} {j : Job} {limi
     marks-passed : MarksBelow s marks (figures .pairs) (first + 32768)
     marks-passed k a b = omega (arith, w .marks-now k a b, w .stamp-is, few-clauses)
 
-    as-many : length (w .waiting) ≡ readers
-    as-many = sym (length-map (w .waiting) (λ p. at .pair p)) ∙ sym (ap length (w .words)) ∙ length-listed s readers-part readers
+    -- Readers are met exactly if some are waited on.
+    as-many : length (all-met [] (map (λ p. at .pair p) (w .waiting))) ≡ readers
+    as-many = sym (ap length (w .words)) ∙ length-listed s (marks + figures .pairs) readers
 
     pub all-fail : readers ≡ 0 → ChoiceIs s₀ s names j limit figures at g marks first FailsAll
     unfolding none-succeeds
     all-fail e = record { only = walked; marks-now = marks-passed; told = go (w .waiting) as-many all-passed; grounds = w .grounds }
       where
-        go : (l : List ℕ) → length l ≡ readers → none-succeeds l ≡ choice (j .clauses) (unit-of j limit figures g) (g .goal)
+        go : (l : List ℕ) → length (all-met [] (map (λ p. at .pair p) l)) ≡ readers
+            → none-succeeds l ≡ choice (j .clauses) (unit-of j limit figures g) (g .goal)
             → choice (j .clauses) (unit-of j limit figures g) (g .goal) ≡ joins-failed
         go [] q is = sym is
-        go (p ∷ l) q is = absurd (omega arith)
+        go (p ∷ l) q is = absurd (all-met-not-none [] (at .pair p) (map (λ p. at .pair p) l) (none-long _ (q ∙ e)))
 
     pub some-wait : readers ≢ 0 → ChoiceIs s₀ s names j limit figures at g marks first (WaitsOn readers)
-    unfolding none-succeeds
+    unfolding none-succeeds all-met
     some-wait e = record {
       only = walked;
       marks-now = marks-passed;
-      told = (w .waiting, go (w .waiting) as-many all-passed, omega (arith, w .few, few-clauses), w .words, w .below);
+      told = (w .waiting, go (w .waiting) as-many all-passed, w .met .few, w .words, w .below);
       grounds = w .grounds;
     }
       where
-        go : (l : List ℕ) → length l ≡ readers → none-succeeds l ≡ choice (j .clauses) (unit-of j limit figures g) (g .goal)
+        go : (l : List ℕ) → length (all-met [] (map (λ p. at .pair p) l)) ≡ readers
+            → none-succeeds l ≡ choice (j .clauses) (unit-of j limit figures g) (g .goal)
             → choice (j .clauses) (unit-of j limit figures g) (g .goal) ≡ joins-waiting l
         go [] q is = absurd (e (sym q))
         go (p ∷ l) q is = sym is
 
 -- The numbers of a turn.
-pub record Turning (s₀ s : List ℕ) (first readers stamp next : ℕ) : Type 0 where
+pub record Turning (s₀ s : List ℕ) (marks links first readers stamp next : ℕ) : Type 0 where
   pub large : compounds-region ≤ length s
   pub size : length s ≡ length s₀
-  pub few-readers : readers < 128
+  pub room : marks + 3 * links ≤ length s
   pub number : next - 1 < 128
   pub stamps : stamp + 256 ≤ first + 32768
   pub stamps-fit : first + 32768 < 2 ^ 64
 
 pub turning : {s₀ s : List ℕ} {values marks links goal first readers stamp next : ℕ}
     → Walking s₀ values marks links goal first s readers stamp next → Ready s₀ values marks links goal first → next ≢ 0
-    → Turning s₀ s first readers stamp next
+    → Turning s₀ s marks links first readers stamp next
 turning inv (text, names, j, limit, figures, at, g, others, t, stand, new, fit) left =
     let w = inv text names j limit figures at g others t stand new in
     record {
       large = walk-trying t w .held .inside;
       size = w .only .size;
-      few-readers = omega (arith, w .few, turn-few t w left);
+      room = rw (t .links-are) (walk-trying t w .inside);
       number = turn t w left .3 .number;
       stamps = turn-stamp t w left;
       stamps-fit = fit .1;

@@ -1,5 +1,5 @@
 -- Before the first clause the goal's arguments are followed. What the choice then tells is told of the scratch before it too.
-use Prim.Native.Nat.{ℕ, _+_, _<_, _^_}
+use Prim.Native.Nat.{ℕ, _+_, _*_, _<_, _^_}
 use mathlib.Core.List.{List}
 use native.Mathlib.Omega.{arith}
 use Rattle.meaning.specs.Bytes.{Bytes}
@@ -11,12 +11,10 @@ use Rattle.term.specs.Setting.{Setting}
 use Rattle.term.specs.States.{setting}
 use Rattle.term.proofs.Frames.{only-wider}
 use Rattle.term.specs.Layout.{trial-region, compounds-region, followed-from, followed-end}
-use Rattle.run_circle.specs.Ground.{NewGrounds}
-use Rattle.run_circle.proofs.Grounds.{new-then}
 use Rattle.run_chains.specs.Follow.{Follows, ArgumentsFollowed}
 use Rattle.run_trial.specs.declared.choice.ChoiceResult.{ChoiceResult}
-use Rattle.run_trial.specs.Choosing.{unit-of, Trying, ArgumentsStand, MarksBelow, TrialOnly, ChoiceIs}
-use Rattle.run_trial.proofs.Staying.{trial-only-then, trial-only-region, trying-stays, grounds-stay, marks-stay}
+use Rattle.run_trial.specs.Choosing.{unit-of, Trying, ArgumentsStand, MarksBelow, NewMarks, TrialOnly, ChoiceIs}
+use Rattle.run_trial.proofs.Staying.{trial-only-then, trial-only-region, new-marks-then, new-marks-of, trying-stays, grounds-stay, marks-stay}
 
 -- What following tells.
 abbrev pub Following : List ℕ → List ℕ → ℕ → ℕ → ℕ → Type 0
@@ -47,14 +45,16 @@ module _ {s : List ℕ} {text : Bytes} {names : List Bytes} {j : Job} {limit : �
     region : Only trial-region compounds-region s s₀
     region = only-wider followed-from followed-end trial-region compounds-region s s₀ (omega arith) (omega arith) (followed .only)
 
-    frame : TrialOnly compounds-region marks (figures .pairs) s s₀
-    frame = trial-only-region compounds-region marks (figures .pairs) (omega arith) region
+    frame : TrialOnly compounds-region marks (3 * figures .pairs) s s₀
+    frame = trial-only-region compounds-region marks (3 * figures .pairs) (omega arith) region
 
-    same-grounds : NewGrounds at (unit-of j limit figures g .values) marks s s₀
-    same-grounds = grounds-stay at (unit-of j limit figures g .values) marks (omega (arith, t .values-behind, t .marks-behind)) region
+    same-marks : NewMarks at (unit-of j limit figures g .values) marks (figures .pairs) s s₀
+    same-marks =
+        new-marks-of at (unit-of j limit figures g .values) marks (figures .pairs) s s₀
+        (grounds-stay at (unit-of j limit figures g .values) marks (omega (arith, t .values-behind, t .marks-behind)) region)
 
     pub trying-then : Trying s₀ text names j limit figures at g others values marks links goal
-    trying-then = trying-stays frame same-grounds t
+    trying-then = trying-stays frame same-marks t
 
     pub marks-then : (first : ℕ) → MarksBelow s marks (figures .pairs) first → MarksBelow s₀ marks (figures .pairs) first
     marks-then first = marks-stay marks (figures .pairs) first (omega (arith, t .values-behind, t .marks-behind)) region
@@ -65,7 +65,7 @@ module _ {s : List ℕ} {text : Bytes} {names : List Bytes} {j : Job} {limit : �
       only = trial-only-then frame (c .only);
       marks-now = c .marks-now;
       told = c .told;
-      grounds = new-then at (unit-of j limit figures g .values) marks s s₀ s′ same-grounds (c .grounds);
+      grounds = new-marks-then at (unit-of j limit figures g .values) marks (figures .pairs) s s₀ s′ same-marks (c .grounds);
     }
 
 -- What the choice asks; and what the walk over the clauses asks.

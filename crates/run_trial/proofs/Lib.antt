@@ -4,3 +4,4 @@ pub mod Heads
 pub mod Once
 pub mod Staying
 pub mod Trials
+pub mod Asked

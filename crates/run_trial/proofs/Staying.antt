@@ -1,11 +1,10 @@
--- What a change of the trial's region and of marks alone leaves as it was: the job, the goal and its unit, a clause's head, what a trial gave.
-use Prim.Native.Nat.{ℕ, zero, suc, _+_, _*_, _≤_, _<_}
-use mathlib.Core.Path.{_≡_, refl, _∙_}
-use mathlib.Core.Logic.{_⊎_, inl, inr}
+-- What a change of the trial's region, of marks and of the readers met alone leaves as it was: the job, the goal and its unit, a clause's head, what a trial gave.
+use Prim.Native.Nat.{ℕ, _+_, _*_, _≤_, _<_}
+use mathlib.Core.Path.{_≡_, refl, sym, subst, _∙_}
+use mathlib.Core.Logic.{_⊎_, inl, inr, ⊎-elim}
 use mathlib.Core.List.{List, [], _∷_}
 use native.Mathlib.Omega.{arith}
-use lib.ListN.{length, getD, set, length-set}
-use lib.Seq.{getD-set-other}
+use lib.ListN.{length, getD}
 use Rattle.meaning.specs.Bytes.{Bytes}
 use Rattle.meaning.specs.Terms.{Term, Clause, Job, as-term}
 use Rattle.meaning.specs.State.{Room, Goal, Values}
@@ -15,19 +14,19 @@ use Rattle.term.specs.Frames.{Only}
 use Rattle.term.specs.Holds.{Holds}
 use Rattle.term.specs.Jobs.{ClauseAt, Linked, JobKept}
 use Rattle.term.specs.Setting.{Setting, Within, UnitTerm, UnitStands}
-use Rattle.term.specs.States.{setting, listed}
+use Rattle.term.specs.States.{setting}
 use Rattle.term.proofs.Holds.{holds-alike}
 use Rattle.term.proofs.Jobs.{holds-clause-kept, holds-job-kept, linked-map}
 use Rattle.term.proofs.Units.{within-every, unit-stands-alike, ends-stand-alike}
 use Rattle.term.specs.Layout.{trial-region, compounds-region, gifts-part, gift-pair, gift-term, woken-part, clause-record, query-record, ends-after}
-use Rattle.run_circle.specs.Ground.{NewGrounds}
-use Rattle.run_circle.proofs.Grounds.{new-same, grounds-on}
+use Rattle.run_circle.specs.Ground.{Ground, GroundAt, Grounds, NewGrounds}
+use Rattle.run_circle.proofs.Grounds.{new-same}
 use Rattle.run_compare.specs.Gifts.{Gift, to-head, to-goal, Entry, EntriesAt}
 use Rattle.run_compare.specs.Compare.{Template, item, HeadTerm, AllEntries, AllGiven}
 use Rattle.run_chains.proofs.Followed.{followed-alike}
-use Rattle.run_trial.specs.Choosing.{unit-of, Trying, ArgumentsStand, TrialOnly, MarksBelow}
+use Rattle.run_trial.specs.Choosing.{unit-of, Trying, ArgumentsStand, TrialOnly, NewMarks, MarksBelow}
 
--- Frames: nothing changed, one change after another, a wider region, a change of the trial's region, of marks, of one word.
+-- Frames: nothing changed, one change after another, a wider region, more words behind the marks, a change of the trial's region, of marks.
 pub trial-only-same : (top marks pairs : ℕ) (s : List ℕ) → TrialOnly top marks pairs s s
 trial-only-same top marks pairs s = record { size = refl; same = λ k a b. refl }
 
@@ -41,6 +40,13 @@ above low high k h (inr a) = inr (omega arith)
 
 pub trial-only-wider : {top marks pairs : ℕ} {s t : List ℕ} (top′ : ℕ) → top ≤ top′ → TrialOnly top marks pairs s t → TrialOnly top′ marks pairs s t
 trial-only-wider {top} top′ h f = record { size = f .size; same = λ k a b. f .same k (above top top′ k h a) b }
+
+pub trial-only-more : {top marks wide : ℕ} {s t : List ℕ} (wide′ : ℕ) → wide ≤ wide′ → TrialOnly top marks wide s t → TrialOnly top marks wide′ s t
+trial-only-more {top} {marks} {wide} {s} {t} wide′ h f = record { size = f .size; same = λ k a b. f .same k a (go k b) }
+  where
+    go : (k : ℕ) → (k < marks) ⊎ (marks + wide′ ≤ k) → (k < marks) ⊎ (marks + wide ≤ k)
+    go k (inl a) = inl a
+    go k (inr a) = inr (omega arith)
 
 pub trial-only-region : {hi : ℕ} {s t : List ℕ} (top marks pairs : ℕ) → hi ≤ top → Only trial-region hi s t → TrialOnly top marks pairs s t
 trial-only-region {hi} {s} {t} top marks pairs h f = record { size = f .size; same = λ k a b. go k a }
@@ -56,12 +62,14 @@ trial-only-marks {marks} {pairs} {s} {t} top f = record { size = f .size; same =
     go k (inl a) = f .below k a
     go k (inr a) = f .above k a
 
-pub trial-only-set : (top marks pairs i v : ℕ) (s : List ℕ) → trial-region ≤ i → i < top → TrialOnly top marks pairs s (set s i v)
-trial-only-set top marks pairs i v s l h = record { size = length-set s i v; same = λ k a b. go k a }
+-- A change of the readers met, which stand behind the marks.
+pub trial-only-readers : {s t : List ℕ} (top marks pairs : ℕ) → Only (marks + pairs) (marks + pairs + 2 * pairs) s t
+    → TrialOnly top marks (3 * pairs) s t
+trial-only-readers {s} {t} top marks pairs f = record { size = f .size; same = λ k a b. go k b }
   where
-    go : (k : ℕ) → (k < trial-region) ⊎ (top ≤ k) → getD (set s i v) k 0 ≡ getD s k 0
-    go k (inl a) = getD-set-other s i k v 0 (λ e. omega arith)
-    go k (inr a) = getD-set-other s i k v 0 (λ e. omega arith)
+    go : (k : ℕ) → (k < marks) ⊎ (marks + 3 * pairs ≤ k) → getD t k 0 ≡ getD s k 0
+    go k (inl a) = f .below k (omega arith)
+    go k (inr a) = f .above k (omega arith)
 
 -- A compound's own words are below the trial's region, or behind it and before the marks.
 abbrev pub Apart : ℕ → Places → ℕ → Type 0
@@ -161,11 +169,33 @@ pub compounds-apart : {s : List ℕ} {text : Bytes} {names : List Bytes} {j : Jo
     → (n : ℕ) → n < unit-of j limit figures g .compounds → Apart marks at n
 compounds-apart t n h = inr (t .compound-behind n h, omega (arith, t .compound-before n h, t .marks-behind))
 
+-- New marks: none, one change after another, none where the marks are the same; those of a trial.
+module _ (places : Places) (values : Values) (marks pairs : ℕ) where
+  pub new-marks-none : (s : List ℕ) → NewMarks places values marks pairs s s
+  new-marks-none s p h e = inl e
+
+  pub new-marks-then : (s t u : List ℕ) → NewMarks places values marks pairs s t → NewMarks places values marks pairs t u → NewMarks places values marks pairs s u
+  new-marks-then s t u a b p h e = ⊎-elim (a p h) inr (b p h e)
+
+  pub new-marks-same : (s t : List ℕ) → ((p : ℕ) → p < pairs → getD t (marks + p) 0 ≡ getD s (marks + p) 0) → NewMarks places values marks pairs s t
+  new-marks-same s t same p h e = inl (sym (same p h) ∙ e)
+
+  pub new-marks-of : (s t : List ℕ) → NewGrounds places values marks s t → NewMarks places values marks pairs s t
+  new-marks-of s t new p h = new p
+
+  grounds-below : ((i j : ℕ) → i < length values → j < length values → places .pair i ≡ places .pair j → i ≡ j)
+      → ((n : ℕ) → n < length values → places .pair n < pairs)
+      → (s t : List ℕ) → NewMarks places values marks pairs s t → Grounds places values marks s → Grounds places values marks t
+  grounds-below apart below s t new was n h e = ⊎-elim (was n h) now (new (places .pair n) (below n h) e)
+    where
+      now : GroundAt places values (places .pair n) → Ground values n
+      now g = subst (Ground values) (apart (g .pair) n (g .below) h (g .place)) (g .ground)
+
 -- All that a trial leans on.
 pub trying-stays : {s s′ : List ℕ} {text : Bytes} {names : List Bytes} {j : Job} {limit : ℕ} {figures : Room} {at : Places}
     {g : Goal} {others : List Goal} {values marks links goal : ℕ}
-    → TrialOnly compounds-region marks (figures .pairs) s s′
-    → NewGrounds at (unit-of j limit figures g .values) marks s s′
+    → TrialOnly compounds-region marks (3 * figures .pairs) s s′
+    → NewMarks at (unit-of j limit figures g .values) marks (figures .pairs) s s′
     → Trying s text names j limit figures at g others values marks links goal
     → Trying s′ text names j limit figures at g others values marks links goal
 trying-stays {s} {s′} {names = names} {j} {limit} {figures} {at} {g} {values = values} {marks} o new t =
@@ -174,10 +204,10 @@ trying-stays {s} {s′} {names = names} {j} {limit} {figures} {at} {g} {values =
     record {
       reads = t .reads;
       front = t .front;
-      held = holds-job-kept s s′ names (job-stays marks (figures .pairs) s s′ o behind) j (t .held);
+      held = holds-job-kept s s′ names (job-stays marks (3 * figures .pairs) s s′ o behind) j (t .held);
       names-are = t .names-are;
-      unit = unit-stays marks (figures .pairs) s s′ o behind x (compounds-apart t) values (t .values-behind) (t .marks-behind) (t .unit);
-      goal-held = unit-term-stays marks (figures .pairs) s s′ o behind x (compounds-apart t)
+      unit = unit-stays marks (3 * figures .pairs) s s′ o behind x (compounds-apart t) values (t .values-behind) (t .marks-behind) (t .unit);
+      goal-held = unit-term-stays marks (3 * figures .pairs) s s′ o behind x (compounds-apart t)
           (as-term (g .goal)) (t .goal-held);
       goal-place = t .goal-place;
       apart = t .apart;
@@ -189,21 +219,32 @@ trying-stays {s} {s′} {names = names} {j} {limit} {figures} {at} {g} {values =
       enough = t .enough;
       links-are = t .links-are;
       ends-behind = t .ends-behind;
-      ends = ends-stay marks (figures .pairs) s s′ o behind x (compounds-apart t) values (t .ends-behind) (t .ends);
-      grounds = grounds-on at (unit-of j limit figures g .values) marks (t .apart) s s′ new (t .grounds);
+      ends = ends-stay marks (3 * figures .pairs) s s′ o behind x (compounds-apart t) values (t .ends-behind) (t .ends);
+      grounds = grounds-below at (unit-of j limit figures g .values) marks (figures .pairs) (t .apart) (t .unit .held .place) s s′ new (t .grounds);
     }
 
--- The goal's arguments, followed, which stand behind the waiting readers.
+-- The same behind a change of a trial's.
+pub trying-tried : {s s′ : List ℕ} {text : Bytes} {names : List Bytes} {j : Job} {limit : ℕ} {figures : Room} {at : Places}
+    {g : Goal} {others : List Goal} {values marks links goal : ℕ}
+    → TrialOnly compounds-region marks (figures .pairs) s s′
+    → NewGrounds at (unit-of j limit figures g .values) marks s s′
+    → Trying s text names j limit figures at g others values marks links goal
+    → Trying s′ text names j limit figures at g others values marks links goal
+trying-tried {s} {s′} {j = j} {limit} {figures} {at} {g} {marks = marks} o new t =
+    trying-stays (trial-only-more (3 * figures .pairs) (omega arith) o)
+    (new-marks-of at (unit-of j limit figures g .values) marks (figures .pairs) s s′ new) t
+
+-- The goal's arguments, followed, which stand behind what a trial notes.
 pub arguments-stay : {s s′ : List ℕ} {text : Bytes} {names : List Bytes} {j : Job} {limit : ℕ} {figures : Room} {at : Places}
     {g : Goal} {others : List Goal} {values marks links goal : ℕ}
     → Trying s text names j limit figures at g others values marks links goal
-    → TrialOnly woken-part marks (figures .pairs) s s′
+    → TrialOnly woken-part marks (3 * figures .pairs) s s′
     → ArgumentsStand s j limit figures at g links → ArgumentsStand s′ j limit figures at g links
 unfolding Holds as-term
 arguments-stay {s} {s′} {j = j} {limit} {figures} {at} {g} {marks = marks} {links} t o =
     let behind : compounds-region ≤ marks = omega (arith, t .values-behind, t .marks-behind) in
     followed-alike s s′ (setting figures at (unit-of j limit figures g)) (omega (arith, o .size))
-    (words-stay marks (figures .pairs) s s′ (trial-only-wider compounds-region (omega arith) o) behind (setting figures at (unit-of j limit figures g)) (compounds-apart t))
+    (words-stay marks (3 * figures .pairs) s s′ (trial-only-wider compounds-region (omega arith) o) behind (setting figures at (unit-of j limit figures g)) (compounds-apart t))
     links 0 (g .goal .arguments) (λ k l h. o .same k (inr (omega arith)) (inl (omega (arith, t .goal-held .held .0 .few))))
 
 -- The marks, where only the trial's region has changed.
@@ -226,10 +267,3 @@ entries-stay s s′ item unit n (e ∷ es) same k = (
   same (gift-term n) (omega arith) (omega arith) ∙ k .1,
   entries-stay s s′ item unit (n + 1) es (λ m a b. same m a (omega arith)) (k .2),
 )
-
--- So many words from one on.
-pub listed-stays : (s s′ : List ℕ) (from n : ℕ) → ((k : ℕ) → from ≤ k → k < from + n → getD s′ k 0 ≡ getD s k 0) → listed s′ from n ≡ listed s from n
-unfolding listed
-listed-stays s s′ from zero same = refl
-listed-stays s s′ from (suc n) same =
-    rw (listed-stays s s′ from n (λ k a b. same k a (omega arith)), same (from + n) (omega arith) (omega arith))

@@ -1,17 +1,17 @@
--- The trial of a clause: what its comparison asks; what the circle test asks where all places agree; and what the trial tells.
+-- The trial of a clause: what its comparison asks; what the circle test asks where all places agree; and what the trial tells, also where it waits.
 -- Each pair of the goal is given a term at most once, and had none before.
 use Prim.Native.Nat.{ℕ, _+_, _*_, _≤_, _<_, _^_}
 use mathlib.Core.Path.{_≡_, refl, sym, subst, ap, _∙_}
 use mathlib.Core.Bool.{Bool, true, false}
-use mathlib.Core.Logic.{_⊎_, inl, inr}
-use mathlib.Core.List.{List}
+use mathlib.Core.Logic.{_⊎_, inl, inr, _≢_}
+use mathlib.Core.List.{List, [], map}
 use mathlib.Core.Option.{none, some}
 use native.Mathlib.Omega.{arith}
 use lib.ListN.{length, getD}
 use Rattle.meaning.specs.Bytes.{Bytes, if_then_else_}
 use Rattle.meaning.specs.Terms.{Functor, Term, Terms, Clause, Job, count, named, renamed}
 use Rattle.meaning.specs.State.{Room, Goal, value}
-use Rattle.meaning.specs.Compare.{Assignment, succeeds, fails, waits-on}
+use Rattle.meaning.specs.Compare.{Assignment, succeeds, waits, fails}
 use Rattle.meaning.specs.Trial.{with-pairs, values-after, compared, tested, trial}
 use Rattle.laws.proofs.Circle.{run-no-circle}
 use Rattle.laws.proofs.Lists.Among.{In}
@@ -30,17 +30,22 @@ use Rattle.term.specs.Frames.{Only}
 use Rattle.term.specs.Jobs.{GoalsNumbered}
 use Rattle.term.specs.Setting.{Setting, UnitTerm}
 use Rattle.term.specs.States.{setting}
-use Rattle.term.specs.Layout.{trial-region, compounds-region, gifts-part, readers-part, woken-part, clause-head}
+use Rattle.term.specs.Layout.{trial-region, compounds-region, gifts-part, woken-part, clause-head}
 use Rattle.run_compare.specs.declared.compare.CompareResult.{CompareResult}
-use Rattle.run_compare.specs.declared.compare.CompareResult.the-variants.{Agrees, Waits, Fails}
+use Rattle.run_compare.specs.declared.compare.CompareResult.the-variants.{Noted, Fails}
 use Rattle.run_trial.specs.declared.choice.TrialResult.the-variants.{Succeeds, Waits as WaitsOn, Fails as FailsAll}
-use Rattle.run_compare.specs.Gifts.{Gift, assignments, Entry as GiftEntry, entries-of, EntriesAt}
+use Rattle.run_compare.specs.Gifts.{Gift, assignments, entries, recorded, Entry as GiftEntry, entries-of, EntriesAt}
+use Rattle.run_compare.specs.Notes.{Note, gifts-in, asks-in, noted, written}
 use Rattle.run_circle.specs.Circle.{Trial, Entry, Tried, Tested, entry-pair}
 use Rattle.run_circle.specs.Ground.{NewGrounds}
 use Rattle.run_circle.proofs.Grounds.{new-then}
-use Rattle.run_compare.specs.Compare.{Template, item, HeadAgainst, AllEntries, Agreed, Answers, Gave, places-outcome}
+use Rattle.run_compare.specs.Compare.{Template, item, HeadAgainst, AllGiven, AllEntries, Answers, Gave, places-outcome}
 use Rattle.run_trial.specs.Choosing.{unit-of, Trying, ArgumentsStand, TrialOnly, MarksBelow, template, Candidate, TrialIs}
 use Rattle.run_compare.proofs.Given.{entries-length, entries-at, entries-held, gave}
+use Rattle.run_compare.proofs.Notes.{outcome-succeeds, outcome-waits, gifts-held, gifts-counted, gifts-recorded}
+use Rattle.run_readers.specs.Readers.{asked-in, is-some}
+use Rattle.run_readers.proofs.AllMet.{none-is-empty, some-not-none}
+use Rattle.run_trial.proofs.Asked.{asked-are, asks-below, none-mapped}
 use Rattle.run_trial.proofs.Heads.{rules-kept, one-of-the-job, head-end, body-numbered, against, compared-is}
 use Rattle.run_trial.proofs.Once.{once-apart, assigned-is, no-entry, entry-assigned, entries-differ, to-clause, to-unit, entry-words, entry-held}
 use Rattle.run_trial.proofs.Staying.{
@@ -50,7 +55,7 @@ use Rattle.run_trial.proofs.Staying.{
   trial-only-marks,
   compounds-apart,
   grounds-stay,
-  trying-stays,
+  trying-tried,
   arguments-stay,
   clause-stays,
   unit-term-stays,
@@ -68,14 +73,14 @@ module _ {s s₁ : List ℕ} {text : Bytes} {names : List Bytes} {j : Job} {limi
   pub begun-frame : TrialOnly compounds-region marks (figures .pairs) s s₁
   begun-frame = trial-only-region compounds-region marks (figures .pairs) (omega arith) begun
 
-  marks-high : readers-part ≤ marks
+  marks-high : woken-part ≤ marks
   marks-high = omega (arith, t .values-behind, t .marks-behind)
 
   begun-grounds : NewGrounds at (unit-of j limit figures g .values) marks s s₁
   begun-grounds = grounds-stay at (unit-of j limit figures g .values) marks (omega (arith, marks-high)) begun
 
   pub begun-trying : Trying s₁ text names j limit figures at g others values marks links goal
-  begun-trying = trying-stays begun-frame begun-grounds t
+  begun-trying = trying-tried begun-frame begun-grounds t
 
   pub begun-candidate : Candidate s₁ names j g k c
   begun-candidate = record {
@@ -93,7 +98,7 @@ module _ {s s₁ : List ℕ} {text : Bytes} {names : List Bytes} {j : Job} {limi
       (c .head .number) (named (c .head .name)) (c .head .arguments) 1 to (g .goal .arguments) (clause-head k)
   comparing =
       against begun-trying begun-candidate
-      (arguments-stay t (trial-only-region woken-part marks (figures .pairs) (omega arith) begun) f)
+      (arguments-stay t (trial-only-region woken-part marks (3 * figures .pairs) (omega arith) begun) f)
 
   -- What comparing tells.
   abbrev pub Comparison : List ℕ → CompareResult → Type 0
@@ -115,10 +120,40 @@ module _ {s s₁ : List ℕ} {text : Bytes} {names : List Bytes} {j : Job} {limi
   pub cleared-all : ((a : ℕ) → a < 16 → getD s₁ (trial-region + a) 0 ≡ 0) → (a : ℕ) → a < c .pairs → getD s₁ (trial-region + a) 0 ≡ 0
   cleared-all cleared a h = cleared a (omega (arith, m .at .held .laid .few-pairs))
 
+  -- Where no place fails.
+  module _ {s₂ : List ℕ} {n : ℕ} (told : Comparison s₂ (Noted n)) where
+    abbrev pub notes : List Note
+    notes = told .told .1 .notes
+
+    pub few-noted : n ≤ 192
+    few-noted = omega (arith, told .told .0, comparing .head .room)
+
+    pub large-noted : woken-part ≤ length s₂
+    large-noted = omega (arith, comparing .head .trial .large, told .only .size)
+
+    pub asked-noted : asked-in s₂ n ≡ map (λ p. at .pair p) (asks-in notes)
+    unfolding asked-in
+    asked-noted =
+        let x = setting figures at (unit-of j limit figures g) in
+        let y = template k c in
+        let counted : n ≡ 0 + noted notes = told .told .1 .counted in
+        ap (λ u. asked-in u n) (told .told .1 .scratch)
+        ∙ ap (asked-in (written (item x y) at 0 notes s₁)) counted
+        ∙ asked-are (item x y) at notes s₁ x y 1 to 0 s₁ (m .at .held .laid .few-pairs) (told .told .1 .held) (comparing .head .trial .large)
+        (omega (arith, few-noted, counted))
+
+    -- No reader is waited on; or some is.
+    pub quiet : {b : Bool} → b ≡ is-some (asked-in s₂ n) → b ≡ false → asks-in notes ≡ []
+    quiet is e = none-mapped (λ p. at .pair p) (asks-in notes) (sym asked-noted ∙ none-is-empty (asked-in s₂ n) (sym is ∙ e))
+
+    pub waiting : {b : Bool} → b ≡ is-some (asked-in s₂ n) → b ≡ true → asks-in notes ≢ []
+    waiting is e empty =
+        some-not-none (asked-in s₂ n) (sym is ∙ e) (asked-noted ∙ ap (map (λ p. at .pair p)) empty)
+
   -- Before the circle test, where all places agree.
   module _ {s₂ : List ℕ} {n stamp : ℕ} (new : MarksBelow s marks (figures .pairs) stamp) (fit : (1 < stamp) × (stamp + 256 < 2 ^ 64))
       (cleared : (a : ℕ) → a < c .pairs → getD s₁ (trial-region + a) 0 ≡ 0)
-      (told : Comparison s₂ (Agrees n)) where
+      (told : Comparison s₂ (Noted n)) (none-asked : asks-in (told .told .1 .notes) ≡ []) where
     abbrev pub x : Setting
     x = setting figures at (unit-of j limit figures g)
 
@@ -126,39 +161,48 @@ module _ {s s₁ : List ℕ} {text : Bytes} {names : List Bytes} {j : Job} {limi
     y = template k c
 
     abbrev pub gifts : List Gift
-    gifts = told .told .1 .gifts
+    gifts = gifts-in (told .told .1 .notes)
 
     abbrev pub list : List GiftEntry
-    list = entries-of (told .told .1 .gifts)
+    list = entries-of (gifts-in (told .told .1 .notes))
 
     abbrev pub given : List Assignment
-    given = assignments (length (unit-of j limit figures g .values)) (unit-of j limit figures g .compounds) (told .told .1 .gifts)
+    given = assignments (length (unit-of j limit figures g .values)) (unit-of j limit figures g .compounds) (gifts-in (told .told .1 .notes))
 
     pub agrees : compared c (unit-of j limit figures g) (g .goal) ≡ succeeds given
-    agrees = compared-is t m ∙ told .told .1 .outcome
+    agrees = compared-is t m ∙ told .told .1 .outcome ∙ outcome-succeeds (length (x .values)) (x .compounds) (notes told) none-asked
+
+    gifts-there : AllGiven s₁ x y 1 to gifts
+    gifts-there = gifts-held s₁ x y 1 to (notes told) (told .told .1 .held)
+
+    as-recorded : s₂ ≡ recorded (item x y) at 0 gifts s₁
+    as-recorded = told .told .1 .scratch ∙ gifts-recorded (item x y) at 0 (notes told) s₁ none-asked
+
+    as-counted : n ≡ entries gifts
+    as-counted = omega (arith, told .told .1 .counted, gifts-counted (notes told) none-asked)
 
     once : AssignedOnce (unit-of j limit figures g .values) (c .pairs) given
     once = trial-assigns-once j (rules-kept t m) limit figures g others (t .front) c (one-of-the-job m) given agrees
 
-    pub few-entries : n ≤ 192
-    few-entries = omega (arith, told .told .0, comparing .head .room)
+    few-entries : n ≤ 192
+    few-entries = few-noted told
 
-    large : readers-part ≤ length s₁
+    large : woken-part ≤ length s₁
     large = comparing .head .trial .large
 
     few : c .pairs ≤ 16
     few = m .at .held .laid .few-pairs
 
     counted : n ≡ length list
-    counted = omega (arith, told .told .1 .counted, entries-length gifts)
+    counted = omega (arith, as-counted, entries-length gifts)
 
     stand : EntriesAt s₂ (item x y) at 0 list
     stand =
-        subst (λ u. EntriesAt u (item x y) at 0 list) (sym (told .told .1 .scratch))
-        (entries-at (item x y) at gifts s₁ x y 1 to 0 s₁ few (told .told .1 .given) large (omega (arith, few-entries, told .told .1 .counted)))
+        subst (λ u. EntriesAt u (item x y) at 0 list) (sym as-recorded)
+        (entries-at (item x y) at gifts s₁ x y 1 to 0 s₁ few gifts-there large (omega (arith, few-entries, as-counted)))
 
     held : AllEntries s₁ x y 1 to list
-    held = entries-held gifts s₁ x y 1 to (told .told .1 .given)
+    held = entries-held gifts s₁ x y 1 to gifts-there
 
     agreed-frame : TrialOnly compounds-region marks (figures .pairs) s₁ s₂
     agreed-frame = trial-only-region compounds-region marks (figures .pairs) (omega arith) (told .only)
@@ -167,13 +211,10 @@ module _ {s s₁ : List ℕ} {text : Bytes} {names : List Bytes} {j : Job} {limi
     agreed-grounds = grounds-stay at (unit-of j limit figures g .values) marks marks-high (told .only)
 
     agreed-trying : Trying s₂ text names j limit figures at g others values marks links goal
-    agreed-trying = trying-stays agreed-frame agreed-grounds begun-trying
+    agreed-trying = trying-tried agreed-frame agreed-grounds begun-trying
 
     given-then : (all : Gave s₁ s₂ x y given n) × (all .high ≡ to)
-    given-then =
-        gave s₁ s₂ x y 1 to given n
-        (subst (λ o. Agreed s₁ s₂ x y 0 1 to o n) (told .told .1 .outcome) (told .told .1))
-        large few-entries few cleared
+    given-then = gave s₁ s₂ x y 1 to gifts n gifts-there as-recorded as-counted large few-entries few cleared
 
     abbrev pub tried-as : Trial
     tried-as = record {
@@ -236,7 +277,7 @@ module _ {s s₁ : List ℕ} {text : Bytes} {names : List Bytes} {j : Job} {limi
             unit-term-stays marks (figures .pairs) s₁ s₂ agreed-frame (omega (arith, t .values-behind, t .marks-behind)) x (compounds-apart t) u
             (subst (λ v. UnitTerm s₁ x v) is
             (each-in (λ d. length (x .values) ≤ d .pair → UnitTerm s₁ x (d .value))
-            (to-clause (length (x .values)) (x .compounds) s₁ x y 1 to gifts (told .told .1 .given) refl) one (omega arith)))
+            (to-clause (length (x .values)) (x .compounds) s₁ x y 1 to gifts gifts-there refl) one (omega arith)))
         go (inr q) = absurd (omega (arith, assigned-below (x .values) (length (x .values) + a) u q))
 
     pub tried : Tried s₂ tried-as values marks n stamp
@@ -250,7 +291,7 @@ module _ {s s₁ : List ℕ} {text : Bytes} {names : List Bytes} {j : Job} {limi
       few = few;
       entries-before = omega (arith, few-entries, t .values-behind);
       marks-behind = t .marks-behind;
-      room = agreed-trying .inside;
+      room = omega (arith, agreed-trying .inside);
       entry = entry;
       entries-apart = apart-entries;
       given = λ a h. record {
@@ -277,13 +318,13 @@ module _ {s s₁ : List ℕ} {text : Bytes} {names : List Bytes} {j : Job} {limi
 
     -- After the circle test.
     module _ {s₃ : List ℕ} {found : Bool} (answer : Tested s₂ s₃ tried-as marks n stamp found) where
-      tested-frame : TrialOnly readers-part marks (figures .pairs) s₂ s₃
-      tested-frame = trial-only-marks readers-part (answer .only)
+      tested-frame : TrialOnly woken-part marks (figures .pairs) s₂ s₃
+      tested-frame = trial-only-marks woken-part (answer .only)
 
-      whole-frame : TrialOnly readers-part marks (figures .pairs) s s₃
+      whole-frame : TrialOnly woken-part marks (figures .pairs) s s₃
       whole-frame =
-          trial-only-then (trial-only-region readers-part marks (figures .pairs) (omega arith) begun)
-          (trial-only-then (trial-only-region readers-part marks (figures .pairs) (omega arith) (told .only)) tested-frame)
+          trial-only-then (trial-only-region woken-part marks (figures .pairs) (omega arith) begun)
+          (trial-only-then (trial-only-region woken-part marks (figures .pairs) (omega arith) (told .only)) tested-frame)
 
       grounds-after : NewGrounds at (unit-of j limit figures g .values) marks s s₃
       grounds-after =
@@ -297,7 +338,7 @@ module _ {s s₁ : List ℕ} {text : Bytes} {names : List Bytes} {j : Job} {limi
       unfolding trial tested
       tested-is = rw (agrees, tested, answer .answer) refl
 
-      before-marks : (a : ℕ) → a < readers-part → getD s₃ a 0 ≡ getD s₂ a 0
+      before-marks : (a : ℕ) → a < woken-part → getD s₃ a 0 ≡ getD s₂ a 0
       before-marks a h = answer .only .below a (omega (arith, t .values-behind, t .marks-behind))
 
       pub circle-fails : found ≡ true → TrialIs s s₃ j limit figures at g marks stamp k c FailsAll
@@ -342,12 +383,12 @@ module _ {s s₁ : List ℕ} {text : Bytes} {names : List Bytes} {j : Job} {limi
             grounds = grounds-after;
           }
 
-  -- Where a place waits or fails.
+  -- Where places wait, or one fails.
   module _ {s₂ : List ℕ} {stamp : ℕ} (new : MarksBelow s marks (figures .pairs) stamp) where
-    frame : (r : CompareResult) → Comparison s₂ r → TrialOnly readers-part marks (figures .pairs) s s₂
+    frame : (r : CompareResult) → Comparison s₂ r → TrialOnly woken-part marks (figures .pairs) s s₂
     frame r told =
-        trial-only-then (trial-only-region readers-part marks (figures .pairs) (omega arith) begun)
-        (trial-only-region readers-part marks (figures .pairs) (omega arith) (told .only))
+        trial-only-then (trial-only-region woken-part marks (figures .pairs) (omega arith) begun)
+        (trial-only-region woken-part marks (figures .pairs) (omega arith) (told .only))
 
     grounds-still : (r : CompareResult) → Comparison s₂ r → NewGrounds at (unit-of j limit figures g .values) marks s s₂
     grounds-still r told =
@@ -361,15 +402,26 @@ module _ {s s₁ : List ℕ} {text : Bytes} {names : List Bytes} {j : Job} {limi
         (marks-stay marks (figures .pairs) stamp (omega (arith, t .values-behind, t .marks-behind)) begun new) a l h in
         omega (arith, still)
 
-    pub place-waits : (z : ℕ) → Comparison s₂ (Waits z) → TrialIs s s₂ j limit figures at g marks stamp k c (WaitsOn z)
-    unfolding trial tested waits-on
-    place-waits z told =
-        let waits-is : compared c (unit-of j limit figures g) (g .goal) ≡ waits-on (told .told .pair) = compared-is t m ∙ told .told .outcome in
+    pub some-wait : (n : ℕ) (told : Comparison s₂ (Noted n)) → asks-in (told .told .1 .notes) ≢ []
+        → TrialIs s s₂ j limit figures at g marks stamp k c (WaitsOn n)
+    unfolding trial tested
+    some-wait n told asked =
+        let x = setting figures at (unit-of j limit figures g) in
+        let waits-is : compared c (unit-of j limit figures g) (g .goal) ≡ waits (asks-in (notes told)) =
+        compared-is t m ∙ told .told .1 .outcome ∙ outcome-waits (length (x .values)) (x .compounds) (notes told) asked
+        in
         record {
-          only = frame (Waits z) told;
-          marks-now = marks-still (Waits z) told;
-          told = (told .told .pair, rw (waits-is, tested) refl, told .told .inside, told .told .place);
-          grounds = grounds-still (Waits z) told;
+          only = frame (Noted n) told;
+          marks-now = marks-still (Noted n) told;
+          told = (
+            asks-in (notes told),
+            rw (waits-is, tested) refl,
+            asked,
+            few-noted told,
+            asked-noted told,
+            asks-below (notes told) s₁ x (template k c) 1 to (told .told .1 .held),
+          );
+          grounds = grounds-still (Noted n) told;
         }
 
     pub place-fails : Comparison s₂ Fails → TrialIs s s₂ j limit figures at g marks stamp k c FailsAll

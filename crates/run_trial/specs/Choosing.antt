@@ -2,14 +2,14 @@
 -- text was read as: what the laws say of such states is what they lean on.
 use Prim.Native.Nat.{ℕ, _+_, _*_, _≤_, _<_, _^_}
 use mathlib.Core.Path.{_≡_}
-use mathlib.Core.Logic.{_⊎_}
+use mathlib.Core.Logic.{_⊎_, _≢_}
 use mathlib.Core.List.{List, [], _∷_, _++_, map}
 use lib.ListN.{length, getD}
 use Rattle.meaning.specs.Bytes.{Bytes}
 use Rattle.meaning.specs.Terms.{Clause, Job, as-term}
 use Rattle.meaning.specs.Items.{job, reading}
-use Rattle.meaning.specs.State.{Room, QueryUnit, Goal, unit-at}
-use Rattle.meaning.specs.Compare.{Assignment, Result, succeeds, waits-on, fails}
+use Rattle.meaning.specs.State.{Room, Values, QueryUnit, Goal, unit-at}
+use Rattle.meaning.specs.Compare.{Assignment, Result, succeeds, waits, fails}
 use Rattle.meaning.specs.Trial.{Choice, reduces, joins-waiting, joins-failed, procedure, trial, choice}
 use Rattle.meaning.specs.Run.{run}
 use Rattle.term.specs.Cells.{Places}
@@ -17,10 +17,11 @@ use Rattle.term.specs.Chains.{EndsStand}
 use Rattle.term.specs.Jobs.{GoalsNumbered, HoldsJob, ClauseAt}
 use Rattle.term.specs.Setting.{Setting, UnitTerm, UnitStands}
 use Rattle.term.specs.States.{setting, listed}
-use Rattle.term.specs.Layout.{trial-region, compounds-region, readers-part, ends-after, clause-record}
+use Rattle.term.specs.Layout.{trial-region, compounds-region, woken-part, ends-after, clause-record}
 use Rattle.run_chains.specs.Follow.{FollowedAt}
 use Rattle.run_compare.specs.Compare.{Template, Gave}
-use Rattle.run_circle.specs.Ground.{Grounds, NewGrounds}
+use Rattle.run_circle.specs.Ground.{GroundAt, Grounds, NewGrounds}
+use Rattle.run_readers.specs.Readers.{asked-in, all-met}
 use Rattle.run_trial.specs.declared.choice.TrialResult.{TrialResult}
 use Rattle.run_trial.specs.declared.choice.TrialResult.the-variants.{Succeeds, Waits, Fails}
 use Rattle.run_trial.specs.declared.choice.ChoiceResult.{ChoiceResult}
@@ -30,7 +31,8 @@ use Rattle.run_trial.specs.declared.choice.ChoiceResult.the-variants.{Re
 abbrev pub unit-of : Job → ℕ → Room → Goal → QueryUnit
 unit-of j limit figures g = unit-at (g .query) (run j limit figures .state .units)
 
--- The scratch holds the job, the goal at a place, and its unit: values from a word on, marks and then ends behind them, compounds before them.
+-- The scratch holds the job, the goal at a place, and its unit: values from a word on, marks, readers with their ranks and then ends behind them,
+-- compounds before them.
 pub record Trying (s : List ℕ) (text : Bytes) (names : List Bytes) (j : Job) (limit : ℕ) (figures : Room) (places : Places)
     (g : Goal) (others : List Goal) (values marks links goal : ℕ) : Type 0 where
   pub reads : reading text ≡ job j
@@ -46,10 +48,10 @@ pub record Trying (s : List ℕ) (text : Bytes) (names : List Bytes) (j : Job) (
   pub compound-before : (n : ℕ) → n < unit-of j limit figures g .compounds → places .compound n + places .width n ≤ values
   pub values-behind : compounds-region ≤ values
   pub marks-behind : values + figures .pairs ≤ marks
-  pub inside : marks + figures .pairs ≤ length s
+  pub inside : marks + 3 * figures .pairs ≤ length s
   pub enough : length (unit-of j limit figures g .values) ≤ links
   pub links-are : links ≡ figures .pairs
-  pub ends-behind : marks + figures .pairs ≤ values + ends-after * figures .pairs
+  pub ends-behind : marks + 3 * figures .pairs ≤ values + ends-after * figures .pairs
   pub ends : EndsStand s (setting figures places (unit-of j limit figures g)) values
   pub grounds : Grounds places (unit-of j limit figures g .values) marks s
 
@@ -62,10 +64,15 @@ ArgumentsStand s j limit figures places g links =
 abbrev pub MarksBelow : List ℕ → ℕ → ℕ → ℕ → Type 0
 MarksBelow s marks pairs stamp = (k : ℕ) → marks ≤ k → k < marks + pairs → getD s k 0 < stamp
 
--- Only words of the trial's region below a top, and marks, differ.
-pub record TrialOnly (top marks pairs : ℕ) (s s′ : List ℕ) : Type 0 where
+-- Who is newly marked as ground, of so many pairs, is a ground pair of the unit.
+abbrev pub NewMarks : Places → Values → ℕ → ℕ → List ℕ → List ℕ → Type 0
+NewMarks places values marks pairs s s′ =
+    (p : ℕ) → p < pairs → getD s′ (marks + p) 0 ≡ 1 → (getD s (marks + p) 0 ≡ 1) ⊎ GroundAt places values p
+
+-- Only words of the trial's region below a top, and so many words from the marks on, differ.
+pub record TrialOnly (top marks wide : ℕ) (s s′ : List ℕ) : Type 0 where
   pub size : length s′ ≡ length s
-  pub same : (k : ℕ) → (k < trial-region) ⊎ (top ≤ k) → (k < marks) ⊎ (marks + pairs ≤ k) → getD s′ k 0 ≡ getD s k 0
+  pub same : (k : ℕ) → (k < trial-region) ⊎ (top ≤ k) → (k < marks) ⊎ (marks + wide ≤ k) → getD s′ k 0 ≡ getD s k 0
 
 -- Clause k as comparing sees it.
 abbrev pub template : ℕ → Clause → Template
@@ -85,40 +92,43 @@ pub record Succeeded (s : List ℕ) (x : Setting) (k : ℕ) (c : Clause) (given 
   pub gave : Gave s s x (template k c) given n
   pub body : GoalsNumbered (gave .high) (c .compounds) (c .body)
 
+abbrev pub AllBelow : ℕ → List ℕ → Type 0
+AllBelow n [] = Unit {0}
+AllBelow n (r ∷ rs) = (r < n) × AllBelow n rs
+
 abbrev pub TrialTold : List ℕ → Setting → ℕ → Clause → Result → TrialResult → Type 0
 TrialTold s x k c o (Succeeds n) = (given : List Assignment) × (o ≡ succeeds given) × Succeeded s x k c given n
-TrialTold s x k c o (Waits p) = (pair : ℕ) × (o ≡ waits-on pair) × (pair < length (x .values)) × (p ≡ x .places .pair pair)
+TrialTold s x k c o (Waits n) =
+    (readers : List ℕ) × (o ≡ waits readers) × (readers ≢ []) × (n ≤ 192) × (asked-in s n ≡ map (λ p. x .places .pair p) readers)
+    × AllBelow (length (x .values)) readers
 TrialTold s x k c o Fails = o ≡ fails
 
 -- The clause to try behind clause k, by its number plus one, or 0 if there is none.
 abbrev pub clause-after : List ℕ → ℕ → TrialResult → ℕ
 clause-after s k (Succeeds n) = 0
-clause-after s k (Waits p) = getD s (clause-record k) 0
+clause-after s k (Waits n) = getD s (clause-record k) 0
 clause-after s k Fails = getD s (clause-record k) 0
 
 -- The answer of a trial.
 pub record TrialIs (s s′ : List ℕ) (j : Job) (limit : ℕ) (figures : Room) (places : Places) (g : Goal) (marks stamp k : ℕ) (c : Clause) (r : TrialResult) : Type 0 where
-  pub only : TrialOnly readers-part marks (figures .pairs) s s′
+  pub only : TrialOnly woken-part marks (figures .pairs) s s′
   pub marks-now : MarksBelow s′ marks (figures .pairs) (stamp + 256)
   pub told : TrialTold s′ (setting figures places (unit-of j limit figures g)) k c (trial c (unit-of j limit figures g) (g .goal)) r
   pub grounds : NewGrounds places (unit-of j limit figures g .values) marks s s′
 
-abbrev pub AllBelow : ℕ → List ℕ → Type 0
-AllBelow n [] = Unit {0}
-AllBelow n (r ∷ rs) = (r < n) × AllBelow n rs
-
-abbrev pub ChoiceTold : List ℕ → List Bytes → Setting → Choice → ChoiceResult → Type 0
-ChoiceTold s names x o (Reduces k n) =
+-- The readers that a goal waits on have their pairs' places in a list from a word on, each once.
+abbrev pub ChoiceTold : List ℕ → List Bytes → Setting → ℕ → Choice → ChoiceResult → Type 0
+ChoiceTold s names x list o (Reduces k n) =
     (c : Clause) × (given : List Assignment) × (o ≡ reduces c given) × ClauseAt s names k c × Succeeded s x k c given n
-ChoiceTold s names x o (WaitsOn n) =
-    (readers : List ℕ) × (o ≡ joins-waiting readers) × (n ≤ 128) × (listed s readers-part n ≡ map (λ p. x .places .pair p) readers)
+ChoiceTold s names x list o (WaitsOn n) =
+    (readers : List ℕ) × (o ≡ joins-waiting readers) × (n ≤ x .pairs) × (listed s list n ≡ all-met [] (map (λ p. x .places .pair p) readers))
     × AllBelow (length (x .values)) readers
-ChoiceTold s names x o FailsAll = o ≡ joins-failed
+ChoiceTold s names x list o FailsAll = o ≡ joins-failed
 
 -- The answer of the choice.
 pub record ChoiceIs (s s′ : List ℕ) (names : List Bytes) (j : Job) (limit : ℕ) (figures : Room) (places : Places) (g : Goal) (marks stamp : ℕ) (r : ChoiceResult)
     : Type 0 where
-  pub only : TrialOnly compounds-region marks (figures .pairs) s s′
+  pub only : TrialOnly compounds-region marks (3 * figures .pairs) s s′
   pub marks-now : MarksBelow s′ marks (figures .pairs) (stamp + 32768)
-  pub told : ChoiceTold s′ names (setting figures places (unit-of j limit figures g)) (choice (j .clauses) (unit-of j limit figures g) (g .goal)) r
-  pub grounds : NewGrounds places (unit-of j limit figures g .values) marks s s′
+  pub told : ChoiceTold s′ names (setting figures places (unit-of j limit figures g)) (marks + figures .pairs) (choice (j .clauses) (unit-of j limit figures g) (g .goal)) r
+  pub grounds : NewMarks places (unit-of j limit figures g .values) marks (figures .pairs) s s′

@@ -3,18 +3,18 @@ use run_chains::arguments::follow_arguments;
 use run_circle::circle::circle;
 use run_compare::compare::CompareResult;
 use run_compare::heads::head;
+use run_readers::readers::asks;
+use run_readers::readers::meet_all;
 use term::layout::CLAUSE_NEXT;
 use term::layout::CLAUSE_STRIDE;
 use term::layout::CLAUSES;
 use term::layout::ITEM_WORDS;
 use term::layout::ITEMS;
 use term::layout::PROCEDURES;
-use term::layout::READERS;
 use term::layout::TRIAL;
 use term::scratch::set_at;
 use term::scratch::word_at;
 use term::word::index;
-use term::word::word;
 ghost use mathlib.Core.Path.{_≡_};
 ghost use mathlib.Core.List.{List};
 ghost use Prim.Native.Nat.{ℕ, _+_, _*_, _≤_, _<_, _^_};
@@ -27,8 +27,8 @@ ghost use Rattle.term.specs.Frames.{Only};
 ghost use Rattle.term.specs.Layout.{clauses-region, trial-region, compounds-region, gifts-part, procedure-slot, clause-record};
 ghost use Rattle.run_trial.specs.Choosing.{Trying, ArgumentsStand, MarksBelow, Candidate, clause-after, TrialIs, ChoiceIs};
 
-// "Each trial of a clause gives one of three results": it succeeds, with so many of the goal's pairs given a term; it waits on the reader of a
-// pair; it fails.
+// "Each trial of a clause gives one of three results": it succeeds, with so many of the goal's pairs given a term; it waits on readers, which are
+// among so many pairs noted; it fails.
 pub enum TrialResult {
     Succeeds(usize),
     Waits(usize),
@@ -78,13 +78,15 @@ fn trial(
 {
     begin(s);
     match head(s, values, links, ITEMS + ITEM_WORDS * k) {
-        CompareResult::Agrees(n) => {
+        CompareResult::Noted(n) => {
+            if asks(s, n) {
+                return TrialResult::Waits(n);
+            }
             if circle(s, values, marks, n, stamp) {
                 return TrialResult::Fails;
             }
             TrialResult::Succeeds(n)
         }
-        CompareResult::Waits(p) => TrialResult::Waits(p),
         CompareResult::Fails => TrialResult::Fails,
     }
 }
@@ -144,9 +146,8 @@ pub fn choice(
         let k = next - 1;
         let t = trial(s, values, marks, links, k, stamp);
         let TrialResult::Succeeds(n) = t else {
-            if let TrialResult::Waits(p) = t {
-                set_at(s, READERS, readers, word(p));
-                readers += 1;
+            if let TrialResult::Waits(n) = t {
+                readers = meet_all(s, marks + links, links, readers, n);
             }
             stamp += 256;
             next = clause_after(s, k, t);

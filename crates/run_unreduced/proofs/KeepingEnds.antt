@@ -10,7 +10,7 @@ use Rattle.meaning.specs.Terms.{Job, named, as-term}
 use Rattle.meaning.specs.State.{Room, QueryUnit, Goal}
 use Rattle.meaning.specs.Run.{run}
 use Rattle.term.specs.Jobs.{JobKept}
-use Rattle.term.specs.Layout.{values-region, ends-region, queue-region, readers-part, query-record, query-first-pair-word, query-tries-word}
+use Rattle.term.specs.Layout.{values-region, readers-region, ends-region, queue-region, query-record, query-first-pair-word, query-tries-word}
 use Rattle.term.specs.Setting.{Setting}
 use Rattle.term.specs.States.{Atlas, setting-at}
 use Rattle.term.specs.declared.state.Standing.{Standing}
@@ -126,7 +126,7 @@ module _ {s : List ℕ} {text : Bytes} {names : List Bytes} {j : Job} {figures :
       query-is = joins .query-is;
       chosen = joins .chosen;
       few = joins .few;
-      listed-are = listed-kept s s′ readers-part n (λ w a b. low w (omega (arith, joins .few))) ∙ joins .listed-are;
+      listed-are = listed-kept s s′ (readers-region figures) n (λ w a b. low w (omega (arith, joins .few))) ∙ joins .listed-are;
       inside = joins .inside;
     }
 

@@ -1,5 +1,6 @@
 pub mod Failing
 pub mod FreePlaces
+pub mod Gathering
 pub mod Joining
 pub mod KeepingEnds
 pub mod Unclaimed

@@ -1,8 +1,9 @@
 -- No goal waits on a pair of the readers on which the goal in front is to wait: in the next state, where it does, no two goals wait on one pair of a
 -- query, and pairs of different queries have different places.
-use Prim.Native.Nat.{ℕ, zero, suc, _+_, _<_}
+use Prim.Native.Nat.{ℕ, _+_, _<_}
 use mathlib.Core.Path.{_≡_, refl, ap, sym, _∙_}
 use mathlib.Core.Bool.{Bool, true, false}
+use mathlib.Core.Logic.{⊎-elim}
 use mathlib.Core.List.{List, [], _∷_, _++_, map}
 use native.Mathlib.Omega.{arith}
 use lib.ListN.{length, getD}
@@ -14,17 +15,19 @@ use Rattle.meaning.specs.State.{Room, QueryUnit, Goal, Waiting, unit-at, of, go
 use Rattle.meaning.specs.Trial.{joins-waiting}
 use Rattle.meaning.specs.Step.{goals-after, without-front, step}
 use Rattle.meaning.specs.Run.{run}
-use Rattle.laws.proofs.Lists.Among.{In, here, among-in, in-among, in-those, in-append-left, in-append-right}
+use Rattle.laws.proofs.Lists.Among.{In, in-none, among-in, in-among, in-those}
 use Rattle.laws.proofs.Lists.EachOf.{Each, each-in}
 use Rattle.laws.proofs.Runs.{run-placed}
 use Rattle.laws.proofs.Reading.{accepted-keeps-the-occurrence-rules}
 use Rattle.laws.proofs.Single.{single-occurrence, no-two-wait-on-one-pair}
 use Rattle.term.specs.States.{Atlas, listed, Lies, GoalStands, AllStand}
-use Rattle.term.specs.Layout.{readers-part}
+use Rattle.term.specs.Layout.{readers-region}
+use Rattle.run_readers.specs.Readers.{all-met}
+use Rattle.run_readers.proofs.AllMet.{in-all-met}
+use Rattle.run_readers.proofs.Ranks.{listed-in}
 use Rattle.run_trial.specs.Choosing.{AllBelow}
 use Rattle.run_queues.specs.Log.{Slot, gone, waits, pairs-in, slot, present}
 use Rattle.run_between.specs.Running.{slot-of}
-use Rattle.run_queues.proofs.Log.{by-place}
 use Rattle.run_queues.proofs.Presents.{goal-present, in-mapped, in-split}
 use Rattle.run_queues.proofs.Waking.{gathered-among}
 
@@ -55,14 +58,6 @@ none-other text j reads limit figures g others readers next w m same p a b =
     let all : run j (limit + 1) figures .state .goals .waiting ≡ parts .0 ++ w ∷ parts .1 ++ v ∷ [] = now ∙ ap (λ l. l ++ (v ∷ [])) (parts .2) in
     no-two-wait-on-one-pair j (accepted-keeps-the-occurrence-rules text j reads) (limit + 1) figures p (parts .0) (parts .1) [] w v all same
     (in-among a) (in-among b)
-
--- The readers' words.
-pub in-listed : (s : List ℕ) (from n k : ℕ) → k < n → In (getD s (from + k) 0) (listed s from n)
-unfolding listed
-in-listed s from zero k h = absurd (omega arith)
-in-listed s from (suc n) k h = by-place k n
-    (λ e. in-append-right (listed s from n) (here (ap (λ x. getD s (from + x) 0) e)))
-    (λ e. in-append-left (getD s (from + n) 0 ∷ []) (in-listed s from n k (omega arith)))
 
 pub all-below : (n : ℕ) (l : List ℕ) (p : ℕ) → AllBelow n l → In p l → p < n
 all-below n l p b m = each-in (λ q. q < n) (each l b) m
@@ -121,18 +116,23 @@ module _ (names : List Bytes) (figures : Room) (atlas : Atlas) (units : List Que
       let its = in-mapped (slot-of atlas) waiting (h goal ps refl) in
       ap (λ v. among (atlas (g .query) .pair r) (pairs-in v)) (its .2) ∙ none-waits (its .0) (its .1) r n
 
-  module _ (s : List ℕ) (n : ℕ) (words : listed s readers-part n ≡ map (λ p. atlas (g .query) .pair p) readers) where
-    pub reader-of : (k : ℕ) → k < n → (r : ℕ) × In r readers × (getD s (readers-part + k) 0 ≡ atlas (g .query) .pair r)
-    reader-of k h = in-mapped (λ p. atlas (g .query) .pair p) readers (rw words at (in-listed s readers-part n k h))
+  module _ (s : List ℕ) (n : ℕ) (words : listed s (readers-region figures) n ≡ all-met [] (map (λ p. atlas (g .query) .pair p) readers)) where
+    pub reader-of : (k : ℕ) → k < n → (r : ℕ) × In r readers × (getD s (readers-region figures + k) 0 ≡ atlas (g .query) .pair r)
+    reader-of k h =
+        let places = map (λ p. atlas (g .query) .pair p) readers in
+        let p = getD s (readers-region figures + k) 0 in
+        in-mapped (λ p. atlas (g .query) .pair p) readers
+        (⊎-elim {C = In p places} (λ m. absurd (in-none m)) (λ m. m)
+        (in-all-met [] places p (rw words at (listed-in s (readers-region figures) n k h))))
 
-    pub reader-small : (k : ℕ) → k < n → getD s (readers-part + k) 0 < figures .pairs
+    pub reader-small : (k : ℕ) → k < n → getD s (readers-region figures + k) 0 < figures .pairs
     reader-small k h =
         let its = reader-of k h in
         let below = all-below (length (unit-at (g .query) units .values)) readers (its .0) (a .own-readers) (its .1) in
         omega (arith, its .2, lies .pair-below (g .query) (its .0) (a .own-query) below, lies .pairs-fit)
 
     pub reader-unclaimed : (slots : List Slot) → present slots (length slots) ≡ map (slot-of atlas) waiting → (k : ℕ) → k < n
-        → (i : ℕ) → i < length slots → among (getD s (readers-part + k) 0) (pairs-in (slot slots i)) ≡ false
+        → (i : ℕ) → i < length slots → among (getD s (readers-region figures + k) 0) (pairs-in (slot slots i)) ≡ false
     reader-unclaimed slots e k h i l =
         let its = reader-of k h in
         rw (its .2)

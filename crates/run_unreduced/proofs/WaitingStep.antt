@@ -12,10 +12,11 @@ use Rattle.meaning.specs.State.{Room, Goal, Waiting, unit-at}
 use Rattle.meaning.specs.Trial.{joins-waiting}
 use Rattle.meaning.specs.Step.{unit-after, goals-after, without-front, step}
 use Rattle.meaning.specs.Run.{fits, choice-for, run}
-use Rattle.term.specs.Layout.{waiters-region, sets-region, marks-region, waiting-region, failed-region, items-region, readers-part, query-tries-word}
+use Rattle.term.specs.Layout.{waiters-region, sets-region, marks-region, waiting-region, failed-region, readers-region, items-region, query-tries-word}
 use Rattle.term.specs.States.{Atlas, goal-word, listed, logged}
 use Rattle.term.specs.declared.state.Standing.{Standing}
 use Rattle.term.proofs.Jobs.{holds-job-kept}
+use Rattle.run_readers.specs.Readers.{all-met}
 use Rattle.run_queues.specs.Log.{Slot, waits, gathered, present, Waits, LogNow}
 use Rattle.run_queues.specs.Ring.{Passed}
 use Rattle.run_between.specs.Running.{slot-of, Running, StepIs}
@@ -23,6 +24,7 @@ use Rattle.run_between.specs.Taking.{LogHere, FreePlace, Taken, JoiningWaiting}
 use Rattle.run_between.specs.declared.stepped.Stepped.the-variants.{Next}
 use Rattle.run_unreduced.proofs.Failing.{front-query, query-below, tries-small, goals-fit, marks-after, grounds-after}
 use Rattle.run_between.proofs.FramesRunning.{few-units, front-place}
+use Rattle.run_unreduced.proofs.Gathering.{gathered-each-once}
 use Rattle.run_unreduced.proofs.Joining.{JoinKept, counted, join-run-only, join-job-kept, waiting-standing, held-waiting, ends-waiting}
 use Rattle.run_queues.proofs.Listed.{listed-kept}
 use Rattle.run_between.proofs.Logged.{map-both, waiting-logged}
@@ -55,8 +57,10 @@ module _ (s s₁ : List ℕ) (text : Bytes) (names : List Bytes) (j : Job) (figu
     different = λ w m e p a b. none-other text j (k .running .reads) limit figures g others readers its-next w m e p a b;
   }
 
-  words : listed s₁ readers-part n ≡ map (λ p. atlas (g .query) .pair p) readers
-  words = listed-kept s s₁ readers-part n (λ x a b. free .only .below x (omega (arith, joins .few))) ∙ joins .listed-are
+  words : listed s₁ (readers-region figures) n ≡ all-met [] (map (λ p. atlas (g .query) .pair p) readers)
+  words =
+      listed-kept s s₁ (readers-region figures) n (λ x a b. free .only .between x (omega arith) (omega (arith, joins .few)))
+      ∙ joins .listed-are
 
   goals-are : present (free .slots-now) (length (free .slots-now)) ≡ map (slot-of atlas) (run j limit figures .state .goals .waiting)
   goals-are = free .goals ∙ k .running .waiting
@@ -71,7 +75,8 @@ module _ (s s₁ : List ℕ) (text : Bytes) (names : List Bytes) (j : Job) (figu
         goals-fit s text names j figures limit atlas slots g others t k,
       ))
 
-  pub wait-asks : Waits s₁ (waiting-region figures) (waiters-region figures) (sets-region figures) (figures .pairs) (free .slots-now) place goal readers-part n
+  pub wait-asks : Waits s₁ (waiting-region figures) (waiters-region figures) (sets-region figures) (figures .pairs) (free .slots-now) place goal
+      (readers-region figures) n
   wait-asks =
       let state = run j limit figures .state in
       record {
@@ -83,7 +88,8 @@ module _ (s s₁ : List ℕ) (text : Bytes) (names : List Bytes) (j : Job) (figu
           front-place s names figures (j .queries) atlas state t (k .running .state) g others (k .front),
         );
         space = omega (arith, place-inside, k .running .inside, free .only .size);
-        apart = omega (arith, joins .few);
+        behind-sets = omega arith;
+        before-log = omega (arith, joins .few);
         small = reader-small names figures atlas (state .units) (state .pairs) (state .compounds) (t .cells) (k .running .state .lies) g readers
             (state .goals .waiting) apart s₁ n words;
         unclaimed = reader-unclaimed names figures atlas (state .units) (state .pairs) (state .compounds) (t .cells) (k .running .state .lies) g readers
@@ -91,7 +97,7 @@ module _ (s s₁ : List ℕ) (text : Bytes) (names : List Bytes) (j : Job) (figu
       }
 
   module _ (s₂ : List ℕ) (waited : LogNow s₁ s₂ (waiting-region figures) (waiters-region figures) (sets-region figures) (figures .pairs) (place + 1)
-      (free .slots-now ++ (waits goal (gathered [] (listed s₁ readers-part n)) ∷ []))) where
+      (free .slots-now ++ (waits goal (gathered [] (listed s₁ (readers-region figures) n)) ∷ []))) where
     low : (x : ℕ) → x < waiters-region figures → getD s₂ x 0 ≡ getD s x 0
     low x a = waited .only .below x a ∙ free .only .below x a
 
@@ -112,8 +118,10 @@ module _ (s s₁ : List ℕ) (text : Bytes) (names : List Bytes) (j : Job) (figu
               (rw (joins .query-is) (tries-small s text names j figures limit atlas slots g others t k)),
         )
 
-    newest : waits goal (gathered [] (listed s₁ readers-part n)) ≡ slot-of atlas (record { goal = g; readers = readers })
-    newest = ap₂ waits (joins .goal-is) (ap (gathered []) words)
+    newest : waits goal (gathered [] (listed s₁ (readers-region figures) n)) ≡ slot-of atlas (record { goal = g; readers = readers })
+    newest =
+        ap₂ waits (joins .goal-is)
+        (ap (gathered []) words ∙ gathered-each-once (map (λ p. atlas (g .query) .pair p) readers))
 
     abbrev slots-next : List Slot
     slots-next = free .slots-now ++ (slot-of atlas (record { goal = g; readers = readers }) ∷ [])

@@ -7,7 +7,6 @@ use run_queues::goals::close_up;
 use run_queues::goals::fail;
 use run_queues::goals::wait;
 use term::layout;
-use term::layout::READERS;
 use term::layout::Room;
 use term::state::Standing;
 use term::word::TAGS;
@@ -68,7 +67,7 @@ fn add_waiting(
         layout::sets(room),
         log,
         goal,
-        READERS,
+        layout::readers(room),
         readers,
     );
     count_try(s, query);

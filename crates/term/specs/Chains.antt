@@ -9,6 +9,7 @@ use Rattle.meaning.specs.Terms.{Term}
 use Rattle.meaning.specs.State.{Values, value}
 use Rattle.meaning.specs.Compare.{followed}
 use Rattle.term.specs.Cells.{term-word}
+use Rattle.term.specs.Layout.{ends-after}
 use Rattle.term.specs.Setting.{Setting, UnitTerm}
 
 -- What a variable was assigned, if anything.
@@ -32,12 +33,12 @@ pub record EndOf (s : List ℕ) (x : Setting) (n w : ℕ) : Type 0 where
   pub term : UnitTerm s x last
   pub word : w ≡ term-word (x .places) last
 
--- Where the end that is kept of pair n stands: behind four words of each pair of the room.
+-- Where the end that is kept of pair n stands: so many words a pair of the room behind the values.
 abbrev pub end-place : Setting → ℕ → ℕ → ℕ
-end-place x from n = from + 4 * x .pairs + x .places .pair n
+end-place x from n = from + ends-after * x .pairs + x .places .pair n
 
 -- Each pair of the unit has the word 0, or an end; and every chain ends, within as many links as the room has pairs.
 pub record EndsStand (s : List ℕ) (x : Setting) (from : ℕ) : Type 0 where
-  pub inside : from + 5 * x .pairs ≤ length s
+  pub inside : from + (ends-after + 1) * x .pairs ≤ length s
   pub ended : (t : Term) → value-of (x .values) (followed (x .pairs) (x .values) t) ≡ none
   pub kept : (n : ℕ) → n < length (x .values) → getD s (end-place x from n) 0 ≢ 0 → EndOf s x n (getD s (end-place x from n) 0)

@@ -46,7 +46,7 @@ trial-region = items-region + 136 * item-words
 
 -- The compounds of the room; its pairs and goals stand behind them.
 abbrev pub compounds-region : ℕ
-compounds-region = trial-region + 768
+compounds-region = trial-region + 640
 
 -- A procedure has its word by the first word of a goal: the number of arguments and eight times the name's number and one, so at least eight.
 abbrev pub procedure-slot : ℕ → ℕ
@@ -130,8 +130,8 @@ clause-head k = items-region + item-words * k
 abbrev pub query-items-region : ℕ
 query-items-region = items-region + 128 * item-words
 
--- The parts of the trial's region: 16 words for what the head's writers are given; two words for each of 192 of the goal's pairs that are given a
--- term, the pair and the term; the pairs of the readers waited on; the goals woken; the goal's arguments, followed.
+-- The parts of the trial's region: 16 words for what the head's writers are given; two words for each of 192 of the goal's pairs that a trial notes,
+-- the pair, and the term that it is given or 0 where the trial waits on its reader; the goals woken; the goal's arguments, followed.
 abbrev pub gifts-part : ℕ
 gifts-part = trial-region + 16
 
@@ -141,11 +141,8 @@ gift-pair n = gifts-part + 2 * n
 abbrev pub gift-term : ℕ → ℕ
 gift-term n = gifts-part + 1 + 2 * n
 
-abbrev pub readers-part : ℕ
-readers-part = gifts-part + 384
-
 abbrev pub woken-part : ℕ
-woken-part = readers-part + 128
+woken-part = gifts-part + 384
 
 abbrev pub followed-part : ℕ
 followed-part = woken-part + 192
@@ -160,7 +157,8 @@ followed-end = followed-part + 7
 abbrev pub pairs-told : ℕ
 pairs-told = trial-region + 1
 
--- Behind the compounds: of each pair its value, its waiter, the next pair of the same waiting goal, its mark, the end of its chain.
+-- Behind the compounds: of each pair its value, its waiter, the next pair of the same waiting goal, its mark; then, a word for each pair, the pairs
+-- whose readers this step has met, and where a pair stands among them; and of each pair the end of its chain.
 abbrev pub values-region : Room → ℕ
 values-region room = compounds-region + compound-words * room .compounds
 
@@ -173,20 +171,26 @@ sets-region room = values-region room + 2 * room .pairs
 abbrev pub marks-region : Room → ℕ
 marks-region room = values-region room + 3 * room .pairs
 
--- The ends stand behind the values at four words a pair of the room.
+abbrev pub readers-region : Room → ℕ
+readers-region room = values-region room + 4 * room .pairs
+
+abbrev pub ranks-region : Room → ℕ
+ranks-region room = values-region room + 5 * room .pairs
+
+-- The ends stand behind the values at six words a pair of the room.
 abbrev pub ends-after : ℕ
-ends-after = 4
+ends-after = 6
 
 abbrev pub ends-region : Room → ℕ
 ends-region room = values-region room + ends-after * room .pairs
 
--- What the report keeps of a pair, in the four words from its waiter to its end.
+-- What the report keeps of a pair, in the four words from its waiter on.
 abbrev pub pair-facts : ℕ
 pair-facts = 4
 
 -- The goals: the queue, the waiting log of two places a goal and two words a place, the failed goals.
 abbrev pub queue-region : Room → ℕ
-queue-region room = values-region room + 5 * room .pairs
+queue-region room = values-region room + 7 * room .pairs
 
 abbrev pub waiting-region : Room → ℕ
 waiting-region room = queue-region room + room .goals
@@ -194,9 +198,9 @@ waiting-region room = queue-region room + room .goals
 abbrev pub failed-region : Room → ℕ
 failed-region room = queue-region room + 5 * room .goals
 
--- The need in 64-bit words: 8 a compound, 5 a pair and 6 a goal behind the regions of fixed size.
+-- The need in 64-bit words: 8 a compound, 7 a pair and 6 a goal behind the regions of fixed size.
 abbrev pub need-of : Room → ℕ
-need-of room = compounds-region + compound-words * room .compounds + 5 * room .pairs + 6 * room .goals
+need-of room = compounds-region + compound-words * room .compounds + 7 * room .pairs + 6 * room .goals
 
 -- The need by its three figures.
 abbrev pub need-for : ℕ → ℕ → ℕ → ℕ

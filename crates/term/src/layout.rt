@@ -10,27 +10,29 @@
 //                     QUERY_TRIES what the run counts; at QUERY_BODY the goals' words; at QUERY_VARIABLES the variables' first bytes and lengths,
 //                     2 a variable
 //   5120  ITEMS       COMPOUND_WORDS = 8 a compound, ITEM_COMPOUNDS = 32 compounds an item, 128 clauses and 8 queries
-//  39936  TRIAL       what a step works with, in five parts:
+//  39936  TRIAL       what a step works with, in four parts:
 //  39936                the head's writers: 16 words, what each is given, or 0
-//  39952  GIFTS         2 words for each of the goal's pairs that is given a term of the head, 192 of them: the pair, the term
-//  40336  READERS       128 words: the pairs of the readers waited on
-//  40464  WOKEN         192 words: the places in the waiting log of the goals woken
-//  40656  FOLLOWED      at 1 to 6 the goal's arguments, followed; 48 words in all
+//  39952  GIFTS         2 words for each of the goal's pairs that a trial notes, 192 of them: the pair, and the term of the head that it is given, or 0
+//                       where the trial waits on its reader
+//  40336  WOKEN         192 words: the places in the waiting log of the goals woken
+//  40528  FOLLOWED      at 1 to 6 the goal's arguments, followed; 48 words in all
 //                     When the run has ended, the report keeps the pairs numbered so far in the first word, and P in the second.
-//  40704  COMPOUNDS   8 C: one behind the other, each with as many words as it has arguments and one
+//  40576  COMPOUNDS   8 C: one behind the other, each with as many words as it has arguments and one
 //         values      1 a pair: what it was assigned, or 0
 //         waiters     1 a pair: the place in the waiting log of the goal that waits on it, plus one
 //         sets        1 a pair: the next pair that the same goal waits on, plus one
 //         marks       1 a pair: 0; 1 if no unassigned pair is reached from it; or the stamp of the last search of the circle test that visited it
-//         ends        1 a pair: where its chain was seen to lead, or 0; ENDS_AFTER = 4 words a pair behind the values
+//         readers     1 a pair: the pairs whose readers the clauses tried in this step wait on, each once
+//         ranks       1 a pair: where a pair stands among them, if it does; what stands here of any other pair says nothing
+//         ends        1 a pair: where its chain was seen to lead, or 0; ENDS_AFTER = 6 words a pair behind the values
 //         queue       1 a goal
 //         waiting     4 a goal: two places a goal, each with the goal and the first pair it waits on
 //         failed      1 a goal
 //
-// The report has waiters to ends as PAIR_FACTS = 4 words a pair for purposes of its own.
+// The report has waiters to readers as PAIR_FACTS = 4 words a pair for purposes of its own.
 
 ghost use mathlib.Core.Path.{_≡_};
-ghost use Rattle.term.specs.Layout.{need-of, figures, InRange, values-region, waiters-region, sets-region, marks-region, ends-region, queue-region, waiting-region, failed-region};
+ghost use Rattle.term.specs.Layout.{need-of, figures, InRange, values-region, waiters-region, sets-region, marks-region, readers-region, ends-region, queue-region, waiting-region, failed-region};
 
 pub const NAMES: usize = 0;
 
@@ -80,15 +82,13 @@ pub const TRIAL: usize = ITEMS + 136 * ITEM_WORDS;
 
 pub const GIFTS: usize = TRIAL + 16;
 
-pub const READERS: usize = GIFTS + 384;
-
-pub const WOKEN: usize = READERS + 128;
+pub const WOKEN: usize = GIFTS + 384;
 
 pub const FOLLOWED: usize = WOKEN + 192;
 
-pub const COMPOUNDS: usize = TRIAL + 768;
+pub const COMPOUNDS: usize = TRIAL + 640;
 
-pub const ENDS_AFTER: usize = 4;
+pub const ENDS_AFTER: usize = 6;
 
 pub const PAIR_FACTS: usize = 4;
 
@@ -104,7 +104,7 @@ pub fn need(room: Room) -> usize
     requires { ⌜ InRange (figures room) ⌝ }
     ensures { λ r. ⌜ r ≡ need-of (figures room) ⌝ }
 {
-    COMPOUNDS + COMPOUND_WORDS * room.compounds + 5 * room.pairs + 6 * room.goals
+    COMPOUNDS + COMPOUND_WORDS * room.compounds + 7 * room.pairs + 6 * room.goals
 }
 
 // The first words of the regions behind the compounds.
@@ -136,30 +136,37 @@ pub fn marks(room: Room) -> usize
     COMPOUNDS + COMPOUND_WORDS * room.compounds + 3 * room.pairs
 }
 
+pub fn readers(room: Room) -> usize
+    requires { ⌜ InRange (figures room) ⌝ }
+    ensures { λ r. ⌜ r ≡ readers-region (figures room) ⌝ }
+{
+    COMPOUNDS + COMPOUND_WORDS * room.compounds + 4 * room.pairs
+}
+
 pub fn ends(room: Room) -> usize
     requires { ⌜ InRange (figures room) ⌝ }
     ensures { λ r. ⌜ r ≡ ends-region (figures room) ⌝ }
 {
-    COMPOUNDS + COMPOUND_WORDS * room.compounds + 4 * room.pairs
+    COMPOUNDS + COMPOUND_WORDS * room.compounds + 6 * room.pairs
 }
 
 pub fn queue(room: Room) -> usize
     requires { ⌜ InRange (figures room) ⌝ }
     ensures { λ r. ⌜ r ≡ queue-region (figures room) ⌝ }
 {
-    COMPOUNDS + COMPOUND_WORDS * room.compounds + 5 * room.pairs
+    COMPOUNDS + COMPOUND_WORDS * room.compounds + 7 * room.pairs
 }
 
 pub fn waiting(room: Room) -> usize
     requires { ⌜ InRange (figures room) ⌝ }
     ensures { λ r. ⌜ r ≡ waiting-region (figures room) ⌝ }
 {
-    COMPOUNDS + COMPOUND_WORDS * room.compounds + 5 * room.pairs + room.goals
+    COMPOUNDS + COMPOUND_WORDS * room.compounds + 7 * room.pairs + room.goals
 }
 
 pub fn failed(room: Room) -> usize
     requires { ⌜ InRange (figures room) ⌝ }
     ensures { λ r. ⌜ r ≡ failed-region (figures room) ⌝ }
 {
-    COMPOUNDS + COMPOUND_WORDS * room.compounds + 5 * room.pairs + 5 * room.goals
+    COMPOUNDS + COMPOUND_WORDS * room.compounds + 7 * room.pairs + 5 * room.goals
 }

@@ -13,7 +13,7 @@ ghost use Rattle.term.specs.Layout.{need-for};
 ghost use Rattle.job.specs.Calling.{Within};
 
 // As many words as the program's room needs.
-const NEED: usize = COMPOUNDS + COMPOUND_WORDS * 1024 + 5 * 1024 + 6 * 128;
+const NEED: usize = COMPOUNDS + COMPOUND_WORDS * 1024 + 7 * 1024 + 6 * 128;
 
 fn told(number: u64, line: usize, size: usize) {
     io::print_decimal(1, number);
@@ -135,6 +135,68 @@ fn waits(s: &mut [u64], buffer: &mut [u8]) {
     );
     asked(
         b"tag([H|T],[hit(H?)|R?]) :- tag(T?,R). tag([],[]). end([]). same(X,X?). two(1,1). w(1,2).\n?- w(A?,1).\n",
+        10000,
+        1024,
+        1024,
+        128,
+        s,
+        buffer,
+    );
+}
+
+// All places of a comparison (document 02, T-03): a failing one behind waiting ones, and every reader needed.
+fn places(s: &mut [u64], buffer: &mut [u8]) {
+    asked(
+        b"n(f(1,2),3).\n?- n(f(A?,9),B?), n(f(C?,D?),E), n(F?,4).\n",
+        10000,
+        1024,
+        1024,
+        128,
+        s,
+        buffer,
+    );
+    asked(
+        b"two(1,1). set(X,X?).\n?- two(A?,B?), set(1,B).\n?- two(A?,B?), set(1,A).\n?- two(A?,B?), set(1,A), set(1,B).\n",
+        10000,
+        1024,
+        1024,
+        128,
+        s,
+        buffer,
+    );
+    asked(
+        b"two(1,1). g(1,1). set(X,X?).\n?- two(A?,B?), g(C?,B), set(2,A), set(1,C).\n",
+        10000,
+        1024,
+        1024,
+        128,
+        s,
+        buffer,
+    );
+}
+
+// Readers that several clauses need, and a trial that waits although its other places would close a circle.
+fn readers(s: &mut [u64], buffer: &mut [u8]) {
+    asked(
+        b"p(1,1). p(2,X) :- q(X?). q(5). g(1,5). l(X?) :- k(X). k(X?) :- o(X). o(1). set(X,X?).\n?- p(A?,B?), g(C?,B), set(2,A), l(C).\n",
+        10000,
+        1024,
+        1024,
+        128,
+        s,
+        buffer,
+    );
+    asked(
+        b"m(1,1,X,X?). m(X,2,2,X?). set(X,X?).\n?- m(A?,B?,C?,D), set(7,A).\n?- m(A?,B?,C?,D), set(2,B).\n?- m(A?,B?,C?,D), set(7,C).\n",
+        10000,
+        1024,
+        1024,
+        128,
+        s,
+        buffer,
+    );
+    asked(
+        b"h(X,X?,1). set(X,X?).\n?- h(A?,A,B?).\n?- h(A?,A,B?), set(1,B).\n",
         10000,
         1024,
         1024,
@@ -393,6 +455,8 @@ fn main() {
     streams(&mut s, &mut buffer);
     circles(&mut s, &mut buffer);
     waits(&mut s, &mut buffer);
+    places(&mut s, &mut buffer);
+    readers(&mut s, &mut buffer);
     stops(&mut s, &mut buffer);
     rules(&mut s, &mut buffer);
     lines(&mut s, &mut buffer);

@@ -112,7 +112,7 @@ fn lent_words(
     requires { ⌜ (pairs ≤ 1000000000) × (compounds ≤ 1000000000) × (goals ≤ 1000000000) × (more ≤ 1000000000) ⌝ }
     ensures { λ r. ⌜ r ≤ most ⌝ }
 {
-    let all = COMPOUNDS + COMPOUND_WORDS * compounds + 5 * pairs + 6 * goals + more;
+    let all = COMPOUNDS + COMPOUND_WORDS * compounds + 7 * pairs + 6 * goals + more;
     if all < less {
         return 0;
     }

@@ -109,7 +109,7 @@ fn frames(line: &mut [u8], text: &mut [u8], s: &mut [u64])
 }
 
 // As many words as the smallest room needs.
-const NEED: usize = COMPOUNDS + COMPOUND_WORDS + 5 + 6;
+const NEED: usize = COMPOUNDS + COMPOUND_WORDS + 7 + 6;
 
 // Scratch that holds something already.
 fn scratch() -> [u64; NEED]

@@ -30,6 +30,7 @@ fn the_session() {
     assert_eq!(report(&format!("{RULES}?- tag(A?,Z), end(A).\n?- tag([1|B?],Y).\n")), wanted);
     assert!(report(&format!("{RULES}?- same(A?,A).\n")).contains("failed same(_1?,_1)"));
     assert!(report(&format!("{RULES}?- two(A,A?).\n")).contains("waiting two(_1,_1?)"));
+    assert!(report(&format!("{RULES}?- w(A?,1).\n")).contains("failed w(_1?,1)"));
     assert!(report(&format!("{RULES}?- same(7,B).\n")).contains("B = 7\n"));
 }
 

@@ -1,7 +1,7 @@
 //! Seeded jobs for the runtime of document 01: the same jobs for the same seed on every machine.
 //!
-//! `jobs` mixes kinds in a fixed round, so that each comes often: random programs, streams and other kits, texts near
-//! every figure, corners of the token rules, changed, cut and broken texts, and figures out of range. The jobs are
+//! `jobs` mixes kinds in a fixed round, so that each comes often: random programs, streams and other kits, goals that
+//! wait on several readers or fail behind them, texts near every figure, corners of the token rules, changed, cut and broken texts, and figures out of range. The jobs are
 //! computed by a proof checker as well as by the reference, so nearly all of them are small by construction.
 
 #![forbid(unsafe_code)]
@@ -15,6 +15,7 @@ pub mod heavy;
 mod layout;
 pub mod lengths;
 pub mod options;
+mod places;
 mod programs;
 pub mod random;
 mod streams;
@@ -40,6 +41,7 @@ pub struct Job {
 enum Kind {
     Program,
     Kit,
+    Places,
     Edge,
     Corner,
     Changed,
@@ -49,39 +51,50 @@ enum Kind {
 }
 
 /// The round in which the kinds come.
-const ROUND: [Kind; 32] = [
+const ROUND: [Kind; 43] = [
     Kind::Program,
     Kind::Edge,
+    Kind::Places,
     Kind::Spoilt,
     Kind::Corner,
     Kind::Kit,
+    Kind::Places,
     Kind::Corner,
     Kind::Edge,
     Kind::Kit,
+    Kind::Places,
     Kind::Changed,
     Kind::Corner,
     Kind::Program,
+    Kind::Places,
     Kind::Kit,
     Kind::Edge,
     Kind::Corner,
+    Kind::Places,
     Kind::Broken,
     Kind::Kit,
     Kind::Spoilt,
+    Kind::Places,
     Kind::Program,
     Kind::Edge,
     Kind::Corner,
+    Kind::Places,
     Kind::Kit,
     Kind::Changed,
     Kind::Corner,
+    Kind::Places,
     Kind::Edge,
     Kind::Program,
     Kind::Cut,
+    Kind::Places,
     Kind::Kit,
     Kind::Corner,
     Kind::Program,
+    Kind::Places,
     Kind::Edge,
     Kind::Kit,
     Kind::Corner,
+    Kind::Places,
 ];
 
 /// Whose turn it is among the edges, the corners and the figures: each goes round from a random beginning.
@@ -125,6 +138,7 @@ fn job(random: &mut Random, turns: &mut Turns, kind: Kind) -> (String, Vec<u8>, 
     let (word, text) = match kind {
         Kind::Program => return running(random, turns, "program", programs::program),
         Kind::Kit => return running(random, turns, "kit", streams::program),
+        Kind::Places => return running(random, turns, "places", places::program),
         Kind::Spoilt => return spoilt(random, turns),
         Kind::Edge => edges::text(random, take(&mut turns.edge)),
         Kind::Corner => ("corner".to_string(), corners::corner(random, take(&mut turns.corner))),
@@ -143,11 +157,8 @@ fn job(random: &mut Random, turns: &mut Turns, kind: Kind) -> (String, Vec<u8>, 
 }
 
 fn some_items(random: &mut Random) -> Vec<Vec<Token>> {
-    if random.chance(50) {
-        programs::program(random)
-    } else {
-        streams::program(random)
-    }
+    let program = random.pick(&[programs::program, streams::program, places::program]);
+    program(random)
 }
 
 /// A program that runs, with figures chosen for it.

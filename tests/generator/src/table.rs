@@ -1,7 +1,8 @@
 //! How often each number, verdict and kind of goal line occurs among the answers.
 //!
 //! A comparison says nothing of what never occurred, so a table can tell which counts are 0. Numbers are counted over
-//! all answers, verdicts and lines over the reports that were delivered.
+//! all answers, verdicts and lines over the reports that were delivered; apart also waiting goals with several
+//! unassigned readers, and failed ones that have one.
 
 use std::fmt;
 
@@ -9,6 +10,7 @@ use reference::Answer;
 
 const VERDICTS: [&str; 3] = ["rest", "budget", "room"];
 const GOALS: [&str; 3] = ["active", "waiting", "failed"];
+const READERS: [&str; 2] = ["waiting, several", "failed, a reader"];
 
 /// The counts of some answers.
 #[derive(Clone, Debug, Default)]
@@ -16,6 +18,7 @@ pub struct Table {
     numbers: [usize; 9],
     verdicts: [usize; 3],
     goals: [usize; 3],
+    readers: [usize; 2],
 }
 
 impl Table {
@@ -37,6 +40,9 @@ impl Table {
                 (Some(goal), _) => add(&GOALS, &mut self.goals, goal),
                 _ => {}
             }
+            let readers = line.matches('?').count();
+            self.readers[0] += usize::from(line.starts_with("waiting ") && readers > 1);
+            self.readers[1] += usize::from(line.starts_with("failed ") && readers > 0);
         }
     }
 
@@ -49,7 +55,8 @@ impl Table {
         let numbers = self.numbers.iter().enumerate().map(|(number, count)| (format!("number {number}"), *count));
         let verdicts = VERDICTS.iter().zip(self.verdicts).map(|(name, count)| (format!("run {name}"), count));
         let goals = GOALS.iter().zip(self.goals).map(|(name, count)| (format!("{name} lines"), count));
-        numbers.chain(verdicts).chain(goals).collect()
+        let readers = READERS.iter().zip(self.readers).map(|(name, count)| (name.to_string(), count));
+        numbers.chain(verdicts).chain(goals).chain(readers).collect()
     }
 }
 
@@ -62,7 +69,7 @@ fn add(names: &[&str], counts: &mut [usize], name: &str) {
 impl fmt::Display for Table {
     fn fmt(&self, f: &mut fmt::Formatter) -> fmt::Result {
         for (name, count) in self.rows() {
-            writeln!(f, "{name:<14} {count:>6}")?;
+            writeln!(f, "{name:<16} {count:>6}")?;
         }
         Ok(())
     }

@@ -46,6 +46,8 @@ pub fn jobs() -> Vec<Worst> {
             ALL,
             "c([X?|Xs?]) :- c(Xs), d(X).\nd(a).\nw([a|Xs]) :- w(Xs?).\n?- c(Z), w(Z?).\n".to_string(),
         ),
+        job("waits: a goal that needs 71 readers by 75 clauses", "steps × readers × clauses", ALL, readers(75)),
+        job("waits: a goal that needs 1,296 readers, given one by one", "readers × clauses × places", ALL, tree()),
         job(
             "doubling: the longest report",
             "bytes written",
@@ -61,6 +63,7 @@ pub fn jobs() -> Vec<Worst> {
         job("doubling: 2,097,152 leaves behind a chain", "bytes written", 30_000, leaves()),
         job("127 heads of 15 levels that all but match", "steps × clauses", ALL, heads(127, 15, 1)),
         job("127 heads of 43 places that all but match", "steps × places", ALL, heads(127, 15, 3)),
+        job("125 heads of 43 places that all but match, 28 of which wait", "steps × places", ALL, waiting_heads(125, 15)),
         job("60,000 goals that fail on 120 clauses", "steps × clauses", ALL, failing()),
         job("a chain read at each second link", "steps × links", ALL, chain(1)),
         job("a chain read by 100 clauses", "steps × links × clauses", 1_000, chain(100)),
@@ -99,6 +102,16 @@ fn heads(clauses: usize, depth: usize, arguments: usize) -> String {
     format!("{heads}p(X) :- p(X?).\n?- p({}).\n", term("last"))
 }
 
+/// The same heads, of three arguments, on a value in which two of each level are readers that nobody gives a value, and
+/// whose innermost constant fails all of them.
+fn waiting_heads(clauses: usize, depth: usize) -> String {
+    let term = |last: &str| nested(depth - 1, last, |inner| format!("f(a,a,{inner})"));
+    let heads: String = (0..clauses).map(|k| format!("p({}).\n", term(&format!("k{k}")))).collect();
+    let levels = vec!["a"; depth - 1].join(",");
+    let rules = "v([a|T],f(A?,B?,F?)) :- v(T?,F), no(A,B).\nv([],last).\n";
+    format!("{rules}{heads}p(X) :- p(X?).\n?- v([{levels}],V), p(V?).\n")
+}
+
 /// Eight goals at a time, each with a constant that none of 120 clauses has.
 fn failing() -> String {
     let facts: String = (0..120).map(|k| format!("p(k{k}).\n")).collect();
@@ -108,6 +121,50 @@ fn failing() -> String {
 /// Goals that wait, each on a pair of its own, and are then woken one by one.
 fn waits() -> String {
     "make([X|Xs?]) :- w(X?), make(Xs).\nw(a).\ngive([a|Xs]) :- give(Xs?).\nnet(a) :- make(S), late(S?).\nlate(S) :- give(S?).\n?- net(a).\n".to_string()
+}
+
+/// A goal that so many clauses need 71 readers of, 70 in a value of 14 levels; the chain behind the last of them grows,
+/// and each link wakes the goal.
+fn readers(clauses: usize) -> String {
+    let levels = "a,".repeat(13) + "a";
+    let row = nested(14, "a", |inner| format!("f(a,a,a,a,a,{inner})"));
+    let facts: String = (0..clauses).map(|k| format!("w({row},{k}).\n")).collect();
+    let rules = "v([a|T],f(A?,B?,C?,D?,E?,F?)) :- v(T?,F), no(A,B,C,D,E).\nv([],a).\nc(X?) :- c(X).\n";
+    format!("{rules}{facts}?- v([{levels}],V), c(Z), w(V?,Z?).\n")
+}
+
+/// A value with 36 branches of 36 leaves, all of them readers; of the 36 clauses each needs every leaf of a branch of its
+/// own, and a reader that nobody gives a value. The leaves are given one by one, and each wakes the goal that needs
+/// those that are left.
+fn tree() -> String {
+    let six = |inside: &str| format!("f({})", [inside; 6].join(","));
+    let branch = six(&six("a"));
+    let names = ["A", "B", "C", "D", "E", "F"];
+    let others = |k: usize, mark: &str| (0..6).filter(|n| *n != k).map(|n| format!("{}{mark}", names[n])).collect::<Vec<_>>();
+    let mut heads = String::new();
+    for outer in 0..6 {
+        for inner in 0..6 {
+            let row = |k: usize, own: &str, mark: &str| {
+                let mut places: Vec<String> = names.iter().map(|n| format!("{n}{mark}")).collect();
+                places[k] = own.to_string();
+                format!("f({})", places.join(","))
+            };
+            let head = row(outer, &row(inner, &branch, "2"), "1");
+            let body = |mark: &str, k: usize| format!("no({})", others(k, &format!("{mark}?")).join(","));
+            heads += &format!("w({head},b) :- {}, {}.\n", body("1", outer), body("2", inner));
+        }
+    }
+    let between = ["L?", "M1", "M2", "M3", "M4", "M5", "M"];
+    let spread = |name: usize| {
+        let behind = |k: usize| format!("{}?", between[k].trim_end_matches('?'));
+        let goals: Vec<String> = (0..6)
+            .map(|k| format!("t{}({},{},{})", name + 1, names[k], between[k].trim_end_matches('?'), behind(k + 1)))
+            .collect();
+        format!("t{name}(f(A?,B?,C?,D?,E?,F?),L?,M) :- {}.\n", goals.join(", "))
+    };
+    let rules: String = (1..4).map(spread).collect();
+    let leaves = "t4(f(A?,B?,C?,D?,E?,F?),[A,B,C,D,E,F|M?],M).\ngive([a|Xs]) :- give(Xs?).\ngive([]).\n";
+    format!("{rules}{leaves}{heads}?- t1(V,L,[]), w(V?,Z?), give(L?).\n")
 }
 
 /// A chain of readers that grows, and a goal at its end that so many clauses follow whenever it is woken.

@@ -1,5 +1,5 @@
-//! A reference implementation of document 01: a job text is read and checked, run under a budget and a room, and its
-//! report written.
+//! A reference implementation of document 01, with T-03 of document 02: a job text is read and checked, run under a
+//! budget and a room, and its report written.
 //!
 //! `read`, `run` and `write` are the three phases; `call` composes them and gives the nine numbers in their order.
 //! Read the modules as `text`, `job`, `items`, `machine` with `trial` and `circle`, `report`, `call`.

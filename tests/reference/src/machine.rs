@@ -100,8 +100,9 @@ pub(crate) struct Machine<'j> {
     pub assignments: Vec<Assignment>,
     pub visits: Vec<crate::circle::Visit>,
     pub turn: u32,
-    // The step at hand: the pairs that trials wait on, and the waits that are over.
-    awaited: Vec<usize>,
+    // The step at hand: the pairs whose readers its trials wait on, a pair perhaps more than once, and the waits that
+    // are over.
+    pub awaited: Vec<usize>,
     woken: Vec<u32>,
 }
 
@@ -188,8 +189,7 @@ impl<'j> Machine<'j> {
         for clause in &job.clauses[procedure] {
             match self.trial(clause, place) {
                 Trial::Succeeds => return Some(clause),
-                Trial::Waits(pair) => self.awaited.push(pair),
-                Trial::Fails => {}
+                Trial::Waits | Trial::Fails => {}
             }
         }
         None

@@ -1,4 +1,4 @@
-//! A trial: the clause's head is compared with the goal, and succeeds, waits on a reader, or fails.
+//! A trial: the clause's head is compared with the goal, and succeeds, waits on one or more readers, or fails.
 //!
 //! Nothing is built and no pair is assigned during a trial, so it reads 'the values as they were before the step'. The
 //! clause is renamed apart by its indexes alone: what its variables get stands in `bound`, what the goal's pairs get
@@ -12,8 +12,8 @@ use crate::words::{Kind, Word, UNASSIGNED};
 #[derive(Clone, Copy, PartialEq, Eq, Debug)]
 pub enum Trial {
     Succeeds,
-    /// On the reader of this pair.
-    Waits(usize),
+    /// On the readers of the pairs that the trial has added to the step's `awaited`.
+    Waits,
     Fails,
 }
 
@@ -39,12 +39,23 @@ fn follow(pairs: &[Pair], mut term: Word) -> Word {
 }
 
 impl Machine<'_> {
+    /// 'Any failing place fails the trial, and otherwise the trial waits on every reader needed' (document 02, T-03).
+    /// 'The circle test follows', where all places agree.
     pub fn trial(&mut self, clause: &Clause, goal: usize) -> Trial {
         self.bound_bits = 0;
         self.assignments.clear();
-        match self.compare_arguments(clause.head, goal) {
-            Trial::Succeeds if self.circle() => Trial::Fails,
-            result => result,
+        let earlier = self.awaited.len();
+        if !self.compare_arguments(clause.head, goal) {
+            self.awaited.truncate(earlier);
+            return Trial::Fails;
+        }
+        if self.awaited.len() > earlier {
+            return Trial::Waits;
+        }
+        if self.circle() {
+            Trial::Fails
+        } else {
+            Trial::Succeeds
         }
     }
 
@@ -60,49 +71,47 @@ impl Machine<'_> {
         end
     }
 
-    /// 'Compares the arguments from left to right and depth first', up to 'the first place that fails or waits'.
-    fn compare_arguments(&mut self, head: usize, goal: usize) -> Trial {
-        for argument in 1..=self.job.code[head].arity() {
+    /// 'The comparison shall go through all places': the arguments from left to right and depth first, whether or not
+    /// places wait. Answers false at a failing place; what is behind it can change nothing.
+    fn compare_arguments(&mut self, head: usize, goal: usize) -> bool {
+        (1..=self.job.code[head].arity()).all(|argument| {
             let head_term = self.job.code[head + argument];
             let goal_term = self.followed(goal + argument);
-            match self.compare(head_term, goal_term) {
-                Trial::Succeeds => {}
-                other => return other,
-            }
-        }
-        Trial::Succeeds
+            self.compare(head_term, goal_term)
+        })
     }
 
-    /// The table of document 01. A variable on the goal's side is unassigned here.
+    /// The table of document 01, false where a place fails. A variable on the goal's side is unassigned here.
     #[inline]
-    fn compare(&mut self, head: Word, goal: Word) -> Trial {
+    fn compare(&mut self, head: Word, goal: Word) -> bool {
         use Kind::{Compound, Constant, Reader, Writer};
         match (head.kind(), goal.kind()) {
-            (Writer, Writer) => Trial::Fails,
+            (Writer, Writer) => return false,
             (Writer, _) => self.bind(head, goal),
             (_, Writer) => self.give(goal, head),
-            (Reader, _) => Trial::Fails,
-            (_, Reader) => Trial::Waits(goal.index()),
-            (Constant, Constant) if head == goal => Trial::Succeeds,
-            (Compound, Compound) if self.same_functor(head, goal) => self.compare_arguments(head.index(), goal.index()),
-            _ => Trial::Fails,
+            (Reader, _) => return false,
+            (_, Reader) => self.awaited.push(goal.index()),
+            (Constant, Constant) => return head == goal,
+            (Compound, Compound) if self.same_functor(head, goal) => {
+                return self.compare_arguments(head.index(), goal.index())
+            }
+            _ => return false,
         }
+        true
     }
 
     /// X := the goal's term.
     #[inline]
-    fn bind(&mut self, head: Word, goal: Word) -> Trial {
+    fn bind(&mut self, head: Word, goal: Word) {
         self.bound[head.index() & 15] = goal;
         self.bound_bits |= 1 << head.index();
-        Trial::Succeeds
     }
 
     /// Z := the head's term.
     #[inline]
-    fn give(&mut self, goal: Word, head: Word) -> Trial {
+    fn give(&mut self, goal: Word, head: Word) {
         let state = crate::circle::State::Unseen;
         self.assignments.push(Assignment { pair: goal.index(), head, state });
-        Trial::Succeeds
     }
 
     #[inline]

@@ -255,15 +255,13 @@ fn r22_later_clauses_are_tried_after_a_circle() {
 }
 
 #[test]
-fn r23_one_reader_for_each_clause_that_waits() {
+fn r23_the_readers_of_every_clause_that_waits() {
     let rules = "p(1,X,X?). p(X,2,X?). give(2). ";
     for given in ["give(B)", "give(A)"] {
         let report = report(&format!("{rules}?- p(A?,B?,C), {given}."));
         check(&report, &["run rest steps 3"]);
     }
     check(&report(&format!("{rules}?- p(A?,B?,C), give(B).")), &["C = _1?", "A = _1"]);
-    // The second place of the first clause is not reached: B's value does not wake the goal.
-    check(&report("p(1,2). give(2). ?- p(A?,B?), give(B)."), &["run rest steps 2", "waiting p(_1?,2)"]);
 }
 
 // The report and the program.
@@ -285,10 +283,10 @@ fn r26_first_appearance_in_the_order_of_writing() {
 
 #[test]
 fn r27_goals_are_written_with_every_assignment_of_the_run() {
-    check(&session("?- no(A?), w(B?,1), same(5,A)."), &["failed no(5)", "waiting w(_1?,1)"]);
+    check(&session("?- no(A?), w(B?,2), same(5,A)."), &["failed no(5)", "waiting w(_1?,2)"]);
     check(
-        &session("?- w([1|A?],B), tag(C?,[2|B?]), same([5],A)."),
-        &["failed w([1,5],_1)", "waiting tag(_2?,[2|_1?])"],
+        &session("k(1,X,X?). ?- w([1|A?],B), k(C?,[2|B?],D), same([5],A)."),
+        &["failed w([1,5],_1)", "waiting k(_2?,[2|_1?],_3)"],
     );
 }
 

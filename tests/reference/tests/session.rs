@@ -1,4 +1,4 @@
-//! 'A session, and its corners': K1 to K12 of document 01, then each line of 'Errors that look right'.
+//! 'A session, and its corners': K1 to K12 of document 01 (K12 as T-03 of document 02 has it), then each line of 'Errors that look right'.
 
 mod common;
 
@@ -78,8 +78,11 @@ fn k11_occurrence_rules() {
 }
 
 #[test]
-fn k12_first_place_decides() {
-    check(&session("?- w(A?,1)."), &["waiting w(_1?,1)"]);
+fn k12_a_failing_place_decides() {
+    assert_eq!(
+        session("?- w(A?,1)."),
+        "run rest steps 1\nquery 1 tries 1 active 0 waiting 0 failed 1\nA = _1\nfailed w(_1?,1)\n"
+    );
     check(&session("?- w(2,A?)."), &["failed w(2,_1?)"]);
 }
 

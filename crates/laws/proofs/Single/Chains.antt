@@ -29,9 +29,9 @@ use Rattle.meaning.specs.Terms.{
 use Rattle.meaning.specs.State.{Values, value, QueryUnit}
 use Rattle.meaning.specs.Compare.{succeeds, waits, followed, gives, waits-on, place, places}
 use Rattle.meaning.specs.Trial.{compared, joins-waiting, choice}
-use Rattle.laws.proofs.Lists.{Each, each-implies, not-beyond}
+use Rattle.laws.proofs.Lists.{Each, each-append, each-implies, not-beyond}
 use Rattle.laws.proofs.Terms.{occurs-itself}
-use Rattle.laws.proofs.Trial.{waits-on-each, fails-not-waits, succeeds-not-waits, behind-test, Either, the-one, the-other, either}
+use Rattle.laws.proofs.Trial.{waits-on-each, fails-not-waits, succeeds-not-waits, behind-test, Either, the-one, the-other, the-two, either}
 use Rattle.laws.proofs.Single.LiveValues.{in-term, in-terms, Flows, flows-to-less, flows-then, occurs-within, link}
 
 -- The terms hold the pair's reader, or a variable whose value does so in turn.
@@ -125,16 +125,22 @@ module _ (values : Values) where
       places-reach (more u us) end readers e = absurd (fails-not-waits e)
       places-reach (more u us) (more t ts) readers e =
           go (either (place (followed links values) u (followed links values t)) (places (followed links values) us ts) readers e)
-          (λ i. place-reaches u (followed links values t) readers i) (λ i. places-reach us ts readers i)
+          (λ rs i. from-first rs (place-reaches u (followed links values t) rs i)) (λ rs i. from-others rs (places-reach us ts rs i))
         where
+          from-first : (rs : List ℕ) → Each (λ p. Reaches values p (more (followed links values t) end)) rs → Each (λ p. Reaches values p (more t ts)) rs
+          from-first = each-implies _ _ (λ p r. reaches-more (more t ts) (λ h n. omega arith) (followed-reaches p links t r))
+
+          from-others : (rs : List ℕ) → Each (λ p. Reaches values p ts) rs → Each (λ p. Reaches values p (more t ts)) rs
+          from-others = each-implies _ _ (λ p. reaches-more (more t ts) (λ h n. omega arith))
+
           go : Either (place (followed links values) u (followed links values t)) (places (followed links values) us ts) readers
-              → (place (followed links values) u (followed links values t) ≡ waits readers
-              → Each (λ p. Reaches values p (more (followed links values t) end)) readers)
-              → (places (followed links values) us ts ≡ waits readers → Each (λ p. Reaches values p ts) readers)
+              → ((rs : List ℕ) → place (followed links values) u (followed links values t) ≡ waits rs → Each (λ p. Reaches values p (more t ts)) rs)
+              → ((rs : List ℕ) → places (followed links values) us ts ≡ waits rs → Each (λ p. Reaches values p (more t ts)) rs)
               → Each (λ p. Reaches values p (more t ts)) readers
-          go (the-one i) one other =
-              each-implies _ _ (λ p r. reaches-more (more t ts) (λ h n. omega arith) (followed-reaches p links t r)) readers (one i)
-          go (the-other i) one other = each-implies _ _ (λ p. reaches-more (more t ts) (λ h n. omega arith)) readers (other i)
+          go (the-one i) one other = one readers i
+          go (the-other i) one other = other readers i
+          go (the-two first others i j together) one other =
+              rw together (each-append (λ p. Reaches values p (more t ts)) first others (one first i) (other others j))
 
 -- A goal that joins the waiting goals has a chain to each of its readers.
 pub waits-reach : (unit : QueryUnit) (goal : Named) (clauses : List Clause) (readers : List ℕ) → choice clauses unit goal ≡ joins-waiting readers

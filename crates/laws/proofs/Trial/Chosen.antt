@@ -18,7 +18,7 @@ unfolding none-succeeds
 none-reduces [] clause given e = differ (cc)
 none-reduces (r ∷ readers) clause given e = differ (cc)
 
-none-waits : (readers joined : List ℕ) → none-succeeds readers ≡ joins-waiting joined → readers ≡ joined
+pub none-waits : (readers joined : List ℕ) → none-succeeds readers ≡ joins-waiting joined → readers ≡ joined
 unfolding none-succeeds
 none-waits [] joined e = absurd (differ (cc))
 none-waits (r ∷ readers) joined e = cc
@@ -83,7 +83,7 @@ module _ (unit : QueryUnit) (goal : Named) where
   tested-waits clause (waits others) readers e = e
   tested-waits clause fails readers e = e
 
-  trial-waits : (clause : Clause) (readers : List ℕ) → trial clause unit goal ≡ waits readers → compared clause unit goal ≡ waits readers
+  pub trial-waits : (clause : Clause) (readers : List ℕ) → trial clause unit goal ≡ waits readers → compared clause unit goal ≡ waits readers
   unfolding trial
   trial-waits clause readers e = tested-waits clause (compared clause unit goal) readers e
 

@@ -22,7 +22,7 @@ use Rattle.meaning.specs.Terms.{
   same-constant,
   same-functor,
 }
-use Rattle.meaning.specs.Compare.{Assignment, Result, succeeds, waits, fails, gives, waits-on, with-assignments, and-then, place, places}
+use Rattle.meaning.specs.Compare.{Assignment, Result, succeeds, waits, fails, gives, waits-on, with-assignments, with-readers, and-then, place, places}
 use Rattle.laws.proofs.Lists.{Each, each-append}
 use Rattle.laws.proofs.Terms.{Stands, StandsIn}
 
@@ -53,11 +53,13 @@ module _ (P : Assignment → Type 0) where
   each-gives p t h = (h, tt)
 
   each-and-then : (r s : Result) → EachGiven P r → EachGiven P s → EachGiven P (and-then r s)
-  unfolding EachGiven and-then with-assignments
+  unfolding EachGiven and-then with-assignments with-readers
   each-and-then (succeeds given) (succeeds others) f g = each-append P given others f g
   each-and-then (succeeds given) (waits readers) f g = tt
   each-and-then (succeeds given) fails f g = tt
-  each-and-then (waits readers) s f g = tt
+  each-and-then (waits readers) (succeeds others) f g = tt
+  each-and-then (waits readers) (waits others) f g = tt
+  each-and-then (waits readers) fails f g = tt
   each-and-then fails s f g = tt
 
   each-if : (b : Bool) (r : Result) → EachGiven P r → EachGiven P (if b then r else fails)

@@ -1,4 +1,4 @@
--- K1 to K12 of document 01, and a case for each line of 'Errors that look right' that a case can show.
+-- K1 to K12 of document 01 (K12 as document 02 changes it), and a case for each line of 'Errors that look right' that a case can show.
 use Prim.Native.Nat.{ℕ}
 use mathlib.Core.List.{List, [], _∷_, _++_}
 use Rattle.meaning.specs.Case.{Case, refuses}
@@ -21,7 +21,7 @@ session =
     ∷ text "K11, a writer alone in a clause" "p(X)." (refuses 5 1)
     ∷ text "K11, a writer twice" "?- p(X,X)." (refuses 5 1)
     ∷ text "K11, a reader alone in a query" "?- p(X?)." (shows "run rest steps 1\nquery 1 tries 1 active 0 waiting 0 failed 1\nX = _1\nfailed p(_1?)\n")
-    ∷ ruled "K12" "?- w(A?,1)." (shows "run rest steps 1\nquery 1 tries 1 active 0 waiting 1 failed 0\nA = _1\nwaiting w(_1?,1)\n")
+    ∷ ruled "K12, a failed goal by T-03 of document 02" "?- w(A?,1)." (shows "run rest steps 1\nquery 1 tries 1 active 0 waiting 0 failed 1\nA = _1\nfailed w(_1?,1)\n")
     ∷ []
 
 -- Errors that look right.

@@ -1,5 +1,6 @@
-//! A plain model of a run, which follows document 01 word for word: it gives every clause variable a pair, copies every
-//! term, tests all pairs for circles and writes values by recursion.
+//! A plain model of a run, which follows document 01, with T-03 of document 02, word for word: it gives every clause
+//! variable a pair, goes through every place, copies every term, tests all pairs for circles and writes values by
+//! recursion.
 
 use std::collections::BTreeSet;
 
@@ -144,9 +145,15 @@ fn renamed(term: &Term, first: usize) -> Term {
 
 // The machine.
 
+enum Place {
+    Gives(usize, Term),
+    Waits(usize),
+    Fails,
+}
+
 enum Trial {
     Succeeds(Vec<(usize, Term)>),
-    Waits(usize),
+    Waits(BTreeSet<usize>),
     Fails,
 }
 
@@ -170,23 +177,20 @@ impl Machine {
         }
     }
 
-    /// `Err` is a place that waits (some pair) or fails (none).
-    fn compare(&self, head: &Term, goal: &Term, new: &mut Vec<(usize, Term)>) -> Result<(), Option<usize>> {
-        match (head, self.follow(goal)) {
-            (Writer(_), Writer(_)) => return Err(None),
-            (Writer(x), goal) => new.push((*x, goal)),
-            (head, Writer(z)) => new.push((z, head.clone())),
-            (Reader(_), _) => return Err(None),
-            (_, Reader(p)) => return Err(Some(p)),
-            (Constant(a), Constant(b)) if *a == b => {}
+    /// What each place of the comparison gives, all of them.
+    fn compare(&self, head: &Term, goal: &Term, places: &mut Vec<Place>) {
+        places.push(match (head, self.follow(goal)) {
+            (Writer(_), Writer(_)) => Place::Fails,
+            (Writer(x), goal) => Place::Gives(*x, goal),
+            (head, Writer(z)) => Place::Gives(z, head.clone()),
+            (Reader(_), _) => Place::Fails,
+            (_, Reader(p)) => Place::Waits(p),
+            (Constant(a), Constant(b)) if *a == b => return,
             (Compound(f, xs), Compound(g, ys)) if *f == g && xs.len() == ys.len() => {
-                for (x, y) in xs.iter().zip(&ys) {
-                    self.compare(x, y, new)?;
-                }
+                return xs.iter().zip(&ys).for_each(|(x, y)| self.compare(x, y, places));
             }
-            _ => return Err(None),
-        }
-        Ok(())
+            _ => Place::Fails,
+        });
     }
 
     fn pairs_of(term: &Term, out: &mut Vec<usize>) {
@@ -220,12 +224,18 @@ impl Machine {
 
     fn trial(&self, clause: &Item, goal: &Term) -> Trial {
         let first = self.values.len();
-        let mut new = Vec::new();
         let head = renamed(clause.head.as_ref().unwrap(), first);
-        match self.compare(&head, goal, &mut new) {
-            Err(Some(pair)) => return Trial::Waits(pair),
-            Err(None) => return Trial::Fails,
-            Ok(()) => {}
+        let (mut places, mut new, mut readers) = (Vec::new(), Vec::new(), BTreeSet::new());
+        self.compare(&head, goal, &mut places);
+        for place in places {
+            match place {
+                Place::Gives(pair, value) => new.push((pair, value)),
+                Place::Waits(pair) => drop(readers.insert(pair)),
+                Place::Fails => return Trial::Fails,
+            }
+        }
+        if !readers.is_empty() {
+            return Trial::Waits(readers);
         }
         let mut values = self.values.clone();
         values.resize(first + clause.variables.len(), None);
@@ -282,9 +292,7 @@ pub fn plain_report(text: &str, figures: &Figures) -> (String, usize) {
                     taken = Some((clause, new));
                     break;
                 }
-                Trial::Waits(pair) => {
-                    readers.insert(pair);
-                }
+                Trial::Waits(needed) => readers.extend(needed),
                 Trial::Fails => {}
             }
         }

@@ -1,5 +1,5 @@
 -- `run_compare::compare::compounds` and `places` meet their contracts. The places of the head's compounds rise, which is the measure; the loop's
--- invariant says in which two compounds it stands, what was given so far and what is left of their arguments, and that their answer is the whole's.
+-- invariant says in which two compounds it stands, what was noted so far and what is left of their arguments, and that their answer is the whole's.
 use Prim.Native.Nat.{ℕ, _+_, _*_, _-_, _<_}
 use mathlib.Core.Path.{_≡_, refl, _∙_}
 use mathlib.Core.Logic.{⊎-elim}
@@ -22,14 +22,12 @@ use Rattle.run_compare.proofs.Going.{
   facing,
   turn-reads,
   turn-against,
-  turn-agrees,
-  turn-waits,
+  turn-noted,
   turn-fails,
   turn-cells,
   turn-later,
   turn-compounds,
-  both-agree,
-  both-wait,
+  both-noted,
   both-fail,
   turn-differs,
   turn-inside,
@@ -194,41 +192,16 @@ pub +compounds+places-spec : {M : Type 1} → statement M
     let goal = c .before .before .before .argument2 .ensures in
     let leads = c .before .follow .ensures in
     let F = facing (a .links) G left in
-    table-asks (at .places .s) (pre .0) (pre .1) (a .values) (a .links) (G .partly .low) (F .mid) (at .places .given)
+    table-asks (at .places .s) (pre .0) (pre .1) (a .values) (a .links) (G .partly .low) (F .mid) (at .places .noted)
     (c .before .before .before .before .before .argument .result) (c .before .follow .result) (F .t) (followed (a .links) (pre .0 .values) (F .u))
     (turn-against (a .links) G left head goal leads))
     -- places-enum-known-m
     (λ c.
     c .match .keys1)
-    -- places-enum-known-z
+    -- places-enum-told
     (λ c.
     c .match .keys2)
     -- places-same-length
-    (λ c.
-    let after = c .before .before .before .before .before in
-    let at = after .before .before .before .before .before .before .before .before .before in
-    let start = at .before .before .before .before in
-    let a = start .args in
-    let pre = start .pre .1 in
-    let G = at .places .inv (pre .0) (pre .1) (pre .2) (pre .3) (pre .4) (pre .5) (pre .6) (pre .7) (pre .8) (pre .9) (pre .10) in
-    after .table .kept .0 ∙ same-size (a .links) G)
-    -- places-returns
-    (λ c x y m g us lo hi l f ts A.
-    let after = c .before .before .before .before .before in
-    let at = after .before .before .before .before .before .before .before .before .before in
-    let start = at .before .before .before .before in
-    let a = start .args in
-    let G = at .places .inv x y m g us lo hi l f ts A in
-    let left = after .before .before .before .before .before .before .before .before .places-test .left in
-    let head = after .before .before .before .before .before .before .argument .ensures in
-    let goal = after .before .before .before .before .argument2 .ensures in
-    let leads = after .before .before .follow .ensures in
-    let done = after .table .ensures in
-    turn-waits (a .links) G left head goal leads done (c .before .z .given .1))
-    -- places-enum-told
-    (λ c.
-    c .match .keys3)
-    -- places-same-length-2
     (λ c.
     let after = c .before .before .before .before in
     let at = after .before .before .before .before .before .before .before .before .before in
@@ -237,7 +210,7 @@ pub +compounds+places-spec : {M : Type 1} → statement M
     let pre = start .pre .1 in
     let G = at .places .inv (pre .0) (pre .1) (pre .2) (pre .3) (pre .4) (pre .5) (pre .6) (pre .7) (pre .8) (pre .9) (pre .10) in
     after .table .kept .0 ∙ same-size (a .links) G)
-    -- places-returns-2
+    -- places-returns
     (λ c x y m g us lo hi l f ts A.
     let after = c .before .before .before .before in
     let at = after .before .before .before .before .before .before .before .before .before in
@@ -252,7 +225,7 @@ pub +compounds+places-spec : {M : Type 1} → statement M
     turn-fails (a .links) G left head goal leads done (c .enum-told .given .1))
     -- places-enum-known-b
     (λ c.
-    c .match .keys4)
+    c .match .keys3)
     -- places-differ-requires
     (λ c κs.
     let after = c .before .before .before .before .before .before .before in
@@ -268,7 +241,7 @@ pub +compounds+places-spec : {M : Type 1} → statement M
     let done = after .table .ensures in
     let below = c .before .before .before .b .given .1 in
     turn-cells (a .links) G left head goal leads done below)
-    -- places-same-length-3
+    -- places-same-length-2
     (λ c.
     let after = c .before .before .before .before .before .before .before .before .before in
     let at = after .before .before .before .before .before .before .before .before .before in
@@ -277,7 +250,7 @@ pub +compounds+places-spec : {M : Type 1} → statement M
     let pre = start .pre .1 in
     let G = at .places .inv (pre .0) (pre .1) (pre .2) (pre .3) (pre .4) (pre .5) (pre .6) (pre .7) (pre .8) (pre .9) (pre .10) in
     after .table .kept .0 ∙ same-size (a .links) G)
-    -- places-returns-3
+    -- places-returns-2
     (λ c x y m g us lo hi l f ts A.
     let after = c .before .before .before .before .before .before .before .before .before in
     let at = after .before .before .before .before .before .before .before .before .before in
@@ -367,40 +340,10 @@ pub +compounds+places-spec : {M : Type 1} → statement M
     -- places-enum-known-m-2
     (λ c.
     c .match2 .keys1)
-    -- places-enum-known-z-2
-    (λ c.
-    c .match2 .keys2)
-    -- places-same-length-4
-    (λ c.
-    let after = c .before .before .before .before .before .before .before .before .before .before .before .before .before in
-    let at = after .before .before .before .before .before .before .before .before .before in
-    let start = at .before .before .before .before in
-    let a = start .args in
-    let pre = start .pre .1 in
-    let G = at .places .inv (pre .0) (pre .1) (pre .2) (pre .3) (pre .4) (pre .5) (pre .6) (pre .7) (pre .8) (pre .9) (pre .10) in
-    c .before .before .before .before .before .compounds .kept .0 ∙ after .table .kept .0 ∙ same-size (a .links) G)
-    -- places-returns-4
-    (λ c x y m g us lo hi l f ts A.
-    let after = c .before .before .before .before .before .before .before .before .before .before .before .before .before in
-    let at = after .before .before .before .before .before .before .before .before .before in
-    let start = at .before .before .before .before in
-    let a = start .args in
-    let G = at .places .inv x y m g us lo hi l f ts A in
-    let left = after .before .before .before .before .before .before .before .before .places-test .left in
-    let head = after .before .before .before .before .before .before .argument .ensures in
-    let goal = after .before .before .before .before .argument2 .ensures in
-    let leads = after .before .before .follow .ensures in
-    let done = after .table .ensures in
-    let below = c .before .before .before .before .before .before .before .before .before .b .given .1 in
-    let F = facing (a .links) G left in
-    let D = turn-compounds (a .links) G left head goal leads done below in
-    let told = c .before .before .before .before .before .compounds .ensures x y (G .partly .low) (F .mid)
-    (D .m) (D .g) (D .us) (D .l) (D .f) (D .ts) (D .against) in
-    both-wait (a .links) G left head goal leads done below told (c .before .z2 .given .1))
     -- places-enum-told-2
     (λ c.
-    c .match2 .keys3)
-    -- places-same-length-5
+    c .match2 .keys2)
+    -- places-same-length-3
     (λ c.
     let after = c .before .before .before .before .before .before .before .before .before .before .before .before in
     let at = after .before .before .before .before .before .before .before .before .before in
@@ -409,7 +352,7 @@ pub +compounds+places-spec : {M : Type 1} → statement M
     let pre = start .pre .1 in
     let G = at .places .inv (pre .0) (pre .1) (pre .2) (pre .3) (pre .4) (pre .5) (pre .6) (pre .7) (pre .8) (pre .9) (pre .10) in
     c .before .before .before .before .compounds .kept .0 ∙ after .table .kept .0 ∙ same-size (a .links) G)
-    -- places-returns-5
+    -- places-returns-3
     (λ c x y m g us lo hi l f ts A.
     let after = c .before .before .before .before .before .before .before .before .before .before .before .before in
     let at = after .before .before .before .before .before .before .before .before .before in
@@ -453,15 +396,15 @@ pub +compounds+places-spec : {M : Type 1} → statement M
     let done = after .table .ensures in
     let F = facing (a .links) G left in
     ⊎-elim
-    (λ came. rw (came .3, came .4) (turn-agrees (a .links) G left head goal leads done (came .1 .given .1)))
+    (λ came. rw (came .3, came .4) (turn-noted (a .links) G left head goal leads done (came .1 .given .1)))
     (λ came.
     let below = came .1 .given .1 in
     let D = turn-compounds (a .links) G left head goal leads done below in
     let told = came .5 .ensures x y (G .partly .low) (F .mid)
     (D .m) (D .g) (D .us) (D .l) (D .f) (D .ts) (D .against) in
-    rw (came .11, came .12) (both-agree (a .links) G left head goal leads done below told (came .9 .given .1)))
+    rw (came .11, came .12) (both-noted (a .links) G left head goal leads done below told (came .9 .given .1)))
     (c .match .came))
-    -- places-same-length-6
+    -- places-same-length-4
     (λ c.
     let at = c .before in
     let start = at .before .before .before .before in
@@ -469,7 +412,7 @@ pub +compounds+places-spec : {M : Type 1} → statement M
     let pre = start .pre .1 in
     let G = at .places .inv (pre .0) (pre .1) (pre .2) (pre .3) (pre .4) (pre .5) (pre .6) (pre .7) (pre .8) (pre .9) (pre .10) in
     same-size (a .links) G)
-    -- places-returns-6
+    -- places-returns-4
     (λ c x y m g us lo hi l f ts A.
     let at = c .before in
     let start = at .before .before .before .before in

@@ -1,4 +1,4 @@
--- `run_compare::heads::head` meets its contract. The invariant: what was given so far, and what is left of both lists of arguments, of which the goal's
+-- `run_compare::heads::head` meets its contract. The invariant: what was noted so far, and what is left of both lists of arguments, of which the goal's
 -- stand followed.
 use Prim.Native.Nat.{ℕ, _+_, _-_}
 use mathlib.Core.Path.{_∙_}
@@ -9,7 +9,7 @@ use Rattle.meaning.specs.Compare.{followed}
 use Rattle.term.specs.Setting.{Setting}
 use Rattle.run_compare.specs.Compare.{Template, HeadAgainst}
 use Rattle.run_compare.proofs.Table.{table-asks}
-use Rattle.run_compare.proofs.Place.{place-agrees, place-waits, place-fails, place-cells, place-differs, place-deeper}
+use Rattle.run_compare.proofs.Place.{place-noted, place-fails, place-cells, place-differs, place-deeper}
 use Rattle.run_compare.proofs.Arguments.{
   Partly,
   head-inside,
@@ -19,7 +19,6 @@ use Rattle.run_compare.proofs.Arguments.{
   next,
   next-against,
   one-more,
-  waits-here,
   fails-here,
   all-agree,
 }
@@ -69,42 +68,24 @@ table-requires c κs =
     let P = c .before .before .before .before .before .before .places .inv (pre .0) (pre .1) (pre .2) (pre .3) (pre .4) (pre .5) (pre .6) (pre .7) (pre .8) in
     let F = next links ((pre .8) .head) P (c .before .before .before .before .before .places-test .left) in
     let K = next-against links ((pre .8) .head) P F (c .before .before .before .argument .ensures) (followed-read links (pre .8) P F (c .before .word-at .ensures)) in
-    table-asks (c .before .before .before .before .before .before .places .s) (pre .0) (pre .1) (a .values) links (P .low) (F .mid) (c .before .before .before .before .before .before .places .given) (c .before .before .before .argument .result) (c .before .word-at .result) (F .t) (followed links (pre .0 .values) (F .u)) K
+    table-asks (c .before .before .before .before .before .before .places .s) (pre .0) (pre .1) (a .values) links (P .low) (F .mid) (c .before .before .before .before .before .before .places .noted) (c .before .before .before .argument .result) (c .before .word-at .result) (F .t) (followed links (pre .0 .values) (F .u)) K
 
 enum-known-m : tie.Need-enum-known-m Inv-places μ-places
 enum-known-m c =
     c .match .keys1
 
-enum-known-z : tie.Need-enum-known-z Inv-places μ-places
-enum-known-z c =
+enum-told : tie.Need-enum-told Inv-places μ-places
+enum-told c =
     c .match .keys2
 
 same-length : tie.Need-same-length Inv-places μ-places
 same-length c =
-    let pre = c .before .before .before .before .before .before .before .before .before .before .before .before .before .before .before .before .pre in
-    let P = c .before .before .before .before .before .before .before .before .before .before .before .before .places .inv (pre .0) (pre .1) (pre .2) (pre .3) (pre .4) (pre .5) (pre .6) (pre .7) (pre .8) in
-    c .before .before .before .before .before .table .kept .0 ∙ P .only .size
-
-returns : tie.Need-returns Inv-places μ-places
-returns c x y m g us lo hi ts A =
-    let links = c .before .before .before .before .before .before .before .before .before .before .before .before .before .before .before .before .args .links in
-    let P = c .before .before .before .before .before .before .before .before .before .before .before .before .places .inv x y m g us lo hi ts A in
-    let F = next links (A .head) P (c .before .before .before .before .before .before .before .before .before .before .before .places-test .left) in
-    let K = next-against links (A .head) P F (c .before .before .before .before .before .before .before .before .before .argument .ensures) (followed-read links A P F (c .before .before .before .before .before .before .before .word-at .ensures)) in
-    waits-here links (A .head) P F (place-waits links K (c .before .before .before .before .before .table .ensures) (c .before .z .given .1))
-
-enum-told : tie.Need-enum-told Inv-places μ-places
-enum-told c =
-    c .match .keys3
-
-same-length-2 : tie.Need-same-length-2 Inv-places μ-places
-same-length-2 c =
     let pre = c .before .before .before .before .before .before .before .before .before .before .before .before .before .before .before .pre in
     let P = c .before .before .before .before .before .before .before .before .before .before .before .places .inv (pre .0) (pre .1) (pre .2) (pre .3) (pre .4) (pre .5) (pre .6) (pre .7) (pre .8) in
     c .before .before .before .before .table .kept .0 ∙ P .only .size
 
-returns-2 : tie.Need-returns-2 Inv-places μ-places
-returns-2 c x y m g us lo hi ts A =
+returns : tie.Need-returns Inv-places μ-places
+returns c x y m g us lo hi ts A =
     let links = c .before .before .before .before .before .before .before .before .before .before .before .before .before .before .before .args .links in
     let P = c .before .before .before .before .before .before .before .before .before .before .before .places .inv x y m g us lo hi ts A in
     let F = next links (A .head) P (c .before .before .before .before .before .before .before .before .before .before .places-test .left) in
@@ -113,7 +94,7 @@ returns-2 c x y m g us lo hi ts A =
 
 enum-known-a : tie.Need-enum-known-a Inv-places μ-places
 enum-known-a c =
-    c .match .keys4
+    c .match .keys3
 
 differ-requires : tie.Need-differ-requires Inv-places μ-places
 differ-requires c κs =
@@ -124,14 +105,14 @@ differ-requires c κs =
     let K = next-against links ((pre .8) .head) P F (c .before .before .before .before .before .before .before .before .before .before .argument .ensures) (followed-read links (pre .8) P F (c .before .before .before .before .before .before .before .before .word-at .ensures)) in
     place-cells links K (c .before .before .before .before .before .before .table .ensures) (c .before .before .a .given .1)
 
-same-length-3 : tie.Need-same-length-3 Inv-places μ-places
-same-length-3 c =
+same-length-2 : tie.Need-same-length-2 Inv-places μ-places
+same-length-2 c =
     let pre = c .before .before .before .before .before .before .before .before .before .before .before .before .before .before .before .before .before .before .before .pre in
     let P = c .before .before .before .before .before .before .before .before .before .before .before .before .before .before .before .places .inv (pre .0) (pre .1) (pre .2) (pre .3) (pre .4) (pre .5) (pre .6) (pre .7) (pre .8) in
     c .before .before .before .before .before .before .before .before .table .kept .0 ∙ P .only .size
 
-returns-3 : tie.Need-returns-3 Inv-places μ-places
-returns-3 c x y m g us lo hi ts A =
+returns-2 : tie.Need-returns-2 Inv-places μ-places
+returns-2 c x y m g us lo hi ts A =
     let links = c .before .before .before .before .before .before .before .before .before .before .before .before .before .before .before .before .before .before .before .args .links in
     let P = c .before .before .before .before .before .before .before .before .before .before .before .before .before .before .before .places .inv x y m g us lo hi ts A in
     let F = next links (A .head) P (c .before .before .before .before .before .before .before .before .before .before .before .before .before .before .places-test .left) in
@@ -152,39 +133,18 @@ enum-known-m-2 : tie.Need-enum-known-m-2 Inv-places μ-places
 enum-known-m-2 c =
     c .match2 .keys1
 
-enum-known-z-2 : tie.Need-enum-known-z-2 Inv-places μ-places
-enum-known-z-2 c =
-    c .match2 .keys2
-
-same-length-4 : tie.Need-same-length-4 Inv-places μ-places
-same-length-4 c =
-    let pre = c .before .before .before .before .before .before .before .before .before .before .before .before .before .before .before .before .before .before .before .before .before .before .before .before .before .before .pre in
-    let P = c .before .before .before .before .before .before .before .before .before .before .before .before .before .before .before .before .before .before .before .before .before .before .places .inv (pre .0) (pre .1) (pre .2) (pre .3) (pre .4) (pre .5) (pre .6) (pre .7) (pre .8) in
-    c .before .before .before .before .before .places2 .kept .0 ∙ c .before .before .before .before .before .before .before .before .before .before .before .before .before .before .before .table .kept .0 ∙ P .only .size
-
-returns-4 : tie.Need-returns-4 Inv-places μ-places
-returns-4 c x y m g us lo hi ts A =
-    let links = c .before .before .before .before .before .before .before .before .before .before .before .before .before .before .before .before .before .before .before .before .before .before .before .before .before .before .args .links in
-    let P = c .before .before .before .before .before .before .before .before .before .before .before .before .before .before .before .before .before .before .before .before .before .before .places .inv x y m g us lo hi ts A in
-    let F = next links (A .head) P (c .before .before .before .before .before .before .before .before .before .before .before .before .before .before .before .before .before .before .before .before .before .places-test .left) in
-    let K = next-against links (A .head) P F (c .before .before .before .before .before .before .before .before .before .before .before .before .before .before .before .before .before .before .before .argument .ensures) (followed-read links A P F (c .before .before .before .before .before .before .before .before .before .before .before .before .before .before .before .before .before .word-at .ensures)) in
-    let D = place-deeper links K (c .before .before .before .before .before .before .before .before .before .before .before .before .before .before .before .table .ensures) (c .before .before .before .before .before .before .before .before .before .before .before .a .given .1) (c .before .before .before .before .before .before .before .before .differ .result) (c .before .before .before .before .before .before .before .before .differ .ensures) (c .before .before .before .before .before .before .before .if1 .left) in
-    let told = c .before .before .before .before .before .places2 in
-    let below = D .back (told .last .0) (told .result) (told .ensures x y (D .m) (D .g) (D .us) (P .low + 1) (F .mid) (D .l) (D .f) (D .ts) (D .against)) in
-    waits-here links (A .head) P F (rw (c .before .z2 .given .1) at below)
-
 enum-told-2 : tie.Need-enum-told-2 Inv-places μ-places
 enum-told-2 c =
-    c .match2 .keys3
+    c .match2 .keys2
 
-same-length-5 : tie.Need-same-length-5 Inv-places μ-places
-same-length-5 c =
+same-length-3 : tie.Need-same-length-3 Inv-places μ-places
+same-length-3 c =
     let pre = c .before .before .before .before .before .before .before .before .before .before .before .before .before .before .before .before .before .before .before .before .before .before .before .before .before .pre in
     let P = c .before .before .before .before .before .before .before .before .before .before .before .before .before .before .before .before .before .before .before .before .before .places .inv (pre .0) (pre .1) (pre .2) (pre .3) (pre .4) (pre .5) (pre .6) (pre .7) (pre .8) in
     c .before .before .before .before .places2 .kept .0 ∙ c .before .before .before .before .before .before .before .before .before .before .before .before .before .before .table .kept .0 ∙ P .only .size
 
-returns-5 : tie.Need-returns-5 Inv-places μ-places
-returns-5 c x y m g us lo hi ts A =
+returns-3 : tie.Need-returns-3 Inv-places μ-places
+returns-3 c x y m g us lo hi ts A =
     let links = c .before .before .before .before .before .before .before .before .before .before .before .before .before .before .before .before .before .before .before .before .before .before .before .before .before .args .links in
     let P = c .before .before .before .before .before .before .before .before .before .before .before .before .before .before .before .before .before .before .before .before .before .places .inv x y m g us lo hi ts A in
     let F = next links (A .head) P (c .before .before .before .before .before .before .before .before .before .before .before .before .before .before .before .before .before .before .before .before .places-test .left) in
@@ -214,7 +174,7 @@ places-again c x y m g us lo hi ts A =
     let table-told = c .before .before .before .table in
     ⊎-elim
     (λ k.
-    let told = place-agrees links K (table-told .ensures) (k .1 .given .1) in
+    let told = place-noted links K (table-told .ensures) (k .1 .given .1) in
     rw (k .3, k .4) (one-more links (A .head) P F told (followed-left links A P F (told .only))))
     (λ k.
     let D = place-deeper links K (table-told .ensures) (k .1 .given .1) (k .4 .result) (k .4 .ensures) (k .5 .left) in
@@ -223,14 +183,14 @@ places-again c x y m g us lo hi ts A =
     rw (k .13, k .14) (one-more links (A .head) P F told (followed-left links A P F (told .only))))
     (c .match .came)
 
-same-length-6 : tie.Need-same-length-6 Inv-places μ-places
-same-length-6 c =
+same-length-4 : tie.Need-same-length-4 Inv-places μ-places
+same-length-4 c =
     let pre = c .before .before .before .before .before .pre in
     let P = c .before .places .inv (pre .0) (pre .1) (pre .2) (pre .3) (pre .4) (pre .5) (pre .6) (pre .7) (pre .8) in
     P .only .size
 
-returns-6 : tie.Need-returns-6 Inv-places μ-places
-returns-6 c x y m g us lo hi ts A =
+returns-4 : tie.Need-returns-4 Inv-places μ-places
+returns-4 c x y m g us lo hi ts A =
     let links = c .before .before .before .before .before .args .links in
     let P = c .before .places .inv x y m g us lo hi ts A in
     all-agree links (A .head) P (c .places-test .taken)
@@ -247,26 +207,20 @@ head-spec =
     word-at-requires
     table-requires
     enum-known-m
-    enum-known-z
+    enum-told
     same-length
     returns
-    enum-told
-    same-length-2
-    returns-2
     enum-known-a
     differ-requires
-    same-length-3
-    returns-3
+    same-length-2
+    returns-2
     places-requires
     enum-known-m-2
-    enum-known-z-2
-    same-length-4
-    returns-4
     enum-told-2
-    same-length-5
-    returns-5
+    same-length-3
+    returns-3
     add-i
     places-less
     places-again
-    same-length-6
-    returns-6)
+    same-length-4
+    returns-4)

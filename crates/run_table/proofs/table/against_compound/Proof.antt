@@ -20,6 +20,9 @@ give-requires c κs = search needs
 enum-known-z-2 : tie.Need-enum-known-z-2
 enum-known-z-2 c = search needs
 
+ask-requires : tie.Need-ask-requires
+ask-requires c κs = search needs
+
 enum-known-q : tie.Need-enum-known-q
 enum-known-q c = search needs
 
@@ -35,13 +38,17 @@ returns c =
     done-by (start .args .s .now) (c .before .before .give .last .0) (start .args .n) (start .args .h) (start .args .w) _ (gives-goal z) _
     (rw at) (rw (c .before .before .give .ensures .0)) (c .before .before .give .ensures .1)
 
+same-length-2 : tie.Need-same-length-2
+same-length-2 c = search needs
+
 returns-2 : tie.Need-returns-2
 unfolding writer-row reader-row constant-row compound-row equal-row row answer behind
 returns-2 c =
-    let start = c .before .before .before .before .before in
-    let z = c .before .z2 .given .0 .0 in
+    let start = c .before .before .before .before .before .before .before .before .before in
+    let z = c .before .before .before .before .before .z2 .given .0 .0 in
     let at : seen (start .args .w) ≡ Reader z = cc in
-    done-by (start .args .s .now) (start .args .s .now) (start .args .n) (start .args .h) (start .args .w) _ (waits z) _ (rw at) refl refl
+    done-by (start .args .s .now) (c .before .before .ask .last .0) (start .args .n) (start .args .h) (start .args .w) _ (waits z) _
+    (rw at) (rw (c .before .before .ask .ensures .0)) (c .before .before .ask .ensures .1)
 
 returns-3 : tie.Need-returns-3
 unfolding writer-row reader-row constant-row compound-row equal-row row answer behind
@@ -66,9 +73,11 @@ against-compound-spec =
     enum-known-z
     give-requires
     enum-known-z-2
+    ask-requires
     enum-known-q
     same-length
     returns
+    same-length-2
     returns-2
     returns-3
     returns-4)

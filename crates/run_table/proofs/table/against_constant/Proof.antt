@@ -22,6 +22,9 @@ give-requires c κs = search needs
 enum-known-z-2 : tie.Need-enum-known-z-2
 enum-known-z-2 c = search needs
 
+ask-requires : tie.Need-ask-requires
+ask-requires c κs = search needs
+
 returns : tie.Need-returns
 unfolding writer-row reader-row constant-row compound-row equal-row row answer behind
 returns c =
@@ -41,13 +44,17 @@ returns-2 c =
     done-by (start .args .s .now) (c .before .before .give .last .0) (start .args .n) (start .args .h) (start .args .w) _ (gives-goal z) _
     (rw at) (rw (c .before .before .give .ensures .0)) (c .before .before .give .ensures .1)
 
+same-length-2 : tie.Need-same-length-2
+same-length-2 c = search needs
+
 returns-3 : tie.Need-returns-3
 unfolding writer-row reader-row constant-row compound-row equal-row row answer behind
 returns-3 c =
-    let start = c .before .before .before .before .before in
-    let z = c .before .z2 .given .0 .0 in
+    let start = c .before .before .before .before .before .before .before .before .before in
+    let z = c .before .before .before .before .before .z2 .given .0 .0 in
     let at : seen (start .args .w) ≡ Reader z = cc in
-    done-by (start .args .s .now) (start .args .s .now) (start .args .n) (start .args .h) (start .args .w) _ (waits z) _ (rw at) refl refl
+    done-by (start .args .s .now) (c .before .before .ask .last .0) (start .args .n) (start .args .h) (start .args .w) _ (waits z) _
+    (rw at) (rw (c .before .before .ask .ensures .0)) (c .before .before .ask .ensures .1)
 
 returns-4 : tie.Need-returns-4
 unfolding writer-row reader-row constant-row compound-row equal-row row answer behind
@@ -64,8 +71,10 @@ against-constant-spec =
     enum-known-z
     give-requires
     enum-known-z-2
+    ask-requires
     returns
     same-length
     returns-2
+    same-length-2
     returns-3
     returns-4)

@@ -1,4 +1,4 @@
--- `run_trial::choice::choice` meets its contract: the clauses of the procedure are tried in order, and the readers that wait are noted.
+-- `run_trial::choice::choice` meets its contract: the clauses of the procedure are tried in order, and the readers that they wait on are gathered.
 use Prim.Native.Nat.{_+_, _-_}
 use mathlib.Core.Path.{_≡_, sym, ap, subst, _∙_}
 use mathlib.Core.Logic.{inl, inr, ⊎-elim}
@@ -71,24 +71,29 @@ enum-known-t c = search needs
 enum-known-t-2 : tie.Need-enum-known-t-2 Inv-clauses μ-clauses
 enum-known-t-2 c = search needs
 
-word-requires : tie.Need-word-requires Inv-clauses μ-clauses
-word-requires c κs = search needs
-
-set-at-requires : tie.Need-set-at-requires Inv-clauses μ-clauses
-set-at-requires c κs =
-    let T = c .before .before .before .before .before .before .before .before in
+add-meet-all : tie.Need-add-meet-all Inv-clauses μ-clauses
+add-meet-all c =
+    let T = c .before .before .before .before .before .before .before in
     let L = T .before .before .before in
     let A = L .before .before .before .before .before in
-    let n = clauses.turning (L .clauses .inv) (following.ready (A .before .before .before .pre) (A .follow-arguments .ensures)) (T .before .before .clauses-test .taken) in
-    omega (arith, n .large, n .few-readers, T .trial .kept .0)
+    let S = A .before .before .before in
+    let n = clauses.turning (L .clauses .inv) (following.ready (S .pre) (A .follow-arguments .ensures)) (T .before .before .clauses-test .taken) in
+    record { fits = omega (arith, n .room, n .size, A .follow-arguments .kept .0, S .good) }
 
-add-readers : tie.Need-add-readers Inv-clauses μ-clauses
-add-readers c =
-    let T = c .before .before .before .before .before .before .before .before .before .before .before in
+meet-all-requires : tie.Need-meet-all-requires Inv-clauses μ-clauses
+meet-all-requires c κs =
+    let W = c .before .before in
+    let T = W .before .before .before .before .before in
     let L = T .before .before .before in
     let A = L .before .before .before .before .before in
-    let n = clauses.turning (L .clauses .inv) (following.ready (A .before .before .before .pre) (A .follow-arguments .ensures)) (T .before .before .clauses-test .taken) in
-    record { fits = omega (arith, n .few-readers) }
+    let S = A .before .before .before in
+    let left = T .before .before .clauses-test .taken in
+    let (text, names, j, limit, figures, at, g, others, trying, stand, new, fit) = following.ready (S .pre) (A .follow-arguments .ensures) in
+    let w = L .clauses .inv text names j limit figures at g others trying stand new in
+    clauses.turn-meets trying w left
+    (T .trial .ensures text names j limit figures at g others (S .args .goal) (clauses.turn trying w left .0) (clauses.walk-trying trying w)
+    (clauses.walk-stand trying w stand) (clauses.turn-candidate trying w left) (w .marks-now))
+    (W .t2 .given .0 .0) (W .t2 .given .1)
 
 add-stamp : tie.Need-add-stamp Inv-clauses μ-clauses
 add-stamp c =
@@ -104,10 +109,11 @@ clause-after-requires c κs =
     let T = J .before .before .before .before in
     let L = T .before .before .before in
     let A = L .before .before .before .before .before in
-    let n = clauses.turning (L .clauses .inv) (following.ready (A .before .before .before .pre) (A .follow-arguments .ensures)) (T .before .before .clauses-test .taken) in
-    let noted : clauses.Noted (T .trial .last .0) (L .clauses .readers) (T .trial .result) (J .match2 .s) (J .match2 .readers) =
+    let S = A .before .before .before in
+    let n = clauses.turning (L .clauses .inv) (following.ready (S .pre) (A .follow-arguments .ensures)) (T .before .before .clauses-test .taken) in
+    let passed : clauses.Passed (T .trial .last .0) (S .args .marks) (S .args .links) (L .clauses .readers) (T .trial .result) (J .match2 .s) (J .match2 .readers) =
     ⊎-elim
-    (λ w. inl (w .1 .given .0 .0, w .1 .given .1, clauses.noted-at (T .trial .last .0) (L .clauses .readers) (w .8) (w .5 .ensures) (w .4 .ensures), w .9))
+    (λ w. inl (w .1 .given .0 .0, w .1 .given .1, rw (w .7, w .8) (w .4 .ensures)))
     (λ w. inr (clauses.neither (T .trial .result) (J .before .match .keys2) (w .0 .keys2), w .1, w .2))
     (J .match2 .came) in
     omega (
@@ -115,7 +121,8 @@ clause-after-requires c κs =
       n .large,
       n .number,
       T .trial .kept .0,
-      clauses.noted-length (T .trial .last .0) (L .clauses .readers) (T .trial .result) (J .match2 .s) (J .match2 .readers) noted,
+      clauses.passed-length (T .trial .last .0) (S .args .marks) (S .args .links) (L .clauses .readers) (T .trial .result) (J .match2 .s) (J .match2 .readers)
+          passed,
     )
 
 clauses-less : tie.Need-clauses-less Inv-clauses μ-clauses
@@ -132,15 +139,15 @@ clauses-again c =
     let T = J .before .before .before .before in
     let L = T .before .before .before in
     let A = L .before .before .before .before .before in
+    let S = A .before .before .before in
     let left = T .before .before .clauses-test .taken in
-    let noted : clauses.Noted (T .trial .last .0) (L .clauses .readers) (T .trial .result) (J .match2 .s) (J .match2 .readers) =
+    let passed : clauses.Passed (T .trial .last .0) (S .args .marks) (S .args .links) (L .clauses .readers) (T .trial .result) (J .match2 .s) (J .match2 .readers) =
     ⊎-elim
-    (λ w. inl (w .1 .given .0 .0, w .1 .given .1, clauses.noted-at (T .trial .last .0) (L .clauses .readers) (w .8) (w .5 .ensures) (w .4 .ensures), w .9))
+    (λ w. inl (w .1 .given .0 .0, w .1 .given .1, rw (w .7, w .8) (w .4 .ensures)))
     (λ w. inr (clauses.neither (T .trial .result) (J .before .match .keys2) (w .0 .keys2), w .1, w .2))
     (J .match2 .came) in
-    let S = A .before .before .before in
     let k = L .clauses .next - 1 in
-    let same : J .match2 .t ≡ T .trial .result = ⊎-elim {C = J .match2 .t ≡ T .trial .result} (λ w. w .10 ∙ sym (w .1 .given .1)) (λ w. w .3) (J .match2 .came) in
+    let same : J .match2 .t ≡ T .trial .result = ⊎-elim {C = J .match2 .t ≡ T .trial .result} (λ w. w .9 ∙ sym (w .1 .given .1)) (λ w. w .3) (J .match2 .came) in
     let told : c .clause-after .result ≡ clause-after (J .match2 .s) k (J .match2 .t) = c .clause-after .ensures in
     let later : c .clause-after .result ≡ getD (J .match2 .s) (clause-record k) 0 =
     told ∙ ap (clause-after (J .match2 .s) k) same ∙ clauses.goes-on (J .match2 .s) k (T .trial .result) (J .before .match .keys2) in
@@ -152,7 +159,7 @@ clauses-again c =
     (clauses.turn-passed trying w left
     (T .trial .ensures text names j limit figures at g others (S .args .goal) (clauses.turn trying w left .0) (clauses.walk-trying trying w)
     (clauses.walk-stand trying w stand) (clauses.turn-candidate trying w left) (w .marks-now))
-    (J .match2 .s) (J .match2 .readers) noted)
+    (J .match2 .s) (J .match2 .readers) passed)
 
 same-length : tie.Need-same-length Inv-clauses μ-clauses
 same-length c =
@@ -240,9 +247,8 @@ choice-spec =
     trial-requires
     enum-known-t
     enum-known-t-2
-    word-requires
-    set-at-requires
-    add-readers
+    add-meet-all
+    meet-all-requires
     add-stamp
     clause-after-requires
     clauses-less

@@ -1,8 +1,8 @@
--- `run_trial::choice::trial` meets its contract: the head is compared with the goal, and where all places agree the circle test follows.
+-- `run_trial::choice::trial` meets its contract: the head is compared with the goal; where no place fails and none waits the circle test follows.
 use borrow.Author.Needs.{needs}
 use Rattle.meaning.specs.Terms.{named}
 use Rattle.term.specs.States.{setting}
-use Rattle.run_compare.specs.declared.compare.CompareResult.the-variants.{Agrees, Waits, Fails}
+use Rattle.run_compare.specs.declared.compare.CompareResult.the-variants.{Noted, Fails}
 use Rattle.run_trial.specs.Choosing.{unit-of, template}
 use Rattle.run_trial.proofs.Trials as trials
 use Rattle.run_trial.proofs.choice.trial.Statement.{statement}
@@ -37,41 +37,45 @@ head-requires c κs =
 enum-known-n : tie.Need-enum-known-n
 enum-known-n c = search needs
 
-circle-requires : tie.Need-circle-requires
-circle-requires c κs =
+asks-requires : tie.Need-asks-requires
+asks-requires c κs =
     let N = c .before .before in
     let P = N .before .before .before .before in
     let B = P .before .before .before .before in
     let S = B .before .before .before in
     let (text, names, j, limit, figures, at, g, others, goal, k, t, f, m, new, fit) = S .pre in
     let begun = B .begin .ensures .0 in
-    let cleared = trials.cleared-all t f m begun (B .begin .ensures .1) in
-    let told = trials.comparison t f m begun (P .head .last .0) (P .head .result) (Agrees (N .n .given .0 .0)) (P .head .ensures) (N .n .given .1) in
-    (trials.tried-as t f m begun new fit cleared told, trials.tried t f m begun new fit cleared told)
+    let told = trials.comparison t f m begun (P .head .last .0) (P .head .result) (Noted (N .n .given .0 .0)) (P .head .ensures) (N .n .given .1) in
+    (trials.large-noted t f m begun told, trials.few-noted t f m begun told)
 
 same-length : tie.Need-same-length
 same-length c = search needs
 
 returns : tie.Need-returns
 returns c =
-    let C = c .before .before .before in
-    let N = C .before .before .before in
+    let A = c .before in
+    let N = A .before .before .before in
+    let P = N .before .before .before .before in
+    let B = P .before .before .before .before in
+    λ text names j limit figures at g others goal k t f m new.
+    let begun = B .begin .ensures .0 in
+    let told = trials.comparison t f m begun (P .head .last .0) (P .head .result) (Noted (N .n .given .0 .0)) (P .head .ensures) (N .n .given .1) in
+    trials.some-wait t f m begun new (N .n .given .0 .0) told (trials.waiting t f m begun told (A .asks .ensures) (c .if1 .taken))
+
+circle-requires : tie.Need-circle-requires
+circle-requires c κs =
+    let E = c .before in
+    let A = E .before in
+    let N = A .before .before .before in
     let P = N .before .before .before .before in
     let B = P .before .before .before .before in
     let S = B .before .before .before in
-    let fit = S .pre .14 in
-    λ text names j limit figures at g others goal k t f m new.
+    let (text, names, j, limit, figures, at, g, others, goal, k, t, f, m, new, fit) = S .pre in
     let begun = B .begin .ensures .0 in
     let cleared = trials.cleared-all t f m begun (B .begin .ensures .1) in
-    let told = trials.comparison t f m begun (P .head .last .0) (P .head .result) (Agrees (N .n .given .0 .0)) (P .head .ensures) (N .n .given .1) in
-    trials.circle-fails t f m begun new fit cleared told
-    (C .circle .ensures (trials.tried-as t f m begun new fit cleared told) (trials.tried t f m begun new fit cleared told)) (c .if1 .taken)
-
-enum-known-p : tie.Need-enum-known-p
-enum-known-p c = search needs
-
-enum-told : tie.Need-enum-told
-enum-told c = search needs
+    let told = trials.comparison t f m begun (P .head .last .0) (P .head .result) (Noted (N .n .given .0 .0)) (P .head .ensures) (N .n .given .1) in
+    let quiet = trials.quiet t f m begun told (A .asks .ensures) (E .if1 .left) in
+    (trials.tried-as t f m begun new fit cleared told quiet, trials.tried t f m begun new fit cleared told quiet)
 
 same-length-2 : tie.Need-same-length-2
 same-length-2 c = search needs
@@ -79,7 +83,9 @@ same-length-2 c = search needs
 returns-2 : tie.Need-returns-2
 returns-2 c =
     let C = c .before .before .before in
-    let N = C .before .before .before in
+    let E = C .before .before in
+    let A = E .before in
+    let N = A .before .before .before in
     let P = N .before .before .before .before in
     let B = P .before .before .before .before in
     let S = B .before .before .before in
@@ -87,22 +93,34 @@ returns-2 c =
     λ text names j limit figures at g others goal k t f m new.
     let begun = B .begin .ensures .0 in
     let cleared = trials.cleared-all t f m begun (B .begin .ensures .1) in
-    let told = trials.comparison t f m begun (P .head .last .0) (P .head .result) (Agrees (N .n .given .0 .0)) (P .head .ensures) (N .n .given .1) in
-    trials.no-circle-succeeds t f m begun new fit cleared told
-    (C .circle .ensures (trials.tried-as t f m begun new fit cleared told) (trials.tried t f m begun new fit cleared told)) (c .if1 .left)
+    let told = trials.comparison t f m begun (P .head .last .0) (P .head .result) (Noted (N .n .given .0 .0)) (P .head .ensures) (N .n .given .1) in
+    let quiet = trials.quiet t f m begun told (A .asks .ensures) (E .if1 .left) in
+    trials.circle-fails t f m begun new fit cleared told quiet
+    (C .circle .ensures (trials.tried-as t f m begun new fit cleared told quiet) (trials.tried t f m begun new fit cleared told quiet)) (c .if2 .taken)
+
+enum-told : tie.Need-enum-told
+enum-told c = search needs
 
 same-length-3 : tie.Need-same-length-3
 same-length-3 c = search needs
 
 returns-3 : tie.Need-returns-3
 returns-3 c =
-    let W = c .before in
-    let P = W .before .before .before .before in
-    let begun = P .before .before .before .before .begin .ensures .0 in
-    let z = W .p .given .0 .0 in
+    let C = c .before .before .before in
+    let E = C .before .before in
+    let A = E .before in
+    let N = A .before .before .before in
+    let P = N .before .before .before .before in
+    let B = P .before .before .before .before in
+    let S = B .before .before .before in
+    let fit = S .pre .14 in
     λ text names j limit figures at g others goal k t f m new.
-    trials.place-waits t f m begun new z
-    (trials.comparison t f m begun (P .head .last .0) (P .head .result) (Waits z) (P .head .ensures) (W .p .given .1))
+    let begun = B .begin .ensures .0 in
+    let cleared = trials.cleared-all t f m begun (B .begin .ensures .1) in
+    let told = trials.comparison t f m begun (P .head .last .0) (P .head .result) (Noted (N .n .given .0 .0)) (P .head .ensures) (N .n .given .1) in
+    let quiet = trials.quiet t f m begun told (A .asks .ensures) (E .if1 .left) in
+    trials.no-circle-succeeds t f m begun new fit cleared told quiet
+    (C .circle .ensures (trials.tried-as t f m begun new fit cleared told quiet) (trials.tried t f m begun new fit cleared told quiet)) (c .if2 .left)
 
 same-length-4 : tie.Need-same-length-4
 same-length-4 c = search needs
@@ -124,13 +142,13 @@ trial-spec =
     add-head
     head-requires
     enum-known-n
-    circle-requires
+    asks-requires
     same-length
     returns
-    enum-known-p
-    enum-told
+    circle-requires
     same-length-2
     returns-2
+    enum-told
     same-length-3
     returns-3
     same-length-4

@@ -7,7 +7,7 @@ use borrow.Author.Needs.{needs}
 use Rattle.meaning.specs.Bytes.{Bytes}
 use Rattle.meaning.specs.Terms.{Job}
 use Rattle.meaning.specs.State.{Goal}
-use Rattle.term.specs.Layout.{figures, waiters-region, sets-region, waiting-region, readers-part}
+use Rattle.term.specs.Layout.{figures, waiters-region, sets-region, readers-region, waiting-region}
 use Rattle.term.specs.States.{Atlas, listed}
 use Rattle.run_queues.specs.Log.{Slot, waits, gathered, Waits, LogNow}
 use Rattle.run_between.specs.Taking.{FreePlace, Taken, JoiningWaiting}
@@ -33,14 +33,15 @@ module _ (f : tie.After-free-place) (text : Bytes) (names : List Bytes) (j : Job
 
   asks : Waits (f .free-place .last .0) (waiting-region (figures (start f .args .room))) (waiters-region (figures (start f .args .room)))
       (sets-region (figures (start f .args .room)))
-      (start f .args .room .pairs) (free .slots-now) (f .free-place .result) (start f .args .goal) readers-part (start f .args .readers)
+      (start f .args .room .pairs) (free .slots-now) (f .free-place .result) (start f .args .goal)
+      (readers-region (figures (start f .args .room))) (start f .args .readers)
   asks =
       wait-asks (start f .args .s .now) (f .free-place .last .0) text names j (figures (start f .args .room)) limit atlas slots g others (start f .args .t)
       (start f .args .goal) (start f .args .query) (start f .args .readers) readers (f .free-place .result) k joins free
 
 module _ (w : tie.After-wait) where
   abbrev found : tie.After-free-place
-  found = w .before .before .before .before .before .before .before
+  found = w .before .before .before .before .before .before .before .before
 
   waited : (text : Bytes) (names : List Bytes) (j : Job) (limit : ℕ) (atlas : Atlas) (slots : List Slot) (g : Goal) (others : List Goal) (readers : List ℕ)
       (k : Taken (start found .args .s .now) text names j (figures (start found .args .room)) limit atlas slots g others (start found .args .t))
@@ -49,9 +50,10 @@ module _ (w : tie.After-wait) where
       → LogNow (found .free-place .last .0) (w .wait .last .0) (waiting-region (figures (start found .args .room))) (waiters-region (figures (start found .args .room)))
       (sets-region (figures (start found .args .room))) (start found .args .room .pairs) (found .free-place .result + 1)
       (free found text names j limit atlas slots g others readers k joins .slots-now
-      ++ (waits (start found .args .goal) (gathered [] (listed (found .free-place .last .0) readers-part (start found .args .readers))) ∷ []))
+      ++ (waits (start found .args .goal) (gathered [] (listed (found .free-place .last .0) (readers-region (figures (start found .args .room))) (start found .args .readers))) ∷ []))
   waited text names j limit atlas slots g others readers k joins =
-      (rw (w .before .sets .ensures, w .before .before .waiters .ensures, w .before .before .before .waiting .ensures) at (w .wait .ensures))
+      (rw (w .before .readers .ensures, w .before .before .sets .ensures, w .before .before .before .waiters .ensures, w .before .before .before .before .waiting .ensures) at
+      (w .wait .ensures))
       (start found .args .room .pairs) (free found text names j limit atlas slots g others readers k joins .slots-now)
       (asks found text names j limit atlas slots g others readers k joins)
 
@@ -69,13 +71,17 @@ waiters-requires c κs = search needs
 sets-requires : tie.Need-sets-requires
 sets-requires c κs = search needs
 
+readers-requires : tie.Need-readers-requires
+readers-requires c κs = search needs
+
 wait-requires : tie.Need-wait-requires
 wait-requires c κs =
-    let f = c .before .before .before .before .before .before in
+    let f = c .before .before .before .before .before .before .before in
     let p = start f .pre in (
       start f .args .room .pairs,
       free f (p .0) (p .1) (p .2) (p .3) (p .4) (p .5) (p .6) (p .7) (p .8) (p .9) (p .10) .slots-now,
-      rw (c .sets .ensures, c .before .waiters .ensures, c .before .before .waiting .ensures) (asks f (p .0) (p .1) (p .2) (p .3) (p .4) (p .5) (p .6) (p .7) (p .8) (p .9) (p .10)),
+      rw (c .readers .ensures, c .before .sets .ensures, c .before .before .waiters .ensures, c .before .before .before .waiting .ensures)
+          (asks f (p .0) (p .1) (p .2) (p .3) (p .4) (p .5) (p .6) (p .7) (p .8) (p .9) (p .10)),
     )
 
 count-try-requires : tie.Need-count-try-requires
@@ -97,16 +103,16 @@ sub-t13 c =
     let p = start f .pre in
     omega (arith, some-active (start f .args .s .now) (p .0) (p .1) (p .2) (figures (start f .args .room)) (p .3) (p .4) (p .5) (p .6) (p .7) (start f .args .t) (p .9))
 
-add-t14 : tie.Need-add-t14
-add-t14 c =
+add-t15 : tie.Need-add-t15
+add-t15 c =
     let f = found (c .before .before .before .before .before .before .before .before) in
     let p = start f .pre in
     let place = inside f (p .0) (p .1) (p .2) (p .3) (p .4) (p .5) (p .6) (p .7) (p .8) (p .9) (p .10) in
     let most = p .9 .running .in-range .goals in
     search needs
 
-add-t18 : tie.Need-add-t18
-add-t18 c =
+add-t14 : tie.Need-add-t14
+add-t14 c =
     let f = found (c .before .before .before .before .before .before .before .before .before) in
     let p = start f .pre in
     let fit = goals-fit (start f .args .s .now) (p .0) (p .1) (p .2) (figures (start f .args .room)) (p .3) (p .4) (p .5) (p .6) (p .7) (start f .args .t) (p .9) in
@@ -141,12 +147,13 @@ add-waiting-spec =
     waiting-requires
     waiters-requires
     sets-requires
+    readers-requires
     wait-requires
     count-try-requires
     behind-requires
     sub-t13
+    add-t15
     add-t14
-    add-t18
     add-t19
     same-length
     returns)
