@@ -10,7 +10,7 @@ use term::word::TAGS;
 use term::word::View;
 use term::word::look;
 
-// The values of the room's pairs stand from a place on, and behind four words a pair the ends that are kept. A chain has no more links than there are pairs.
+// The values of the room's pairs stand from a place on, and behind six words a pair the ends that are kept. A chain has no more links than there are pairs.
 pub fn follow(s: &[u64], values: usize, links: usize, w: u64) -> u64
     requires { ⌜ ((x : Setting) × (t : Term) × Reads (now s) x values links t w) ⌝ }
     ensures { λ r. ⌜ ((x : Setting) (t : Term) → Reads (now (s .entry)) x values links t w → FollowedTo (now (s .entry)) x values links t r) ⌝ }
