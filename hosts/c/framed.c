@@ -1,5 +1,5 @@
 /* Framed jobs through the exported call, in the frames of `reference --framed`: `BUDGET PAIRS COMPOUNDS GOALS BUFFER SCRATCH NEED LENGTH`, LF,
-   the text, LF. Prints number, line and length of each and then its report. The scratch that is lent is as much longer or shorter than the call's own
+   the text, LF. Prints number, line, length and offset of each and then its report. The scratch that is lent is as much longer or shorter than the call's own
    need as SCRATCH is than NEED. Around scratch and buffer stand guard bytes; one that has changed, or a buffer touched on a refusal, ends the program
    with status 1, and a bad frame with status 2. */
 #include <stdio.h>
@@ -51,8 +51,9 @@ int main(void) {
             return fail(2, "no memory");
         uint8_t *report = buffer + GUARD;
         memset(report, FULL_STOP, size);
-        size_t line = 0, length = 0;
-        uint32_t number = troscunel_call(text, text_length, budget, pairs, compounds, goals, (uint64_t *)(scratch + GUARD), words, report, size, &line, &length);
+        size_t line = 0, length = 0, offset = 0;
+        uint32_t number = troscunel_call(text, text_length, budget, pairs, compounds, goals, (uint64_t *)(scratch + GUARD), words, report, size, &line, &length,
+                                         &offset);
         if (!guarded(scratch, 8 * words) || !guarded(buffer, size))
             return fail(1, "a guard byte has changed");
         if (!all(report, number == TROSCUNEL_RAN ? length : 0, size, FULL_STOP))
@@ -60,7 +61,7 @@ int main(void) {
         size_t cleared = number == TROSCUNEL_RAN || TROSCUNEL_NO_ITEMS <= number ? 8 * own : 0;
         if (!all(scratch + GUARD, 0, cleared, 0) || !all(scratch + GUARD, cleared, 8 * words, MARK))
             return fail(1, "the scratch is not as document 01 has it");
-        printf("%u %zu %zu\n", (unsigned)number, line, length);
+        printf("%u %zu %zu %zu\n", (unsigned)number, line, length, offset);
         if (number == TROSCUNEL_RAN)
             fwrite(report, 1, length, stdout);
         free(text);

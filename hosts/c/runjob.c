@@ -1,13 +1,15 @@
 /* Runs one job and prints its report:
 
        runjob [--budget N] [--pairs N] [--compounds N] [--goals N] [--buffer N] [--scratch N] [FILE]
+       runjob --check [FILE]
 
    FILE is a job text; `-` or none is standard input. Without options the figures are those of the program glp: budget 10,000, room 1,024 pairs,
    1,024 compounds, 128 goals. --buffer is the longest report that is wanted, in bytes, and 16,777,216 if it is not given; --scratch is how many
    64-bit words are lent, and as many as the room needs if it is not given. No figure is tested here: the call answers any.
 
-   The report goes to standard output, with exit status 0. A refusal goes to standard error as `refused N line L: what N means`, with exit status N.
-   Other statuses: 64 bad usage, 66 no such file, 71 no memory or thread, 74 reading or writing failed. */
+   The report goes to standard output, with exit status 0. A refusal goes to standard error with exit status N, its number: what is wrong, and for 4, 5, 9
+   and 10 row and column, the line and a caret, as hosts/refusals/README.md has it. With --check the text is read and judged and not run: one without a
+   fault gets exit status 0 and no word. Other statuses: 64 bad usage, 66 no such file, 71 no memory or thread, 74 reading or writing failed. */
 #include <errno.h>
 #include <pthread.h>
 #include <stdio.h>
@@ -15,6 +17,7 @@
 #include <string.h>
 
 #include "need.h"
+#include "shown.h"
 
 enum { USAGE = 64, NO_FILE = 66, NO_SYSTEM = 71, NO_IO = 74 };
 
@@ -25,6 +28,20 @@ enum { BUDGET, PAIRS, COMPOUNDS, GOALS, BUFFER, SCRATCH, FIGURES };
 
 static const char *const names[FIGURES] = {"--budget", "--pairs", "--compounds", "--goals", "--buffer", "--scratch"};
 
+/* The figures of the program glp. */
+static const size_t usual[FIGURES] = {[BUDGET] = 10000, [PAIRS] = 1024, [COMPOUNDS] = 1024, [GOALS] = 128, [BUFFER] = TROSCUNEL_LONGEST_REPORT};
+
+/* The figures of --check. A budget of 0 runs nothing. The room holds eight queries of 16 pairs, 32 compounds and 8 goals, which are the most that a text can
+   have, so 7 cannot come. And no report fits into a buffer of no bytes: a text without a fault is answered by 8, and by 8 alone. */
+static const size_t checking[FIGURES] = {[BUDGET] = 0, [PAIRS] = 8 * 16, [COMPOUNDS] = 8 * 32, [GOALS] = 8 * 8, [BUFFER] = 0};
+
+/* What the command line asks for. */
+struct options {
+    size_t figures[FIGURES];
+    const char *file;
+    int check;
+};
+
 /* The arguments of a call and its answer. */
 struct call {
     const uint8_t *text;
@@ -34,10 +51,11 @@ struct call {
     uint8_t *buffer;
     size_t buffer_length;
     uint32_t number;
-    size_t line, length;
+    size_t line, length, offset;
 };
 
-static const char usage[] = "usage: runjob [--budget N] [--pairs N] [--compounds N] [--goals N] [--buffer N] [--scratch N] [FILE]\n";
+static const char usage[] = "usage: runjob [--budget N] [--pairs N] [--compounds N] [--goals N] [--buffer N] [--scratch N] [FILE]\n"
+                            "       runjob --check [FILE]\n";
 
 static _Noreturn void end(int status, const char *what, const char *why) {
     fprintf(stderr, "runjob: %s: %s\n", what, why);
@@ -64,29 +82,43 @@ static size_t decimal(const char *name, const char *digits) {
 
 static size_t need(const size_t *figures) { return need_of(figures[PAIRS], figures[COMPOUNDS], figures[GOALS]); }
 
-/* Sets the figures and gives the file's name. */
-static const char *options(int count, char **words, size_t *figures) {
-    const char *file = NULL;
-    int scratch_given = 0;
+/* The figure that an option sets, or FIGURES. */
+static int figure_named(const char *word) {
+    int f = 0;
+    while (f < FIGURES && strcmp(word, names[f]) != 0)
+        f++;
+    return f;
+}
+
+static struct options options(int count, char **words) {
+    struct options o = {.file = NULL};
+    int given[FIGURES] = {0}, any = 0;
+    memcpy(o.figures, usual, sizeof usual);
     for (int i = 1; i < count; i++) {
-        int f = 0;
-        while (f < FIGURES && strcmp(words[i], names[f]) != 0)
-            f++;
+        int f = figure_named(words[i]);
         if (f < FIGURES) {
-            scratch_given |= f == SCRATCH;
-            figures[f] = decimal(names[f], words[i + 1]);
+            given[f] = any = 1;
+            o.figures[f] = decimal(names[f], words[i + 1]);
             i++;
-        } else if (words[i][0] == '-' && words[i][1] != '\0')
+        } else if (strcmp(words[i], "--check") == 0)
+            o.check = 1;
+        else if (words[i][0] == '-' && words[i][1] != '\0')
             end(USAGE, words[i], "no such option");
-        else if (file != NULL)
+        else if (o.file != NULL)
             end(USAGE, words[i], "one file at a time");
         else
-            file = words[i];
+            o.file = words[i];
     }
-    if (!scratch_given)
-        figures[SCRATCH] = need(figures);
-    return file == NULL ? "-" : file;
+    if (o.check && any)
+        end(USAGE, "--check", "the text alone is judged, no figure");
+    if (o.check)
+        memcpy(o.figures, checking, sizeof checking);
+    if (!given[SCRATCH])
+        o.figures[SCRATCH] = need(o.figures);
+    return o;
 }
+
+static int from_standard_input(const struct options *o) { return o->file == NULL || strcmp(o->file, "-") == 0; }
 
 /* Some bytes more than are asked for, so that no pointer is null. */
 static void *lent(size_t size) {
@@ -97,13 +129,13 @@ static void *lent(size_t size) {
 }
 
 /* The text of a file, up to one byte past the longest text, so that a longer one is refused with 3. */
-static size_t text_of(const char *file, uint8_t *text) {
-    FILE *input = strcmp(file, "-") == 0 ? stdin : fopen(file, "rb");
+static size_t text_of(const struct options *o, uint8_t *text) {
+    FILE *input = from_standard_input(o) ? stdin : fopen(o->file, "rb");
     if (input == NULL)
-        end(NO_FILE, file, strerror(errno));
+        end(NO_FILE, o->file, strerror(errno));
     size_t length = fread(text, 1, TROSCUNEL_LONGEST_TEXT + 1, input);
     if (ferror(input))
-        end(NO_IO, file, strerror(errno));
+        end(NO_IO, from_standard_input(o) ? "standard input" : o->file, strerror(errno));
     if (input != stdin)
         fclose(input);
     return length;
@@ -113,7 +145,7 @@ static void *called(void *argument) {
     struct call *c = argument;
     const size_t *f = c->figures;
     c->number = troscunel_call(c->text, c->text_length, f[BUDGET], f[PAIRS], f[COMPOUNDS], f[GOALS], c->scratch, f[SCRATCH], c->buffer, c->buffer_length,
-                               &c->line, &c->length);
+                               &c->line, &c->length, &c->offset);
     return NULL;
 }
 
@@ -135,58 +167,88 @@ static void call_with_buffer(struct call *c, size_t length) {
     call(c);
 }
 
-/* What a refusal means, for people. */
-static void refuse(const struct call *c) {
-    fprintf(stderr, "refused %u line %zu: ", (unsigned)c->number, c->line);
+/* A refusal of the text at an offset: row, column, the sentence, the line and a caret. */
+static void refuse_at(const struct call *c, const char *name) {
+    struct stretch text = {c->text, 0, c->text_length};
+    struct stretch line = line_at(text, c->offset), variable = variable_at(text, c->offset);
+    fprintf(stderr, "%s:%zu:%zu: ", name, row_of(line), c->offset - line.from + 1);
+    if (c->number == TROSCUNEL_NO_ITEMS)
+        fputs(c->offset == c->text_length ? "the text ends here, inside an item" : "this cannot stand here", stderr);
+    else {
+        fputs(is_reader(variable) ? "the reader " : "the writer ", stderr);
+        put_bytes(stderr, variable);
+        fputs(c->number == TROSCUNEL_TWICE ? " occurs a second time" : c->number == TROSCUNEL_WRITER_ALONE ? " has no reader" : " has no writer", stderr);
+    }
+    fputc('\n', stderr);
+    put_line_and_caret(stderr, line, c->offset);
+}
+
+/* Any other refusal: one sentence, for a figure of the text with the line. */
+static void refuse_whole(const struct call *c, const char *name) {
+    fputs(name, stderr);
     switch (c->number) {
     case TROSCUNEL_OUT_OF_RANGE:
-        fprintf(stderr, "the budget is over %d, or a room figure is not 1 to %d", TROSCUNEL_LARGEST_BUDGET, TROSCUNEL_LARGEST_ROOM);
+        fputs(": the budget is over 1,000,000, or a room figure is not 1 to 65,535\n", stderr);
         break;
     case TROSCUNEL_SCRATCH_SHORT:
-        fprintf(stderr, "the scratch has %zu words, and this room needs %zu", c->figures[SCRATCH], need(c->figures));
+        fputs(": the scratch is shorter than the room needs\n", stderr);
         break;
     case TROSCUNEL_TEXT_LONG:
-        fprintf(stderr, "the text is longer than %d bytes", TROSCUNEL_LONGEST_TEXT);
-        break;
-    case TROSCUNEL_NO_ITEMS:
-        fprintf(stderr, "no item can be read: a token of this line is bad or cannot stand there, or the text ends inside an item");
-        break;
-    case TROSCUNEL_OCCURRENCE_BROKEN:
-        fprintf(stderr, "in the item that begins here a writer or a reader stands twice, or in a clause one without the other");
+        fputs(": the text is longer than 16,384 bytes\n", stderr);
         break;
     case TROSCUNEL_FIGURE_PASSED:
-        fprintf(stderr, c->line == 0 ? "the text has no query" : "the item that begins here passes a figure of docs/LIMITS.md");
+        if (c->line == 0)
+            fputs(": the text has no query\n", stderr);
+        else
+            fprintf(stderr, ":%zu: the item that begins here passes a figure (docs/LIMITS.md has them)\n", c->line);
         break;
     case TROSCUNEL_QUERIES_PASS_ROOM:
-        fprintf(stderr, "the queries alone pass a room figure: %zu pairs, %zu compounds, %zu goals", c->figures[PAIRS], c->figures[COMPOUNDS], c->figures[GOALS]);
+        fputs(": the queries alone pass a room figure\n", stderr);
         break;
     case TROSCUNEL_REPORT_LONG:
         if (c->length <= TROSCUNEL_LONGEST_REPORT)
-            fprintf(stderr, "the report has %zu bytes, and --buffer allows %zu", c->length, c->figures[BUFFER]);
+            fprintf(stderr, ": the report has %zu bytes, more than were asked for\n", c->length);
         else
-            fprintf(stderr, "the report is longer than %d bytes", TROSCUNEL_LONGEST_REPORT);
+            fputs(": the report is longer than 16,777,216 bytes\n", stderr);
         break;
     }
-    fputc('\n', stderr);
+}
+
+static void refuse(const struct call *c, const char *name) {
+    switch (c->number) {
+    case TROSCUNEL_NO_ITEMS:
+    case TROSCUNEL_TWICE:
+    case TROSCUNEL_WRITER_ALONE:
+    case TROSCUNEL_READER_ALONE:
+        refuse_at(c, name);
+        break;
+    default:
+        refuse_whole(c, name);
+    }
+}
+
+static void print_report(const struct call *c) {
+    fwrite(c->buffer, 1, c->length, stdout);
+    if (fflush(stdout) != 0 || ferror(stdout))
+        end(NO_IO, "standard output", strerror(errno));
 }
 
 int main(int count, char **words) {
     static uint8_t text[TROSCUNEL_LONGEST_TEXT + 1];
-    size_t figures[FIGURES] = {[BUDGET] = 10000, [PAIRS] = 1024, [COMPOUNDS] = 1024, [GOALS] = 128, [BUFFER] = TROSCUNEL_LONGEST_REPORT};
-    const char *file = options(count, words, figures);
-    struct call c = {.text = text, .text_length = text_of(file, text), .figures = figures};
+    struct options o = options(count, words);
+    const size_t *figures = o.figures;
+    struct call c = {.text = text, .text_length = text_of(&o, text), .figures = figures};
     c.scratch = lent(figures[SCRATCH] < SIZE_MAX / 8 ? 8 * figures[SCRATCH] : SIZE_MAX);
     call_with_buffer(&c, figures[BUFFER] < FIRST_BUFFER ? figures[BUFFER] : FIRST_BUFFER);
     /* The call gives the length of a report that does not fit, and gives the same report again. */
     if (c.number == TROSCUNEL_REPORT_LONG && c.length <= figures[BUFFER] && c.length <= TROSCUNEL_LONGEST_REPORT)
         call_with_buffer(&c, c.length);
-    if (c.number == TROSCUNEL_RAN) {
-        fwrite(c.buffer, 1, c.length, stdout);
-        if (fflush(stdout) != 0 || ferror(stdout))
-            end(NO_IO, "standard output", strerror(errno));
-    } else
-        refuse(&c);
+    int good = o.check && c.number == TROSCUNEL_REPORT_LONG;
+    if (c.number == TROSCUNEL_RAN)
+        print_report(&c);
+    else if (!good)
+        refuse(&c, from_standard_input(&o) ? "<stdin>" : o.file);
     free(c.buffer);
     free(c.scratch);
-    return (int)c.number;
+    return good ? 0 : (int)c.number;
 }

@@ -5,6 +5,7 @@
 use job::call::Answer;
 use job::call::call;
 use loader::refusal::Refusal;
+use loader::refusal::rule_number;
 use term::layout::COMPOUND_WORDS;
 use term::layout::COMPOUNDS;
 ghost use mathlib.Core.Path.{_≡_};
@@ -32,8 +33,8 @@ fn show(answer: Answer, buffer: &[u8])
         Answer::ScratchShort => refused(2, 0),
         Answer::TextLong => refused(3, 0),
         Answer::Refused(why) => match why {
-            Refusal::NoItems(line) => refused(4, line),
-            Refusal::OccurrenceBroken(line) => refused(5, line),
+            Refusal::NoItems(line, _) => refused(4, line),
+            Refusal::OccurrenceBroken(rule, line, _) => refused(rule_number(rule) as u64, line),
             Refusal::FigurePassed(line) => refused(6, line),
         },
         Answer::QueriesPassRoom => refused(7, 0),

@@ -42,6 +42,7 @@ use Rattle.laws.proofs.Own.{TextsAlike}
 use Rattle.laws.proofs.Own.Shown.{section-shown, rest-shown, left-by}
 use Rattle.laws.proofs.Promise.{same-tries-same-section, both-rest-same-section}
 use Rattle.term.specs.Layout.{need-of}
+use Rattle.loader.proofs.OneAnswer.{back-rule, back-rule-of}
 use Rattle.loader.specs.declared.refusal.Refusal.the-variants.{NoItems, OccurrenceBroken, FigurePassed}
 use Rattle.job.specs.Calling.{answer-of, outcome, Called}
 use Rattle.job.specs.declared.call.Answer.{Answer}
@@ -61,8 +62,8 @@ back (ran n) = Ran n
 back out-of-range = OutOfRange
 back scratch-short = ScratchShort
 back text-long = TextLong
-back (no-items at) = Refused (NoItems at)
-back (occurrence-broken at) = Refused (OccurrenceBroken at)
+back (no-items at offset) = Refused (NoItems at offset)
+back (occurrence-broken rule at offset) = Refused (OccurrenceBroken (back-rule rule) at offset)
 back (figure-passed at) = Refused (FigurePassed at)
 back queries-pass-room = QueriesPassRoom
 back (report-long n) = ReportLong n
@@ -73,8 +74,8 @@ back-answer (Ran n) = refl
 back-answer OutOfRange = refl
 back-answer ScratchShort = refl
 back-answer TextLong = refl
-back-answer (Refused (NoItems at)) = refl
-back-answer (Refused (OccurrenceBroken at)) = refl
+back-answer (Refused (NoItems at offset)) = refl
+back-answer (Refused (OccurrenceBroken rule at offset)) = ap (λ b. Refused (OccurrenceBroken b at offset)) (back-rule-of rule)
 back-answer (Refused (FigurePassed at)) = refl
 back-answer QueriesPassRoom = refl
 back-answer (ReportLong n) = refl

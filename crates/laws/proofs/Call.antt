@@ -2,6 +2,8 @@
 -- No case can show the latter, since no report of 16,777,217 bytes is computed here.
 pub mod Delivered
 pub mod Need
+pub mod Offset
+pub mod OffsetExample
 use Prim.Native.Nat.{ℕ, _≤_}
 use mathlib.Core.Path.{_≡_, refl}
 use mathlib.Core.Bool.{not, _&&_}
@@ -21,6 +23,9 @@ use Rattle.laws.proofs.Lists.{if-holds, and-right}
 pub use Delivered.{Ran, ran-read-a-job, ran-reports, report-is-run-line-and-sections, ran-returns-the-length, ran-shows-the-report}
 -- Answer and report buffer are the same with any need that the scratch has.
 pub use Need.{Agree, lending, answer-does-not-hang-on-the-need, answer-with-any-need, case-with-any-need}
+-- The byte offset of 4, 5, 9 and 10: 0 with every other number; of 4 a token's start or the text's length, of the others where the item's first
+-- fault is spelled.
+pub use Offset.{StoppedAnswer, stopped-answer, BrokenAnswer, broken-answer, offset-with-four-numbers, OffsetSpelled, offset-spelled, spelling-inside}
 
 Within : Outcome → Type 0
 Within o = length-of (o .answer) ≤ 16777217
@@ -28,7 +33,7 @@ Within o = length-of (o .answer) ≤ 16777217
 refusal-short : (text : Bytes) (r : Refusal) → length-of (refusal text r) ≡ 0
 unfolding refusal length-of
 refusal-short text (no-item place) = refl
-refusal-short text (occurrence-rule place) = refl
+refusal-short text (occurrence-rule place fault) = refl
 refusal-short text (figure place) = refl
 refusal-short text no-query = refl
 

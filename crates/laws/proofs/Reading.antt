@@ -1,4 +1,4 @@
--- Reading: every accepted text keeps the occurrence rules and the figures, and what an item is depends on its tokens alone.
+-- Reading: an accepted text keeps the occurrence rules and the figures, a refused one breaks a rule at its byte; tokens alone make an item.
 -- Two readers that stand beside each other on the same tokens read alike; each reader's law is put together like the reader itself.
 pub mod NameBytes
 pub mod EachToken
@@ -10,8 +10,21 @@ pub mod Figures
 pub mod TokensFit
 pub mod Alike
 pub mod Counting
+pub mod Passed
+pub mod Taken
+pub mod Occurring
+pub mod Faultless
+pub mod Rising
+pub mod Broken
+pub mod LeastOf
+pub mod Walk
 pub mod Readers
 pub mod Items
+pub mod WhichByte
+pub mod BrokenText
+pub mod Spelling
+pub mod Stopped
+pub mod StoppedText
 pub mod ItemByItem
 pub mod Accepted
 pub mod Pieces
@@ -33,6 +46,16 @@ pub use Rules.{ClauseOk, QueryOk, JobOk}
 pub use Figures.{JobFits}
 pub use Alike.{bare}
 pub use Items.{clause-pieces, query-pieces}
+-- Which rule, which byte: an item that is read has a fault exactly if document 01's rules are broken in its terms, and is judged as before;
+-- the least of its faults is the first that a walk over its tokens comes upon; no two share an offset.
+pub use WhichByte.{Judged, clause-rules, query-rules, clause-judged, query-judged, clause-as-before, query-as-before, clause-by-walk, query-by-walk}
+pub use Broken.{TwiceAt, AloneAt, FaultOf, clause-fault-is, fault-in-clause, query-fault-is, fault-in-query, Least, least-is, one-fault-at}
+unfoldable pub use Walk.{first-fault}
+-- Of every text refused with 5, 9 or 10: the item, its rule and its first fault, at which that half of that variable stands and is spelled.
+pub use BrokenText.{ClauseBroken, QueryBroken, ItemBroken, OneBroken, refused-is-broken}
+pub use Spelling.{SpelledAt, spelled-at, stands-in-all}
+-- Of every text refused with 4: a token begins at its byte, or it is the text's length.
+pub use StoppedText.{stopped-at-a-token}
 -- Each clause and each query of an accepted text is read from the tokens of its own piece.
 pub use ItemByItem.{accepted-is-read}
 -- The names counted over the whole text.

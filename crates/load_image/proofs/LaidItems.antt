@@ -3,6 +3,7 @@ use Prim.Native.Nat.{ℕ, zero, suc, _+_, _≤_, _<_}
 use mathlib.Core.Path.{_≡_, refl, ap, sym, _∙_}
 use mathlib.Core.Bool.{Bool, true, false, _&&_}
 use mathlib.Core.List.{List, [], _∷_}
+use mathlib.Core.Option.{Option, none, some}
 use native.Mathlib.Omega.{arith}
 use lib.Dec.{ltb}
 use lib.ListN.{length}
@@ -10,6 +11,7 @@ use borrow.Author.Tests.{ltb-true}
 use Rattle.meaning.specs.Bytes.{Bytes, if_then_else_}
 use Rattle.meaning.specs.Terms.{Named, Clause, Query, as-term}
 use Rattle.meaning.specs.Tokens.{Token, name, variable, integer, sign, bad, Tokens, ends, token}
+use Rattle.meaning.specs.Faults.{Fault, clause-faults, query-faults, least}
 use Rattle.meaning.specs.Items.{
   Counted,
   Read,
@@ -25,9 +27,6 @@ use Rattle.meaning.specs.Items.{
   goal,
   goals,
   rule,
-  nothing-twice,
-  both-halves,
-  occurrence-rule,
   figure,
   no-item,
   Piece,
@@ -35,6 +34,7 @@ use Rattle.meaning.specs.Items.{
   clause,
   query,
   refused,
+  unless-broken,
   clause-piece,
   query-piece,
   fresh,
@@ -176,17 +176,16 @@ variables-at-end (token at t s) known h = absurd h
 
 module _ (known : List Bytes) (k q : ℕ) (begins : ℕ) where
   clause-piece-is : (piece : Tokens) → k < 128 → (x : Read Rule)
-      → Good (λ r d s. Onward known [] (fresh known) piece d s × (RuleLaid 0 d r × Ends s)) x → PieceIs piece known k q (clause-piece begins x)
-  unfolding Good clause-piece PieceIs fresh if_then_else_
+      → Good (λ r d s. Onward known [] (fresh known) piece d s × (RuleLaid 0 d r × Ends s)) x → PieceIs piece known k q (clause-piece begins piece x)
+  unfolding Good clause-piece unless-broken PieceIs fresh
   clause-piece-is piece few (malformed place) g = tt
   clause-piece-is piece few passed g = tt
   clause-piece-is piece few (read r d s) g =
-      by (nothing-twice (length (d .variables)) (r .head ∷ r .body) && both-halves (length (d .variables)) (r .head ∷ r .body))
+      by (least (clause-faults piece (d .variables)))
     where
-      by : (b : Bool) → PieceIs piece known k q
-          (if b then clause (record { head = r .head; body = r .body; pairs = length (d .variables); compounds = d .compounds }) (d .names)
-          else refused (occurrence-rule begins))
-      by true = record {
+      by : (o : Option Fault) → PieceIs piece known k q
+          (unless-broken begins o (clause (record { head = r .head; body = r .body; pairs = length (d .variables); compounds = d .compounds }) (d .names)))
+      by none = record {
         number = few;
         names-are = sym (g .0 .names ∙ names-at-end s (d .names) (g .1 .1));
         laid = record {
@@ -198,19 +197,19 @@ module _ (known : List Bytes) (k q : ℕ) (begins : ℕ) where
         };
         few-names = g .0 .few-names;
       }
-      by false = tt
+      by (some f) = tt
 
   query-piece-is : (place : ℕ) (t : Token) (behind : Tokens) → is "?" t ≡ true → q < 8 → (x : Read (List Named))
       → Good (λ gs d s. Onward known [] (fresh known) behind d s × (GoalsLaid 0 8 d gs × Ends s)) x
-      → PieceIs (token place t behind) known k q (query-piece begins x)
-  unfolding Good query-piece PieceIs fresh if_then_else_ names-after variables-after
+      → PieceIs (token place t behind) known k q (query-piece begins behind x)
+  unfolding Good query-piece unless-broken PieceIs fresh names-after variables-after
   query-piece-is place t behind asks few (malformed p) g = tt
   query-piece-is place t behind asks few passed g = tt
-  query-piece-is place t behind asks few (read gs d s) g = by (nothing-twice (length (d .variables)) gs)
+  query-piece-is place t behind asks few (read gs d s) g = by (least (query-faults behind (d .variables)))
     where
-      by : (b : Bool) → PieceIs (token place t behind) known k q
-          (if b then query (record { goals = gs; variables = d .variables; compounds = d .compounds }) (d .names) else refused (occurrence-rule begins))
-      by true = record {
+      by : (o : Option Fault) → PieceIs (token place t behind) known k q
+          (unless-broken begins o (query (record { goals = gs; variables = d .variables; compounds = d .compounds }) (d .names)))
+      by none = record {
         number = few;
         names-are = sym (ap (names-after behind) (sign-adds "?" t known asks .0) ∙ (g .0 .names ∙ names-at-end s (d .names) (g .1 .1)));
         variables-are = sym (ap (variables-after behind) (sign-adds "?" t [] asks .1) ∙ (g .0 .variables ∙ variables-at-end s (d .variables) (g .1 .1)));
@@ -223,19 +222,19 @@ module _ (known : List Bytes) (k q : ℕ) (begins : ℕ) where
         };
         few-names = g .0 .few-names;
       }
-      by false = tt
+      by (some f) = tt
 
 -- The item that a piece holds.
 module _ (known : List Bytes) (k q : ℕ) where
   clause-from-is : (begins : ℕ) (piece : Tokens) → Cut piece → (b : Bool) → ltb k 128 ≡ b
-      → PieceIs piece known k q (if b then clause-piece begins (rule (fresh known) piece) else refused (figure begins))
+      → PieceIs piece known k q (if b then clause-piece begins piece (rule (fresh known) piece) else refused (figure begins))
   unfolding if_then_else_ PieceIs fresh
   clause-from-is begins piece cut true h =
       clause-piece-is known k q begins piece (ltb-true k 128 h) (rule (fresh known) piece) (rule-steps (fresh known) piece .go cut)
   clause-from-is begins piece cut false h = tt
 
   query-from-is : (begins : ℕ) (t : Token) (behind : Tokens) → is "?" t ≡ true → Cut behind → (b : Bool) → ltb q 8 ≡ b
-      → PieceIs (token begins t behind) known k q (if b then query-piece begins (goals 8 (fresh known) behind) else refused (figure begins))
+      → PieceIs (token begins t behind) known k q (if b then query-piece begins behind (goals 8 (fresh known) behind) else refused (figure begins))
   unfolding if_then_else_ PieceIs fresh
   query-from-is begins t behind asks cut true h =
       query-piece-is known k q begins begins t behind asks (ltb-true q 8 h) (goals 8 (fresh known) behind) (goals-steps 8 (fresh known) behind .go cut)

@@ -3,11 +3,14 @@ use Prim.Native.Nat.{ℕ, zero, suc, _+_, _*_, _≤_, _<_, min}
 use mathlib.Core.Path.{_≡_, refl, ap, sym, _∙_}
 use mathlib.Core.Bool.{Bool, true, false, _&&_}
 use mathlib.Core.List.{List, [], _∷_}
+use mathlib.Core.Logic.{_⊎_, inl, inr}
+use mathlib.Core.Option.{none, some}
 use native.Mathlib.Omega.{arith}
 use lib.ListN.{length, set}
 use Rattle.meaning.specs.Bytes.{Bytes, if_then_else_}
-use Rattle.meaning.specs.Terms.{Clause, count}
+use Rattle.meaning.specs.Terms.{Half, Clause, count, goals-occurrences}
 use Rattle.meaning.specs.Tokens.{name, Tokens, ends, token}
+use Rattle.meaning.specs.Faults.{Fault, occurs-at, clause-faults, least}
 use Rattle.meaning.specs.Items.{
   Counted,
   Rule,
@@ -21,8 +24,8 @@ use Rattle.meaning.specs.Items.{
   malformed,
   passed,
   rule,
-  nothing-twice,
-  both-halves,
+  place-of,
+  unless-broken,
   clause-piece,
   item,
 }
@@ -38,7 +41,15 @@ use Rattle.load_goals.specs.Endings.{rule-part, Ended, RuleIs}
 use Rattle.load_items.specs.Outcomes.{Begins, TookClause, Took}
 use Rattle.load_openings.specs.declared.cursor.Cursor.{Cursor}
 use Rattle.load_names.proofs.Numbering.{spellings-length}
+use Rattle.load_faults.specs.Finding.{Searches}
+use Rattle.load_faults.proofs.Sound.{rule-sound}
+use Rattle.laws.proofs.Lists.Pigeonhole.{Distinct}
+use Rattle.laws.proofs.Reading.Rules.{nothing-twice, both-halves}
+use Rattle.laws.proofs.Reading.Passed.{by-number}
+use Rattle.laws.proofs.Reading.Occurring.{rule-counts}
+use Rattle.laws.proofs.Reading.Faultless.{item-counts}
 use Rattle.load_items.proofs.Occurrence.{twice-is, halves-are}
+use Rattle.load_items.proofs.Faulty.{variables-distinct, piece-cut, item-rising, clause-clean, clause-fault, searches, searches-from}
 use Rattle.load_items.proofs.Starts.{halves-from-none, clause-many, clause-reads}
 
 -- The same words at the same places.
@@ -46,21 +57,17 @@ pub three-words : (l l′ : List ℕ) (i j k v v′ n n′ w w′ : ℕ) → l �
     → set (set (set l i v) j n) k w ≡ set (set (set l′ i v′) j n′) k w′
 three-words l l′ i j k v v′ n n′ w w′ a b c d = rw (a, b, c, d)
 
-module _ (p : ℕ) (r : Rule) (names vars : List Place) (compounds : ℕ) (ts : Tokens) where
-  judged-kept : nothing-twice (length vars) (r .head ∷ r .body) ≡ true → both-halves (length vars) (r .head ∷ r .body) ≡ true
-      → clause-piece p (read r (counted-at names vars compounds) ts)
+module _ (p : ℕ) (whole : Tokens) (r : Rule) (names vars : List Place) (compounds : ℕ) (ts : Tokens) where
+  judged-kept : least (clause-faults whole (spellings vars)) ≡ none
+      → clause-piece p whole (read r (counted-at names vars compounds) ts)
       ≡ clause (record { head = r .head; body = r .body; pairs = length vars; compounds = compounds }) (spellings names)
-  unfolding clause-piece counted-at if_then_else_
-  judged-kept h k = rw (spellings-length vars, h, k)
+  unfolding clause-piece counted-at unless-broken
+  judged-kept h = rw (spellings-length vars, h)
 
-  judged-twice : nothing-twice (length vars) (r .head ∷ r .body) ≡ false → clause-piece p (read r (counted-at names vars compounds) ts) ≡ refused (occurrence-rule p)
-  unfolding clause-piece counted-at if_then_else_
-  judged-twice h = rw (spellings-length vars, h)
-
-  judged-apart : nothing-twice (length vars) (r .head ∷ r .body) ≡ true → both-halves (length vars) (r .head ∷ r .body) ≡ false
-      → clause-piece p (read r (counted-at names vars compounds) ts) ≡ refused (occurrence-rule p)
-  unfolding clause-piece counted-at if_then_else_
-  judged-apart h k = rw (spellings-length vars, h, k)
+  judged-broken : (f : Fault) → least (clause-faults whole (spellings vars)) ≡ some f
+      → clause-piece p whole (read r (counted-at names vars compounds) ts) ≡ refused (occurrence-rule p f)
+  unfolding clause-piece counted-at unless-broken
+  judged-broken f h = rw h
 
 module _ (text rest : Bytes) (from : ℕ) (names item₀ : List ℕ) (count₀ : ℕ) (known : List Place) (b : Begins text rest from names item₀ count₀ known)
     (k queries begins : ℕ) (s heads : List ℕ) (f : Bytes) (ts : Tokens) (tokens : tokens-in from rest 0 ≡ token (from + begins) (name f) ts) where
@@ -69,7 +76,7 @@ module _ (text rest : Bytes) (from : ℕ) (names item₀ : List ℕ) (count₀ :
 
   module _ (few : k < 128) (c : Cursor) (at-first : c .at ≡ 0) (none : c .compounds ≡ 0) where
     reads-rule : item (so-far known k queries) (piece (tokens-in from rest 0))
-        ≡ clause-piece (from + begins) (rule (counted-at known [] (c .compounds)) (piece (tokens-in from rest (c .at))))
+        ≡ clause-piece (from + begins) (piece (tokens-in from rest (c .at))) (rule (counted-at known [] (c .compounds)) (piece (tokens-in from rest (c .at))))
     reads-rule = rw (at-first, none, tokens) (clause-reads known k queries (from + begins) ts f few)
 
     pub clause-malformed : (a : ℕ) → rule (counted-at known [] (c .compounds)) (piece (tokens-in from rest (c .at))) ≡ malformed (from + a)
@@ -102,32 +109,59 @@ module _ (text rest : Bytes) (from : ℕ) (names item₀ : List ℕ) (count₀ :
       apart = halves-are item′ (r .head ∷ r .body) (c′ .variables) many (halves-from-none item₀ item′ (r .head ∷ r .body) (b .empty) (t .halves))
 
       reads-all : item (so-far known k queries) (piece (tokens-in from rest 0))
-          ≡ clause-piece (from + begins) (read r (counted-at known′ vars′ (c′ .compounds)) (ends stop))
-      reads-all = rw (reads-rule, t .reads)
+          ≡ clause-piece (from + begins) (piece (tokens-in from rest (c .at))) (read r (counted-at known′ vars′ (c′ .compounds)) (ends stop))
+      reads-all = reads-rule ∙ ap (clause-piece (from + begins) (piece (tokens-in from rest (c .at)))) (t .reads)
 
-      pub clause-twice : none-twice item′ (c′ .variables) ≡ false
-          → item (so-far known k queries) (piece (tokens-in from rest 0)) ≡ refused (occurrence-rule (from + begins))
-      clause-twice h =
-          let n = t .stands .variables-count in
-          rw reads-all (judged-twice (from + begins) r known′ vars′ (c′ .compounds) (ends stop) (rw n at (sym twice ∙ h)))
+      whole : Tokens
+      whole = piece (tokens-in from rest (c .at))
 
-      pub clause-apart : none-twice item′ (c′ .variables) ≡ true → halves-alike item′ (c′ .variables) ≡ false
-          → item (so-far known k queries) (piece (tokens-in from rest 0)) ≡ refused (occurrence-rule (from + begins))
-      clause-apart h g =
-          let n = t .stands .variables-count in
-          let once = sym twice ∙ h in
-          rw reads-all (judged-apart (from + begins) r known′ vars′ (c′ .compounds) (ends stop) (rw n at once) (rw n at (sym (apart once) ∙ g)))
+      distinct : Distinct (spellings vars′)
+      unfolding Distinct spellings
+      distinct = variables-distinct from ps [] tt
+
+      counts : (h : Half) (x : Bytes) → length (occurs-at h x whole) ≡ by-number (place-of x (spellings vars′)) (λ n. goals-occurrences h n (r .head ∷ r .body))
+      unfolding whole counted-at
+      counts =
+          item-counts (λ h n. goals-occurrences h n (r .head ∷ r .body)) (counted-at known [] (c .compounds)) (counted-at known′ vars′ (c′ .compounds)) whole (ends stop)
+          (rule-counts .over (counted-at known [] (c .compounds)) whole r (counted-at known′ vars′ (c′ .compounds)) (ends stop) (t .reads)) (piece-cut (tokens-in from rest (c .at)))
+
+      -- A rule is broken: there is a least fault, and the search for it has what it asks.
+      pub broken : none-twice item′ (c′ .variables) ≡ false ⊎ ((none-twice item′ (c′ .variables) ≡ true) × (halves-alike item′ (c′ .variables) ≡ false))
+          → (f : Fault) × (item (so-far known k queries) (piece (tokens-in from rest 0)) ≡ refused (occurrence-rule (from + begins) f))
+          × Searches rest from item′ (c′ .variables) true 0 vars′ f
+      unfolding whole rule-part
+      broken h =
+          let (f, is-least, is-first) = clause-fault whole (spellings vars′) (r .head ∷ r .body) distinct (item-rising from rest (c .at)) counts (breaks h) in (
+            f,
+            reads-all ∙ judged-broken (from + begins) whole r known′ vars′ (c′ .compounds) (ends stop) f is-least,
+            searches-from rest from item′ (c′ .variables) true (c .at) 0 vars′ f at-first (searches rest from (c .at) item′ (c′ .variables) vars′ (r .head ∷ r .body) (t .stands .variables-in) (t .stands .variables-count)
+                (halves-from-none item₀ item′ (r .head ∷ r .body) (b .empty) (t .halves))
+                (rule-sound (counted-at known [] (c .compounds)) (counted-at known′ vars′ (c′ .compounds)) whole r stop (t .reads)) counts true f is-first),
+          )
+        where
+          breaks : none-twice item′ (c′ .variables) ≡ false ⊎ ((none-twice item′ (c′ .variables) ≡ true) × (halves-alike item′ (c′ .variables) ≡ false))
+              → (nothing-twice (length (spellings vars′)) (r .head ∷ r .body) && both-halves (length (spellings vars′)) (r .head ∷ r .body)) ≡ false
+          breaks (inl h) =
+              let once : nothing-twice (c′ .variables) (r .head ∷ r .body) ≡ false = sym twice ∙ h in
+              rw (spellings-length vars′, ← (t .stands .variables-count), once) refl
+          breaks (inr (h, g)) =
+              let once : nothing-twice (c′ .variables) (r .head ∷ r .body) ≡ true = sym twice ∙ h in
+              let apart-now : both-halves (c′ .variables) (r .head ∷ r .body) ≡ false = sym (apart once) ∙ g in
+              rw (spellings-length vars′, ← (t .stands .variables-count), once, apart-now) refl
 
       the-clause : Clause
       the-clause = record { head = r .head; body = r .body; pairs = c′ .variables; compounds = c′ .compounds }
 
       clause-kept : none-twice item′ (c′ .variables) ≡ true → halves-alike item′ (c′ .variables) ≡ true
           → item (so-far known k queries) (piece (tokens-in from rest 0)) ≡ clause the-clause (spellings known′)
-      unfolding the-clause
+      unfolding the-clause whole
       clause-kept h g =
           let n = t .stands .variables-count in
+          let size : length (spellings vars′) ≡ c′ .variables = spellings-length vars′ ∙ sym n in
           let once = sym twice ∙ h in
-          rw (reads-all, n) (judged-kept (from + begins) r known′ vars′ (c′ .compounds) (ends stop) (rw n at once) (rw n at (sym (apart once) ∙ g)))
+          let both = sym (apart once) ∙ g in
+          rw (reads-all, n) (judged-kept (from + begins) whole r known′ vars′ (c′ .compounds) (ends stop)
+          (clause-clean whole (spellings vars′) (r .head ∷ r .body) distinct (item-rising from rest (c .at)) counts (rw size once) (rw size both)))
 
       pub clause-took : (heads′ : List ℕ) (v n : ℕ) → none-twice item′ (c′ .variables) ≡ true → halves-alike item′ (c′ .variables) ≡ true
           → heads′ ≡ set heads k (head-word known′ (r .head)) → count (r .head .arguments) ≤ 6 → v ≡ c′ .variables → n ≡ c′ .compounds

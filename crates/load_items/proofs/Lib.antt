@@ -1,4 +1,5 @@
 pub mod Clauses
+pub mod Faulty
 pub mod FirstTokens
 pub mod Heads
 pub mod Occurrence

@@ -11,8 +11,8 @@ use lib.ListN.{getD}
 use borrow.Author.Tests.{leb-true, leb-false, le-leb, lt-leb}
 use Rattle.meaning.specs.Bytes.{all, up-to}
 use Rattle.meaning.specs.Terms.{Half, writer, reader, Named, goals-occurrences}
-use Rattle.meaning.specs.Items.{nothing-twice, both-halves}
 use Rattle.laws.proofs.Lists.Tests.{and-left, and-right}
+use Rattle.laws.proofs.Reading.Rules.{nothing-twice, both-halves}
 use Rattle.load_openings.specs.Reading.{half-place}
 use Rattle.load_names.specs.Rules.{once, alike, none-twice, halves-alike}
 use Rattle.load_names.proofs.Tallies.{all-suc}

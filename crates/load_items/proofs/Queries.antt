@@ -3,11 +3,13 @@ use Prim.Native.Nat.{ℕ, zero, suc, _+_, _*_, _≤_, _<_, min}
 use mathlib.Core.Path.{_≡_, refl, ap, sym, _∙_}
 use mathlib.Core.Bool.{Bool, true, false, _&&_}
 use mathlib.Core.List.{List, [], _∷_, map}
+use mathlib.Core.Option.{none, some}
 use native.Mathlib.Omega.{arith}
 use lib.ListN.{length, set}
 use Rattle.meaning.specs.Bytes.{Bytes, byte, if_then_else_}
-use Rattle.meaning.specs.Terms.{Named, Query}
+use Rattle.meaning.specs.Terms.{Half, Named, Query, goals-occurrences}
 use Rattle.meaning.specs.Tokens.{sign, Tokens, ends, token}
+use Rattle.meaning.specs.Faults.{Fault, occurs-at, query-faults, least}
 use Rattle.meaning.specs.Items.{
   Counted,
   Piece,
@@ -21,7 +23,8 @@ use Rattle.meaning.specs.Items.{
   passed,
   is,
   goals,
-  nothing-twice,
+  place-of,
+  unless-broken,
   query-piece,
   item,
 }
@@ -38,21 +41,30 @@ use Rattle.load_goals.specs.Endings.{goals-part, Ended}
 use Rattle.load_items.specs.Outcomes.{Begins, TookQuery, Took, shifted}
 use Rattle.load_openings.specs.declared.cursor.Cursor.{Cursor}
 use Rattle.load_names.proofs.Numbering.{spellings-length}
+use Rattle.load_faults.specs.Finding.{Searches}
+use Rattle.load_faults.proofs.Sound.{goals-sound}
+use Rattle.laws.proofs.Lists.Pigeonhole.{Distinct}
+use Rattle.laws.proofs.Reading.Rules.{nothing-twice}
+use Rattle.laws.proofs.Reading.Passed.{by-number}
+use Rattle.laws.proofs.Reading.Occurring.{goals-counts}
+use Rattle.laws.proofs.Reading.Faultless.{item-counts}
 use Rattle.load_items.proofs.Occurrence.{twice-is}
+use Rattle.load_items.proofs.Faulty.{variables-distinct, piece-cut, item-rising, query-clean, query-fault, searches, searches-from}
 use Rattle.load_items.proofs.Clauses.{three-words}
 use Rattle.load_items.proofs.PlacesKept.{kept-places, kept-only}
 use Rattle.load_items.proofs.Starts.{halves-from-none, query-many, query-reads}
 
-module _ (p : ℕ) (gs : List Named) (names vars : List Place) (compounds : ℕ) (ts : Tokens) where
-  judged-kept : nothing-twice (length vars) gs ≡ true
-      → query-piece p (read gs (counted-at names vars compounds) ts)
+module _ (p : ℕ) (whole : Tokens) (gs : List Named) (names vars : List Place) (compounds : ℕ) (ts : Tokens) where
+  judged-kept : least (query-faults whole (spellings vars)) ≡ none
+      → query-piece p whole (read gs (counted-at names vars compounds) ts)
       ≡ query (record { goals = gs; variables = spellings vars; compounds = compounds }) (spellings names)
-  unfolding query-piece counted-at if_then_else_
-  judged-kept h = rw (spellings-length vars, h)
+  unfolding query-piece counted-at unless-broken
+  judged-kept h = rw h
 
-  judged-twice : nothing-twice (length vars) gs ≡ false → query-piece p (read gs (counted-at names vars compounds) ts) ≡ refused (occurrence-rule p)
-  unfolding query-piece counted-at if_then_else_
-  judged-twice h = rw (spellings-length vars, h)
+  judged-broken : (f : Fault) → least (query-faults whole (spellings vars)) ≡ some f
+      → query-piece p whole (read gs (counted-at names vars compounds) ts) ≡ refused (occurrence-rule p f)
+  unfolding query-piece counted-at unless-broken
+  judged-broken f h = rw h
 
 module _ (text rest : Bytes) (from : ℕ) (names item₀ : List ℕ) (count₀ : ℕ) (known : List Place) (b : Begins text rest from names item₀ count₀ known)
     (clauses k begins : ℕ) (s heads : List ℕ)
@@ -62,7 +74,7 @@ module _ (text rest : Bytes) (from : ℕ) (names item₀ : List ℕ) (count₀ :
 
   module _ (few : k < 8) (c : Cursor) (at-first : c .at ≡ begins + 2) (none : c .compounds ≡ 0) where
     reads-goals : item (so-far known clauses k) (piece (tokens-in from rest 0))
-        ≡ query-piece (from + begins) (goals 8 (counted-at known [] (c .compounds)) (piece (tokens-in from rest (c .at))))
+        ≡ query-piece (from + begins) (piece (tokens-in from rest (c .at))) (goals 8 (counted-at known [] (c .compounds)) (piece (tokens-in from rest (c .at))))
     reads-goals = rw (at-first, none, tokens) (query-reads known clauses k (from + begins) (tokens-in from rest (begins + 2)) few)
 
     pub query-malformed : (a : ℕ) → goals 8 (counted-at known [] (c .compounds)) (piece (tokens-in from rest (c .at))) ≡ malformed (from + a)
@@ -91,24 +103,49 @@ module _ (text rest : Bytes) (from : ℕ) (names item₀ : List ℕ) (count₀ :
       twice = twice-is item′ gs (c′ .variables) many (halves-from-none item₀ item′ gs (b .empty) (t .halves))
 
       reads-all : item (so-far known clauses k) (piece (tokens-in from rest 0))
-          ≡ query-piece (from + begins) (read gs (counted-at known′ vars′ (c′ .compounds)) (ends stop))
-      reads-all = rw (reads-goals, t .reads)
+          ≡ query-piece (from + begins) (piece (tokens-in from rest (c .at))) (read gs (counted-at known′ vars′ (c′ .compounds)) (ends stop))
+      reads-all = reads-goals ∙ ap (query-piece (from + begins) (piece (tokens-in from rest (c .at)))) (t .reads)
 
-      pub query-twice : none-twice item′ (c′ .variables) ≡ false
-          → item (so-far known clauses k) (piece (tokens-in from rest 0)) ≡ refused (occurrence-rule (from + begins))
-      query-twice h =
-          let n = t .stands .variables-count in
-          rw reads-all (judged-twice (from + begins) gs known′ vars′ (c′ .compounds) (ends stop) (rw n at (sym twice ∙ h)))
+      whole : Tokens
+      whole = piece (tokens-in from rest (c .at))
+
+      distinct : Distinct (spellings vars′)
+      unfolding Distinct spellings
+      distinct = variables-distinct from ps [] tt
+
+      counts : (h : Half) (x : Bytes) → length (occurs-at h x whole) ≡ by-number (place-of x (spellings vars′)) (λ n. goals-occurrences h n gs)
+      unfolding whole counted-at
+      counts =
+          item-counts (λ h n. goals-occurrences h n gs) (counted-at known [] (c .compounds)) (counted-at known′ vars′ (c′ .compounds)) whole (ends stop)
+          (goals-counts 8 .over (counted-at known [] (c .compounds)) whole gs (counted-at known′ vars′ (c′ .compounds)) (ends stop) (t .reads)) (piece-cut (tokens-in from rest (c .at)))
+
+      -- Something occurs twice: there is a least fault, and the search for it has what it asks.
+      pub query-broken : none-twice item′ (c′ .variables) ≡ false
+          → (f : Fault) × (item (so-far known clauses k) (piece (tokens-in from rest 0)) ≡ refused (occurrence-rule (from + begins) f))
+          × Searches rest from item′ (c′ .variables) false (begins + 2) vars′ f
+      unfolding whole goals-part
+      query-broken h =
+          let size : length (spellings vars′) ≡ c′ .variables = spellings-length vars′ ∙ sym (t .stands .variables-count) in
+          let once : nothing-twice (c′ .variables) gs ≡ false = sym twice ∙ h in
+          let (f, is-least, is-first) = query-fault whole (spellings vars′) gs distinct (item-rising from rest (c .at)) counts (rw size once) in (
+            f,
+            reads-all ∙ judged-broken (from + begins) whole gs known′ vars′ (c′ .compounds) (ends stop) f is-least,
+            searches-from rest from item′ (c′ .variables) false (c .at) (begins + 2) vars′ f at-first (searches rest from (c .at) item′ (c′ .variables) vars′ gs (t .stands .variables-in) (t .stands .variables-count)
+                (halves-from-none item₀ item′ gs (b .empty) (t .halves))
+                (goals-sound (counted-at known [] (c .compounds)) (counted-at known′ vars′ (c′ .compounds)) whole gs stop (t .reads)) counts false f is-first),
+          )
 
       the-query : Query
       the-query = record { goals = gs; variables = spellings vars′; compounds = c′ .compounds }
 
       query-kept : none-twice item′ (c′ .variables) ≡ true
           → item (so-far known clauses k) (piece (tokens-in from rest 0)) ≡ query the-query (spellings known′)
-      unfolding the-query
+      unfolding the-query whole
       query-kept h =
-          let n = t .stands .variables-count in
-          rw reads-all (judged-kept (from + begins) gs known′ vars′ (c′ .compounds) (ends stop) (rw n at (sym twice ∙ h)))
+          let size : length (spellings vars′) ≡ c′ .variables = spellings-length vars′ ∙ sym (t .stands .variables-count) in
+          let once = sym twice ∙ h in
+          reads-all ∙ judged-kept (from + begins) whole gs known′ vars′ (c′ .compounds) (ends stop)
+          (query-clean whole (spellings vars′) gs distinct (item-rising from rest (c .at)) counts (rw size once))
 
       abbrev counted-words : ℕ → ℕ → List ℕ
       counted-words v n = set (set (set s′ (query-record k) w) (query-pairs-word k) v) (query-compounds-word k) n

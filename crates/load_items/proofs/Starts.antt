@@ -90,7 +90,7 @@ module _ (known : List Place) (clauses queries : ℕ) (p : ℕ) (ts : Tokens) wh
 
   pub clause-reads : (f : Bytes) → clauses < 128
       → item (so-far known clauses queries) (piece (token p (name f) ts))
-      ≡ clause-piece p (rule (counted-at known [] 0) (piece (token p (name f) ts)))
+      ≡ clause-piece p (piece (token p (name f) ts)) (rule (counted-at known [] 0) (piece (token p (name f) ts)))
   unfolding clause-from so-far if_then_else_
   clause-reads f h = rw (starts-clause f, lt-ltb clauses 128 h, fresh-is known)
 
@@ -103,7 +103,7 @@ module _ (known : List Place) (clauses queries : ℕ) (p : ℕ) (ts : Tokens) wh
   query-many h = rw (starts-query, le-ltb queries 8 h)
 
   pub query-reads : queries < 8
-      → item (so-far known clauses queries) (piece (token p (sign 63) ts)) ≡ query-piece p (goals 8 (counted-at known [] 0) (piece ts))
+      → item (so-far known clauses queries) (piece (token p (sign 63) ts)) ≡ query-piece p (piece ts) (goals 8 (counted-at known [] 0) (piece ts))
   unfolding query-from so-far if_then_else_
   query-reads h = rw (starts-query, lt-ltb queries 8 h, fresh-is known)
 

@@ -6,6 +6,7 @@ use lib.ListN.{length, set, drop, replicate}
 use Rattle.meaning.specs.Bytes.{Bytes}
 use Rattle.meaning.specs.Terms.{Clause, Query, count}
 use Rattle.meaning.specs.Tokens.{Tokens, ends, token, sign}
+use Rattle.meaning.specs.Faults.{Fault}
 use Rattle.meaning.specs.Items.{Piece, clause, query, refused, no-item, occurrence-rule, figure, item}
 use Rattle.term.specs.Frames.{Only}
 use Rattle.term.specs.Jobs.{GoalsKnown}
@@ -14,6 +15,7 @@ use Rattle.load_tokens.specs.Fronts.{tokens-in}
 use Rattle.load_names.specs.Places.{Place, Placed, spellings, before, names-over, variables-over}
 use Rattle.load_names.specs.Tables.{NamesIn}
 use Rattle.load_openings.specs.Reading.{piece, Open}
+use Rattle.load_faults.specs.Finding.{FaultIs}
 use Rattle.load_image.specs.Image.{so-far, clause-stored, query-stored, head-word}
 use Rattle.load_items.specs.declared.items.Item.{Item}
 use Rattle.load_items.specs.declared.items.Item.the-variants.{
@@ -67,8 +69,9 @@ ItemIs text rest from known clauses queries s heads s′ names names′ heads′
     × Only 0 trial-region s s′
 ItemIs text rest from known clauses queries s heads s′ names names′ heads′ (Malformed a) =
     (item (so-far known clauses queries) (piece (tokens-in from rest 0)) ≡ refused (no-item (from + a))) × (a ≤ length rest) × Only 0 trial-region s s′
-ItemIs text rest from known clauses queries s heads s′ names names′ heads′ (Broken a) =
-    (item (so-far known clauses queries) (piece (tokens-in from rest 0)) ≡ refused (occurrence-rule (from + a))) × (a ≤ length rest) × Only 0 trial-region s s′
+ItemIs text rest from known clauses queries s heads s′ names names′ heads′ (Broken a fault) =
+    (f : Fault) × (item (so-far known clauses queries) (piece (tokens-in from rest 0)) ≡ refused (occurrence-rule (from + a) f))
+    × FaultIs (length rest) from fault f × (a ≤ length rest) × Only 0 trial-region s s′
 ItemIs text rest from known clauses queries s heads s′ names names′ heads′ (Exceeded a) =
     (item (so-far known clauses queries) (piece (tokens-in from rest 0)) ≡ refused (figure (from + a))) × (a ≤ length rest) × Only 0 trial-region s s′
 ItemIs text rest from known clauses queries s heads s′ names names′ heads′ Nothing =

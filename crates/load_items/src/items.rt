@@ -1,4 +1,6 @@
 // Items: "`head.`, `head :- goal,..,goal.` or `?- goal,..,goal.`", each read into its places of the scratch.
+use load_faults::faults::Fault;
+use load_faults::faults::first_fault;
 use load_goals::goals::goal;
 use load_goals::goals::goals;
 use load_image::keep::keep_places;
@@ -84,12 +86,13 @@ fn rule(
     }
 }
 
-// An item read, up to the byte behind its full stop, with the names counted so far; or 4 at a place, 5 or 6; or nothing is left.
+// An item read, up to the byte behind its full stop, with the names counted so far; or 4 at a place; or where it begins
+// with 6, and with the rule and the byte that break it; or nothing is left.
 pub enum Item {
     Clause(usize, usize),
     Query(usize, usize),
     Malformed(usize),
-    Broken(usize),
+    Broken(usize, Fault),
     Exceeded(usize),
     Nothing,
 }
@@ -143,10 +146,12 @@ fn clause(
     ) {
         Read::Got(body, c) => {
             if !nothing_twice(item, c.variables) {
-                return Item::Broken(begins);
+                let fault = first_fault(rest, item, c.variables, true, 0);
+                return Item::Broken(begins, fault);
             }
             if !both_halves(item, c.variables) {
-                return Item::Broken(begins);
+                let fault = first_fault(rest, item, c.variables, true, 0);
+                return Item::Broken(begins, fault);
             }
             s[record + CLAUSE_PAIRS] = word(c.variables);
             s[record + CLAUSE_COMPOUNDS] = word(c.compounds);
@@ -194,7 +199,8 @@ fn query(
     ) {
         Read::Got(count, c) => {
             if !nothing_twice(item, c.variables) {
-                return Item::Broken(begins);
+                let fault = first_fault(rest, item, c.variables, false, begins + 2);
+                return Item::Broken(begins, fault);
             }
             s[record] = count;
             s[record + QUERY_PAIRS] = word(c.variables);

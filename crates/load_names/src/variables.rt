@@ -20,7 +20,7 @@ pub enum Numbered {
 }
 
 // The number of the variable that is spelled as the bytes from a to e.
-fn find(rest: &[u8], table: &[u64], count: usize, a: usize, e: usize) -> Found
+pub fn find(rest: &[u8], table: &[u64], count: usize, a: usize, e: usize) -> Found
     requires { ⌜ (a ≤ e) × (e ≤ length (now rest)) ⌝ }
     requires { ⌜ ((places : List Place) × VariablesIn (now rest) places (now table) × (count ≡ length places)) ⌝ }
     ensures { λ r. ⌜ ((places : List Place) → VariablesIn (now (rest .entry)) places (now (table .entry)) → count ≡ length places

@@ -6,6 +6,7 @@ use native.Mathlib.Omega.{arith}
 use lib.ListN.{length}
 use Rattle.meaning.specs.Bytes.{Bytes}
 use Rattle.meaning.specs.Terms.{Job}
+use Rattle.meaning.specs.Faults.{Broken, twice, writer-alone, reader-alone}
 use Rattle.meaning.specs.Items.{Refusal, Reading, job, refused, reading}
 use Rattle.meaning.specs.State.{Room}
 use Rattle.meaning.specs.Call.{
@@ -21,6 +22,9 @@ use Rattle.meaning.specs.Call.{
   report-long,
   refusal,
 }
+use Rattle.load_faults.specs.Finding.{rule-of}
+use Rattle.load_faults.specs.declared.faults.Broken.{Broken as Rule}
+use Rattle.load_faults.specs.declared.faults.Broken.the-variants.{Twice, WriterAlone, ReaderAlone}
 use Rattle.loader.specs.Loading.{LoadedIs}
 use Rattle.loader.specs.Refusals.{refusal-answer}
 use Rattle.loader.specs.declared.refusal.Refusal.{Refusal as Why}
@@ -37,22 +41,34 @@ same-refusal x i j a b = cc
 not-both : {P : Type 0} (x : Reading) (i : Job) (j : Refusal) → x ≡ job i → x ≡ refused j → P
 not-both x i j a b = let z : _≡_ {A = ℕ} 0 1 = cc in absurd (omega arith)
 
+-- No two rules of the code are one of the definition.
+pub back-rule : Broken → Rule
+back-rule twice = Twice
+back-rule writer-alone = WriterAlone
+back-rule reader-alone = ReaderAlone
+
+pub back-rule-of : (x : Rule) → back-rule (rule-of x) ≡ x
+unfolding back-rule
+back-rule-of Twice = refl
+back-rule-of WriterAlone = refl
+back-rule-of ReaderAlone = refl
+
 -- No two refusals of the code are one answer of the definition.
 back : Answer → Why
-back (ran n) = NoItems 0
-back out-of-range = NoItems 0
-back scratch-short = NoItems 0
-back text-long = NoItems 0
-back (no-items at) = NoItems at
-back (occurrence-broken at) = OccurrenceBroken at
+back (ran n) = NoItems 0 0
+back out-of-range = NoItems 0 0
+back scratch-short = NoItems 0 0
+back text-long = NoItems 0 0
+back (no-items at offset) = NoItems at offset
+back (occurrence-broken rule at offset) = OccurrenceBroken (back-rule rule) at offset
 back (figure-passed at) = FigurePassed at
-back queries-pass-room = NoItems 0
-back (report-long n) = NoItems 0
+back queries-pass-room = NoItems 0 0
+back (report-long n) = NoItems 0 0
 
 back-refusal : (x : Why) → back (refusal-answer x) ≡ x
 unfolding back
-back-refusal (NoItems at) = refl
-back-refusal (OccurrenceBroken at) = refl
+back-refusal (NoItems at offset) = refl
+back-refusal (OccurrenceBroken rule at offset) = ap (λ b. OccurrenceBroken b at offset) (back-rule-of rule)
 back-refusal (FigurePassed at) = refl
 
 pub one-refusal : (x y : Why) → refusal-answer x ≡ refusal-answer y → x ≡ y

@@ -86,10 +86,12 @@ fn all_items(text: &[u8], s: &mut [u64], names: &mut [u64], heads: &mut [u64]) -
                 from += at;
             }
             Item::Malformed(a) => {
-                return Listed::Stopped(Refusal::NoItems(from + a));
+                return Listed::Stopped(Refusal::NoItems(from + a, from + a));
             }
-            Item::Broken(a) => {
-                return Listed::Stopped(Refusal::OccurrenceBroken(from + a));
+            Item::Broken(a, fault) => {
+                let rule = fault.rule;
+                let offset = from + fault.offset;
+                return Listed::Stopped(Refusal::OccurrenceBroken(rule, from + a, offset));
             }
             Item::Exceeded(a) => {
                 return Listed::Stopped(Refusal::FigurePassed(from + a));
@@ -101,13 +103,15 @@ fn all_items(text: &[u8], s: &mut [u64], names: &mut [u64], heads: &mut [u64]) -
     }
 }
 
-// A refusal with the line of its place.
+// A refusal with the line of its place; its offset stays.
 fn told_at_line(text: &[u8], why: Refusal) -> Refusal
     ensures { λ r. ⌜ r ≡ at-line (now (text .entry)) why ⌝ }
 {
     match why {
-        Refusal::NoItems(place) => Refusal::NoItems(line(text, place)),
-        Refusal::OccurrenceBroken(place) => Refusal::OccurrenceBroken(line(text, place)),
+        Refusal::NoItems(place, offset) => Refusal::NoItems(line(text, place), offset),
+        Refusal::OccurrenceBroken(rule, place, offset) => {
+            Refusal::OccurrenceBroken(rule, line(text, place), offset)
+        }
         Refusal::FigurePassed(place) => Refusal::FigurePassed(line(text, place)),
     }
 }

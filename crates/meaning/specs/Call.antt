@@ -1,4 +1,4 @@
--- Document 01, 'What the caller gets back': the call, its nine numbers in their order, and both buffers when it ends.
+-- Document 01, 'What the caller gets back', and document 02, T-01: the call, its numbers in their order, and both buffers when it ends.
 use Prim.Native.Nat.{ℕ, zero, suc, _+_, min}
 use mathlib.Core.Bool.{Bool, true, false, not, _&&_}
 use mathlib.Core.List.{List, [], _∷_, _++_}
@@ -6,6 +6,7 @@ use lib.Dec.{leb, ltb}
 use lib.ListN.{length, drop, replicate}
 use Rattle.meaning.specs.Bytes.{Bytes, if_then_else_}
 use Rattle.meaning.specs.Terms.{Job}
+use Rattle.meaning.specs.Faults.{Broken, twice, writer-alone, reader-alone}
 use Rattle.meaning.specs.Items.{Refusal, no-item, occurrence-rule, figure, no-query, Reading, job, refused, reading, line, items-words}
 use Rattle.meaning.specs.State.{Room}
 use Rattle.meaning.specs.Run.{run, queries-fit}
@@ -19,26 +20,33 @@ pub record Given : Type 0 where
   pub scratch : List ℕ
   pub buffer : Bytes
 
--- The answer: with the report's length where it ran, the smaller of its length and 16,777,217 where it was too long, the line where the text was refused.
+-- The answer: with the report's length where it ran, the smaller of its length and 16,777,217 where it was too long, the line where the text was
+-- refused, and behind it the byte where the number has one.
 pub data Answer : Type 0 where
   ran : ℕ → Answer
   out-of-range : Answer
   scratch-short : Answer
   text-long : Answer
-  no-items : ℕ → Answer
-  occurrence-broken : ℕ → Answer
+  no-items : ℕ → ℕ → Answer
+  occurrence-broken : Broken → ℕ → ℕ → Answer
   figure-passed : ℕ → Answer
   queries-pass-room : Answer
   report-long : ℕ → Answer
 
--- The paper's number, line and length for each answer.
+-- "Number 5 becomes 5 (the same half twice), 9 (a writer without its reader) and 10 (a reader without its writer)."
+unfoldable pub rule-number : Broken → ℕ
+rule-number twice = 5
+rule-number writer-alone = 9
+rule-number reader-alone = 10
+
+-- The paper's number, line, offset and length for each answer.
 unfoldable pub number : Answer → ℕ
 number (ran report) = 0
 number out-of-range = 1
 number scratch-short = 2
 number text-long = 3
-number (no-items at) = 4
-number (occurrence-broken at) = 5
+number (no-items at offset) = 4
+number (occurrence-broken rule at offset) = rule-number rule
 number (figure-passed at) = 6
 number queries-pass-room = 7
 number (report-long report) = 8
@@ -48,19 +56,31 @@ line-of (ran report) = 0
 line-of out-of-range = 0
 line-of scratch-short = 0
 line-of text-long = 0
-line-of (no-items at) = at
-line-of (occurrence-broken at) = at
+line-of (no-items at offset) = at
+line-of (occurrence-broken rule at offset) = at
 line-of (figure-passed at) = at
 line-of queries-pass-room = 0
 line-of (report-long report) = 0
+
+-- "4, 5, 9 and 10 also return a byte offset, 0 with every other number."
+unfoldable pub offset-of : Answer → ℕ
+offset-of (ran report) = 0
+offset-of out-of-range = 0
+offset-of scratch-short = 0
+offset-of text-long = 0
+offset-of (no-items at offset) = offset
+offset-of (occurrence-broken rule at offset) = offset
+offset-of (figure-passed at) = 0
+offset-of queries-pass-room = 0
+offset-of (report-long report) = 0
 
 unfoldable pub length-of : Answer → ℕ
 length-of (ran report) = report
 length-of out-of-range = 0
 length-of scratch-short = 0
 length-of text-long = 0
-length-of (no-items at) = 0
-length-of (occurrence-broken at) = 0
+length-of (no-items at offset) = 0
+length-of (occurrence-broken rule at offset) = 0
 length-of (figure-passed at) = 0
 length-of queries-pass-room = 0
 length-of (report-long report) = report
@@ -79,10 +99,10 @@ in-range budget room =
     && (leb 1 (room .compounds) && leb (room .compounds) 65535)
     && (leb 1 (room .goals) && leb (room .goals) 65535)
 
--- 4, 5 and 6, with their lines; "0 for no query".
+-- 4, 5, 9, 10 and 6, with their lines; "0 for no query". "For 4 the token's start (the text's length at its end)": the token's own place.
 unfoldable pub refusal : Bytes → Refusal → Answer
-refusal text (no-item place) = no-items (line text place)
-refusal text (occurrence-rule place) = occurrence-broken (line text place)
+refusal text (no-item place) = no-items (line text place) place
+refusal text (occurrence-rule place fault) = occurrence-broken (fault .rule) (line text place) (fault .offset)
 refusal text (figure place) = figure-passed (line text place)
 refusal text no-query = figure-passed 0
 
@@ -93,7 +113,7 @@ untouched answer given = record { answer = answer; buffer = given .buffer; scrat
 unfoldable pub cleared : ℕ → List ℕ → List ℕ
 cleared need scratch = replicate need 0 ++ drop need scratch
 
--- "On 1 to 8 the whole report buffer keeps its values."
+-- "On 1 to 8 the whole report buffer keeps its values", and on 9 and 10, which take 5's place.
 unfoldable pub refuses : ℕ → Answer → Given → Outcome
 refuses need answer given = record { answer = answer; buffer = given .buffer; scratch = cleared need (given .scratch) }
 
@@ -130,5 +150,5 @@ call need given =
 
 -- Every definition of document 01, for a statement that computes.
 unfoldable pub everything : Unit {0}
-unfolding items-words report-words number line-of length-of in-range refusal untouched cleared refuses reports delivered runs taken call
+unfolding items-words report-words rule-number number line-of offset-of length-of in-range refusal untouched cleared refuses reports delivered runs taken call
 everything = tt

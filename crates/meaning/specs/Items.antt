@@ -1,4 +1,4 @@
--- Document 01, 'Job text' and 'What the caller gets back': items read from tokens, the figures, the occurrence rules, 4, 5 and 6.
+-- Document 01, 'Job text' and 'What the caller gets back', and document 02, T-01: items read from tokens, the figures, and 4, 5, 6, 9 and 10.
 use Prim.Native.Nat.{ℕ, zero, suc, _+_, _-_, min}
 use Prim.Native.Char.{Char}
 use mathlib.Core.Bool.{Bool, true, false, not, _&&_, _||_}
@@ -6,11 +6,8 @@ use mathlib.Core.List.{List, [], _∷_, _++_}
 use mathlib.Core.Option.{Option, none, some}
 use lib.Dec.{leb, ltb, eqb}
 use lib.ListN.{length, take}
-use Rattle.meaning.specs.Bytes.{Bytes, bytes-words, byte, same, if_then_else_, all, any, those, up-to}
+use Rattle.meaning.specs.Bytes.{Bytes, bytes-words, byte, same, if_then_else_, any, those}
 use Rattle.meaning.specs.Terms.{
-  Half,
-  writer,
-  reader,
   Constant,
   empty,
   Functor,
@@ -24,11 +21,11 @@ use Rattle.meaning.specs.Terms.{
   Clause,
   Query,
   Job,
-  goals-occurrences,
   as-term,
   terms-words,
 }
 use Rattle.meaning.specs.Tokens.{Token, name, variable, integer, sign, bad, Tokens, ends, token, tokens, tokens-words}
+use Rattle.meaning.specs.Faults.{Fault, clause-faults, query-faults, least, faults-words}
 
 -- What has been counted when a token is reached: the names of the text so far, the variables and the compounds of the item so far.
 pub record Counted : Type 0 where
@@ -228,19 +225,11 @@ rule = do
   body ← if implied then goals 8 else give []
   give (record { head = head; body = body })
 
--- "No writer and no reader occurs twice" among these compounds, for each of so many pairs.
-unfoldable pub nothing-twice : ℕ → List Named → Bool
-nothing-twice pairs gs =
-    all (λ n. leb (goals-occurrences writer n gs) 1 && leb (goals-occurrences reader n gs) 1) (up-to pairs)
-
--- "A writer occurs exactly if its reader does."
-unfoldable pub both-halves : ℕ → List Named → Bool
-both-halves pairs gs = all (λ n. eqb (goals-occurrences writer n gs) (goals-occurrences reader n gs)) (up-to pairs)
-
--- Why a text is refused, with the place from which the line is computed: the token for 4, where the item begins for 5 and 6.
+-- Why a text is refused, with the place from which the line is computed: the token for 4, where the item begins for 5, 9, 10 and 6.
+-- "9 and 10 take 5's place in the order"; which of the three it is, and at which byte, the fault says.
 pub data Refusal : Type 0 where
   no-item : ℕ → Refusal
-  occurrence-rule : ℕ → Refusal
+  occurrence-rule : ℕ → Fault → Refusal
   figure : ℕ → Refusal
   no-query : Refusal
 
@@ -257,23 +246,26 @@ pub data Piece : Type 0 where
   query : Query → List Bytes → Piece
   refused : Refusal → Piece
 
--- 5 "is judged after the item's full stop".
-unfoldable pub clause-piece : ℕ → Read Rule → Piece
-clause-piece begins (read r counted rest) =
-    if nothing-twice (length (counted .variables)) (r .head ∷ r .body) && both-halves (length (counted .variables)) (r .head ∷ r .body)
-    then clause (record { head = r .head; body = r .body; pairs = length (counted .variables); compounds = counted .compounds }) (counted .names)
-    else refused (occurrence-rule begins)
-clause-piece begins (malformed place) = refused (no-item place)
-clause-piece begins passed = refused (figure begins)
+-- 5, and 9 and 10 in its place, "is judged after the item's full stop": an item without a fault is accepted.
+unfoldable pub unless-broken : ℕ → Option Fault → Piece → Piece
+unless-broken begins none accepted = accepted
+unless-broken begins (some fault) accepted = refused (occurrence-rule begins fault)
 
--- "In a query nothing occurs twice; either half may be missing."
-unfoldable pub query-piece : ℕ → Read (List Named) → Piece
-query-piece begins (read gs counted rest) =
-    if nothing-twice (length (counted .variables)) gs
-    then query (record { goals = gs; variables = counted .variables; compounds = counted .compounds }) (counted .names)
-    else refused (occurrence-rule begins)
-query-piece begins (malformed place) = refused (no-item place)
-query-piece begins passed = refused (figure begins)
+-- A clause by its tokens and what was read from them.
+unfoldable pub clause-piece : ℕ → Tokens → Read Rule → Piece
+clause-piece begins piece (read r counted rest) =
+    unless-broken begins (least (clause-faults piece (counted .variables)))
+    (clause (record { head = r .head; body = r .body; pairs = length (counted .variables); compounds = counted .compounds }) (counted .names))
+clause-piece begins piece (malformed place) = refused (no-item place)
+clause-piece begins piece passed = refused (figure begins)
+
+-- A query likewise, by its tokens behind its `?-`.
+unfoldable pub query-piece : ℕ → Tokens → Read (List Named) → Piece
+query-piece begins piece (read gs counted rest) =
+    unless-broken begins (least (query-faults piece (counted .variables)))
+    (query (record { goals = gs; variables = counted .variables; compounds = counted .compounds }) (counted .names))
+query-piece begins piece (malformed place) = refused (no-item place)
+query-piece begins piece passed = refused (figure begins)
 
 -- "Each item has its own variables."
 unfoldable pub fresh : List Bytes → Counted
@@ -282,11 +274,11 @@ fresh names = record { names = names; variables = []; compounds = 0 }
 -- "128 clauses; 1 to 8 queries": the first token of the 129th clause or ninth query passes the figure.
 unfoldable pub clause-from : SoFar → ℕ → Tokens → Piece
 clause-from so-far begins piece =
-    if ltb (so-far .clauses) 128 then clause-piece begins (rule (fresh (so-far .names)) piece) else refused (figure begins)
+    if ltb (so-far .clauses) 128 then clause-piece begins piece (rule (fresh (so-far .names)) piece) else refused (figure begins)
 
 unfoldable pub query-from : SoFar → ℕ → Tokens → Piece
 query-from so-far begins behind =
-    if ltb (so-far .queries) 8 then query-piece begins (goals 8 (fresh (so-far .names)) behind) else refused (figure begins)
+    if ltb (so-far .queries) 8 then query-piece begins behind (goals 8 (fresh (so-far .names)) behind) else refused (figure begins)
 
 -- A clause begins with a name, a query with `?-`.
 unfoldable pub item-from : SoFar → ℕ → Token → Tokens → Piece
@@ -347,5 +339,5 @@ unfoldable pub line : Bytes → ℕ → ℕ
 line text place = 1 + length (those (λ c. eqb c (byte "\n")) (take (min place (length text - 1)) text))
 
 unfoldable pub items-words : Unit {0}
-unfolding terms-words tokens-words read-on _>>=_ _>>_ give cannot-stand passes next is is-name begins-term standing expect either if-next count-name place-of new-variable count-variable count-compound arguments compound-of tail-of elements list-of term-from term goal-from goal goals rule nothing-twice both-halves clause-piece query-piece fresh clause-from query-from item-from item onto pieces with-clause with-query items asked reading line
+unfolding terms-words tokens-words faults-words read-on _>>=_ _>>_ give cannot-stand passes next is is-name begins-term standing expect either if-next count-name place-of new-variable count-variable count-compound arguments compound-of tail-of elements list-of term-from term goal-from goal goals rule unless-broken clause-piece query-piece fresh clause-from query-from item-from item onto pieces with-clause with-query items asked reading line
 items-words = tt

@@ -1,6 +1,7 @@
 pub mod Bytes
 pub mod Terms
 pub mod Tokens
+pub mod Faults
 pub mod Items
 pub mod State
 pub mod Compare

@@ -1,9 +1,10 @@
-// Prints the answers of document 01's cases and of further corners, through the compiled call: number, line and length, and the report.
+// Prints the answers of document 01's cases and of further corners, through the compiled call: number, line, length and offset, and the report.
 // What is printed is not stated: its file `stdout` is held to the reference, which `tests/corners` gives the same calls, read out of this file.
 // Read on: crate `job`, and crates/meaning/proofs/Cases/Session for the same cases computed.
 use job::call::Answer;
 use job::call::call;
 use loader::refusal::Refusal;
+use loader::refusal::rule_number;
 use term::layout::COMPOUND_WORDS;
 use term::layout::COMPOUNDS;
 ghost use mathlib.Core.Path.{_≡_};
@@ -15,12 +16,14 @@ ghost use Rattle.job.specs.Calling.{Within};
 // As many words as the program's room needs.
 const NEED: usize = COMPOUNDS + COMPOUND_WORDS * 1024 + 7 * 1024 + 6 * 128;
 
-fn told(number: u64, line: usize, size: usize) {
+fn told(number: u64, line: usize, size: usize, offset: usize) {
     io::print_decimal(1, number);
     io::write_all(1, b" ");
     io::print_decimal(1, line as u64);
     io::write_all(1, b" ");
     io::print_decimal(1, size as u64);
+    io::write_all(1, b" ");
+    io::print_decimal(1, offset as u64);
     io::write_all(1, b"\n");
 }
 
@@ -29,19 +32,24 @@ fn show(answer: Answer, buffer: &[u8])
 {
     match answer {
         Answer::Ran(n) => {
-            told(0, 0, n);
+            told(0, 0, n, 0);
             io::write_all(1, &buffer[..n]);
         }
-        Answer::OutOfRange => told(1, 0, 0),
-        Answer::ScratchShort => told(2, 0, 0),
-        Answer::TextLong => told(3, 0, 0),
+        Answer::OutOfRange => told(1, 0, 0, 0),
+        Answer::ScratchShort => told(2, 0, 0, 0),
+        Answer::TextLong => told(3, 0, 0, 0),
         Answer::Refused(why) => match why {
-            Refusal::NoItems(line) => told(4, line, 0),
-            Refusal::OccurrenceBroken(line) => told(5, line, 0),
-            Refusal::FigurePassed(line) => told(6, line, 0),
+            Refusal::NoItems(line, offset) => told(4, line, 0, offset),
+            Refusal::OccurrenceBroken(rule, line, offset) => told(
+                rule_number(rule) as u64,
+                line,
+                0,
+                offset,
+            ),
+            Refusal::FigurePassed(line) => told(6, line, 0, 0),
         },
-        Answer::QueriesPassRoom => told(7, 0, 0),
-        Answer::ReportLong(n) => told(8, 0, n),
+        Answer::QueriesPassRoom => told(7, 0, 0, 0),
+        Answer::ReportLong(n) => told(8, 0, n, 0),
     }
 }
 

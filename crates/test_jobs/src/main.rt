@@ -1,10 +1,11 @@
-// Runs framed jobs from standard input, each with figures of its own, and prints of each its number, line and length and then its report.
+// Runs framed jobs from standard input, each with figures of its own, and prints of each its number, line, length and offset and then its report.
 // A frame is `BUDGET PAIRS COMPOUNDS GOALS BUFFER SCRATCH NEED LENGTH`, ended by LF; then so many bytes of text and an LF. The scratch that is lent is
 // as much longer or shorter than the call's own need as SCRATCH is than NEED, and at most 600,000 words. Every job runs over the same scratch. A
 // frame whose buffer is larger than 65,536 bytes, or its text than 65,535, ends the program.
 use job::call::Answer;
 use job::call::call;
 use loader::refusal::Refusal;
+use loader::refusal::rule_number;
 use term::layout::COMPOUND_WORDS;
 use term::layout::COMPOUNDS;
 ghost use mathlib.Core.Path.{_≡_};
@@ -12,12 +13,14 @@ ghost use Prim.Native.Nat.{ℕ, _≤_, _<_};
 ghost use lib.ListN.{length};
 ghost use Rattle.job.specs.Calling.{Within};
 
-fn told(number: u64, line: usize, size: usize) {
+fn told(number: u64, line: usize, size: usize, offset: usize) {
     io::print_decimal(1, number);
     io::write_all(1, b" ");
     io::print_decimal(1, line as u64);
     io::write_all(1, b" ");
     io::print_decimal(1, size as u64);
+    io::write_all(1, b" ");
+    io::print_decimal(1, offset as u64);
     io::write_all(1, b"\n");
 }
 
@@ -26,19 +29,24 @@ fn show(answer: Answer, buffer: &[u8])
 {
     match answer {
         Answer::Ran(n) => {
-            told(0, 0, n);
+            told(0, 0, n, 0);
             io::write_all(1, &buffer[..n]);
         }
-        Answer::OutOfRange => told(1, 0, 0),
-        Answer::ScratchShort => told(2, 0, 0),
-        Answer::TextLong => told(3, 0, 0),
+        Answer::OutOfRange => told(1, 0, 0, 0),
+        Answer::ScratchShort => told(2, 0, 0, 0),
+        Answer::TextLong => told(3, 0, 0, 0),
         Answer::Refused(why) => match why {
-            Refusal::NoItems(line) => told(4, line, 0),
-            Refusal::OccurrenceBroken(line) => told(5, line, 0),
-            Refusal::FigurePassed(line) => told(6, line, 0),
+            Refusal::NoItems(line, offset) => told(4, line, 0, offset),
+            Refusal::OccurrenceBroken(rule, line, offset) => told(
+                rule_number(rule) as u64,
+                line,
+                0,
+                offset,
+            ),
+            Refusal::FigurePassed(line) => told(6, line, 0, 0),
         },
-        Answer::QueriesPassRoom => told(7, 0, 0),
-        Answer::ReportLong(n) => told(8, 0, n),
+        Answer::QueriesPassRoom => told(7, 0, 0, 0),
+        Answer::ReportLong(n) => told(8, 0, n, 0),
     }
 }
 

@@ -1,9 +1,10 @@
-// Loads framed texts from standard input and prints the number and line of each, 0 and 0 for a job that was loaded.
+// Loads framed texts from standard input and prints the number, line and offset of each, all 0 for a job that was loaded.
 // A frame is how often to load the text, and its length, in six digits each with an LF behind; then the text and an LF. Every text is loaded
 // over the same scratch, so what one leaves behind must not matter to the next. More than once is for measuring.
 use loader::load::Loaded;
 use loader::load::load;
 use loader::refusal::Refusal;
+use loader::refusal::rule_number;
 use term::layout::COMPOUND_WORDS;
 use term::layout::COMPOUNDS;
 use term::layout::Room;
@@ -60,20 +61,26 @@ fn many(text: &[u8], n: usize, s: &mut [u64], times: usize) -> Loaded
     answer
 }
 
-fn told(number: u64, line: usize) {
+fn told(number: u64, line: usize, offset: usize) {
     io::print_decimal(1, number);
     io::write_all(1, b" ");
     io::print_decimal(1, line as u64);
+    io::write_all(1, b" ");
+    io::print_decimal(1, offset as u64);
     io::write_all(1, b"\n");
 }
 
 fn show(answer: Loaded) {
     match answer {
-        Loaded::Job(_, _) => told(0, 0),
+        Loaded::Job(_, _) => told(0, 0, 0),
         Loaded::Refused(why) => match why {
-            Refusal::NoItems(line) => told(4, line),
-            Refusal::OccurrenceBroken(line) => told(5, line),
-            Refusal::FigurePassed(line) => told(6, line),
+            Refusal::NoItems(line, offset) => told(4, line, offset),
+            Refusal::OccurrenceBroken(rule, line, offset) => told(
+                rule_number(rule) as u64,
+                line,
+                offset,
+            ),
+            Refusal::FigurePassed(line) => told(6, line, 0),
         },
     }
 }

@@ -19,23 +19,26 @@ extern "C" {
         buffer_length: usize,
         line: *mut usize,
         length: *mut usize,
+        offset: *mut usize,
     ) -> u32;
 }
 
-/// What the call gives: document 01's number, line and length.
+/// What the call gives: document 01's number, line and length, and document 02's offset.
 #[derive(Clone, Copy, Debug, PartialEq, Eq)]
 pub struct Given {
-    /// 0: the job ran and its report stands at the front of the buffer. 1 to 8: it was refused.
+    /// 0: the job ran and its report stands at the front of the buffer. 1 to 10: it was refused.
     pub number: u32,
-    /// The line of a refusal 4, 5 or 6, else 0.
+    /// The line of a refusal 4, 5, 6, 9 or 10, else 0.
     pub line: usize,
     /// The report's length on 0 and 8, else 0; at most 16,777,217.
     pub length: usize,
+    /// The byte of a refusal 4, 5, 9 or 10, from 0 over the whole text, else 0.
+    pub offset: usize,
 }
 
 /// The call itself. Any text, figures and lengths get an answer.
 ///
-/// On 1 to 8 the report buffer is as it was. On 1, 2 and 3 the scratch is too; otherwise its first [`Room::need`] words
+/// On 1 to 10 the report buffer is as it was. On 1, 2 and 3 the scratch is too; otherwise its first [`Room::need`] words
 /// are zero afterwards and the others as they were.
 ///
 /// # Safety
@@ -43,7 +46,7 @@ pub struct Given {
 /// The thread has [`Room::stack`] bytes of stack left. Less is enough for most jobs, but texts can be written that take
 /// half of it, and a call that runs past its stack overwrites what stands there, unless the system stops it.
 pub unsafe fn call(text: &[u8], budget: usize, room: Room, scratch: &mut [u64], report: &mut [u8]) -> Given {
-    let (mut line, mut length) = (0, 0);
+    let (mut line, mut length, mut offset) = (0, 0, 0);
     let Room { pairs, compounds, goals } = room;
     // SAFETY: each pointer is a reference's and goes with its own length; the slices that are written are borrowed for
     // this call alone, so nothing overlaps them. By its contract, which is proved, the call writes within them, and
@@ -62,9 +65,10 @@ pub unsafe fn call(text: &[u8], budget: usize, room: Room, scratch: &mut [u64], 
             report.len(),
             &mut line,
             &mut length,
+            &mut offset,
         )
     };
-    Given { number, line, length }
+    Given { number, line, length, offset }
 }
 
 /// What a thread takes of its stack before it is our turn, with much to spare.

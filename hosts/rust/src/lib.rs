@@ -2,7 +2,7 @@
 //!
 //! A [`Job`] is a text with its figures: a budget of steps, a [`Room`] and the longest report that is wanted. A
 //! [`Machine`] keeps what a call is lent and runs jobs one after the other. Every job gets an [`Answer`]: a report, or
-//! a [`Refusal`] with a message for people. Nothing has to be tested first.
+//! a [`Refusal`] that says what is wrong and shows where. Nothing has to be tested first.
 //!
 //! ```
 //! use troscunel::{Answer, Job, Machine, Refusal};
@@ -22,10 +22,12 @@
 //!
 //! let text = format!("{rules}?- tag([fetch,fetch],Hits).\n?- tag(Hits,Hits).\n");
 //! let answer = machine.run(&Job::new(&text));
-//! assert_eq!(answer, Answer::Refused(Refusal::OccurrenceRule { line: 4 }));
+//! assert!(matches!(answer, Answer::Refused(Refusal::Twice(_))));
 //! assert_eq!(
 //!     answer.into_result().unwrap_err().to_string(),
-//!     "line 4: the item that begins here breaks an occurrence rule (a writer or a reader stands twice, or in a clause one stands without the other)"
+//!     "4:13: the writer Hits occurs a second time\n\
+//!      ?- tag(Hits,Hits).\n\
+//!      \u{20}           ^"
 //! );
 //! ```
 //!
@@ -49,11 +51,13 @@ mod answer;
 mod call;
 mod machine;
 mod room;
+mod shown;
 
 pub use answer::{Answer, Refusal};
 pub use call::{call, Given};
 pub use machine::{Job, Machine};
 pub use room::Room;
+pub use shown::Place;
 
 /// The longest report of any call, in bytes. A buffer that is longer has no use.
 pub const LONGEST_REPORT: usize = 16_777_216;

@@ -75,9 +75,33 @@ impl Machine {
         let bytes = job.longest_report.min(LONGEST_REPORT);
         let (scratch, buffer) = (at_least(&mut self.scratch, words), at_least(&mut self.buffer, bytes));
         let given = call_in_thread(job.text, job.budget, job.room, scratch, buffer);
-        match Refusal::of(given) {
+        match Refusal::of(given, job.text) {
             Some(refusal) => Answer::Refused(refusal),
             None => Answer::Ran(buffer[..given.length].to_vec()),
+        }
+    }
+
+    /// Reads and judges a text without running it.
+    ///
+    /// The call has a budget of 0; room for eight queries of 16 pairs, 32 compounds and 8 goals, which are the most that
+    /// a text can have, so that 7 cannot come; and a buffer into which no report fits, so that 8 stands for a text
+    /// without a fault, and for nothing else.
+    ///
+    /// ```
+    /// use troscunel::Machine;
+    ///
+    /// assert!(Machine::new().check("go(X) :- go(X?).\n?- go(a).\n").is_ok());
+    /// assert_eq!(Machine::new().check("go(X) :- go(a).\n?- go(a).\n").unwrap_err().number(), 9);
+    /// ```
+    ///
+    /// # Panics
+    ///
+    /// As [`run`](Machine::run).
+    pub fn check<T: AsRef<[u8]> + ?Sized>(&mut self, text: &T) -> Result<(), Refusal> {
+        let room = Room { pairs: 8 * 16, compounds: 8 * 32, goals: 8 * 8 };
+        match self.run(&Job::new(text).budget(0).room(room).longest_report(0)) {
+            Answer::Ran(_) | Answer::Refused(Refusal::ReportLong { .. }) => Ok(()),
+            Answer::Refused(refusal) => Err(refusal),
         }
     }
 }

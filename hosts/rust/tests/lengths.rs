@@ -62,7 +62,7 @@ fn lent_buffers_of_every_length() {
             // SAFETY: this thread has the stack of the largest room.
             let given =
                 unsafe { troscunel::call(text.as_bytes(), 1_000_000, Room::LARGEST, &mut scratch, &mut buffer) };
-            assert_eq!((given.number, given.line, given.length), (0, 0, LONGEST_REPORT));
+            assert_eq!((given.number, given.line, given.length, given.offset), (0, 0, LONGEST_REPORT, 0));
             assert!(buffer[..LONGEST_REPORT] == report && buffer[LONGEST_REPORT..].iter().all(|byte| *byte == b'.'));
         }
         for shorter in [1, LONGEST_REPORT] {
@@ -70,7 +70,7 @@ fn lent_buffers_of_every_length() {
             // SAFETY: as above.
             let given =
                 unsafe { troscunel::call(text.as_bytes(), 1_000_000, Room::LARGEST, &mut scratch, &mut buffer) };
-            assert_eq!((given.number, given.line, given.length), (8, 0, LONGEST_REPORT));
+            assert_eq!((given.number, given.line, given.length, given.offset), (8, 0, LONGEST_REPORT, 0));
             assert!(buffer.iter().all(|byte| *byte == b'.'));
         }
         assert!(scratch.pop() == Some(7) && scratch.iter().all(|word| *word == 0));

@@ -46,14 +46,15 @@ fn every_refusal_has_its_number_line_and_message() {
     }
     assert_eq!(refusal(&job.budget(1_000_001)), (1, 0, out_of_range.into()));
     assert_eq!(refusal(&Job::new(&" ".repeat(16_385))), (3, 0, "the text is longer than 16,384 bytes".into()));
-    let no_item = "line 2: no item can be read here (a bad token, or one in a wrong place)";
-    assert_eq!(refusal(&Job::new("p(a).\np(_).\n")), (4, 2, no_item.into()));
-    let (number, line, message) = refusal(&Job::new("p(a).\n\np(X,\nX).\n"));
-    assert_eq!((number, line), (5, 3));
-    assert!(message.starts_with("line 3: the item that begins here breaks an occurrence rule"));
-    let (number, line, message) = refusal(&Job::new("p(a).\n?- p(1,2,3,4,5,6,7).\n"));
-    assert_eq!((number, line), (6, 2));
-    assert!(message.starts_with("line 2: the item that begins here passes a figure"));
+    assert_eq!(refusal(&Job::new("p(a).\np(_).\n")), (4, 2, "2:3: this cannot stand here\np(_).\n  ^".into()));
+    let twice = "3:8: the writer X occurs a second time\np(X,X?,X).\n       ^";
+    assert_eq!(refusal(&Job::new("p(a).\n\np(X,X?,X).\n")), (5, 3, twice.into()));
+    let alone = "4:1: the writer X has no reader\nX).\n^";
+    assert_eq!(refusal(&Job::new("p(a).\n\np(\nX).\n")), (9, 3, alone.into()));
+    let alone = "4:1: the reader X? has no writer\nX?).\n^";
+    assert_eq!(refusal(&Job::new("p(a).\n\np(\nX?).\n")), (10, 3, alone.into()));
+    let figure = "2: the item that begins here passes a figure (docs/LIMITS.md has them)";
+    assert_eq!(refusal(&Job::new("p(a).\n?- p(1,2,3,4,5,6,7).\n")), (6, 2, figure.into()));
     assert_eq!(refusal(&Job::new("")), (6, 0, "the text has no query".into()));
     let small = Room { pairs: 1, ..job.room };
     assert_eq!(refusal(&job.room(small)), (7, 0, "the queries alone pass a room figure".into()));
@@ -91,7 +92,8 @@ fn a_machine_keeps_nothing_of_a_job() {
         assert_eq!(answer.number(), u32::from(wanted.number), "{}", job.label);
         assert_eq!(answer.report(), wanted.report.as_deref(), "{}", job.label);
         if let Answer::Refused(refusal) = answer {
-            assert_eq!(refusal.line(), wanted.line as usize, "{}", job.label);
+            let place = (wanted.line as usize, wanted.offset as usize);
+            assert_eq!((refusal.line(), refusal.offset()), place, "{}", job.label);
         }
     }
 }

@@ -58,7 +58,7 @@ fn expected(text: &mut String, place: usize, answer: &Answer) -> String {
     match &answer.report {
         Some(_) => format!("prints report-{place}"),
         None if answer.number == 8 => format!("too-long {}", answer.length),
-        None => format!("refuses {} {}", answer.number, answer.line),
+        None => format!("refuses {} {} {}", answer.number, answer.line, answer.offset),
     }
 }
 

@@ -35,6 +35,16 @@ pub fn text_of(random: &mut Random, items: &[Vec<Token>]) -> Vec<u8> {
         Layout::Returns,
     ];
     let layout = random.pick(&layouts);
+    laid_out(random, layout, items)
+}
+
+/// The items' tokens as one text with much between them.
+pub fn odd_text_of(random: &mut Random, items: &[Vec<Token>]) -> Vec<u8> {
+    let layout = random.pick(&[Layout::Scattered, Layout::Scattered, Layout::Remarked, Layout::Returns, Layout::Line]);
+    laid_out(random, layout, items)
+}
+
+fn laid_out(random: &mut Random, layout: Layout, items: &[Vec<Token>]) -> Vec<u8> {
     let mut text = Vec::new();
     for item in items {
         write_item(random, layout, item, &mut text);

@@ -1,7 +1,7 @@
 //! Seeded jobs for the runtime of document 01: the same jobs for the same seed on every machine.
 //!
 //! `jobs` mixes kinds in a fixed round, so that each comes often: random programs, streams and other kits, goals that
-//! wait on several readers or fail behind them, texts near every figure, corners of the token rules, changed, cut and broken texts, and figures out of range. The jobs are
+//! wait on several readers or fail behind them, texts near every figure, corners of the token rules, changed, cut and broken texts, texts refused at every kind of byte, and figures out of range. The jobs are
 //! computed by a proof checker as well as by the reference, so nearly all of them are small by construction.
 
 #![forbid(unsafe_code)]
@@ -18,6 +18,7 @@ pub mod options;
 mod places;
 mod programs;
 pub mod random;
+mod refused;
 mod streams;
 pub mod table;
 pub mod term;
@@ -47,60 +48,74 @@ enum Kind {
     Changed,
     Cut,
     Broken,
+    Occurrences,
+    Misplaced,
+    Ended,
     Spoilt,
 }
 
 /// The round in which the kinds come.
-const ROUND: [Kind; 43] = [
+const ROUND: [Kind; 53] = [
     Kind::Program,
     Kind::Edge,
     Kind::Places,
     Kind::Spoilt,
+    Kind::Occurrences,
     Kind::Corner,
     Kind::Kit,
     Kind::Places,
     Kind::Corner,
+    Kind::Misplaced,
     Kind::Edge,
     Kind::Kit,
     Kind::Places,
     Kind::Changed,
+    Kind::Occurrences,
     Kind::Corner,
     Kind::Program,
     Kind::Places,
     Kind::Kit,
+    Kind::Ended,
     Kind::Edge,
     Kind::Corner,
     Kind::Places,
     Kind::Broken,
+    Kind::Occurrences,
     Kind::Kit,
     Kind::Spoilt,
     Kind::Places,
     Kind::Program,
+    Kind::Misplaced,
     Kind::Edge,
     Kind::Corner,
     Kind::Places,
     Kind::Kit,
+    Kind::Occurrences,
     Kind::Changed,
     Kind::Corner,
     Kind::Places,
     Kind::Edge,
+    Kind::Ended,
     Kind::Program,
     Kind::Cut,
     Kind::Places,
     Kind::Kit,
+    Kind::Occurrences,
     Kind::Corner,
     Kind::Program,
     Kind::Places,
     Kind::Edge,
+    Kind::Misplaced,
     Kind::Kit,
     Kind::Corner,
     Kind::Places,
 ];
 
-/// Whose turn it is among the edges, the corners and the figures: each goes round from a random beginning.
+/// Whose turn it is among the edges, the corners, the ways to break a rule and the figures: each goes round from a random beginning.
 struct Turns {
     edge: usize,
     corner: usize,
+    occurrences: usize,
     chosen: usize,
     spoilt: usize,
 }
@@ -110,6 +125,7 @@ impl Turns {
         Turns {
             edge: random.below(1_000),
             corner: random.below(1_000),
+            occurrences: random.below(1_000),
             chosen: random.below(10),
             spoilt: random.below(7),
         }
@@ -151,6 +167,15 @@ fn job(random: &mut Random, turns: &mut Turns, kind: Kind) -> (String, Vec<u8>, 
             ("cut".to_string(), corners::cut(random, &items))
         }
         Kind::Broken => ("broken".to_string(), corners::broken(random)),
+        Kind::Occurrences => ("occurrences".to_string(), refused::occurrences(random, take(&mut turns.occurrences))),
+        Kind::Misplaced => {
+            let items = some_items(random);
+            ("misplaced".to_string(), refused::misplaced(random, &items))
+        }
+        Kind::Ended => {
+            let items = some_items(random);
+            ("ended".to_string(), refused::ended(random, &items))
+        }
     };
     let figures = figures::usual(random, &text);
     (word, text, figures)

@@ -1,6 +1,6 @@
 //! What is new in an answer: a cheap sum of what the run did, kept in one table of bits.
 //!
-//! An answer shows number, line, verdict, tries and goals of each query, and the shapes of its values. Each of these,
+//! An answer shows number, line, offset, verdict, tries and goals of each query, and the shapes of its values. Each of these,
 //! coarsened, is one bit of the table; an answer with a bit that no answer before it had is new.
 
 use reference::Answer;
@@ -24,7 +24,8 @@ impl Novelty {
     pub fn is_new(&mut self, text: &[u8], answer: &Answer) -> bool {
         let refusal = [1, u64::from(answer.number), log(answer.line.into()), log(text.len() as u64)];
         let length = [2, u64::from(answer.number), log(answer.length.into()), 0];
-        let mut new = self.see(refusal) | self.see(length);
+        let offset = [6, u64::from(answer.number), log(answer.offset.into()), around(text, answer.offset as usize)];
+        let mut new = self.see(refusal) | self.see(length) | self.see(offset);
         let report = answer.report.as_deref().unwrap_or_default();
         let report = &report[..report.len().min(LOOKED_AT)];
         for line in report.split(|byte| *byte == b'\n') {
@@ -59,6 +60,12 @@ impl Novelty {
         let place = what.iter().fold(0, |sum, part| mixed(sum, *part)) as usize % BITS;
         !std::mem::replace(&mut self.seen[place], true)
     }
+}
+
+/// The shapes of the bytes before an offset and at it; 0 where there is none.
+fn around(text: &[u8], offset: usize) -> u64 {
+    let at = |place: Option<usize>| place.and_then(|place| text.get(place)).map_or(0, |byte| shape(*byte));
+    at(offset.checked_sub(1)) << 8 | at(Some(offset))
 }
 
 /// Letters and digits are each one shape, every other byte its own.

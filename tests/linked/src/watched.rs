@@ -2,8 +2,8 @@
 //!
 //! Text, scratch and buffer each stand between guards, at an offset that changes; all of it is filled with a mark that
 //! changes, too. After the call the answer is the reference's, and every byte lent is what document 01 says: 'On 0 the
-//! report stands at the front of its buffer and the bytes behind it keep their values. On 1 to 8 the whole report
-//! buffer keeps its values. Scratch is untouched on 1, 2, 3; otherwise the needed part is zero afterwards and any part
+//! report stands at the front of its buffer and the bytes behind it keep their values. On 1 to 8 (and on 9 and 10, which
+//! take 5's place) the whole report buffer keeps its values. Scratch is untouched on 1, 2, 3; otherwise the needed part is zero afterwards and any part
 //! beyond it is untouched.'
 
 use reference::Answer;
@@ -17,6 +17,8 @@ pub enum Falsified {
     Number,
     Line,
     Length,
+    Offset,
+    NoOffset,
     Report,
     BehindReport,
     Refused,
@@ -32,10 +34,12 @@ pub enum Falsified {
     BehindBuffer,
 }
 
-pub const FALSIFIED: [(&str, Falsified); 16] = [
+pub const FALSIFIED: [(&str, Falsified); 18] = [
     ("number", Falsified::Number),
     ("line", Falsified::Line),
     ("length", Falsified::Length),
+    ("offset", Falsified::Offset),
+    ("no-offset", Falsified::NoOffset),
     ("report", Falsified::Report),
     ("behind-report", Falsified::BehindReport),
     ("refused-buffer", Falsified::Refused),
@@ -122,7 +126,7 @@ impl Watched {
 
     /// The first thing that is not as it has to be.
     fn differs(&self, input: &Input, given: Given, answer: &Answer, mark: u8, word: u64) -> Option<String> {
-        let wanted = Given { number: answer.number.into(), line: answer.line as usize, length: answer.length as usize };
+        let wanted = given_by(answer);
         if given != wanted {
             return Some(format!("the call gave {given:?}, the reference {wanted:?}"));
         }
@@ -163,6 +167,8 @@ impl Watched {
             Falsified::Number => given.number ^= 1,
             Falsified::Line => given.line += 1,
             Falsified::Length if !ran => given.length += 1,
+            Falsified::Offset if matches!(given.number, 4 | 5 | 9 | 10) => given.offset += 1,
+            Falsified::NoOffset if given.number == 0 => given.offset = 1,
             Falsified::Report if ran => flip(self.buffer.lent(), length - 1),
             Falsified::BehindReport if ran => flip(self.buffer.lent(), length),
             Falsified::Refused if !ran => flip(self.buffer.lent(), 0),
@@ -179,6 +185,12 @@ impl Watched {
             _ => {}
         }
     }
+}
+
+/// The reference's answer, as the call gives its own.
+pub fn given_by(answer: &Answer) -> Given {
+    let Answer { number, line, length, offset, .. } = *answer;
+    Given { number: number.into(), line: line as usize, length: length as usize, offset: offset as usize }
 }
 
 /// Runs in a thread with stack enough for every call.

@@ -1,6 +1,7 @@
-//! The call: reading, running and writing composed, and the nine numbers in their order.
+//! The call: reading, running and writing composed, and the numbers 0 to 10 in their order.
 //!
 //! 'Order: 1, 2, 3; then the text item by item, where the first refused item decides; then no query; then 7; then 8.'
+//! '9 and 10 take 5's place in the order' (document 02, T-01).
 //! The scratch need is a figure here: the call uses no scratch of its caller's.
 
 use crate::{items, machine, report};
@@ -37,37 +38,44 @@ impl Figures {
     }
 }
 
-/// The answer of the call: number, line, length; the report exactly when the number is 0.
+/// The answer of the call: number, line, length and offset; the report exactly when the number is 0.
 #[derive(Clone, Debug, PartialEq, Eq)]
 pub struct Answer {
     pub number: u8,
     pub line: u32,
     pub length: u32,
+    pub offset: u32,
     pub report: Option<Vec<u8>>,
 }
 
-/// 'The length is 0 for 1 to 7.'
-fn refused(number: u8, line: u32) -> Answer {
-    Answer { number, line, length: 0, report: None }
+/// A refusal that says nothing of the text.
+const fn outside_the_text(number: u8) -> items::Refusal {
+    items::Refusal { number, line: 0, offset: 0 }
+}
+
+/// 'The length is 0 for 1 to 7', and for 9 and 10.
+fn refused(refusal: items::Refusal) -> Answer {
+    let items::Refusal { number, line, offset } = refusal;
+    Answer { number, line, length: 0, offset, report: None }
 }
 
 /// Read a job text, run it and write its report.
 pub fn call(text: &[u8], figures: &Figures) -> Answer {
     if !figures.in_range() {
-        return refused(1, 0);
+        return refused(outside_the_text(1));
     }
     if figures.scratch < figures.need {
-        return refused(2, 0);
+        return refused(outside_the_text(2));
     }
     let job = match items::read(text) {
         Ok(job) => job,
-        Err(refusal) => return refused(refusal.number, refusal.line),
+        Err(refusal) => return refused(refusal),
     };
     let room = machine::Room { pairs: figures.pairs, compounds: figures.compounds, goals: figures.goals };
     let Some(finished) = machine::run(&job, figures.budget, room) else {
-        return refused(7, 0);
+        return refused(outside_the_text(7));
     };
     let written = report::write(&finished, figures.buffer);
     let number = if written.report.is_some() { 0 } else { 8 };
-    Answer { number, line: 0, length: written.length, report: written.report }
+    Answer { number, line: 0, length: written.length, offset: 0, report: written.report }
 }

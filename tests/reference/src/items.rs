@@ -1,8 +1,9 @@
-//! Reading: a job text becomes a checked job, or is refused with 3, 4, 5 or 6 and a line.
+//! Reading: a job text becomes a checked job, or is refused with 3, 4, 5, 6, 9 or 10, a line and an offset.
 //!
 //! 'The first refused item decides.' Inside an item the reading stops at the first token that cannot stand where it
 //! stands (4) or that passes a figure (6); the former is asked first, so one token that does both is 4. The occurrence
-//! rules (5) are judged at the item's full stop. Functions recurse only over brackets, of which 16 are open at most.
+//! rules (5, 9 and 10) are judged at the item's full stop. Functions recurse only over brackets, of which 16 are open at
+//! most.
 
 use crate::job::{Clause, Goals, Job, Query};
 use crate::text::{line, token, Sort, Token};
@@ -20,24 +21,26 @@ const GOALS: usize = 8;
 const BRACKETS: usize = 16;
 const ARGUMENTS: usize = 6;
 
-/// Why a text is no job: number 3, 4, 5 or 6, and its line.
+/// Why a text is no job: number 3, 4, 5, 6, 9 or 10, and its line; '4, 5, 9 and 10 also return a byte offset, 0 with
+/// every other number' (document 02, T-01).
 #[derive(Clone, Copy, Debug, PartialEq, Eq)]
 pub struct Refusal {
     pub number: u8,
     pub line: u32,
+    pub offset: u32,
 }
 
 /// Read and check a job text.
 pub fn read(text: &[u8]) -> Result<Job, Refusal> {
     if text.len() > TEXT_BYTES {
-        return Err(Refusal { number: 3, line: 0 });
+        return Err(Refusal { number: 3, line: 0, offset: 0 });
     }
     let mut items = Items::new(text);
     while items.token.sort != Sort::End {
         items.item()?;
     }
     if items.job.queries.is_empty() {
-        return Err(Refusal { number: 6, line: 0 });
+        return Err(Refusal { number: 6, line: 0, offset: 0 });
     }
     items.job.gather_procedures();
     Ok(items.job)
@@ -59,13 +62,21 @@ struct Items<'t> {
 struct Item<'t> {
     begin: usize,
     variables: Vec<&'t [u8]>,
+    /// Each occurrence of a half, in text order, with the offset at which it begins.
+    occurrences: Vec<(Half, usize)>,
     /// One bit for each variable: whether its writer, its reader has occurred.
     writers: u32,
     readers: u32,
-    twice: bool,
     compounds: usize,
     brackets: usize,
     goals: usize,
+}
+
+/// A pair's writer or its reader; the pair is one bit.
+#[derive(Clone, Copy, PartialEq, Eq)]
+struct Half {
+    kind: Kind,
+    pair: u32,
 }
 
 type Reading<T> = Result<T, Refusal>;
@@ -86,24 +97,25 @@ impl<'t> Items<'t> {
         self.token = token(self.text, self.token.end);
     }
 
-    /// 4, 'of the first token that cannot continue; at the end of the text, of its last byte'.
+    /// 4, its line 'of the first token that cannot continue; at the end of the text, of its last byte', its offset 'the
+    /// token's start (the text's length at its end)'.
     fn cannot_continue<T>(&self) -> Reading<T> {
         let place = match self.token.sort {
             Sort::End => self.text.len() - 1,
             _ => self.token.begin,
         };
-        Err(Refusal { number: 4, line: line(self.text, place) })
+        Err(Refusal { number: 4, line: line(self.text, place), offset: self.token.begin as u32 })
     }
 
-    /// 5 or 6, 'where the item begins'.
-    fn refuse_item<T>(&self, number: u8) -> Reading<T> {
-        Err(Refusal { number, line: line(self.text, self.item.begin) })
+    /// 5, 6, 9 or 10, its line 'where the item begins'.
+    fn refuse_item(&self, number: u8, offset: usize) -> Reading<()> {
+        Err(Refusal { number, line: line(self.text, self.item.begin), offset: offset as u32 })
     }
 
     /// 6 if one more than `count` is above the figure.
     fn within(&self, count: usize, figure: usize) -> Reading<()> {
         if count >= figure {
-            return self.refuse_item(6);
+            return self.refuse_item(6, 0);
         }
         Ok(())
     }
@@ -121,18 +133,17 @@ impl<'t> Items<'t> {
     /// 'Each item has its own variables', and begins at its first token.
     fn begin_item(&mut self) {
         let mut variables = std::mem::take(&mut self.item.variables);
+        let mut occurrences = std::mem::take(&mut self.item.occurrences);
         variables.clear();
-        self.item = Item { begin: self.token.begin, variables, ..Item::default() };
+        occurrences.clear();
+        self.item = Item { begin: self.token.begin, variables, occurrences, ..Item::default() };
     }
 
     fn query(&mut self) -> Reading<()> {
         self.within(self.job.queries.len(), QUERIES)?;
         self.advance();
         let body = self.goals()?;
-        // 'In a query nothing occurs twice; either half may be missing.'
-        if self.item.twice {
-            return self.refuse_item(5);
-        }
+        self.judge_occurrences(false)?;
         self.advance();
         let variables = self.item.variables.iter().map(|name| (*name).into()).collect();
         self.job.queries.push(Query { body, variables });
@@ -150,12 +161,31 @@ impl<'t> Items<'t> {
             }
             _ => return self.cannot_continue(),
         };
-        // 'In a clause no writer and no reader occurs twice, and a writer occurs exactly if its reader does.'
-        if self.item.twice || self.item.writers != self.item.readers {
-            return self.refuse_item(5);
-        }
+        self.judge_occurrences(true)?;
         self.advance();
         self.job.clauses.push(Clause { head, body });
+        Ok(())
+    }
+
+    /// 'In a clause no writer and no reader occurs twice, and a writer occurs exactly if its reader does. In a query
+    /// nothing occurs twice; either half may be missing.' The offset is 'for 5 the second occurrence, for 9 and 10 the
+    /// first occurrence of the lone half; where several apply to an item, the smallest offset decides': so the first
+    /// occurrence in text order that breaks a rule.
+    fn judge_occurrences(&self, clause: bool) -> Reading<()> {
+        let (mut writers, mut readers) = (0, 0);
+        for &(Half { kind, pair }, offset) in &self.item.occurrences {
+            let (seen, others, lone) = match kind {
+                Kind::Reader => (&mut readers, self.item.writers, 10),
+                _ => (&mut writers, self.item.readers, 9),
+            };
+            if *seen & pair != 0 {
+                return self.refuse_item(5, offset);
+            }
+            if clause && others & pair == 0 {
+                return self.refuse_item(lone, offset);
+            }
+            *seen |= pair;
+        }
         Ok(())
     }
 
@@ -247,8 +277,9 @@ impl<'t> Items<'t> {
             Sort::Reader => (Kind::Reader, &mut self.item.readers),
             _ => (Kind::Writer, &mut self.item.writers),
         };
-        self.item.twice |= *seen & 1 << index != 0;
-        *seen |= 1 << index;
+        let pair = 1 << index;
+        *seen |= pair;
+        self.item.occurrences.push((Half { kind, pair }, self.token.begin));
         self.advance();
         Ok(Word::new(kind, index as u32))
     }

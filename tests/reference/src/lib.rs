@@ -1,7 +1,7 @@
 //! A reference implementation of document 01, with T-03 of document 02: a job text is read and checked, run under a
 //! budget and a room, and its report written.
 //!
-//! `read`, `run` and `write` are the three phases; `call` composes them and gives the nine numbers in their order.
+//! `read`, `run` and `write` are the three phases; `call` composes them and gives the numbers in their order.
 //! Read the modules as `text`, `job`, `items`, `machine` with `trial` and `circle`, `report`, `call`.
 
 #![forbid(unsafe_code)]
@@ -21,3 +21,4 @@ pub use items::{read, Refusal};
 pub use job::Job;
 pub use machine::{run, Finished, Room, Verdict};
 pub use report::{write, Written, LONGEST_REPORT};
+pub use text::{token, Sort, Token};

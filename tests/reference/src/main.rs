@@ -83,7 +83,7 @@ fn single(options: &Options) -> Result<(), String> {
 }
 
 fn write_answer(output: &mut impl Write, answer: &Answer) -> io::Result<()> {
-    writeln!(output, "{} {} {}", answer.number, answer.line, answer.length)
+    writeln!(output, "{} {} {} {}", answer.number, answer.line, answer.length, answer.offset)
 }
 
 fn framed() -> Result<(), String> {

@@ -40,12 +40,14 @@ fn order_of_the_numbers() {
     assert_eq!(number_with(&long, Figures { budget: 0, need: 0, ..all }), 3);
     let small = Figures { compounds: 1, buffer: 0, ..Figures::default() };
     assert_eq!(number_with("!", small), 4);
-    assert_eq!(number_with("p(X).", small), 5);
+    assert_eq!(number_with("?- p(X,X).", small), 5);
+    assert_eq!(number_with("p(X).", small), 9);
+    assert_eq!(number_with("p(X?).", small), 10);
     assert_eq!(number_with("p(a).", small), 6);
     assert_eq!(number_with("?- p(f(a)).", small), 7);
     assert_eq!(number_with("?- p(a).", small), 8);
     // The first refused item decides.
-    assert_eq!(refused("p(X).\n!"), (5, 1));
+    assert_eq!(refused("p(X).\n!"), (9, 1));
     assert_eq!(refused("p(1,2,3,4,5,6,7).\n!"), (6, 1));
     assert_eq!(refused("p(a).\n!\np(X)."), (4, 2));
 }

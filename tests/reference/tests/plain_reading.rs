@@ -3,13 +3,13 @@
 
 mod common;
 
-use std::collections::BTreeSet;
+use std::collections::{BTreeMap, BTreeSet};
 
 use common::Dice;
 use reference::read;
 
-/// Sort (`n` name, `W` writer, `R` reader, `i` integer, `x` bad, `e` end, else its first byte), spelling, line.
-type Token = (char, String, u32);
+/// Sort (`n` name, `W` writer, `R` reader, `i` integer, `x` bad, `e` end, else its first byte), spelling, line, offset.
+type Token = (char, String, u32, usize);
 
 fn tokens(text: &[u8]) -> Vec<Token> {
     let byte = |at: usize| text.get(at).map_or('\0', |b| *b as char);
@@ -48,16 +48,16 @@ fn tokens(text: &[u8]) -> Vec<Token> {
                 '-' | '0'..='9' if spelling.parse::<i32>().is_ok_and(|n| n.to_string() == spelling) => 'i',
                 _ => 'x',
             };
-            out.push((sort, spelling, line));
+            out.push((sort, spelling, line, begin));
         } else if ":?".contains(c) && byte(at) == '-' {
             at += 1;
-            out.push((c, String::new(), line));
+            out.push((c, String::new(), line, begin));
         } else {
-            out.push((if "()[],|.".contains(c) { c } else { 'x' }, String::new(), line));
+            out.push((if "()[],|.".contains(c) { c } else { 'x' }, String::new(), line, begin));
         }
     }
     let line_of_last = 1 + text.iter().rev().skip(1).filter(|b| **b == b'\n').count() as u32;
-    out.push(('e', String::new(), line_of_last));
+    out.push(('e', String::new(), line_of_last, text.len()));
     out
 }
 
@@ -82,7 +82,8 @@ struct Counts {
     query: bool,
     in_head: bool,
     pairs: BTreeSet<String>,
-    occurrences: Vec<(String, char)>,
+    /// Where each half of each name stands, in text order.
+    occurrences: BTreeMap<(String, char), Vec<usize>>,
     compounds: usize,
     goals: usize,
     /// `(` with its arguments so far, `[`, or `|` for a list behind its bar.
@@ -102,9 +103,10 @@ fn above(count: usize, figure: usize) -> Result<(), Refused> {
     }
 }
 
-fn plain_read(text: &[u8]) -> (u8, u32) {
+/// Number, line and offset.
+fn plain_read(text: &[u8]) -> (u8, u32, usize) {
     if text.len() > 16_384 {
-        return (3, 0);
+        return (3, 0, 0);
     }
     let (mut names, mut clauses, mut queries) = (BTreeSet::new(), 0, 0);
     let (mut expect, mut item) = (Expect::Item, Counts::default());
@@ -116,23 +118,32 @@ fn plain_read(text: &[u8]) -> (u8, u32) {
             item = Counts { line: token.2, query: token.0 == '?', in_head: true, ..Counts::default() };
         }
         match take(&token, expect, &mut item, &mut names, &mut clauses, &mut queries) {
-            Err(Refused::Four) => return (4, token.2),
-            Err(Refused::Six) => return (6, item.line),
-            Ok(Expect::Item) if broken(&item) => return (5, item.line),
+            Err(Refused::Four) => return (4, token.2, token.3),
+            Err(Refused::Six) => return (6, item.line, 0),
             Ok(next) => expect = next,
+        }
+        if let (Expect::Item, Some((offset, number))) = (expect, broken(&item)) {
+            return (number, item.line, offset);
         }
     }
     if queries == 0 {
-        (6, 0)
+        (6, 0, 0)
     } else {
-        (0, 0)
+        (0, 0, 0)
     }
 }
 
-fn broken(item: &Counts) -> bool {
-    let distinct: BTreeSet<_> = item.occurrences.iter().collect();
-    let halves = |sort| item.occurrences.iter().filter(|o| o.1 == sort).map(|o| &o.0).collect::<BTreeSet<_>>();
-    distinct.len() < item.occurrences.len() || (!item.query && halves('W') != halves('R'))
+/// Every broken rule of the item with its offset and number; the least of them.
+fn broken(item: &Counts) -> Option<(usize, u8)> {
+    let mut rules = Vec::new();
+    for ((name, half), offsets) in &item.occurrences {
+        let (other, lone) = if *half == 'W' { ('R', 9) } else { ('W', 10) };
+        rules.extend(offsets.get(1).map(|second| (*second, 5)));
+        if !item.query && !item.occurrences.contains_key(&(name.clone(), other)) {
+            rules.push((offsets[0], lone));
+        }
+    }
+    rules.into_iter().min()
 }
 
 fn take(
@@ -143,7 +154,7 @@ fn take(
     clauses: &mut usize,
     queries: &mut usize,
 ) -> Result<Expect, Refused> {
-    let (sort, spelling, _) = token;
+    let (sort, spelling, _, offset) = token;
     let mut new_name = || {
         names.insert(spelling.clone());
         above(names.len(), 256)
@@ -195,7 +206,7 @@ fn take(
                 }
                 _ => {
                     item.pairs.insert(spelling.clone());
-                    item.occurrences.push((spelling.clone(), *sort));
+                    item.occurrences.entry((spelling.clone(), *sort)).or_default().push(*offset);
                     above(item.pairs.len(), 16)?;
                 }
             }
@@ -367,13 +378,13 @@ impl Texts {
 #[test]
 fn random_texts_are_answered_as_the_plain_model_says() {
     let mut texts = Texts { dice: Dice(88172645463325252), names: 0, variables: 0, arguments: 0, depth: 0 };
-    let mut seen = [0; 7];
+    let mut seen = [0; 11];
     for _ in 0..common::random_jobs(40_000) {
         let text = texts.text();
-        let own = read(&text).map_or_else(|refusal| (refusal.number, refusal.line), |_| (0, 0));
+        let own = read(&text).map_or_else(|r| (r.number, r.line, r.offset as usize), |_| (0, 0, 0));
         assert_eq!(own, plain_read(&text), "{}", String::from_utf8_lossy(&text));
         seen[own.0 as usize] += 1;
     }
     println!("answers by number: {seen:?}");
-    assert!([0, 4, 5, 6].iter().all(|number| seen[*number] > 0));
+    assert!([0, 4, 5, 6, 9, 10].iter().all(|number| seen[*number] > 0));
 }

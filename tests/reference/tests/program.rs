@@ -32,9 +32,9 @@ const SHORT: &str = "run rest steps 1\nquery 1 tries 1 active 0 waiting 0 failed
 #[test]
 fn the_report_or_the_refusal() {
     assert_eq!(printed(&[], "?- p(a)."), SHORT);
-    assert_eq!(printed(&["--answer"], "?- p(a)."), format!("0 0 {}\n{SHORT}", SHORT.len()));
+    assert_eq!(printed(&["--answer"], "?- p(a)."), format!("0 0 {} 0\n{SHORT}", SHORT.len()));
     assert_eq!(printed(&[], ""), "refused 6 line 0\n");
-    assert_eq!(printed(&["--answer"], "\n!"), "4 2 0\nrefused 4 line 2\n");
+    assert_eq!(printed(&["--answer"], "\n!"), "4 2 0 1\nrefused 4 line 2\n");
     assert_eq!(printed(&[], " ".repeat(16_385)), "refused 3 line 0\n");
     assert_eq!(printed(&[], " ".repeat(1_000_000)), "refused 3 line 0\n");
     let k3 = printed(&[], format!("{RULES}?- tag(A?,Z), end(A).\n?- tag([1|B?],Y).\n"));
@@ -60,7 +60,7 @@ fn the_programs_figures() {
     }
     assert!(printed(&["--need", "7", "--scratch", "7"], forever).starts_with("run"));
     let doubling = "mk(f(C,C?)). p(f(R?,S)) :- mk(R), p(S?). ?- mk(A), p(A?).";
-    assert_eq!(printed(&["--answer"], doubling), "8 0 16777217\nrefused 8 line 0\n");
+    assert_eq!(printed(&["--answer"], doubling), "8 0 16777217 0\nrefused 8 line 0\n");
 }
 
 #[test]
@@ -91,9 +91,9 @@ fn frames() {
         frame(usual, "?- p(a).\n"),
     ]
     .concat();
-    let short = format!("0 0 {}\n{SHORT}", SHORT.len());
+    let short = format!("0 0 {} 0\n{SHORT}", SHORT.len());
     let active = "run budget steps 0\nquery 1 tries 0 active 1 waiting 0 failed 0\nactive p(a)\n";
-    let expected = format!("{short}4 3 0\n6 0 0\n8 0 {}\n2 0 0\n{short}", active.len());
+    let expected = format!("{short}4 3 0 2\n6 0 0 0\n8 0 {} 0\n2 0 0 0\n{short}", active.len());
     assert_eq!(printed(&["--framed"], input), expected);
     assert_eq!(printed(&["--framed"], ""), "");
 }
@@ -101,7 +101,7 @@ fn frames() {
 #[test]
 fn bad_frames() {
     let good = "10000 1024 1024 128 65536 0 0 8\n?- p(a).\n";
-    let short = format!("0 0 {}\n{SHORT}", SHORT.len());
+    let short = format!("0 0 {} 0\n{SHORT}", SHORT.len());
     for bad in [
         "1 2 3\n",
         "\n",

@@ -170,14 +170,14 @@ fn r14_brackets_and_bars() {
 #[test]
 fn r15_occurrence_after_the_full_stop() {
     assert_eq!(refused("p(X)\n"), (4, 1));
-    assert_eq!(refused("\np(X).\n!"), (5, 2));
+    assert_eq!(refused("\np(X).\n!"), (9, 2));
     assert_eq!(refused("p(X\n,!)."), (4, 2));
     assert_eq!(refused("p(X,1,2,3,4,5,6)."), (6, 1));
-    assert_eq!(refused("p(X,X?).\np(X,X).\np(\n"), (5, 2));
+    assert_eq!(refused("p(X,X?).\np(X,X).\np(\n"), (9, 2));
     assert_eq!(refused("p(X,X?,X?). ?- p(a)."), (5, 1));
     assert_eq!(refused("p(X,X,X?). ?- p(a)."), (5, 1));
-    assert_eq!(refused("p(X?). ?- p(a)."), (5, 1));
-    assert_eq!(refused("p(X) :- p(X). ?- p(a)."), (5, 1));
+    assert_eq!(refused("p(X?). ?- p(a)."), (10, 1));
+    assert_eq!(refused("p(X) :- p(X). ?- p(a)."), (9, 1));
     assert_eq!(refused("p(a) :- p(X), p(X?). ?- p(a)."), (0, 0));
     assert_eq!(refused("?- p(X?), p(X?)."), (5, 1));
     assert_eq!(refused("?- p(X), p(X?), p(Y), p(Z?)."), (0, 0));

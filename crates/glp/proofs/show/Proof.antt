@@ -44,6 +44,12 @@ refused-requires-4 c κs = search needs
 enum-known-why-2 : tie.Need-enum-known-why-2
 enum-known-why-2 c = search needs
 
+rule-number-requires : tie.Need-rule-number-requires
+rule-number-requires c κs = search needs
+
+cast-refused : tie.Need-cast-refused
+cast-refused c = search needs
+
 refused-requires-5 : tie.Need-refused-requires-5
 refused-requires-5 c κs = search needs
 
@@ -109,6 +115,8 @@ show-spec =
     enum-known-why
     refused-requires-4
     enum-known-why-2
+    rule-number-requires
+    cast-refused
     refused-requires-5
     enum-known-why-3
     refused-requires-6

@@ -35,7 +35,7 @@ module _ (n : ℕ) (given : Given) where
   refusal-never-ran : (r : Refusal) → refusal (given .text) r ≡ ran n → ⊥
   unfolding refusal
   refusal-never-ran (no-item place) e = differ (cc)
-  refusal-never-ran (occurrence-rule place) e = differ (cc)
+  refusal-never-ran (occurrence-rule place fault) e = differ (cc)
   refusal-never-ran (figure place) e = differ (cc)
   refusal-never-ran no-query e = differ (cc)
 

@@ -12,13 +12,13 @@ use borrow.Author.Tests.{leb-true, eqb-true}
 use Rattle.meaning.specs.Bytes.{Bytes}
 use Rattle.meaning.specs.Terms.{Half, writer, reader, Named, Clause, Query, goals-occurrences}
 use Rattle.meaning.specs.Tokens.{Tokens}
-use Rattle.meaning.specs.Items.{Counted, goals, rule, nothing-twice, both-halves}
+use Rattle.meaning.specs.Items.{Counted, goals, rule}
 use Rattle.laws.proofs.Lists.{Each, each-implies, all-up-to, and-left, and-right}
 use Rattle.laws.proofs.Reading.Figures.{Bounds, NamedFits, ClauseFits, QueryFits, Widens, named-widens, goals-below}
 use Rattle.laws.proofs.Reading.Alike.{bounds}
 use Rattle.laws.proofs.Reading.Items.{Among, ItemRead, rule-fits, goals-fit, behind-first}
 use Rattle.laws.proofs.Reading.ItemByItem.{ClauseAmong, QueryAmong}
-use Rattle.laws.proofs.Reading.Rules.{ClauseOk, QueryOk}
+use Rattle.laws.proofs.Reading.Rules.{nothing-twice, both-halves, ClauseOk, QueryOk}
 
 -- Heads and goals that fit, and that pass the tests of the occurrence rules.
 module _ (b : Bounds) (gs : List Named) (fits : Each (NamedFits b) gs) where

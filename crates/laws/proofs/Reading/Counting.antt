@@ -172,7 +172,7 @@ place-below x (y ∷ l) n e = go (same x y) refl (place-of x l) refl (place-belo
     go false t (some m) e′ below = let e″ : some (suc m) ≡ some n = rw (t, e′, place-of) at e in let z : n ≡ suc m = cc in omega (arith, below m e′)
 
 -- A spelling without a place is not there.
-placeless : (x : Bytes) (l : List Bytes) → place-of x l ≡ none → In x l → ⊥
+pub placeless : (x : Bytes) (l : List Bytes) → place-of x l ≡ none → In x l → ⊥
 unfolding place-of
 placeless x [] e m = in-none m
 placeless x (y ∷ l) e m = go (same x y) refl (place-of x l) refl (placeless x l) (in-cons-cases m)

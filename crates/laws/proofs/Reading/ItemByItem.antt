@@ -34,6 +34,8 @@ use Rattle.laws.proofs.Lists.{Each, Paired, done, pair, differ}
 use Rattle.laws.proofs.Reading.Figures.{SpellingsFit, no-spellings-fit}
 use Rattle.laws.proofs.Reading.EachToken.{EachToken}
 use Rattle.laws.proofs.Reading.TokensFit.{TokenFits, tokens-fit}
+use Rattle.laws.proofs.Reading.Passed.{Cut}
+use Rattle.laws.proofs.Reading.Faultless.{pieces-cut}
 use Rattle.laws.proofs.Reading.Items.{
   begins-with,
   clause-pieces,
@@ -148,10 +150,10 @@ with-query-job q (job j′) j e = (j′, refl, cc)
 with-query-job q (Reading.refused r) j e = absurd (differ (cc))
 
 -- "The text item by item": where no item is refused, each piece reads as the clause or query in its place.
-pub items-in-order : (ps : List Tokens) → Each (EachToken TokenFits) ps
+pub items-in-order : (ps : List Tokens) → Each (EachToken TokenFits) ps → Each Cut ps
     → (so-far : SoFar) (j : Job) → InFigures so-far → items so-far ps ≡ job j → ReadInOrder so-far ps j
 unfolding items those Says names-behind
-items-in-order [] fit so-far j h e =
+items-in-order [] fit cut so-far j h e =
     let e′ : j ≡ record { clauses = []; queries = [] } = cc in
     rw e′ (record {
       names = so-far .names;
@@ -163,8 +165,8 @@ items-in-order [] fit so-far j h e =
       clauses = done;
       queries = done;
     })
-items-in-order (piece ∷ ps) fit so-far j h e =
-    go (item so-far piece) refl (item-says so-far piece (h .names) (fit .0)) (items-in-order ps (fit .1))
+items-in-order (piece ∷ ps) fit cut so-far j h e =
+    go (item so-far piece) refl (item-says so-far piece (h .names) (fit .0) (cut .0)) (items-in-order ps (fit .1) (cut .1))
   where
     go : (p : Piece) → item so-far piece ≡ p → Says so-far piece p
         → ((so-far : SoFar) (j : Job) → InFigures so-far → items so-far ps ≡ job j → ReadInOrder so-far ps j) → ReadInOrder so-far (piece ∷ ps) j
@@ -209,7 +211,7 @@ unfolding reading clause-pieces query-pieces names-of
 accepted-is-read text j e =
     let first : SoFar = record { names = []; clauses = 0; queries = 0 } in
     let (accepted, asked) = asked-job (items first (pieces (tokens text))) j e in
-    let in-order = items-in-order (pieces (tokens text)) (tokens-fit text) first j (record { names = no-spellings-fit 256; clauses = omega arith; queries = omega arith }) accepted in
+    let in-order = items-in-order (pieces (tokens text)) (tokens-fit text) (pieces-cut (tokens text)) first j (record { names = no-spellings-fit 256; clauses = omega arith; queries = omega arith }) accepted in
     record {
       names-fit = rw (in-order .counted) (in-order .names-fit);
       few-clauses = omega (arith, in-order .few-clauses);

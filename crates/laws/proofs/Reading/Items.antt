@@ -2,51 +2,26 @@
 -- Every law of accepted items follows from that; two pieces with the same tokens read as the same.
 use Prim.Native.Nat.{ℕ, _<_}
 use mathlib.Core.Path.{_≡_, refl}
-use mathlib.Core.Bool.{Bool, true, false, _&&_}
+use mathlib.Core.Bool.{Bool, true, false}
 use mathlib.Core.List.{List, _∷_}
+use mathlib.Core.Option.{Option, none, some}
 use native.Mathlib.Omega.{arith}
 use lib.Dec.{ltb}
 use lib.ListN.{length}
 use borrow.Author.Tests.{ltb-true}
 use Rattle.meaning.specs.Bytes.{Bytes, if_then_else_, same, any, those}
-use Rattle.meaning.specs.Terms.{Named, Clause, Query}
+use Rattle.meaning.specs.Terms.{Half, Named, Clause, Query, goals-occurrences}
 use Rattle.meaning.specs.Tokens.{Token, name, variable, integer, sign, bad, Tokens, ends, token, tokens}
-use Rattle.meaning.specs.Items.{
-  Counted,
-  Read,
-  read,
-  malformed,
-  passed,
-  Reader,
-  is,
-  is-name,
-  goals,
-  Rule,
-  rule,
-  nothing-twice,
-  both-halves,
-  no-item,
-  occurrence-rule,
-  figure,
-  SoFar,
-  Piece,
-  nothing,
-  clause,
-  query,
-  refused,
-  clause-piece,
-  query-piece,
-  fresh,
-  clause-from,
-  query-from,
-  item-from,
-  item,
-  pieces,
-}
+use Rattle.meaning.specs.Faults.{Fault, occurs-at, clause-faults, query-faults, least}
+use Rattle.meaning.specs.Items.{Counted, Read, read, malformed, passed, Reader, is, is-name, place-of, goals, Rule, rule, no-item, figure, SoFar, Piece, nothing, clause, query, refused, unless-broken, clause-piece, query-piece, fresh, clause-from, query-from, item-from, item, pieces}
 use Rattle.laws.proofs.Reading.Figures.{SpellingsFit, no-spellings-fit}
 use Rattle.laws.proofs.Reading.EachToken.{EachToken}
 use Rattle.laws.proofs.Reading.TokensFit.{TokenFits}
+use Rattle.laws.proofs.Reading.Rules.{nothing-twice, both-halves}
 use Rattle.laws.proofs.Reading.Alike.{bare, Same, both-read}
+use Rattle.laws.proofs.Reading.Passed.{Cut, cut-behind, by-number}
+use Rattle.laws.proofs.Reading.Occurring.{goals-counts, rule-counts}
+use Rattle.laws.proofs.Reading.Faultless.{item-counts, query-kept, clause-kept, least-none}
 use Rattle.laws.proofs.Reading.Readers.{Steady, GoalsFit, goals-steady, RuleFits, rule-steady}
 
 -- A piece's first token passes a test; what stands behind it.
@@ -117,6 +92,19 @@ pub goals-fit : {behind : Tokens} (x : ItemRead (goals 8) behind)
     → Same (fresh (x .names)) (GoalsFit 8 0) (x .value) (x .value) (x .counted) (x .counted) (x .rest) (x .rest)
 goals-fit x = same-tokens-same-item (GoalsFit 8) (goals-steady 8) refl x x
 
+-- Each half of each variable stands among an item's tokens as often as in what is read.
+pub rule-tokens : {piece : Tokens} (x : ItemRead rule piece) → Cut piece → (h : Half) (y : Bytes)
+    → length (occurs-at h y piece) ≡ by-number (place-of y (x .counted .variables)) (λ n. goals-occurrences h n (x .value .head ∷ x .value .body))
+rule-tokens {piece} x cut =
+    item-counts (λ h n. goals-occurrences h n (x .value .head ∷ x .value .body)) (fresh (x .names)) (x .counted) piece (x .rest)
+    (rule-counts .over (fresh (x .names)) piece (x .value) (x .counted) (x .rest) (x .is-read)) cut
+
+pub goals-tokens : {behind : Tokens} (x : ItemRead (goals 8) behind) → Cut behind → (h : Half) (y : Bytes)
+    → length (occurs-at h y behind) ≡ by-number (place-of y (x .counted .variables)) (λ n. goals-occurrences h n (x .value))
+goals-tokens {behind} x cut =
+    item-counts (λ h n. goals-occurrences h n (x .value)) (fresh (x .names)) (x .counted) behind (x .rest)
+    (goals-counts 8 .over (fresh (x .names)) behind (x .value) (x .counted) (x .rest) (x .is-read)) cut
+
 -- A clause or a query is read, and with it the text's names become these.
 pub record ClauseNext (so-far : SoFar) (piece : Tokens) (c : Clause) (names : List Bytes) : Type 0 where
   pub named : begins-with is-name piece ≡ true
@@ -152,66 +140,64 @@ name-no-sign (sign b) e = cc
 name-no-sign bad e = refl
 
 module _ (so-far : SoFar) (names-fit : SpellingsFit 256 (so-far .names)) (begins : ℕ) (t : Token) (behind : Tokens)
-    (fit : EachToken TokenFits (token begins t behind)) where
+    (fit : EachToken TokenFits (token begins t behind)) (cut : Cut (token begins t behind)) where
   whole : Tokens
   whole = token begins t behind
 
   module _ (named : is-name t ≡ true) (room : so-far .clauses < 128) where
-    clause-piece-says : (x : Read Rule) → rule (fresh (so-far .names)) whole ≡ x → Says so-far whole (clause-piece begins x)
-    unfolding Says clause-piece if_then_else_ begins-with whole fresh
-    clause-piece-says (read r counted rest) e = go (nothing-twice pairs gs) refl (both-halves pairs gs) refl
+    clause-piece-says : (x : Read Rule) → rule (fresh (so-far .names)) whole ≡ x → Says so-far whole (clause-piece begins whole x)
+    unfolding Says clause-piece unless-broken begins-with whole fresh
+    clause-piece-says (read r counted rest) e = go (least (clause-faults whole (counted .variables))) refl
       where
-        pairs : ℕ
-        pairs = length (counted .variables)
-
-        gs : List Named
-        gs = r .head ∷ r .body
-
         read-so : ItemRead rule whole
         read-so = record { names = so-far .names; names-fit = names-fit; fit = fit; value = r; counted = counted; rest = rest; is-read = e }
 
-        go : (once : Bool) → nothing-twice pairs gs ≡ once → (both : Bool) → both-halves pairs gs ≡ both
-            → Says so-far whole (if once && both
-            then clause (record { head = r .head; body = r .body; pairs = pairs; compounds = counted .compounds }) (counted .names)
-            else refused (occurrence-rule begins))
-        go true e₁ true e₂ =
+        go : (broken : Option Fault) → least (clause-faults whole (counted .variables)) ≡ broken
+            → Says so-far whole (unless-broken begins broken
+            (clause (record { head = r .head; body = r .body; pairs = length (counted .variables); compounds = counted .compounds }) (counted .names)))
+        go none e₁ =
+            let kept = clause-kept whole (counted .variables) (r .head ∷ r .body) (rule-fits read-so .onward .figures .variables .distinct)
+            (rule-tokens read-so cut) (least-none (clause-faults whole (counted .variables)) e₁) in
             record {
               named = named;
               unasked = name-no-sign t named;
               room = room;
-              clause-read = record { item = read-so; not-twice = e₁; halves = e₂; made = refl };
+              clause-read = record { item = read-so; not-twice = kept .0; halves = kept .1; made = refl };
               counted = refl;
               among = rule-fits read-so .widens .names;
               names-fit = rule-fits read-so .onward .figures .names;
             }
-        go true e₁ false e₂ = tt
-        go false e₁ both e₂ = tt
+        go (some fault) e₁ = tt
     clause-piece-says (malformed place) e = tt
     clause-piece-says passed e = tt
 
   module _ (unnamed : is-name t ≡ false) (asked : is "?" t ≡ true) (room : so-far .queries < 8) where
-    query-piece-says : (x : Read (List Named)) → goals 8 (fresh (so-far .names)) behind ≡ x → Says so-far whole (query-piece begins x)
-    unfolding Says query-piece if_then_else_ begins-with behind-first whole fresh
-    query-piece-says (read gs counted rest) e = go (nothing-twice (length (counted .variables)) gs) refl
+    query-piece-says : (x : Read (List Named)) → goals 8 (fresh (so-far .names)) behind ≡ x → Says so-far whole (query-piece begins behind x)
+    unfolding Says query-piece unless-broken begins-with behind-first whole fresh
+    query-piece-says (read gs counted rest) e = go (least (query-faults behind (counted .variables))) refl
       where
         read-so : ItemRead (goals 8) behind
         read-so = record { names = so-far .names; names-fit = names-fit; fit = fit .1; value = gs; counted = counted; rest = rest; is-read = e }
 
-        go : (once : Bool) → nothing-twice (length (counted .variables)) gs ≡ once
-            → Says so-far whole (if once
-            then query (record { goals = gs; variables = counted .variables; compounds = counted .compounds }) (counted .names)
-            else refused (occurrence-rule begins))
-        go true e₁ =
+        go : (broken : Option Fault) → least (query-faults behind (counted .variables)) ≡ broken
+            → Says so-far whole (unless-broken begins broken
+            (query (record { goals = gs; variables = counted .variables; compounds = counted .compounds }) (counted .names)))
+        go none e₁ =
             record {
               unnamed = unnamed;
               asked = asked;
               room = room;
-              query-read = record { item = read-so; not-twice = e₁; made = refl };
+              query-read = record {
+                item = read-so;
+                not-twice = query-kept behind (counted .variables) gs (goals-fit read-so .onward .figures .variables .distinct)
+                    (goals-tokens read-so (cut-behind begins t behind cut)) (least-none (query-faults behind (counted .variables)) e₁);
+                made = refl;
+              };
               counted = refl;
               among = goals-fit read-so .widens .names;
               names-fit = goals-fit read-so .onward .figures .names;
             }
-        go false e₁ = tt
+        go (some fault) e₁ = tt
     query-piece-says (malformed place) e = tt
     query-piece-says passed e = tt
 
@@ -220,12 +206,12 @@ module _ (so-far : SoFar) (names-fit : SpellingsFit 256 (so-far .names)) (begins
   token-says = go (is-name t) refl (is "?" t) refl
     where
       as-clause : is-name t ≡ true → (room : Bool) → ltb (so-far .clauses) 128 ≡ room
-          → Says so-far whole (if room then clause-piece begins (rule (fresh (so-far .names)) whole) else refused (figure begins))
+          → Says so-far whole (if room then clause-piece begins whole (rule (fresh (so-far .names)) whole) else refused (figure begins))
       as-clause named true e = clause-piece-says named (ltb-true (so-far .clauses) 128 e) (rule (fresh (so-far .names)) whole) refl
       as-clause named false e = tt
 
       as-query : is-name t ≡ false → is "?" t ≡ true → (room : Bool) → ltb (so-far .queries) 8 ≡ room
-          → Says so-far whole (if room then query-piece begins (goals 8 (fresh (so-far .names)) behind) else refused (figure begins))
+          → Says so-far whole (if room then query-piece begins behind (goals 8 (fresh (so-far .names)) behind) else refused (figure begins))
       as-query unnamed asked true e = query-piece-says unnamed asked (ltb-true (so-far .queries) 8 e) (goals 8 (fresh (so-far .names)) behind) refl
       as-query unnamed asked false e = tt
 
@@ -236,7 +222,7 @@ module _ (so-far : SoFar) (names-fit : SpellingsFit 256 (so-far .names)) (begins
       go false e false e′ = tt
 
 -- What a piece of the text is says how it begins and how it is read.
-pub item-says : (so-far : SoFar) (piece : Tokens) → SpellingsFit 256 (so-far .names) → EachToken TokenFits piece → Says so-far piece (item so-far piece)
+pub item-says : (so-far : SoFar) (piece : Tokens) → SpellingsFit 256 (so-far .names) → EachToken TokenFits piece → Cut piece → Says so-far piece (item so-far piece)
 unfolding item Says begins-with whole
-item-says so-far (ends place) names-fit fit = (refl, refl)
-item-says so-far (token begins t behind) names-fit fit = token-says so-far names-fit begins t behind fit
+item-says so-far (ends place) names-fit fit cut = (refl, refl)
+item-says so-far (token begins t behind) names-fit fit cut = token-says so-far names-fit begins t behind fit cut

@@ -3,11 +3,13 @@
 use Prim.Native.Nat.{ℕ}
 use mathlib.Core.Path.{_≡_, refl}
 use mathlib.Core.List.{List, [], _∷_}
+use mathlib.Core.Option.{Option, none, some}
 use lib.Dec.{leb, ltb}
 use lib.ListN.{length}
 use Rattle.meaning.specs.Bytes.{Bytes}
 use Rattle.meaning.specs.Terms.{Named, Clause, Query}
 use Rattle.meaning.specs.Tokens.{Tokens, ends, token, tokens}
+use Rattle.meaning.specs.Faults.{Fault}
 use Rattle.meaning.specs.Items.{
   Read,
   read,
@@ -22,6 +24,7 @@ use Rattle.meaning.specs.Items.{
   clause,
   query,
   refused,
+  unless-broken,
   clause-piece,
   query-piece,
   fresh,
@@ -59,18 +62,23 @@ module _ (N X : Bytes → Type 0) where
   Reading-good (job j) = Each (Clause-spelled N) (j .clauses) × Each Query-spelled (j .queries)
   Reading-good (refused r) = Unit {0}
 
-  clause-piece-good : (begins : ℕ) (r : Read Rule) → Good N X (Rule-spelled N X) r → Piece-good (clause-piece begins r)
-  unfolding clause-piece
-  clause-piece-good begins (read r counted rest) g =
-      if-holds Piece-good _ _ _ (λ e. record { head = g .0 .head; body = g .0 .body }) (λ e. tt)
-  clause-piece-good begins (malformed place) g = tt
-  clause-piece-good begins passed g = tt
+  unless-broken-good : (begins : ℕ) (broken : Option Fault) (accepted : Piece) → Piece-good accepted → Piece-good (unless-broken begins broken accepted)
+  unfolding unless-broken
+  unless-broken-good begins none accepted g = g
+  unless-broken-good begins (some fault) accepted g = tt
 
-  query-piece-good : (begins : ℕ) (r : Read (List Named)) → Good N X (Each (Goal-spelled N)) r → Piece-good (query-piece begins r)
+  clause-piece-good : (begins : ℕ) (piece : Tokens) (r : Read Rule) → Good N X (Rule-spelled N X) r → Piece-good (clause-piece begins piece r)
+  unfolding clause-piece
+  clause-piece-good begins piece (read r counted rest) g =
+      unless-broken-good begins _ _ (record { head = g .0 .head; body = g .0 .body })
+  clause-piece-good begins piece (malformed place) g = tt
+  clause-piece-good begins piece passed g = tt
+
+  query-piece-good : (begins : ℕ) (piece : Tokens) (r : Read (List Named)) → Good N X (Each (Goal-spelled N)) r → Piece-good (query-piece begins piece r)
   unfolding query-piece
-  query-piece-good begins (read gs counted rest) g = if-holds Piece-good _ _ _ (λ e. record { goals = g .0; variables = g .1 }) (λ e. tt)
-  query-piece-good begins (malformed place) g = tt
-  query-piece-good begins passed g = tt
+  query-piece-good begins piece (read gs counted rest) g = unless-broken-good begins _ _ (record { goals = g .0; variables = g .1 })
+  query-piece-good begins piece (malformed place) g = tt
+  query-piece-good begins piece passed g = tt
 
   item-good : (so-far : SoFar) (piece : Tokens) → Tokens-good N X piece → Piece-good (item so-far piece)
   unfolding item item-from clause-from query-from fresh
@@ -78,10 +86,10 @@ module _ (N X : Bytes → Type 0) where
   item-good so-far (token begins s rest) t =
       if-holds Piece-good (is-name s) _ _
       (λ e. if-holds Piece-good (ltb (so-far .clauses) 128) _ _
-      (λ e. clause-piece-good begins _ (rule-reads N X .from (fresh (so-far .names)) (token begins s rest) tt t)) (λ e. tt))
+      (λ e. clause-piece-good begins _ _ (rule-reads N X .from (fresh (so-far .names)) (token begins s rest) tt t)) (λ e. tt))
       (λ e. if-holds Piece-good (is "?" s) _ _
       (λ e. if-holds Piece-good (ltb (so-far .queries) 8) _ _
-      (λ e. query-piece-good begins _ (goals-reads N X 8 .from (fresh (so-far .names)) rest tt (t .1))) (λ e. tt))
+      (λ e. query-piece-good begins _ _ (goals-reads N X 8 .from (fresh (so-far .names)) rest tt (t .1))) (λ e. tt))
       (λ e. tt))
 
   with-clause-good : (c : Clause) (r : Reading) → Clause-spelled N c → Reading-good r → Reading-good (with-clause c r)

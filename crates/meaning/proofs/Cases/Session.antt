@@ -6,7 +6,7 @@ use Rattle.meaning.proofs.Cases.Words.{text, ruled, with-budget, with-r
 
 unfoldable pub session : List Case
 session =
-    text "K1" "" (refuses 6 0)
+    text "K1" "" (refuses 6 0 0)
     ∷ ruled "K2" "?- tag([3|A?],Z), end(A)." (shows "run rest steps 3\nquery 1 tries 3 active 0 waiting 0 failed 0\nA = []\nZ = [hit(3)]\n")
     ∷ ruled "K3" "?- tag(A?,Z), end(A).\n?- tag([1|B?],Y).\n" (shows "run rest steps 5\nquery 1 tries 3 active 0 waiting 0 failed 0\nA = []\nZ = []\nquery 2 tries 2 active 0 waiting 1 failed 0\nB = _1\nY = [hit(1)|_2?]\nwaiting tag(_1?,_2)\n")
     ∷ ruled "K4" "?- same(A?,A)." (shows "run rest steps 1\nquery 1 tries 1 active 0 waiting 0 failed 1\nA = _1\nfailed same(_1?,_1)\n")
@@ -18,8 +18,8 @@ session =
     ∷ with-room 5 10 128 (ruled "K10, 5 pairs and 10 compounds" "?- tag([3|A?],Z), end(A)." (shows "run rest steps 3\nquery 1 tries 3 active 0 waiting 0 failed 0\nA = []\nZ = [hit(3)]\n"))
     ∷ with-room 4 10 128 (ruled "K10, 4 pairs" "?- tag([3|A?],Z), end(A)." (shows "run room steps 0\nquery 1 tries 0 active 2 waiting 0 failed 0\nA = _1\nZ = _2\nactive tag([3|_1?],_2)\nactive end(_1)\n"))
     ∷ with-room 5 9 128 (ruled "K10, 9 compounds" "?- tag([3|A?],Z), end(A)." (shows "run room steps 2\nquery 1 tries 2 active 1 waiting 0 failed 0\nA = []\nZ = [hit(3)|_1?]\nactive tag([],_1)\n"))
-    ∷ text "K11, a writer alone in a clause" "p(X)." (refuses 5 1)
-    ∷ text "K11, a writer twice" "?- p(X,X)." (refuses 5 1)
+    ∷ text "K11, a writer alone in a clause" "p(X)." (refuses 9 1 2)
+    ∷ text "K11, a writer twice" "?- p(X,X)." (refuses 5 1 7)
     ∷ text "K11, a reader alone in a query" "?- p(X?)." (shows "run rest steps 1\nquery 1 tries 1 active 0 waiting 0 failed 1\nX = _1\nfailed p(_1?)\n")
     ∷ ruled "K12, a failed goal by T-03 of document 02" "?- w(A?,1)." (shows "run rest steps 1\nquery 1 tries 1 active 0 waiting 0 failed 1\nA = _1\nfailed w(_1?,1)\n")
     ∷ []

@@ -52,8 +52,8 @@ returns-5 c = search needs
 -- No refusal of the text has a length.
 refused-length : (why : Refusal) → 0 ≡ length-of (refusal-answer why)
 unfolding length-of
-refused-length (NoItems at) = refl
-refused-length (OccurrenceBroken at) = refl
+refused-length (NoItems at offset) = refl
+refused-length (OccurrenceBroken rule at offset) = refl
 refused-length (FigurePassed at) = refl
 
 returns-6 : tie.Need-returns-6

@@ -1,4 +1,5 @@
 -- `troscunel::line_of` meets its contract.
+use mathlib.Core.Path.{refl}
 use Rattle.meaning.specs.Call.{line-of}
 use borrow.Author.Needs.{needs}
 use Rattle.troscunel.proofs.line_of.Statement.{statement}
@@ -40,7 +41,7 @@ returns c = search needs
 
 returns-2 : tie.Need-returns-2
 unfolding line-of
-returns-2 c = search needs
+returns-2 c = rw (c .before .before .before .before .a .given .1, c .before .why2 .given .1) refl
 
 returns-3 : tie.Need-returns-3
 unfolding line-of

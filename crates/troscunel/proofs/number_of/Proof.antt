@@ -22,6 +22,12 @@ enum-known-a c = search needs
 enum-told-5 : tie.Need-enum-told-5
 enum-told-5 c = search needs
 
+enum-known-why : tie.Need-enum-known-why
+enum-known-why c = search needs
+
+rule-number-requires : tie.Need-rule-number-requires
+rule-number-requires c κs = search needs
+
 enum-told-6 : tie.Need-enum-told-6
 enum-told-6 c = search needs
 
@@ -30,9 +36,6 @@ enum-told-7 c = search needs
 
 enum-told-8 : tie.Need-enum-told-8
 enum-told-8 c = search needs
-
-enum-told-9 : tie.Need-enum-told-9
-enum-told-9 c = search needs
 
 returns : tie.Need-returns
 unfolding number
@@ -56,7 +59,7 @@ returns-5 c = search needs
 
 returns-6 : tie.Need-returns-6
 unfolding number
-returns-6 c = search needs
+returns-6 c = rw (c .before .before .before .before .before .a .given .1, c .before .before .why .given .1) (c .rule-number .ensures)
 
 returns-7 : tie.Need-returns-7
 unfolding number
@@ -80,10 +83,11 @@ number-of-spec =
     enum-told-4
     enum-known-a
     enum-told-5
+    enum-known-why
+    rule-number-requires
     enum-told-6
     enum-told-7
     enum-told-8
-    enum-told-9
     returns
     returns-2
     returns-3

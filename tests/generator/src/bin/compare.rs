@@ -1,7 +1,7 @@
 //! `compare --seed S --count N`, from the repository's root: the definitions compute every job, and the reference too.
 //!
 //! A small repository under target/compare/ has a copy of the definitions, and crates whose statements say that the
-//! definitions give the reference's answer: number, line, length and report. Of report buffer and scratch they say what
+//! definitions give the reference's answer: number, line, length, offset and report. Of report buffer and scratch they say what
 //! document 01 does after that answer; the reference has neither. The proof checker computes them. One more crate has
 //! falsified answers, and the checker must refuse every statement of it.
 //! Exit status 0 if every job agreed and everything occurred, 1 if not, 2 for bad usage.
@@ -53,7 +53,7 @@ fn compared(options: &Options) -> Result<(), String> {
     let jobs = jobs(options.seed, options.count);
     let answers: Vec<Answer> = jobs.iter().map(|job| call(&job.text, &job.figures)).collect();
     let cases: Vec<Case> = jobs.iter().zip(&answers).collect();
-    let false_answers: Vec<Answer> = answers.iter().take(FALSIFIED).map(falsified).collect();
+    let false_answers: Vec<Answer> = answers.iter().take(FALSIFIED).enumerate().map(falsified).collect();
     let false_cases: Vec<Case> = jobs.iter().zip(&false_answers).collect();
     let folder = Path::new(FOLDER);
     write_repository(folder, &cases, &false_cases).map_err(|error| format!("{FOLDER}: {error}"))?;
@@ -73,8 +73,8 @@ fn compared(options: &Options) -> Result<(), String> {
     Ok(())
 }
 
-/// An answer that is wrong in one place: a byte of the report, the length, or the line.
-fn falsified(answer: &Answer) -> Answer {
+/// An answer that is wrong in one place: a byte of the report, the length, or in turn the line and the offset.
+fn falsified((place, answer): (usize, &Answer)) -> Answer {
     let mut wrong = answer.clone();
     match &mut wrong.report {
         Some(report) => {
@@ -82,7 +82,8 @@ fn falsified(answer: &Answer) -> Answer {
             report[last] ^= 1;
         }
         None if answer.number == 8 => wrong.length += 1,
-        None => wrong.line += 1,
+        None if place % 2 == 0 => wrong.line += 1,
+        None => wrong.offset += 1,
     }
     wrong
 }
@@ -197,12 +198,12 @@ fn disagreement(output: &str, cases: &[Case]) -> String {
 
 /// A job with the reference's answer, and what the checker says of it.
 fn told(complaint: &str, (job, answer): &Case) -> String {
-    let Answer { number, line, length, report } = answer;
+    let Answer { number, line, length, offset, report } = answer;
     let report = report.as_deref().map(String::from_utf8_lossy).unwrap_or_default();
     let limit = complaint.contains("step limit");
     let why = if limit { "the checker reached its limit of steps" } else { "the definitions give another answer" };
     format!(
-        "---- {}: {why}\n{:?}\ntext {}\nthe reference: number {number} line {line} length {length}\n{report}{complaint}\n",
+        "---- {}: {why}\n{:?}\ntext {}\nthe reference: number {number} line {line} length {length} offset {offset}\n{report}{complaint}\n",
         job.label,
         job.figures,
         antt::string(&job.text),

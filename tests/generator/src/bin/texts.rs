@@ -1,7 +1,7 @@
 //! `texts --seed S --count N`: the texts of a seed's jobs with the answers of the reference's reading, for the program `test_loader`.
 //!
-//! Standard output has the frames: `000001`, LF, the text's length in six digits, LF, the text, LF. Standard error has a line for each: number and
-//! line, `0 0` for a job. Texts above 16,384 bytes are left out: they are refused before they are read.
+//! Standard output has the frames: `000001`, LF, the text's length in six digits, LF, the text, LF. Standard error has a line for each: number,
+//! line and offset, `0 0 0` for a job. Texts above 16,384 bytes are left out: they are refused before they are read.
 
 use std::io::Write;
 use std::process::ExitCode;
@@ -23,8 +23,8 @@ fn main() -> ExitCode {
         frames.extend(&job.text);
         frames.push(b'\n');
         answers += &match reference::read(&job.text) {
-            Ok(_) => "0 0\n".to_string(),
-            Err(refusal) => format!("{} {}\n", refusal.number, refusal.line),
+            Ok(_) => "0 0 0\n".to_string(),
+            Err(refusal) => format!("{} {} {}\n", refusal.number, refusal.line, refusal.offset),
         };
     }
     if let Err(error) = std::io::stdout().lock().write_all(&frames) {

@@ -13,7 +13,7 @@ use std::process::ExitCode;
 
 use generator::{heavy, texts, worst};
 use linked::measure::{least, stack, Call, Lent, Times};
-use linked::watched::on_large_stack;
+use linked::watched::{given_by, on_large_stack};
 use troscunel::Room;
 
 const SMALLEST: Room = Room { pairs: 1, compounds: 1, goals: 1 };
@@ -163,8 +163,7 @@ fn agreed(lent: &mut Lent, label: &str, call: &Call) -> Result<(u64, usize), Str
     }
     let answer = reference::call(call.text, &call.figures());
     let given = lent.call(call);
-    let same = (given.number, given.line, given.length)
-        == (answer.number.into(), answer.line as usize, answer.length as usize);
+    let same = given == given_by(&answer);
     let report = answer.report.unwrap_or_default();
     if !same || (given.number == 0 && lent.report(given.length) != report) {
         return Err(format!("'{label}': the answers differ"));

@@ -30,9 +30,16 @@ pub fn answer(text: &str) -> Answer {
 
 /// Number and line.
 pub fn refused(text: impl AsRef<[u8]>) -> (u8, u32) {
+    let (number, line, _) = refused_at(text);
+    (number, line)
+}
+
+/// Number, line and offset.
+pub fn refused_at(text: impl AsRef<[u8]>) -> (u8, u32, u32) {
     let answer = call(text.as_ref(), &Figures::default());
-    assert_eq!(answer.length == 0, answer.number != 0, "the length is 0 for 1 to 7");
-    (answer.number, answer.line)
+    assert_eq!(answer.length == 0, answer.number != 0, "the length is 0 for all but 0 and 8");
+    assert!(answer.offset == 0 || matches!(answer.number, 4 | 5 | 9 | 10), "the offset is 0 with every other number");
+    (answer.number, answer.line, answer.offset)
 }
 
 pub fn report_with(text: &str, figures: &Figures) -> String {

@@ -2,13 +2,15 @@
 use Prim.Native.Nat.{ℕ, _+_, _*_, _-_, _≤_, _<_}
 use mathlib.Core.Path.{_≡_, refl, ap, sym, _∙_}
 use mathlib.Core.Bool.{true, false}
+use mathlib.Core.Logic.{inl, inr}
 use mathlib.Core.List.{[]}
 use lib.ListN.{length, length-set}
 use borrow.Author.Tests.{not-true, not-false}
 use Rattle.term.proofs.Frames.{only-same}
 use Rattle.term.specs.Layout.{trial-region}
+use Rattle.load_names.specs.Places.{variables-over}
 use Rattle.load_items.proofs.Starts.{begin-stands}
-use Rattle.load_items.proofs.Clauses.{clause-passes, clause-malformed, clause-passed, clause-twice, clause-apart, clause-took}
+use Rattle.load_items.proofs.Clauses.{clause-passes, clause-malformed, clause-passed, broken, clause-took}
 use native.Mathlib.Omega.{arith}
 use borrow.Author.Needs.{needs}
 use borrow.Author.Needs.{needs}
@@ -62,27 +64,42 @@ nothing-twice-requires c κs =
     let got = rw (c .before .before .body .given .1) at (c .before .before .before .before .before .before .before .before .before .before .before .before .rule .ensures known [] st) in
     (got .3 .stands .variables-in .size, omega (arith, got .3 .stands .variables-count, got .3 .stands .variables-in .few))
 
+first-fault-requires : tie.Need-first-fault-requires
+first-fault-requires c κs =
+    let e = c .before in
+    let a = e .before .before .before .before .before .before .before .before .before .before .before .before .before .before .before .before .before .before .before .before .before .before .before .before .before .before .before .args in
+    let x = e .before .before .before .before .before .before .before .before .before .before .before .before .before .before .before .before .before .before .before .before .before .before .before .before .before .before .before .pre .1 .1 in
+    let known = e .before .before .before .before .before .before .before .before .before .before .before .before .before .before .before .before .before .before .before .before .before .before .before .before .before .before .before .pre .1 .0 .0 in
+    let b = e .before .before .before .before .before .before .before .before .before .before .before .before .before .before .before .before .before .before .before .before .before .before .before .before .before .before .before .pre .1 .0 .1 in
+    let f = e .before .before .before .before .before .before .before .before .before .before .before .before .before .before .before .first .ensures in
+    let st = begin-stands (a .text .now) (a .rest .now) (a .from) (a .names .now) (a .item .now) (a .known) known b (e .before .before .before .before .before .before .before .before .before .before .before .before .before .before .before .first .result) (omega (arith, f .0)) (f .1) (f .2) (f .3) in
+    let got = rw (e .before .before .before .before .body .given .1) at (e .before .before .before .before .before .before .before .before .before .before .before .before .before .before .rule .ensures known [] st) in
+    let told = broken (a .text .now) (a .rest .now) (a .from) (a .names .now) (a .item .now) (a .known) known b (a .k) 0 (a .begins) (a .s .now) (a .heads .now) (x .0) (x .1) (x .3) (e .before .before .before .before .before .before .before .before .before .before .before .before .before .before .before .before .before .before .before .before .if1 .left) (e .before .before .before .before .before .before .before .before .before .before .before .before .before .before .before .first .result) (f .0) (f .3) (e .before .before .before .before .before .before .before .before .before .before .before .before .before .before .rule .last .1 .1 .1 .0) (e .before .before .before .before .before .before .before .before .before .before .before .before .before .before .rule .last .1 .1 .1 .1 .0) (e .before .before .before .before .before .before .before .before .before .before .before .before .before .before .rule .last .1 .1 .1 .1 .1 .0) (e .before .before .before .before .body .given .0 .0) (e .before .before .before .before .body .given .0 .1 .0) (got .0) (got .1) (got .2) (got .3) (inl (sym (e .before .nothing-twice .ensures) ∙ not-true _ (e .if2 .taken))) in
+    (omega arith, (a .from, variables-over (a .from) (got .1) [], told .0, told .2))
+
 same-length : tie.Need-same-length
-same-length c = c .before .before .before .before .before .before .before .before .before .before .before .before .before .before .rule .kept .1 .1 .1 .0
+same-length c = c .before .before .before .before .before .before .before .before .before .before .before .before .before .before .before .before .rule .kept .1 .1 .1 .0
 
 same-length-2 : tie.Need-same-length-2
-same-length-2 c = c .before .before .before .before .before .before .before .before .before .before .before .before .before .before .rule .kept .1 .1 .1 .1 .0
+same-length-2 c = c .before .before .before .before .before .before .before .before .before .before .before .before .before .before .before .before .rule .kept .1 .1 .1 .1 .0
 
 same-length-3 : tie.Need-same-length-3
-same-length-3 c = c .before .before .before .before .before .before .before .before .before .before .before .before .before .before .rule .kept .1 .1 .1 .1 .1 .0
+same-length-3 c = c .before .before .before .before .before .before .before .before .before .before .before .before .before .before .before .before .rule .kept .1 .1 .1 .1 .1 .0
 
 same-length-4 : tie.Need-same-length-4
-same-length-4 c = c .before .before .before .before .before .before .before .before .before .before .before .before .before .before .rule .kept .1 .1 .1 .1 .1 .1 .0
+same-length-4 c = c .before .before .before .before .before .before .before .before .before .before .before .before .before .before .before .before .rule .kept .1 .1 .1 .1 .1 .1 .0
 
 returns-2 : tie.Need-returns-2
 returns-2 c =
-    let a = c .before .before .before .before .before .before .before .before .before .before .before .before .before .before .before .before .before .before .before .before .before .before .before .before .before .before .before .args in
-    let x = c .before .before .before .before .before .before .before .before .before .before .before .before .before .before .before .before .before .before .before .before .before .before .before .before .before .before .before .pre .1 .1 in
+    let e = c .before .before in
+    let a = e .before .before .before .before .before .before .before .before .before .before .before .before .before .before .before .before .before .before .before .before .before .before .before .before .before .before .before .args in
+    let x = e .before .before .before .before .before .before .before .before .before .before .before .before .before .before .before .before .before .before .before .before .before .before .before .before .before .before .before .pre .1 .1 in
     λ known queries b.
-    let f = c .before .before .before .before .before .before .before .before .before .before .before .before .before .before .before .first .ensures in
-    let st = begin-stands (a .text .now) (a .rest .now) (a .from) (a .names .now) (a .item .now) (a .known) known b (c .before .before .before .before .before .before .before .before .before .before .before .before .before .before .before .first .result) (omega (arith, f .0)) (f .1) (f .2) (f .3) in
-    let got = rw (c .before .before .before .before .body .given .1) at (c .before .before .before .before .before .before .before .before .before .before .before .before .before .before .rule .ensures known [] st) in
-    (clause-twice (a .text .now) (a .rest .now) (a .from) (a .names .now) (a .item .now) (a .known) known b (a .k) queries (a .begins) (a .s .now) (a .heads .now) (x .0) (x .1) (x .3) (c .before .before .before .before .before .before .before .before .before .before .before .before .before .before .before .before .before .before .before .before .if1 .left) (c .before .before .before .before .before .before .before .before .before .before .before .before .before .before .before .first .result) (f .0) (f .3) (c .before .before .before .before .before .before .before .before .before .before .before .before .before .before .rule .last .1 .1 .1 .0) (c .before .before .before .before .before .before .before .before .before .before .before .before .before .before .rule .last .1 .1 .1 .1 .0) (c .before .before .before .before .before .before .before .before .before .before .before .before .before .before .rule .last .1 .1 .1 .1 .1 .0) (c .before .before .before .before .body .given .0 .0) (c .before .before .before .before .body .given .0 .1 .0) (got .0) (got .1) (got .2) (got .3) (sym (c .before .nothing-twice .ensures) ∙ not-true _ (c .if2 .taken)), x .2, got .3 .only)
+    let f = e .before .before .before .before .before .before .before .before .before .before .before .before .before .before .before .first .ensures in
+    let st = begin-stands (a .text .now) (a .rest .now) (a .from) (a .names .now) (a .item .now) (a .known) known b (e .before .before .before .before .before .before .before .before .before .before .before .before .before .before .before .first .result) (omega (arith, f .0)) (f .1) (f .2) (f .3) in
+    let got = rw (e .before .before .before .before .body .given .1) at (e .before .before .before .before .before .before .before .before .before .before .before .before .before .before .rule .ensures known [] st) in
+    let told = broken (a .text .now) (a .rest .now) (a .from) (a .names .now) (a .item .now) (a .known) known b (a .k) queries (a .begins) (a .s .now) (a .heads .now) (x .0) (x .1) (x .3) (e .before .before .before .before .before .before .before .before .before .before .before .before .before .before .before .before .before .before .before .before .if1 .left) (e .before .before .before .before .before .before .before .before .before .before .before .before .before .before .before .first .result) (f .0) (f .3) (e .before .before .before .before .before .before .before .before .before .before .before .before .before .before .rule .last .1 .1 .1 .0) (e .before .before .before .before .before .before .before .before .before .before .before .before .before .before .rule .last .1 .1 .1 .1 .0) (e .before .before .before .before .before .before .before .before .before .before .before .before .before .before .rule .last .1 .1 .1 .1 .1 .0) (e .before .before .before .before .body .given .0 .0) (e .before .before .before .before .body .given .0 .1 .0) (got .0) (got .1) (got .2) (got .3) (inl (sym (e .before .nothing-twice .ensures) ∙ not-true _ (e .if2 .taken))) in
+    (told .0, told .1, c .first-fault .ensures (a .from) (variables-over (a .from) (got .1) []) (told .0) (told .2), x .2, got .3 .only)
 
 both-halves-requires : tie.Need-both-halves-requires
 both-halves-requires c κs =
@@ -94,27 +111,42 @@ both-halves-requires c κs =
     let got = rw (c .before .before .before .before .before .body .given .1) at (c .before .before .before .before .before .before .before .before .before .before .before .before .before .before .before .rule .ensures known [] st) in
     (got .3 .stands .variables-in .size, omega (arith, got .3 .stands .variables-count, got .3 .stands .variables-in .few))
 
+first-fault-requires-2 : tie.Need-first-fault-requires-2
+first-fault-requires-2 c κs =
+    let e = c .before in
+    let a = e .before .before .before .before .before .before .before .before .before .before .before .before .before .before .before .before .before .before .before .before .before .before .before .before .before .before .before .before .before .before .args in
+    let x = e .before .before .before .before .before .before .before .before .before .before .before .before .before .before .before .before .before .before .before .before .before .before .before .before .before .before .before .before .before .before .pre .1 .1 in
+    let known = e .before .before .before .before .before .before .before .before .before .before .before .before .before .before .before .before .before .before .before .before .before .before .before .before .before .before .before .before .before .before .pre .1 .0 .0 in
+    let b = e .before .before .before .before .before .before .before .before .before .before .before .before .before .before .before .before .before .before .before .before .before .before .before .before .before .before .before .before .before .before .pre .1 .0 .1 in
+    let f = e .before .before .before .before .before .before .before .before .before .before .before .before .before .before .before .before .before .before .first .ensures in
+    let st = begin-stands (a .text .now) (a .rest .now) (a .from) (a .names .now) (a .item .now) (a .known) known b (e .before .before .before .before .before .before .before .before .before .before .before .before .before .before .before .before .before .before .first .result) (omega (arith, f .0)) (f .1) (f .2) (f .3) in
+    let got = rw (e .before .before .before .before .before .before .before .body .given .1) at (e .before .before .before .before .before .before .before .before .before .before .before .before .before .before .before .before .before .rule .ensures known [] st) in
+    let told = broken (a .text .now) (a .rest .now) (a .from) (a .names .now) (a .item .now) (a .known) known b (a .k) 0 (a .begins) (a .s .now) (a .heads .now) (x .0) (x .1) (x .3) (e .before .before .before .before .before .before .before .before .before .before .before .before .before .before .before .before .before .before .before .before .before .before .before .if1 .left) (e .before .before .before .before .before .before .before .before .before .before .before .before .before .before .before .before .before .before .first .result) (f .0) (f .3) (e .before .before .before .before .before .before .before .before .before .before .before .before .before .before .before .before .before .rule .last .1 .1 .1 .0) (e .before .before .before .before .before .before .before .before .before .before .before .before .before .before .before .before .before .rule .last .1 .1 .1 .1 .0) (e .before .before .before .before .before .before .before .before .before .before .before .before .before .before .before .before .before .rule .last .1 .1 .1 .1 .1 .0) (e .before .before .before .before .before .before .before .body .given .0 .0) (e .before .before .before .before .before .before .before .body .given .0 .1 .0) (got .0) (got .1) (got .2) (got .3) (inr (sym (e .before .before .before .before .nothing-twice .ensures) ∙ not-false _ (e .before .before .before .if2 .left), sym (e .before .both-halves .ensures) ∙ not-true _ (e .if3 .taken))) in
+    (omega arith, (a .from, variables-over (a .from) (got .1) [], told .0, told .2))
+
 same-length-5 : tie.Need-same-length-5
-same-length-5 c = c .before .before .before .before .before .before .before .before .before .before .before .before .before .before .before .before .before .rule .kept .1 .1 .1 .0
+same-length-5 c = c .before .before .before .before .before .before .before .before .before .before .before .before .before .before .before .before .before .before .before .rule .kept .1 .1 .1 .0
 
 same-length-6 : tie.Need-same-length-6
-same-length-6 c = c .before .before .before .before .before .before .before .before .before .before .before .before .before .before .before .before .before .rule .kept .1 .1 .1 .1 .0
+same-length-6 c = c .before .before .before .before .before .before .before .before .before .before .before .before .before .before .before .before .before .before .before .rule .kept .1 .1 .1 .1 .0
 
 same-length-7 : tie.Need-same-length-7
-same-length-7 c = c .before .before .before .before .before .before .before .before .before .before .before .before .before .before .before .before .before .rule .kept .1 .1 .1 .1 .1 .0
+same-length-7 c = c .before .before .before .before .before .before .before .before .before .before .before .before .before .before .before .before .before .before .before .rule .kept .1 .1 .1 .1 .1 .0
 
 same-length-8 : tie.Need-same-length-8
-same-length-8 c = c .before .before .before .before .before .before .before .before .before .before .before .before .before .before .before .before .before .rule .kept .1 .1 .1 .1 .1 .1 .0
+same-length-8 c = c .before .before .before .before .before .before .before .before .before .before .before .before .before .before .before .before .before .before .before .rule .kept .1 .1 .1 .1 .1 .1 .0
 
 returns-3 : tie.Need-returns-3
 returns-3 c =
-    let a = c .before .before .before .before .before .before .before .before .before .before .before .before .before .before .before .before .before .before .before .before .before .before .before .before .before .before .before .before .before .before .args in
-    let x = c .before .before .before .before .before .before .before .before .before .before .before .before .before .before .before .before .before .before .before .before .before .before .before .before .before .before .before .before .before .before .pre .1 .1 in
+    let e = c .before .before in
+    let a = e .before .before .before .before .before .before .before .before .before .before .before .before .before .before .before .before .before .before .before .before .before .before .before .before .before .before .before .before .before .before .args in
+    let x = e .before .before .before .before .before .before .before .before .before .before .before .before .before .before .before .before .before .before .before .before .before .before .before .before .before .before .before .before .before .before .pre .1 .1 in
     λ known queries b.
-    let f = c .before .before .before .before .before .before .before .before .before .before .before .before .before .before .before .before .before .before .first .ensures in
-    let st = begin-stands (a .text .now) (a .rest .now) (a .from) (a .names .now) (a .item .now) (a .known) known b (c .before .before .before .before .before .before .before .before .before .before .before .before .before .before .before .before .before .before .first .result) (omega (arith, f .0)) (f .1) (f .2) (f .3) in
-    let got = rw (c .before .before .before .before .before .before .before .body .given .1) at (c .before .before .before .before .before .before .before .before .before .before .before .before .before .before .before .before .before .rule .ensures known [] st) in
-    (clause-apart (a .text .now) (a .rest .now) (a .from) (a .names .now) (a .item .now) (a .known) known b (a .k) queries (a .begins) (a .s .now) (a .heads .now) (x .0) (x .1) (x .3) (c .before .before .before .before .before .before .before .before .before .before .before .before .before .before .before .before .before .before .before .before .before .before .before .if1 .left) (c .before .before .before .before .before .before .before .before .before .before .before .before .before .before .before .before .before .before .first .result) (f .0) (f .3) (c .before .before .before .before .before .before .before .before .before .before .before .before .before .before .before .before .before .rule .last .1 .1 .1 .0) (c .before .before .before .before .before .before .before .before .before .before .before .before .before .before .before .before .before .rule .last .1 .1 .1 .1 .0) (c .before .before .before .before .before .before .before .before .before .before .before .before .before .before .before .before .before .rule .last .1 .1 .1 .1 .1 .0) (c .before .before .before .before .before .before .before .body .given .0 .0) (c .before .before .before .before .before .before .before .body .given .0 .1 .0) (got .0) (got .1) (got .2) (got .3) (sym (c .before .before .before .before .nothing-twice .ensures) ∙ not-false _ (c .before .before .before .if2 .left)) (sym (c .before .both-halves .ensures) ∙ not-true _ (c .if3 .taken)), x .2, got .3 .only)
+    let f = e .before .before .before .before .before .before .before .before .before .before .before .before .before .before .before .before .before .before .first .ensures in
+    let st = begin-stands (a .text .now) (a .rest .now) (a .from) (a .names .now) (a .item .now) (a .known) known b (e .before .before .before .before .before .before .before .before .before .before .before .before .before .before .before .before .before .before .first .result) (omega (arith, f .0)) (f .1) (f .2) (f .3) in
+    let got = rw (e .before .before .before .before .before .before .before .body .given .1) at (e .before .before .before .before .before .before .before .before .before .before .before .before .before .before .before .before .before .rule .ensures known [] st) in
+    let told = broken (a .text .now) (a .rest .now) (a .from) (a .names .now) (a .item .now) (a .known) known b (a .k) queries (a .begins) (a .s .now) (a .heads .now) (x .0) (x .1) (x .3) (e .before .before .before .before .before .before .before .before .before .before .before .before .before .before .before .before .before .before .before .before .before .before .before .if1 .left) (e .before .before .before .before .before .before .before .before .before .before .before .before .before .before .before .before .before .before .first .result) (f .0) (f .3) (e .before .before .before .before .before .before .before .before .before .before .before .before .before .before .before .before .before .rule .last .1 .1 .1 .0) (e .before .before .before .before .before .before .before .before .before .before .before .before .before .before .before .before .before .rule .last .1 .1 .1 .1 .0) (e .before .before .before .before .before .before .before .before .before .before .before .before .before .before .before .before .before .rule .last .1 .1 .1 .1 .1 .0) (e .before .before .before .before .before .before .before .body .given .0 .0) (e .before .before .before .before .before .before .before .body .given .0 .1 .0) (got .0) (got .1) (got .2) (got .3) (inr (sym (e .before .before .before .before .nothing-twice .ensures) ∙ not-false _ (e .before .before .before .if2 .left), sym (e .before .both-halves .ensures) ∙ not-true _ (e .if3 .taken))) in
+    (told .0, told .1, c .first-fault2 .ensures (a .from) (variables-over (a .from) (got .1) []) (told .0) (told .2), x .2, got .3 .only)
 
 word-requires : tie.Need-word-requires
 word-requires c κs = search needs
@@ -235,12 +267,14 @@ clause-spec =
     rule-requires
     enum-known-body
     nothing-twice-requires
+    first-fault-requires
     same-length
     same-length-2
     same-length-3
     same-length-4
     returns-2
     both-halves-requires
+    first-fault-requires-2
     same-length-5
     same-length-6
     same-length-7

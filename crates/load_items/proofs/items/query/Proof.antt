@@ -9,7 +9,7 @@ use Rattle.term.proofs.Frames.{only-same}
 use Rattle.term.specs.Layout.{trial-region}
 use Rattle.load_names.specs.Places.{variables-over}
 use Rattle.load_items.proofs.Starts.{begin-stands}
-use Rattle.load_items.proofs.Queries.{query-passes, query-malformed, query-passed, query-twice, query-took}
+use Rattle.load_items.proofs.Queries.{query-passes, query-malformed, query-passed, query-broken, query-took}
 use native.Mathlib.Omega.{arith}
 use borrow.Author.Needs.{needs}
 use borrow.Author.Needs.{needs}
@@ -69,24 +69,42 @@ nothing-twice-requires c κs =
     let got = rw (c .before .before .count .given .1) at (c .before .before .before .before .before .before .before .before .before .before .goals .ensures known [] st) in
     (got .3 .stands .variables-in .size, omega (arith, got .3 .stands .variables-count, got .3 .stands .variables-in .few))
 
+add-first-fault : tie.Need-add-first-fault
+add-first-fault c = omega (arith, c .before .before .before .before .before .before .before .before .before .before .before .before .before .before .before .before .before .before .before .before .before .before .before .before .before .pre .1 .1 .0)
+
+first-fault-requires : tie.Need-first-fault-requires
+first-fault-requires c κs =
+    let e = c .before in
+    let a = e .before .before .before .before .before .before .before .before .before .before .before .before .before .before .before .before .before .before .before .before .before .before .before .before .args in
+    let x = e .before .before .before .before .before .before .before .before .before .before .before .before .before .before .before .before .before .before .before .before .before .before .before .before .pre .1 .1 in
+    let known = e .before .before .before .before .before .before .before .before .before .before .before .before .before .before .before .before .before .before .before .before .before .before .before .before .pre .1 .0 .0 in
+    let b = e .before .before .before .before .before .before .before .before .before .before .before .before .before .before .before .before .before .before .before .before .before .before .before .before .pre .1 .0 .1 in
+    let f = e .before .before .before .before .before .before .before .before .before .before .before .before .before .first .ensures in
+    let st = begin-stands (a .text .now) (a .rest .now) (a .from) (a .names .now) (a .item .now) (a .known) known b (e .before .before .before .before .before .before .before .before .before .before .before .before .before .first .result) (omega (arith, f .0, e .before .before .before .before .before .before .before .before .before .before .before .before .before .before .before .before .before .before .before .before .before .before .before .before .pre .1 .1 .0)) (f .1) (f .2) (f .3) in
+    let got = rw (e .before .before .before .before .count .given .1) at (e .before .before .before .before .before .before .before .before .before .before .before .before .goals .ensures known [] st) in
+    let told = query-broken (a .text .now) (a .rest .now) (a .from) (a .names .now) (a .item .now) (a .known) known b 0 (a .k) (a .begins) (a .s .now) (a .heads .now) (x .1) (e .before .before .before .before .before .before .before .before .before .before .before .before .before .before .before .before .before .if1 .left) (e .before .before .before .before .before .before .before .before .before .before .before .before .before .first .result) (f .0) (f .3) (e .before .before .before .before .before .before .before .before .before .before .before .before .goals .last .1 .1 .1 .0) (e .before .before .before .before .before .before .before .before .before .before .before .before .goals .last .1 .1 .1 .1 .0) (e .before .before .before .before .before .before .before .before .before .before .before .before .goals .last .1 .1 .1 .1 .1 .0) (e .before .before .before .before .count .given .0 .0) (e .before .before .before .before .count .given .0 .1 .0) (got .0) (got .1) (got .2) (got .3) (sym (e .before .nothing-twice .ensures) ∙ not-true _ (e .if2 .taken)) in
+    (x .0, (a .from, variables-over (a .from) (got .1) [], told .0, told .2))
+
 same-length : tie.Need-same-length
-same-length c = c .before .before .before .before .before .before .before .before .before .before .before .before .goals .kept .1 .1 .1 .0
+same-length c = c .before .before .before .before .before .before .before .before .before .before .before .before .before .before .goals .kept .1 .1 .1 .0
 
 same-length-2 : tie.Need-same-length-2
-same-length-2 c = c .before .before .before .before .before .before .before .before .before .before .before .before .goals .kept .1 .1 .1 .1 .0
+same-length-2 c = c .before .before .before .before .before .before .before .before .before .before .before .before .before .before .goals .kept .1 .1 .1 .1 .0
 
 same-length-3 : tie.Need-same-length-3
-same-length-3 c = c .before .before .before .before .before .before .before .before .before .before .before .before .goals .kept .1 .1 .1 .1 .1 .0
+same-length-3 c = c .before .before .before .before .before .before .before .before .before .before .before .before .before .before .goals .kept .1 .1 .1 .1 .1 .0
 
 returns-2 : tie.Need-returns-2
 returns-2 c =
-    let a = c .before .before .before .before .before .before .before .before .before .before .before .before .before .before .before .before .before .before .before .before .before .before .before .before .args in
-    let x = c .before .before .before .before .before .before .before .before .before .before .before .before .before .before .before .before .before .before .before .before .before .before .before .before .pre .1 .1 in
+    let e = c .before .before in
+    let a = e .before .before .before .before .before .before .before .before .before .before .before .before .before .before .before .before .before .before .before .before .before .before .before .before .args in
+    let x = e .before .before .before .before .before .before .before .before .before .before .before .before .before .before .before .before .before .before .before .before .before .before .before .before .pre .1 .1 in
     λ known clauses b.
-    let f = c .before .before .before .before .before .before .before .before .before .before .before .before .before .first .ensures in
-    let st = begin-stands (a .text .now) (a .rest .now) (a .from) (a .names .now) (a .item .now) (a .known) known b (c .before .before .before .before .before .before .before .before .before .before .before .before .before .first .result) (omega (arith, f .0, c .before .before .before .before .before .before .before .before .before .before .before .before .before .before .before .before .before .before .before .before .before .before .before .before .pre .1 .1 .0)) (f .1) (f .2) (f .3) in
-    let got = rw (c .before .before .before .before .count .given .1) at (c .before .before .before .before .before .before .before .before .before .before .before .before .goals .ensures known [] st) in
-    (query-twice (a .text .now) (a .rest .now) (a .from) (a .names .now) (a .item .now) (a .known) known b clauses (a .k) (a .begins) (a .s .now) (a .heads .now) (x .1) (c .before .before .before .before .before .before .before .before .before .before .before .before .before .before .before .before .before .if1 .left) (c .before .before .before .before .before .before .before .before .before .before .before .before .before .first .result) (f .0) (f .3) (c .before .before .before .before .before .before .before .before .before .before .before .before .goals .last .1 .1 .1 .0) (c .before .before .before .before .before .before .before .before .before .before .before .before .goals .last .1 .1 .1 .1 .0) (c .before .before .before .before .before .before .before .before .before .before .before .before .goals .last .1 .1 .1 .1 .1 .0) (c .before .before .before .before .count .given .0 .0) (c .before .before .before .before .count .given .0 .1 .0) (got .0) (got .1) (got .2) (got .3) (sym (c .before .nothing-twice .ensures) ∙ not-true _ (c .if2 .taken)), omega (arith, x .0), got .3 .only)
+    let f = e .before .before .before .before .before .before .before .before .before .before .before .before .before .first .ensures in
+    let st = begin-stands (a .text .now) (a .rest .now) (a .from) (a .names .now) (a .item .now) (a .known) known b (e .before .before .before .before .before .before .before .before .before .before .before .before .before .first .result) (omega (arith, f .0, e .before .before .before .before .before .before .before .before .before .before .before .before .before .before .before .before .before .before .before .before .before .before .before .before .pre .1 .1 .0)) (f .1) (f .2) (f .3) in
+    let got = rw (e .before .before .before .before .count .given .1) at (e .before .before .before .before .before .before .before .before .before .before .before .before .goals .ensures known [] st) in
+    let told = query-broken (a .text .now) (a .rest .now) (a .from) (a .names .now) (a .item .now) (a .known) known b clauses (a .k) (a .begins) (a .s .now) (a .heads .now) (x .1) (e .before .before .before .before .before .before .before .before .before .before .before .before .before .before .before .before .before .if1 .left) (e .before .before .before .before .before .before .before .before .before .before .before .before .before .first .result) (f .0) (f .3) (e .before .before .before .before .before .before .before .before .before .before .before .before .goals .last .1 .1 .1 .0) (e .before .before .before .before .before .before .before .before .before .before .before .before .goals .last .1 .1 .1 .1 .0) (e .before .before .before .before .before .before .before .before .before .before .before .before .goals .last .1 .1 .1 .1 .1 .0) (e .before .before .before .before .count .given .0 .0) (e .before .before .before .before .count .given .0 .1 .0) (got .0) (got .1) (got .2) (got .3) (sym (e .before .nothing-twice .ensures) ∙ not-true _ (e .if2 .taken)) in
+    (told .0, told .1, c .first-fault .ensures (a .from) (variables-over (a .from) (got .1) []) (told .0) (told .2), omega (arith, x .0), got .3 .only)
 
 mul-s : tie.Need-mul-s
 mul-s c = search needs
@@ -217,6 +235,8 @@ query-spec =
     goals-requires
     enum-known-count
     nothing-twice-requires
+    add-first-fault
+    first-fault-requires
     same-length
     same-length-2
     same-length-3

@@ -133,8 +133,18 @@ loop-again-2 c =
 enum-known-a : tie.Need-enum-known-a Inv-loop μ-loop
 enum-known-a c = search needs
 
-add-t23 : tie.Need-add-t23 Inv-loop μ-loop
-add-t23 c =
+add-t26 : tie.Need-add-t26 Inv-loop μ-loop
+add-t26 c =
+    let a = c .before .before .before .before .before .before .before .before .before .before .before .before .before .before .before .before .before .before .args in
+    let l = c .before .before .before .before .before .before .before .before .before .before .before .before .before .loop in
+    let r = l .inv .0 .2 in
+    let places = l .inv .0 .0 in
+    let done = l .inv .0 .1 in
+    let got = rw (c .before .a .given .1) at (c .before .before .before .before .before .before .before .before .before .item-at .ensures places (r .inside) (r .names-table) (r .count-is)) in
+    omega (arith, got .1, length-drop (l .from) (a .text .now), r .inside, c .before .before .before .before .before .before .before .before .before .before .before .before .before .before .before .before .before .before .good .0 .0)
+
+add-t27 : tie.Need-add-t27 Inv-loop μ-loop
+add-t27 c =
     let a = c .before .before .before .before .before .before .before .before .before .before .before .before .before .before .before .before .before .before .args in
     let l = c .before .before .before .before .before .before .before .before .before .before .before .before .before .loop in
     let r = l .inv .0 .2 in
@@ -167,42 +177,52 @@ returns c =
 enum-known-a-2 : tie.Need-enum-known-a-2 Inv-loop μ-loop
 enum-known-a-2 c = search needs
 
-add-t25 : tie.Need-add-t25 Inv-loop μ-loop
-add-t25 c =
-    let a = c .before .before .before .before .before .before .before .before .before .before .before .before .before .before .before .before .before .before .args in
-    let l = c .before .before .before .before .before .before .before .before .before .before .before .before .before .loop in
+add-offset : tie.Need-add-offset Inv-loop μ-loop
+add-offset c =
+    let a = c .before .before .before .before .before .before .before .before .before .before .before .before .before .before .before .before .before .before .before .args in
+    let l = c .before .before .before .before .before .before .before .before .before .before .before .before .before .before .loop in
     let r = l .inv .0 .2 in
     let places = l .inv .0 .0 in
     let done = l .inv .0 .1 in
-    let got = rw (c .before .a2 .given .1) at (c .before .before .before .before .before .before .before .before .before .item-at .ensures places (r .inside) (r .names-table) (r .count-is)) in
-    omega (arith, got .1, length-drop (l .from) (a .text .now), r .inside, c .before .before .before .before .before .before .before .before .before .before .before .before .before .before .before .before .before .before .good .0 .0)
+    let got = rw (c .before .before .a2 .given .1) at (c .before .before .before .before .before .before .before .before .before .before .item-at .ensures places (r .inside) (r .names-table) (r .count-is)) in
+    omega (arith, got .2 .2, length-drop (l .from) (a .text .now), r .inside, c .before .before .before .before .before .before .before .before .before .before .before .before .before .before .before .before .before .before .before .good .0 .0)
+
+add-t29 : tie.Need-add-t29 Inv-loop μ-loop
+add-t29 c =
+    let a = c .before .before .before .before .before .before .before .before .before .before .before .before .before .before .before .before .before .before .before .args in
+    let l = c .before .before .before .before .before .before .before .before .before .before .before .before .before .before .loop in
+    let r = l .inv .0 .2 in
+    let places = l .inv .0 .0 in
+    let done = l .inv .0 .1 in
+    let got = rw (c .before .before .a2 .given .1) at (c .before .before .before .before .before .before .before .before .before .before .item-at .ensures places (r .inside) (r .names-table) (r .count-is)) in
+    omega (arith, got .3, length-drop (l .from) (a .text .now), r .inside, c .before .before .before .before .before .before .before .before .before .before .before .before .before .before .before .before .before .before .before .good .0 .0)
 
 same-length-4 : tie.Need-same-length-4 Inv-loop μ-loop
-same-length-4 c = c .before .before .before .before .before .before .before .before .before .item-at .kept .1 .1 .0 ∙ c .before .before .before .before .before .before .before .before .before .before .before .before .before .loop .inv .1
+same-length-4 c = c .before .before .before .before .before .before .before .before .before .before .item-at .kept .1 .1 .0 ∙ c .before .before .before .before .before .before .before .before .before .before .before .before .before .before .loop .inv .1
 
 same-length-5 : tie.Need-same-length-5 Inv-loop μ-loop
-same-length-5 c = c .before .before .before .before .before .before .before .before .before .item-at .kept .1 .1 .1 .0 ∙ c .before .before .before .before .before .before .before .before .before .before .before .before .before .loop .inv .2
+same-length-5 c = c .before .before .before .before .before .before .before .before .before .before .item-at .kept .1 .1 .1 .0 ∙ c .before .before .before .before .before .before .before .before .before .before .before .before .before .before .loop .inv .2
 
 same-length-6 : tie.Need-same-length-6 Inv-loop μ-loop
-same-length-6 c = c .before .before .before .before .before .before .before .before .before .item-at .kept .1 .1 .1 .1 .0 ∙ c .before .before .before .before .before .before .before .before .before .before .before .before .before .loop .inv .3
+same-length-6 c = c .before .before .before .before .before .before .before .before .before .before .item-at .kept .1 .1 .1 .1 .0 ∙ c .before .before .before .before .before .before .before .before .before .before .before .before .before .before .loop .inv .3
 
 returns-2 : tie.Need-returns-2 Inv-loop μ-loop
 unfolding refusal
 returns-2 c =
-    let a = c .before .before .before .before .before .before .before .before .before .before .before .before .before .before .before .before .before .before .args in
-    let l = c .before .before .before .before .before .before .before .before .before .before .before .before .before .loop in
+    let a = c .before .before .before .before .before .before .before .before .before .before .before .before .before .before .before .before .before .before .before .args in
+    let l = c .before .before .before .before .before .before .before .before .before .before .before .before .before .before .loop in
     let r = l .inv .0 .2 in
     let places = l .inv .0 .0 in
     let done = l .inv .0 .1 in
-    let got = rw (c .before .a2 .given .1) at (c .before .before .before .before .before .before .before .before .before .item-at .ensures places (r .inside) (r .names-table) (r .count-is)) in
-    let p = l .from + c .before .a2 .given .0 .0 in
-    (occurrence-rule p, stopped (a .text .now) (a .s .now) (l .s) (l .names) (l .heads) (l .from) (l .clauses) (l .queries) (l .known) places done r (occurrence-rule p) (got .0), refl, only-then 0 trial-region (a .s .now) (l .s) (c .before .before .before .before .before .before .before .before .before .item-at .last .1 .1 .0) (r .only) (got .2))
+    let got = rw (c .before .before .a2 .given .1) at (c .before .before .before .before .before .before .before .before .before .before .item-at .ensures places (r .inside) (r .names-table) (r .count-is)) in
+    let p = l .from + c .before .before .a2 .given .0 .0 in
+    (occurrence-rule p (got .0), stopped (a .text .now) (a .s .now) (l .s) (l .names) (l .heads) (l .from) (l .clauses) (l .queries) (l .known) places done r (occurrence-rule p (got .0)) (got .1), rw (got .2 .0, got .2 .1) refl, only-then 0 trial-region (a .s .now) (l .s) (c .before .before .before .before .before .before .before .before .before .before .item-at .last .1 .1 .0) (r .only) (got .4))
 
 enum-known-a-3 : tie.Need-enum-known-a-3 Inv-loop μ-loop
 enum-known-a-3 c = search needs
 
-add-t27 : tie.Need-add-t27 Inv-loop μ-loop
-add-t27 c =
+add-t31 : tie.Need-add-t31 Inv-loop μ-loop
+add-t31 c =
     let a = c .before .before .before .before .before .before .before .before .before .before .before .before .before .before .before .before .before .before .args in
     let l = c .before .before .before .before .before .before .before .before .before .before .before .before .before .loop in
     let r = l .inv .0 .2 in
@@ -273,19 +293,21 @@ all-items-spec =
     loop-less-2
     loop-again-2
     enum-known-a
-    add-t23
+    add-t26
+    add-t27
     same-length
     same-length-2
     same-length-3
     returns
     enum-known-a-2
-    add-t25
+    add-offset
+    add-t29
     same-length-4
     same-length-5
     same-length-6
     returns-2
     enum-known-a-3
-    add-t27
+    add-t31
     same-length-7
     same-length-8
     same-length-9

@@ -24,10 +24,12 @@ line-requires-3 : tie.Need-line-requires-3
 line-requires-3 c κs = search needs
 
 returns : tie.Need-returns
-returns c = rw (c .before .before .why .given .1) (ap NoItems (c .line .ensures))
+returns c = rw (c .before .before .why .given .1) (ap (λ at. NoItems at (c .before .before .why .given .0 .1 .0)) (c .line .ensures))
 
 returns-2 : tie.Need-returns-2
-returns-2 c = rw (c .before .before .why2 .given .1) (ap OccurrenceBroken (c .line2 .ensures))
+returns-2 c =
+    rw (c .before .before .why2 .given .1)
+    (ap (λ at. OccurrenceBroken (c .before .before .why2 .given .0 .0) at (c .before .before .why2 .given .0 .1 .1 .0)) (c .line2 .ensures))
 
 returns-3 : tie.Need-returns-3
 returns-3 c = rw (c .before .before .why3 .given .1) (ap FigurePassed (c .line3 .ensures))

@@ -1,0 +1,178 @@
+-- An item that was read: its tokens hold what its terms hold, so it has a fault exactly if the rules are broken, and then the walk finds the least.
+-- Its variables are told apart, its tokens' places rise, none of them is bad: what the search for the fault asks.
+use Prim.Native.Nat.{ℕ, zero, suc, _+_, _-_, _≤_, _<_, min}
+use mathlib.Core.Path.{_≡_, refl, sym, ap, _∙_}
+use mathlib.Core.Bool.{Bool, true, false, _&&_}
+use mathlib.Core.List.{List, [], _∷_, _++_}
+use mathlib.Core.Option.{Option, none, some}
+use native.Mathlib.Omega.{arith}
+use lib.ListN.{length, getD}
+use Rattle.meaning.specs.Bytes.{Bytes, same, any, if_then_else_}
+use Rattle.meaning.specs.Terms.{Half, Named, goals-occurrences}
+use Rattle.meaning.specs.Tokens.{Token, name, variable, integer, sign, bad, Tokens, ends, token, Front, blank, front, placed, tokens-from}
+use Rattle.meaning.specs.Faults.{Fault, occurs-at, clause-faults, query-faults, least}
+use Rattle.meaning.specs.Items.{is, place-of}
+use Rattle.laws.proofs.Lists.Tests.{differ, false-not-true, same-refl, same-true}
+use Rattle.laws.proofs.Lists.Among.{In, here, there, in-none, in-any}
+use Rattle.laws.proofs.Lists.Pigeonhole.{Distinct, distinct-last}
+use Rattle.laws.proofs.Reading.Rules.{nothing-twice, both-halves}
+use Rattle.laws.proofs.Reading.Passed.{Cut, by-number}
+use Rattle.laws.proofs.Reading.Faultless.{clause-kept, clause-clear, query-kept, query-clear}
+use Rattle.laws.proofs.Reading.Rising.{Rising, rising-from}
+use Rattle.laws.proofs.Reading.Broken.{clause-fault-is, fault-in-clause, query-fault-is, fault-in-query}
+use Rattle.laws.proofs.Reading.Walk.{first-fault, first-is-least}
+use Rattle.load_tokens.specs.Fronts.{tokens-in}
+use Rattle.load_names.specs.Places.{Place, Placed, spellings, with-place, with-variable, variables-over}
+use Rattle.load_names.specs.Tables.{VariablesIn}
+use Rattle.load_names.proofs.Numbering.{spellings-snoc, with-known, with-new}
+use Rattle.load_names.proofs.Spellings.{has-place}
+use Rattle.load_openings.specs.Reading.{piece, half-place}
+use Rattle.load_openings.proofs.Expected.{piece-open, piece-stop}
+use Rattle.load_faults.specs.Finding.{Searched, Searches}
+use Rattle.load_faults.proofs.Sound.{Sound, walkable}
+
+-- The variables' spellings are told apart.
+with-place-distinct : (at : ℕ) (x : Bytes) (places : List Place) → Distinct (spellings places) → Distinct (spellings (with-place at x places))
+with-place-distinct at x places d = go (any (same x) (spellings places)) refl
+  where
+    go : (b : Bool) → any (same x) (spellings places) ≡ b → Distinct (spellings (with-place at x places))
+    go true e = rw (with-known at x places e) d
+    go false e =
+        rw (with-new at x places e, spellings-snoc places at x)
+        (distinct-last (spellings places) x d (λ m. false-not-true (any (same x) (spellings places)) e (in-any (same x) m (same-refl x))))
+
+pub variables-distinct : (from : ℕ) (ps : List Placed) (places : List Place) → Distinct (spellings places) → Distinct (spellings (variables-over from ps places))
+unfolding variables-over with-variable
+variables-distinct from [] places d = d
+variables-distinct from (p ∷ ps) places d = variables-distinct from ps (with-variable (p .at - from) (p .token) places) (go (p .token))
+  where
+    go : (t : Token) → Distinct (spellings (with-variable (p .at - from) t places))
+    go (name f) = d
+    go (variable h x) = (with-place-distinct (p .at - from) x places d)
+    go (integer i) = d
+    go (sign b) = d
+    go bad = d
+
+-- An item's tokens are cut behind its full stop, and their places rise.
+pub piece-cut : (ts : Tokens) → Cut (piece ts)
+unfolding Cut piece if_then_else_
+piece-cut (ends p) = tt
+piece-cut (token p t ts) = go (is "." t) refl (piece-cut ts)
+  where
+    go : (b : Bool) → is "." t ≡ b → Cut (piece ts) → Cut (piece (token p t ts))
+    go true e h = rw e (p, refl)
+    go false e h = rw e h
+
+piece-rising : (low : ℕ) (ts : Tokens) → Rising low ts → Rising low (piece ts)
+unfolding Rising piece if_then_else_
+piece-rising low (ends p) h = tt
+piece-rising low (token p t ts) h = (h .0, go (is "." t) (piece-rising (p + 1) ts (h .1)))
+  where
+    go : (b : Bool) → Rising (p + 1) (piece ts) → Rising (p + 1) (if b then ends p else piece ts)
+    go true r = tt
+    go false r = r
+
+placed-rising : (low at : ℕ) (f : Front) (behind : ℕ → Tokens) → low ≤ at → ((n : ℕ) → Rising (at + 1) (behind n)) → Rising low (placed at f behind)
+unfolding placed Rising
+placed-rising low at (blank n) behind e h = rising-from (at + 1) low (behind n) (omega arith) (h n)
+placed-rising low at (Front.token n t) behind e h = (e, h n)
+
+tokens-rising : (low at skip : ℕ) (cs : Bytes) → low ≤ at → Rising low (tokens-from at skip cs)
+unfolding tokens-from Rising
+tokens-rising low at skip [] e = tt
+tokens-rising low at zero (c ∷ cs) e = placed-rising low at (front c cs) _ e (λ n. tokens-rising (at + 1) (at + 1) n cs (omega arith))
+tokens-rising low at (suc skip) (c ∷ cs) e = tokens-rising low (at + 1) skip cs (omega arith)
+
+pub item-rising : (from : ℕ) (rest : Bytes) (at : ℕ) → Rising 0 (piece (tokens-in from rest at))
+item-rising from rest at = piece-rising 0 (tokens-in from rest at) (tokens-rising 0 (from + at) 0 _ (omega arith))
+
+-- What was read, by its tokens: the variables are these, and each half occurs among the tokens as often as in the goals.
+module _ (whole : Tokens) (xs : List Bytes) (gs : List Named) (distinct : Distinct xs) (rising : Rising 0 whole)
+    (counts : (h : Half) (x : Bytes) → length (occurs-at h x whole) ≡ by-number (place-of x xs) (λ n. goals-occurrences h n gs)) where
+  no-other : (h : Half) (x : Bytes) → place-of x xs ≡ none → length (occurs-at h x whole) ≡ 0
+  unfolding by-number
+  no-other h x e = rw e at (counts h x)
+
+  place-in : (x : Bytes) (l : List Bytes) (n : ℕ) → place-of x l ≡ some n → In x l
+  unfolding place-of
+  place-in x [] n e = absurd (differ (cc))
+  place-in x (y ∷ l) n e = go (same x y) refl (place-of x l) refl (place-in x l)
+    where
+      go : (b : Bool) → same x y ≡ b → (o : Option ℕ) → place-of x l ≡ o → ((m : ℕ) → place-of x l ≡ some m → In x l) → In x (y ∷ l)
+      go true q o p further = here (same-true x y q)
+      go false q none p further = let e′ : none ≡ some n = rw (q, p, place-of) at e in absurd (differ (cc))
+      go false q (some m) p further = there (further m p)
+
+  in-length : {p : ℕ} (l : List ℕ) → In p l → 1 ≤ length l
+  in-length [] m = absurd (in-none m)
+  in-length (q ∷ l) m = omega arith
+
+  all-known : (h : Half) (x : Bytes) (p : ℕ) → In p (occurs-at h x whole) → In x xs
+  all-known h x p m = go (place-of x xs) refl
+    where
+      go : (o : Option ℕ) → place-of x xs ≡ o → In x xs
+      go none e = absurd (omega (arith, no-other h x e, in-length (occurs-at h x whole) m))
+      go (some n) e = place-in x xs n e
+
+  pub clause-clean : nothing-twice (length xs) gs ≡ true → both-halves (length xs) gs ≡ true → least (clause-faults whole xs) ≡ none
+  unfolding least
+  clause-clean h k = rw (clause-clear whole xs gs distinct counts h k) refl
+
+  pub query-clean : nothing-twice (length xs) gs ≡ true → least (query-faults whole xs) ≡ none
+  unfolding least
+  query-clean h = rw (query-clear whole xs gs distinct counts h) refl
+
+  pub clause-fault : (nothing-twice (length xs) gs && both-halves (length xs) gs) ≡ false
+      → (f : Fault) × (least (clause-faults whole xs) ≡ some f) × (first-fault true whole ≡ some f)
+  unfolding least
+  clause-fault broken = go (clause-faults whole xs) refl
+    where
+      first : first-fault true whole ≡ least (clause-faults whole xs)
+      first =
+          first-is-least true whole xs all-known 0 rising (clause-faults whole xs)
+          (λ f m. clause-fault-is whole f xs m) (λ f o. fault-in-clause whole f xs o)
+
+      go : (l : List Fault) → clause-faults whole xs ≡ l → (f : Fault) × (least (clause-faults whole xs) ≡ some f) × (first-fault true whole ≡ some f)
+      go [] e =
+          let (h, k) = clause-kept whole xs gs distinct counts e in
+          absurd (false-not-true (nothing-twice (length xs) gs && both-halves (length xs) gs) broken (rw (h, k) refl))
+      go (f ∷ l) e = (_, ap least e, first ∙ ap least e)
+
+  pub query-fault : nothing-twice (length xs) gs ≡ false → (f : Fault) × (least (query-faults whole xs) ≡ some f) × (first-fault false whole ≡ some f)
+  unfolding least
+  query-fault broken = go (query-faults whole xs) refl
+    where
+      first : first-fault false whole ≡ least (query-faults whole xs)
+      first =
+          first-is-least false whole xs all-known 0 rising (query-faults whole xs)
+          (λ f m. query-fault-is whole f xs m) (λ f o. fault-in-query whole f xs o)
+
+      go : (l : List Fault) → query-faults whole xs ≡ l → (f : Fault) × (least (query-faults whole xs) ≡ some f) × (first-fault false whole ≡ some f)
+      go [] e = absurd (false-not-true (nothing-twice (length xs) gs) broken (query-kept whole xs gs distinct counts e))
+      go (f ∷ l) e = (_, ap least e, first ∙ ap least e)
+
+-- So the search for the fault has what it asks.
+module _ (rest : Bytes) (from begins : ℕ) (item : List ℕ) (count : ℕ) (places : List Place) (gs : List Named)
+    (table : VariablesIn rest places item) (count-is : count ≡ length places)
+    (halves : (h : Half) (n : ℕ) → n < 16 → getD item (half-place h n) 0 ≡ min 2 (goals-occurrences h n gs))
+    (sound : Sound (piece (tokens-in from rest begins)))
+    (counts : (h : Half) (x : Bytes) → length (occurs-at h x (piece (tokens-in from rest begins))) ≡ by-number (place-of x (spellings places)) (λ n. goals-occurrences h n gs)) where
+  pub searches : (both : Bool) (f : Fault) → first-fault both (piece (tokens-in from rest begins)) ≡ some f → Searches rest from item count both begins places f
+  unfolding by-number
+  searches both f found =
+      record {
+        searched = record {
+          table = table;
+          count-is = count-is;
+          counted = λ h x n e.
+              let few : n < 16 = omega (arith, has-place x places n e, table .few) in
+              let often : length (occurs-at h x (piece (tokens-in from rest begins))) ≡ goals-occurrences h n gs = rw e at (counts h x) in
+              rw often (halves h n few);
+        };
+        walkable = walkable (spellings places) (piece (tokens-in from rest begins)) sound (λ h x e. rw e at (counts h x));
+        found = found;
+      }
+
+pub searches-from : (rest : Bytes) (from : ℕ) (item : List ℕ) (count : ℕ) (both : Bool) (m n : ℕ) (places : List Place) (f : Fault) → m ≡ n
+    → Searches rest from item count both m places f → Searches rest from item count both n places f
+searches-from rest from item count both m n places f e s = rw e at s

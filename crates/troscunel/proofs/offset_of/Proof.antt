@@ -1,0 +1,96 @@
+-- `troscunel::offset_of` meets its contract.
+use mathlib.Core.Path.{refl}
+use Rattle.meaning.specs.Call.{offset-of}
+use borrow.Author.Needs.{needs}
+use Rattle.troscunel.proofs.offset_of.Statement.{statement}
+use Rattle.troscunel.proofs.offset_of.Tie as tie
+
+enum-known-a : tie.Need-enum-known-a
+enum-known-a c = search needs
+
+enum-known-why : tie.Need-enum-known-why
+enum-known-why c = search needs
+
+enum-known-why-2 : tie.Need-enum-known-why-2
+enum-known-why-2 c = search needs
+
+enum-told : tie.Need-enum-told
+enum-told c = search needs
+
+enum-told-2 : tie.Need-enum-told-2
+enum-told-2 c = search needs
+
+enum-told-3 : tie.Need-enum-told-3
+enum-told-3 c = search needs
+
+enum-told-4 : tie.Need-enum-told-4
+enum-told-4 c = search needs
+
+enum-told-5 : tie.Need-enum-told-5
+enum-told-5 c = search needs
+
+enum-told-6 : tie.Need-enum-told-6
+enum-told-6 c = search needs
+
+enum-told-7 : tie.Need-enum-told-7
+enum-told-7 c = search needs
+
+returns : tie.Need-returns
+unfolding offset-of
+returns c = rw (c .before .before .before .before .a .given .1, c .before .why .given .1) refl
+
+returns-2 : tie.Need-returns-2
+unfolding offset-of
+returns-2 c = rw (c .before .before .before .before .a .given .1, c .before .why2 .given .1) refl
+
+returns-3 : tie.Need-returns-3
+unfolding offset-of
+returns-3 c = search needs
+
+returns-4 : tie.Need-returns-4
+unfolding offset-of
+returns-4 c = search needs
+
+returns-5 : tie.Need-returns-5
+unfolding offset-of
+returns-5 c = search needs
+
+returns-6 : tie.Need-returns-6
+unfolding offset-of
+returns-6 c = search needs
+
+returns-7 : tie.Need-returns-7
+unfolding offset-of
+returns-7 c = search needs
+
+returns-8 : tie.Need-returns-8
+unfolding offset-of
+returns-8 c = search needs
+
+returns-9 : tie.Need-returns-9
+unfolding offset-of
+returns-9 c = search needs
+
+pub offset-of-spec : {M : Type 1} → statement M
+offset-of-spec =
+    tie.close
+    (tie.spec
+    enum-known-a
+    enum-known-why
+    enum-known-why-2
+    enum-told
+    enum-told-2
+    enum-told-3
+    enum-told-4
+    enum-told-5
+    enum-told-6
+    enum-told-7
+    returns
+    returns-2
+    returns-3
+    returns-4
+    returns-5
+    returns-6
+    returns-7
+    returns-8
+    returns-9)
