@@ -24,7 +24,7 @@ unfoldable pub use Leaning.{Leans}
 pub use Leaning.{Links}
 pub use Search.{circle-at-says, circle-says, no-circle-says}
 -- In no state of a run does one.
-pub use Never.{values-at, run-no-circle}
+pub use Never.{NoCircle, values-at, step-no-circle, run-no-circle}
 -- Without a circle every chain of assigned pairs ends within the number of pairs; so does following a term, and writing it out.
 pub use Chains.{chains-end}
 pub use Following.{followed-within, followed-unassigned}

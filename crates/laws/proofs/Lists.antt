@@ -9,6 +9,7 @@ pub mod OneByOne
 pub mod Places
 pub mod Pigeonhole
 pub mod AnyOrder
+pub mod OneTaken
 pub use Tests.*
 pub use Among.*
 pub use Filters.*
@@ -18,3 +19,4 @@ pub use OneByOne.*
 pub use Places.*
 unfoldable pub use Pigeonhole.*
 pub use AnyOrder.*
+pub use OneTaken.*

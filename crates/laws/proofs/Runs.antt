@@ -40,7 +40,9 @@ use Rattle.laws.proofs.Runs.Charges.{run-summed, run-units}
 use Rattle.laws.proofs.Runs.Dropped.{reductions, body-goals-of, None-dropped, onward-drops-none}
 use Rattle.laws.proofs.Runs.Further.{goes-on, Goes-on, cases-on}
 -- What the first state has and each step keeps, every state of every run has.
-pub use Invariant.{KeptByStep, run-keeps}
+pub use Invariant.{KeptByStep, run-keeps, no-steps}
+-- What each step keeps, whichever goal of the queue it takes, every state has that is reached by such steps, as those of a run are.
+pub use Invariant.{KeptAtAnyPlace, Reached, at-first, by-step, reached-keeps, run-reached}
 -- Every goal is of a query at one of the first n places.
 pub use Charges.{Placed}
 

@@ -42,18 +42,20 @@ use Rattle.laws.proofs.Lists.{
   each-member,
   in-sum,
   In,
+  TakenOut,
+  taken-front,
 }
 use Rattle.laws.proofs.Terms.{occurs-itself}
 use Rattle.laws.proofs.Trial.{reduces-agrees}
 use Rattle.laws.proofs.Runs.{run-placed}
-use Rattle.laws.proofs.Circle.{run-no-circle, given-unassigned, step-values-stay}
+use Rattle.laws.proofs.Circle.{NoCircle, run-no-circle, given-unassigned, step-values-stay}
 use Rattle.laws.proofs.Reading.{ClauseOk, JobOk}
 use Rattle.laws.proofs.Single.LiveValues.{marks, flows-both, no-writer-marks}
 use Rattle.laws.proofs.Single.WrittenOut.{all-applied-flow}
 use Rattle.laws.proofs.Single.Chains.{Reaches, reaches-inside, chain-flows}
 use Rattle.laws.proofs.Single.Balance.{Balanced, balanced-less, balanced-flow-once, given-once, given-inside, given-values-inside}
 use Rattle.laws.proofs.Single.Counting.{together, count-of-own, sum-together}
-use Rattle.laws.proofs.Single.Step.{arguments-of, Chained, SoundAt, balanced-front}
+use Rattle.laws.proofs.Single.Step.{arguments-of, Chained, SoundAt, balanced-taken}
 use Rattle.laws.proofs.Single.Run.{run-sound}
 
 -- The goals of a query, active, waiting and failed, each as the term that it is.
@@ -222,6 +224,23 @@ inside-each room given inside =
     (λ a m. not-beyond (a .pair) room
     (λ e. omega (arith, inside (a .pair) e, occurs-itself writer (a .pair), in-sum (λ b. occurrences writer (a .pair) (variable writer (b .pair))) m)))
 
+-- A trial for a goal of the queue, wherever it stands there, of a state that is sound and without a circle.
+pub sound-assigns-once : (state : State) (g : Goal) (others : List Goal) → TakenOut g others (state .goals .queue)
+    → SoundAt (g .query) state → NoCircle state
+    → (clause : Clause) → ClauseOk clause
+    → (given : List Assignment) → compared clause (unit-at (g .query) (state .units)) (g .goal) ≡ succeeds given
+    → AssignedOnce (unit-at (g .query) (state .units) .values) (clause .pairs) given
+sound-assigns-once state g others taken s no-circle clause clause-ok given agrees =
+    let unit = unit-at (g .query) (state .units) in
+    let b = balanced-taken (unit .values) g (state .goals) others taken s in
+    record {
+      unassigned-before = each-member _ given (given-unassigned clause unit (g .goal) given (no-circle (g .query)) agrees);
+      no-pair-twice = distinct given (given-once unit clause (g .goal) given _ clause-ok agrees b);
+      pairs-in-range = inside-each _ given (given-inside unit clause (g .goal) given _ clause-ok agrees b);
+      values-in-range = λ h n e.
+          each-zero (λ a. occurrences h n (a .value)) given (given-values-inside unit clause (g .goal) given _ clause-ok agrees b h n e);
+    }
+
 -- No trial assigns a pair that has a value, and none assigns a pair twice; whether the circle test then fails it or not.
 pub trial-assigns-once : (job : Job) → JobOk job → (limit : ℕ) (figures : Room) (g : Goal) (others : List Goal)
     → run job limit figures .state .goals .queue ≡ g ∷ others
@@ -229,18 +248,9 @@ pub trial-assigns-once : (job : Job) → JobOk job → (limit : ℕ) (figures : 
     → (given : List Assignment) → compared clause (unit-at (g .query) (run job limit figures .state .units)) (g .goal) ≡ succeeds given
     → AssignedOnce (unit-at (g .query) (run job limit figures .state .units) .values) (clause .pairs) given
 trial-assigns-once job ok limit figures g others front clause member given agrees =
-    let state = run job limit figures .state in
-    let unit = unit-at (g .query) (state .units) in
-    let s = run-sound job ok limit figures .sound (g .query) ((rw front at (run-placed job limit figures .queue)) .0) in
-    let b = balanced-front (unit .values) g (state .goals) others front s in
-    let clause-ok = each-in ClauseOk (ok .clauses-ok) member in
-    record {
-      unassigned-before = each-member _ given (given-unassigned clause unit (g .goal) given (run-no-circle job limit figures (g .query)) agrees);
-      no-pair-twice = distinct given (given-once unit clause (g .goal) given _ clause-ok agrees b);
-      pairs-in-range = inside-each _ given (given-inside unit clause (g .goal) given _ clause-ok agrees b);
-      values-in-range = λ h n e.
-          each-zero (λ a. occurrences h n (a .value)) given (given-values-inside unit clause (g .goal) given _ clause-ok agrees b h n e);
-    }
+    sound-assigns-once (run job limit figures .state) g others (taken-front front)
+    (run-sound job ok limit figures .sound (g .query) ((rw front at (run-placed job limit figures .queue)) .0))
+    (run-no-circle job limit figures) clause (each-in ClauseOk (ok .clauses-ok) member) given agrees
 
 -- Each pair is assigned at most once: so are the assignments of every reduction, in every state of every run.
 pub reduction-assigns-once : (job : Job) → JobOk job → (limit : ℕ) (figures : Room) (g : Goal) (others : List Goal)

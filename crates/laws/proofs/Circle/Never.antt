@@ -7,14 +7,14 @@ use mathlib.Core.List.{List, [], _∷_, map}
 use mathlib.Core.Option.{none}
 use lib.ListN.{length}
 use Rattle.meaning.specs.Terms.{Named, Clause, Query, Job}
-use Rattle.meaning.specs.State.{Room, Values, value, QueryUnit, State, unit-at, no-unit, first-unit, start}
+use Rattle.meaning.specs.State.{Room, Values, value, QueryUnit, Goal, State, unit-at, no-unit, first-unit, start}
 use Rattle.meaning.specs.Circle.{circle}
 use Rattle.meaning.specs.Trial.{Choice, reduces, joins-waiting, joins-failed, choice}
 use Rattle.meaning.specs.Step.{unit-after, step}
 use Rattle.meaning.specs.Run.{choice-for, run}
 use Rattle.laws.proofs.Lists.{differ}
 use Rattle.laws.proofs.Trial.{value-replicate, unit-at-set, reduces-by-trial, trial-succeeds}
-use Rattle.laws.proofs.Runs.{KeptByStep, run-keeps}
+use Rattle.laws.proofs.Runs.{run-keeps}
 use Rattle.laws.proofs.Circle.Leaning.{Leans, Links, one, first}
 use Rattle.laws.proofs.Circle.Search.{no-circle-says}
 
@@ -58,9 +58,11 @@ unit-after-no-circle clauses unit goal before = go (choice clauses unit goal) re
     go (joins-waiting readers) e = before
     go joins-failed e = before
 
-step-no-circle : (clauses : List Clause) (figures : Room) → KeptByStep clauses figures NoCircle
+-- So does a step, whatever goal it takes, in the queue or not, and whatever goals it leaves there.
+pub step-no-circle : (clauses : List Clause) (state : State) (g : Goal) (others : List Goal) → NoCircle state
+    → NoCircle (step (choice-for clauses state g) g others state)
 unfolding step choice-for
-step-no-circle clauses figures state g others queue fit before place =
+step-no-circle clauses state g others before place =
     unit-at-set (λ u. circle (u .values) ≡ false) (state .units) (g .query) place
     (unit-after (choice-for clauses state g) (unit-at (g .query) (state .units)))
     (λ e. unit-after-no-circle clauses (unit-at (g .query) (state .units)) (g .goal) (before (g .query)))
@@ -74,4 +76,5 @@ values-at job limit figures place = unit-at place (run job limit figures .state 
 pub run-no-circle : (job : Job) (limit : ℕ) (figures : Room) (place : ℕ)
     → circle (unit-at place (run job limit figures .state .units) .values) ≡ false
 run-no-circle job limit figures =
-    run-keeps job figures NoCircle (step-no-circle (job .clauses) figures) (start-no-circle (job .queries)) limit
+    run-keeps job figures NoCircle (λ state g others front fit before. step-no-circle (job .clauses) state g others before)
+    (start-no-circle (job .queries)) limit

@@ -47,7 +47,9 @@ use Rattle.laws.proofs.Lists.{
   those-in,
   those-map,
   those-none,
-  those-out,
+  TakenOut,
+  taken-front,
+  taken-other,
 }
 use Rattle.laws.proofs.Runs.Charges.{tries-after}
 use Rattle.laws.proofs.Runs.Onward.{Cases, run-induction}
@@ -153,41 +155,42 @@ goals-after-other k (joins-waiting readers) unit g others d =
 goals-after-other k joins-failed unit g others d =
     same-goals _ _ _ _ _ _ refl refl (those-behind-out (of k) (others .failed) g d)
 
--- A step on a goal of the query is one own step of its part.
-step-is-own-here : (clauses : List Clause) (state : State) (g : Goal) (others : List Goal) → state .goals .queue ≡ g ∷ others
+-- A step on the first goal of the query, wherever it stands in the queue, is one own step of the query's part.
+pub step-is-own-here : (clauses : List Clause) (state : State) (g : Goal) (others : List Goal)
+    → those (of (g .query)) (state .goals .queue) ≡ g ∷ those (of (g .query)) others
     → g .query < length (state .units)
     → part-of (g .query) (step (choice-for clauses state g) g others state) ≡ own-step clauses (part-of (g .query) state)
 unfolding part-of step own-step own-turn goals-of unit-at choice-for without-front
 step-is-own-here clauses state g others e h =
     let taken = choice-for clauses state g in
     let unit = unit-at (g .query) (state .units) in
-    let front : those (of (g .query)) (state .goals .queue) ≡ g ∷ those (of (g .query)) others = rw e (those-in _ g others (own g)) in
-    rw front
+    rw e
     (same-part _ _ _ _ (getD-set-same (state .units) (g .query) (unit-after taken unit) no-unit h)
     (goals-after-own taken unit g (without-front others (state .goals))))
 
-step-is-own : (k : ℕ) (clauses : List Clause) (state : State) (g : Goal) (others : List Goal) → state .goals .queue ≡ g ∷ others
+step-is-own : (k : ℕ) (clauses : List Clause) (state : State) (g : Goal) (others : List Goal)
+    → those (of k) (state .goals .queue) ≡ g ∷ those (of k) others
     → k < length (state .units) → of k g ≡ true
     → part-of k (step (choice-for clauses state g) g others state) ≡ own-step clauses (part-of k state)
 unfolding of
 step-is-own k clauses state g others e h o =
     let mine : g .query ≡ k = eqb-true (g .query) k o in
-    rw (← mine) (step-is-own-here clauses state g others e (rw (← mine) at h))
+    rw (← mine) (step-is-own-here clauses state g others (rw (← mine) at e) (rw (← mine) at h))
 
--- The goal in front is in the queue of its query's part.
-own-front : (k : ℕ) (state : State) (g : Goal) (others : List Goal) → state .goals .queue ≡ g ∷ others → of k g ≡ true
+-- That goal is in the queue of the query's part.
+own-front : (k : ℕ) (state : State) (g : Goal) (others : List Goal) → those (of k) (state .goals .queue) ≡ g ∷ those (of k) others
     → Some (part-of k state .goals .queue)
 unfolding part-of goals-of Some
-own-front k state g others e o = rw (e, those-in (of k) g others o) tt
+own-front k state g others e = rw e tt
 
--- A step on another query's goal leaves the part as it is.
-step-of-other : (k : ℕ) (choice : Choice) (state : State) (g : Goal) (others : List Goal) → state .goals .queue ≡ g ∷ others
+-- A step on another query's goal, at any place, leaves the part as it is.
+pub step-of-other : (k : ℕ) (choice : Choice) (state : State) (g : Goal) (others : List Goal) → TakenOut g others (state .goals .queue)
     → of k g ≡ false → part-of k (step choice g others state) ≡ part-of k state
 unfolding part-of step goals-of unit-at without-front of
-step-of-other k choice state g others e d =
+step-of-other k choice state g others t d =
     let unit = unit-at (g .query) (state .units) in
     same-part _ _ _ _ (getD-set-other (state .units) (g .query) k _ no-unit (λ p. eqb-false (g .query) k d (sym p)))
-    (goals-after-other k choice unit g (without-front others (state .goals)) d ∙ rw (e, those-out _ g others d))
+    (goals-after-other k choice unit g (without-front others (state .goals)) d ∙ rw (taken-other (of k) d t))
 
 -- An own step raises the query's tries by one.
 own-tries : (clauses : List Clause) (part : Part) → Some (part .goals .queue) → own-step clauses part .unit .tries ≡ part .unit .tries + 1
@@ -242,10 +245,11 @@ module _ (clauses : List Clause) (figures : Room) (k : ℕ) where
           → (last : Ended) → Runs left (step (choice-for clauses state g) g others state) last → k < length (state .units)
           → (b : Bool) → of k g ≡ b → Own-run clauses (part-of k state) (part-of k (last .state))
       go left state g others e last further h true o =
-          own-run-one clauses (part-of k state) (part-of k (last .state)) (own-front k state g others e o)
-          (rw (step-is-own k clauses state g others e h o) at (further (more state g others h)))
+          let first : those (of k) (state .goals .queue) ≡ g ∷ those (of k) others = rw e (those-in (of k) g others o) in
+          own-run-one clauses (part-of k state) (part-of k (last .state)) (own-front k state g others first)
+          (rw (step-is-own k clauses state g others first h o) at (further (more state g others h)))
       go left state g others e last further h false o =
-          rw (step-of-other k (choice-for clauses state g) state g others e o) at (further (more state g others h))
+          rw (step-of-other k (choice-for clauses state g) state g others (taken-front e) o) at (further (more state g others h))
 
 -- The query at a place of a job.
 unfoldable pub query-at : ℕ → List Query → Query

@@ -12,10 +12,10 @@ use Rattle.meaning.specs.Compare.{Assignment}
 use Rattle.meaning.specs.Trial.{Choice, reduces, joins-waiting, joins-failed, next-pair, compared, with-pairs, assigned, values-after, choice}
 use Rattle.meaning.specs.Step.{unit-after, body-goals, goals-after, without-front, step}
 use Rattle.meaning.specs.Run.{choice-for, run}
-use Rattle.laws.proofs.Lists.{Each, each-all, each-append, each-getD, each-map, each-replicate, each-set, each-in}
+use Rattle.laws.proofs.Lists.{Each, each-all, each-append, each-getD, each-map, each-replicate, each-set, each-in, TakenOut, taken-front}
 use Rattle.laws.proofs.Trial.{reduces-agrees}
 use Rattle.laws.proofs.Runs.{run-keeps}
-use Rattle.laws.proofs.Runs.AllGoals.{EachGoal, each-goal-at, each-goal-front, each-goal-after}
+use Rattle.laws.proofs.Runs.AllGoals.{EachGoal, each-goal-at, each-goal-taken, each-goal-after}
 use Rattle.laws.proofs.Report.Spelled.{Spelled, Goal-spelled, Value-spelled, all-renamed-spelled, followed-spelled, given-spelled}
 
 module _ (S : Bytes → Type 0) where
@@ -102,16 +102,16 @@ module _ (S : Bytes → Type 0) where
   unfolding unit-at no-unit
   unit-at-spelled k units u = each-getD Unit-spelled units k no-unit u (record { values = tt })
 
-  step-spelled : (clauses : List Clause) (state : State) (g : Goal) (others : List Goal) → state .goals .queue ≡ g ∷ others
+  step-spelled : (clauses : List Clause) (state : State) (g : Goal) (others : List Goal) → TakenOut g others (state .goals .queue)
       → Each Clause-spelled clauses → State-spelled state → State-spelled (step (choice-for clauses state g) g others state)
   unfolding step choice-for without-front
-  step-spelled clauses state g others e c s =
+  step-spelled clauses state g others t c s =
       let unit = unit-at-spelled (g .query) (state .units) (s .units) in
-      let (front, behind) = each-goal-front (λ h. Goal-spelled S (h .goal)) (state .goals) g others e (s .goals) in
-      let taken = choice-spelled clauses (unit-at (g .query) (state .units)) (g .goal) c unit front in
+      let (its, behind) = each-goal-taken (λ h. Goal-spelled S (h .goal)) (state .goals) g others t (s .goals) in
+      let taken = choice-spelled clauses (unit-at (g .query) (state .units)) (g .goal) c unit its in
       record {
         units = each-set Unit-spelled (state .units) (g .query) _ (s .units) (unit-after-spelled _ _ taken unit);
-        goals = goals-after-spelled _ _ g (without-front others (state .goals)) taken front behind;
+        goals = goals-after-spelled _ _ g (without-front others (state .goals)) taken its behind;
       }
 
   -- Before the first step.
@@ -133,7 +133,7 @@ module _ (S : Bytes → Type 0) where
   unfolding start
   run-spelled job limit figures s =
       run-keeps job figures State-spelled
-      (λ state g others e fit p. step-spelled (job .clauses) state g others e (s .clauses) p)
+      (λ state g others e fit p. step-spelled (job .clauses) state g others (taken-front e) (s .clauses) p)
       (record {
         units = first-units-spelled (job .queries);
         goals = record { queue = all-goals-spelled 0 (job .queries) (s .queries); waiting = tt; failed = tt };

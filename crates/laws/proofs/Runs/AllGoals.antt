@@ -10,7 +10,7 @@ use Rattle.meaning.specs.State.{QueryUnit, Goal, Waiting, Goals, goals-at, of, 
 use Rattle.meaning.specs.Compare.{Assignment}
 use Rattle.meaning.specs.Trial.{Choice, reduces, joins-waiting, joins-failed}
 use Rattle.meaning.specs.Step.{body-goals, wakes, goals-after, without-front}
-use Rattle.laws.proofs.Lists.{Each, each-append, each-map, each-of-those}
+use Rattle.laws.proofs.Lists.{Each, each-append, each-map, each-of-those, TakenOut, taken-each, taken-front}
 
 pub record EachGoal (P : Goal → Type 0) (goals : Goals) : Type 0 where
   pub queue : Each P (goals .queue)
@@ -33,13 +33,17 @@ module _ (P : Goal → Type 0) where
         failed = each-of-those P (of k) (goals .failed) (e .failed);
       }
 
-  -- The goal in front, and the others.
-  pub each-goal-front : (goals : Goals) (g : Goal) (others : List Goal) → goals .queue ≡ g ∷ others → EachGoal P goals
+  -- The goal that is taken, and the others; at the front, for one.
+  pub each-goal-taken : (goals : Goals) (g : Goal) (others : List Goal) → TakenOut g others (goals .queue) → EachGoal P goals
       → P g × EachGoal P (without-front others goals)
   unfolding without-front
-  each-goal-front goals g others front e =
-      let all : Each P (g ∷ others) = rw front at (e .queue) in
-      (all .0, record { queue = all .1; waiting = e .waiting; failed = e .failed })
+  each-goal-taken goals g others taken e =
+      let (its, behind) = taken-each P taken (e .queue) in
+      (its, record { queue = behind; waiting = e .waiting; failed = e .failed })
+
+  pub each-goal-front : (goals : Goals) (g : Goal) (others : List Goal) → goals .queue ≡ g ∷ others → EachGoal P goals
+      → P g × EachGoal P (without-front others goals)
+  each-goal-front goals g others front e = each-goal-taken goals g others (taken-front front) e
 
   pub each-goal-after : (choice : Choice) (unit : QueryUnit) (g : Goal) (others : Goals) → P g
       → ((clause : Clause) (given : List Assignment) → choice ≡ reduces clause given → Each P (body-goals clause unit (g .query)))

@@ -24,10 +24,10 @@ use Rattle.meaning.specs.State.{
 use Rattle.meaning.specs.Trial.{Choice, reduces, joins-waiting, joins-failed}
 use Rattle.meaning.specs.Step.{unit-after, body-goals, goals-after, pairs-charged, compounds-charged, without-front, step}
 use Rattle.meaning.specs.Run.{choice-for, run}
-use Rattle.laws.proofs.Lists.{Each, each-all, each-append, sum, sum-set}
+use Rattle.laws.proofs.Lists.{Each, each-all, each-append, sum, sum-set, TakenOut, taken-front}
 use Rattle.laws.proofs.Trial.{length-values-after}
 use Rattle.laws.proofs.Runs.Invariant.{run-keeps}
-use Rattle.laws.proofs.Runs.AllGoals.{EachGoal, each-goal-at, each-goal-front, each-goal-after}
+use Rattle.laws.proofs.Runs.AllGoals.{EachGoal, each-goal-at, each-goal-taken, each-goal-after}
 
 -- What a step adds to the unit of its goal: one try, and what is charged.
 module _ (unit : QueryUnit) where
@@ -69,17 +69,18 @@ pub record Summed (state : State) : Type 0 where
   pub pairs : state .pairs ≡ sum (λ u. length (u .values)) (state .units)
   pub compounds : state .compounds ≡ sum (λ u. u .compounds) (state .units)
 
-after-summed : (choice : Choice) (g : Goal) (others : List Goal) (state : State) → state .goals .queue ≡ g ∷ others → Summed state
+-- A step keeps it, whichever goal of the queue it takes.
+pub step-summed : (choice : Choice) (g : Goal) (others : List Goal) (state : State) → TakenOut g others (state .goals .queue) → Summed state
     → Summed (step choice g others state)
 unfolding step without-front unit-at
-after-summed choice g others state e c =
+step-summed choice g others state t c =
     let unit = unit-at (g .query) (state .units) in
-    let (front, behind) = each-goal-front (λ g. g .query < length (state .units)) (state .goals) g others e (c .placed) in
-    let tries = sum-set (λ u. u .tries) (state .units) (g .query) (unit-after choice unit) no-unit front in
-    let pairs = sum-set (λ u. length (u .values)) (state .units) (g .query) (unit-after choice unit) no-unit front in
-    let compounds = sum-set (λ u. u .compounds) (state .units) (g .query) (unit-after choice unit) no-unit front in
+    let (its, behind) = each-goal-taken (λ g. g .query < length (state .units)) (state .goals) g others t (c .placed) in
+    let tries = sum-set (λ u. u .tries) (state .units) (g .query) (unit-after choice unit) no-unit its in
+    let pairs = sum-set (λ u. length (u .values)) (state .units) (g .query) (unit-after choice unit) no-unit its in
+    let compounds = sum-set (λ u. u .compounds) (state .units) (g .query) (unit-after choice unit) no-unit its in
     record {
-      placed = rw length-set (after-placed _ choice unit g (without-front others (state .goals)) front behind);
+      placed = rw length-set (after-placed _ choice unit g (without-front others (state .goals)) its behind);
       steps = omega (arith, tries, tries-after unit choice, c .steps);
       pairs = omega (arith, pairs, pairs-after unit choice, c .pairs);
       compounds = omega (arith, compounds, compounds-after unit choice, c .compounds);
@@ -125,7 +126,7 @@ start-summed qs =
 pub run-summed : (job : Job) (limit : ℕ) (figures : Room) → Summed (run job limit figures .state)
 run-summed job limit figures =
     run-keeps job figures Summed
-    (λ state g others e fit c. after-summed (choice-for (job .clauses) state g) g others state e c)
+    (λ state g others e fit c. step-summed (choice-for (job .clauses) state g) g others state (taken-front e) c)
     (start-summed (job .queries)) limit
 
 -- A step takes no unit away and adds none.

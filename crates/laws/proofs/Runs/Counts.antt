@@ -14,7 +14,7 @@ use Rattle.meaning.specs.State.{Room, Goal, Goals, QueryUnit, State, number-of,
 use Rattle.meaning.specs.Trial.{Choice, reduces, joins-waiting, joins-failed}
 use Rattle.meaning.specs.Step.{step, without-front, goals-after, body-goals, wakes, pairs-charged, compounds-charged}
 use Rattle.meaning.specs.Run.{within, fits, choice-for, Verdict, rest, budget, room, Ended, ended}
-use Rattle.laws.proofs.Lists.{and-left, and-right, differ, length-those}
+use Rattle.laws.proofs.Lists.{and-left, and-right, differ, length-those, TakenOut, taken-front, taken-length}
 use Rattle.laws.proofs.Runs.Onward.{Cases}
 
 -- Why a run ended: "queue empty, the run ends `rest`; steps equal the budget, `budget`; the step would be a reduction that doesn't fit,
@@ -79,7 +79,7 @@ module _ (clauses : List Clause) (figures : Room) (limit : ℕ) where
       let behind : w .1 ≡ others = cc in
       rw (← front, ← behind) (w .4)
 
--- Of the goals behind the one in front, a step drops none: it adds the body's, or puts the one in front aside.
+-- Of the goals that are not taken, a step drops none: it adds the body's, or puts the one that is taken aside.
 unfoldable pub goals-added : Choice → ℕ
 goals-added (reduces clause given) = length (clause .body)
 goals-added (joins-waiting readers) = 1
@@ -94,11 +94,11 @@ number-after (reduces clause given) unit g others =
 number-after (joins-waiting readers) unit g others = simp length-append (omega arith)
 number-after joins-failed unit g others = simp length-append (omega arith)
 
--- The number of goals before a step, with the one in front.
-pub number-before : (goals : Goals) (g : Goal) (others : List Goal) → goals .queue ≡ g ∷ others
+-- The number of goals before a step, with the one that is taken.
+pub number-before : (goals : Goals) (g : Goal) (others : List Goal) → TakenOut g others (goals .queue)
     → number-of goals ≡ number-of (without-front others goals) + 1
 unfolding number-of without-front
-number-before goals g others e = rw e (omega arith)
+number-before goals g others t = omega (arith, taken-length t)
 
 -- What was charged is within the room.
 pub record Within (figures : Room) (state : State) : Type 0 where
@@ -116,18 +116,23 @@ within-says figures pairs compounds goals e =
       leb-true goals (figures .goals) (and-right (leb pairs (figures .pairs) && leb compounds (figures .compounds)) (leb goals (figures .goals)) e),
     )
 
-pub after-within : (figures : Room) (choice : Choice) (g : Goal) (others : List Goal) (state : State) → state .goals .queue ≡ g ∷ others
+-- What fits stays within it, whichever goal is taken; the one in front, for one.
+pub taken-within : (figures : Room) (choice : Choice) (g : Goal) (others : List Goal) (state : State) → TakenOut g others (state .goals .queue)
     → fits figures choice state (without-front others (state .goals)) ≡ true → Within figures state → Within figures (step choice g others state)
 unfolding fits step pairs-charged compounds-charged goals-added
-after-within figures (reduces clause given) g others state e f w =
+taken-within figures (reduces clause given) g others state t f w =
     let charged = within-says figures _ _ _ f in
     let number = number-after (reduces clause given) (unit-at (g .query) (state .units)) g (without-front others (state .goals)) in
     record { pairs = charged .0; compounds = charged .1; goals = rw number (charged .2) }
-after-within figures (joins-waiting readers) g others state e f w =
+taken-within figures (joins-waiting readers) g others state t f w =
     let number = number-after (joins-waiting readers) (unit-at (g .query) (state .units)) g (without-front others (state .goals)) in
-    let before = number-before (state .goals) g others e in
+    let before = number-before (state .goals) g others t in
     record { pairs = omega (arith, w .pairs); compounds = omega (arith, w .compounds); goals = omega (arith, w .goals) }
-after-within figures joins-failed g others state e f w =
+taken-within figures joins-failed g others state t f w =
     let number = number-after joins-failed (unit-at (g .query) (state .units)) g (without-front others (state .goals)) in
-    let before = number-before (state .goals) g others e in
+    let before = number-before (state .goals) g others t in
     record { pairs = omega (arith, w .pairs); compounds = omega (arith, w .compounds); goals = omega (arith, w .goals) }
+
+pub after-within : (figures : Room) (choice : Choice) (g : Goal) (others : List Goal) (state : State) → state .goals .queue ≡ g ∷ others
+    → fits figures choice state (without-front others (state .goals)) ≡ true → Within figures state → Within figures (step choice g others state)
+after-within figures choice g others state e f w = taken-within figures choice g others state (taken-front e) f w

@@ -11,7 +11,7 @@ use Rattle.meaning.specs.State.{Room, Goal, State, number-of, unit-at}
 use Rattle.meaning.specs.Trial.{Choice, reduces, joins-waiting, joins-failed}
 use Rattle.meaning.specs.Step.{step, without-front}
 use Rattle.meaning.specs.Run.{fits, choice-for, ended, onward}
-use Rattle.laws.proofs.Lists.{sum, sum-append}
+use Rattle.laws.proofs.Lists.{sum, sum-append, TakenOut, taken-front}
 use Rattle.laws.proofs.Runs.Counts.{goals-added, number-after, number-before}
 
 unfoldable pub clause-taken : Choice → List Clause
@@ -34,22 +34,22 @@ reductions (suc left) clauses figures state (g ∷ others) =
 unfoldable pub body-goals-of : List Clause → ℕ
 body-goals-of taken = sum (λ c. length (c .body)) taken
 
--- One step: the goal in front is reduced and its body comes in, or it is put aside.
-step-drops-none : (choice : Choice) (g : Goal) (others : List Goal) (state : State) → state .goals .queue ≡ g ∷ others
+-- One step: the goal that is taken, at any place, is reduced and its body comes in, or it is put aside.
+pub step-drops-none : (choice : Choice) (g : Goal) (others : List Goal) (state : State) → TakenOut g others (state .goals .queue)
     → number-of (step choice g others state .goals) + length (clause-taken choice)
     ≡ number-of (state .goals) + body-goals-of (clause-taken choice)
 unfolding clause-taken step goals-added body-goals-of
-step-drops-none (reduces clause given) g others state e =
+step-drops-none (reduces clause given) g others state t =
     let after = number-after (reduces clause given) (unit-at (g .query) (state .units)) g (without-front others (state .goals)) in
-    let before = number-before (state .goals) g others e in
+    let before = number-before (state .goals) g others t in
     omega arith
-step-drops-none (joins-waiting readers) g others state e =
+step-drops-none (joins-waiting readers) g others state t =
     let after = number-after (joins-waiting readers) (unit-at (g .query) (state .units)) g (without-front others (state .goals)) in
-    let before = number-before (state .goals) g others e in
+    let before = number-before (state .goals) g others t in
     omega arith
-step-drops-none joins-failed g others state e =
+step-drops-none joins-failed g others state t =
     let after = number-after joins-failed (unit-at (g .query) (state .units)) g (without-front others (state .goals)) in
-    let before = number-before (state .goals) g others e in
+    let before = number-before (state .goals) g others t in
     omega arith
 
 module _ (clauses : List Clause) (figures : Room) where
@@ -77,6 +77,6 @@ module _ (clauses : List Clause) (figures : Room) where
       go : (b : Bool) → fits figures taken state (without-front others (state .goals)) ≡ b → None-dropped left after (after .goals .queue)
           → None-dropped (suc left) state (g ∷ others)
       go true f further =
-          let here = step-drops-none taken g others state e in
+          let here = step-drops-none taken g others state (taken-front e) in
           rw (f, onward, reductions) (simp (length-append, sum-append) (omega arith))
       go false f further = rw (f, onward, reductions)

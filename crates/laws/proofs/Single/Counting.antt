@@ -1,7 +1,7 @@
 -- How often a half occurs in the goals of one query, and how a step changes that, by arithmetic over sums:
 -- a reduction brings the body's goals, and whatever else moves from list to list is counted as before.
 use Prim.Native.Nat.{ℕ, suc, _+_, _<_}
-use mathlib.Core.Path.{_≡_, refl, ap}
+use mathlib.Core.Path.{_≡_, refl}
 use mathlib.Core.Bool.{true, false}
 use mathlib.Core.List.{List, [], _∷_, _++_, map}
 use native.Mathlib.Omega.{arith}
@@ -12,7 +12,7 @@ use Rattle.meaning.specs.State.{QueryUnit, Goal, Goals, goals-at, all-goals, of
 use Rattle.meaning.specs.Compare.{Assignment}
 use Rattle.meaning.specs.Trial.{reduces, joins-waiting, joins-failed}
 use Rattle.meaning.specs.Step.{body-goals, wakes, goals-after, without-front}
-use Rattle.laws.proofs.Lists.{sum, sum-append, sum-map, sum-parted, sum-those}
+use Rattle.laws.proofs.Lists.{sum, sum-append, sum-map, sum-parted, sum-those, TakenOut, taken-sum}
 use Rattle.laws.proofs.Single.LiveValues.{Count}
 
 -- Active, waiting and failed goals together.
@@ -84,11 +84,11 @@ module _ (k : ℕ) (h : Half) (n : ℕ) where
         entered-later (suc place) qs (omega arith),
       )
 
-  -- The goal in front, and the others.
-  pub count-front : (goals : Goals) (g : Goal) (others : List Goal) → goals .queue ≡ g ∷ others
+  -- The goal that is taken, and the others.
+  pub count-taken : (goals : Goals) (g : Goal) (others : List Goal) → TakenOut g others (goals .queue)
       → count-of k goals h n ≡ own k h n g + count-of k (without-front others goals) h n
   unfolding without-front
-  count-front goals g others e = omega (arith, ap (sum (own k h n)) e)
+  count-taken goals g others t = omega (arith, taken-sum (own k h n) t)
 
   -- A reduction brings the body's goals; waking moves goals from list to list.
   pub count-reduced : (clause : Clause) (given : List Assignment) (unit : QueryUnit) (g : Goal) (others : Goals)

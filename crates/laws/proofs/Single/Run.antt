@@ -7,11 +7,12 @@ use mathlib.Core.Option.{none, some}
 use native.Mathlib.Omega.{arith}
 use lib.ListN.{length, replicate, length-map, length-replicate}
 use Rattle.meaning.specs.Terms.{Term, Query, Job, goals-occurrences}
-use Rattle.meaning.specs.State.{Room, value, State, unit-at, first-unit, goals-at, all-goals, start}
+use Rattle.meaning.specs.State.{Room, value, Goal, State, unit-at, first-unit, goals-at, all-goals, start}
+use Rattle.meaning.specs.Step.{step}
 use Rattle.meaning.specs.Run.{choice-for, run}
-use Rattle.laws.proofs.Lists.{Each, sum, sum-append, differ}
+use Rattle.laws.proofs.Lists.{Each, sum, sum-append, differ, TakenOut, taken-front}
 use Rattle.laws.proofs.Trial.{value-replicate}
-use Rattle.laws.proofs.Runs.{KeptByStep, run-keeps}
+use Rattle.laws.proofs.Runs.{run-keeps}
 use Rattle.laws.proofs.Runs.Charges.{step-units}
 use Rattle.laws.proofs.Reading.{QueryOk, JobOk}
 use Rattle.laws.proofs.Single.Balance.{Balanced, balanced-less}
@@ -74,18 +75,23 @@ pub record SoundAll (number : ℕ) (state : State) : Type 0 where
   pub units : length (state .units) ≡ number
   pub sound : (k : ℕ) → k < number → SoundAt k state
 
+-- A step keeps that, whichever goal of the queue it takes.
+pub step-sound-all : (job : Job) → JobOk job → (state : State) (g : Goal) (others : List Goal) → TakenOut g others (state .goals .queue)
+    → SoundAll (length (job .queries)) state
+    → SoundAll (length (job .queries)) (step (choice-for (job .clauses) state g) g others state)
+step-sound-all job ok state g others t s =
+    record {
+      units = step-units (choice-for (job .clauses) state g) g others state ∙ s .units;
+      sound = λ k inside. step-sound (job .clauses) (ok .clauses-ok) state g others t k (rw (s .units) inside) (s .sound k inside);
+    }
+
 -- Every state of every run of a job that was read is sound at the place of each query.
 pub run-sound : (job : Job) → JobOk job → (limit : ℕ) (figures : Room) → SoundAll (length (job .queries)) (run job limit figures .state)
 unfolding start
-run-sound job ok limit figures = run-keeps job figures (SoundAll (length (job .queries))) kept first limit
+run-sound job ok limit figures =
+    run-keeps job figures (SoundAll (length (job .queries)))
+    (λ state g others front fit s. step-sound-all job ok state g others (taken-front front) s) first limit
   where
-    kept : KeptByStep (job .clauses) figures (SoundAll (length (job .queries)))
-    kept state g others front fit s =
-        record {
-          units = step-units (choice-for (job .clauses) state g) g others state ∙ s .units;
-          sound = λ k inside. step-sound (job .clauses) (ok .clauses-ok) state g others front k (rw (s .units) inside) (s .sound k inside);
-        }
-
     first : SoundAll (length (job .queries)) (start (job .queries))
     first =
         record {

@@ -1,9 +1,9 @@
 -- What every state of a run keeps of each query: the balance of its goals, and a chain from each waiting goal to each pair that it waits on.
--- A step on a goal of the query is a reduction or moves the goal; a step on another's goal leaves unit and counts as they are.
+-- A step on a goal of the query, wherever it stands in the queue, is a reduction or moves the goal; a step on another's goal leaves unit and counts as they are.
 use Prim.Native.Nat.{ℕ, _+_, _<_}
 use mathlib.Core.Path.{_≡_, refl, sym}
 use mathlib.Core.Bool.{Bool, true, false}
-use mathlib.Core.List.{List, _∷_, map}
+use mathlib.Core.List.{List, map}
 use native.Mathlib.Omega.{arith}
 use lib.Dec.{eqb}
 use lib.ListN.{length}
@@ -13,7 +13,7 @@ use Rattle.meaning.specs.State.{Values, QueryUnit, Goal, Waiting, Goals, State,
 use Rattle.meaning.specs.Trial.{next-pair, Choice, reduces, joins-waiting, joins-failed, choice}
 use Rattle.meaning.specs.Step.{unit-after, body-goals, goals-after, without-front, step}
 use Rattle.meaning.specs.Run.{choice-for}
-use Rattle.laws.proofs.Lists.{Each, each-in, each-append, each-implies, each-of-those}
+use Rattle.laws.proofs.Lists.{Each, each-in, each-append, each-implies, each-of-those, TakenOut}
 use Rattle.laws.proofs.Trial.{reduces-agrees, unit-at-set-same, unit-at-set-other}
 use Rattle.laws.proofs.Reading.{ClauseOk}
 use Rattle.laws.proofs.Single.Chains.{Reaches, reaches-kept, waits-reach}
@@ -23,7 +23,7 @@ use Rattle.laws.proofs.Single.Counting.{
   count-of,
   entered,
   entered-at-other,
-  count-front,
+  count-taken,
   count-reduced,
   count-waiting,
   count-failed,
@@ -42,18 +42,18 @@ pub record Sound (k : ℕ) (values : Values) (goals : Goals) : Type 0 where
   pub balanced : Balanced values (count-of k goals)
   pub chained : Each (λ w. of k (w .goal) ≡ true → Chained values w) (goals .waiting)
 
--- The goal in front, counted apart from the others.
-pub balanced-front : (values : Values) (g : Goal) (goals : Goals) (others : List Goal) → goals .queue ≡ g ∷ others → Sound (g .query) values goals
+-- The goal that is taken, counted apart from the others.
+pub balanced-taken : (values : Values) (g : Goal) (goals : Goals) (others : List Goal) → TakenOut g others (goals .queue) → Sound (g .query) values goals
     → Balanced values (λ h n. all-occurrences h n (g .goal .arguments) + count-of (g .query) (without-front others goals) h n)
 unfolding of
-balanced-front values g goals others front s =
+balanced-taken values g goals others taken s =
     let k = g .query in
     balanced-less values (count-of k goals) _
-    (λ h n. omega (arith, count-front k h n goals g others front, own-of k h n g (eq-eqb k k refl)))
+    (λ h n. omega (arith, count-taken k h n goals g others taken, own-of k h n g (eq-eqb k k refl)))
     (s .balanced)
 
 module _ (clauses : List Clause) (ok : Each ClauseOk clauses) (unit : QueryUnit) (g : Goal) (goals : Goals) (others : List Goal)
-    (front : goals .queue ≡ g ∷ others) where
+    (taken : TakenOut g others (goals .queue)) where
   abbrev rest : Goals
   rest = without-front others goals
 
@@ -65,7 +65,7 @@ module _ (clauses : List Clause) (ok : Each ClauseOk clauses) (unit : QueryUnit)
       let k = g .query in
       let (member, agrees) = reduces-agrees unit (g .goal) clause given clauses e in
       let clause-ok = each-in ClauseOk ok member in
-      let b = balanced-front (unit .values) g goals others front s in
+      let b = balanced-taken (unit .values) g goals others taken s in
       record {
         balanced =
             balanced-less _ _ _
@@ -89,7 +89,7 @@ module _ (clauses : List Clause) (ok : Each ClauseOk clauses) (unit : QueryUnit)
       record {
         balanced =
             balanced-less _ _ _
-            (λ h n. omega (arith, count-front (g .query) h n goals g others front, count-waiting (g .query) h n readers unit g rest))
+            (λ h n. omega (arith, count-taken (g .query) h n goals g others taken, count-waiting (g .query) h n readers unit g rest))
             (s .balanced);
         chained = each-append _ (goals .waiting) _ (s .chained) ((λ its-own. waits-reach unit (g .goal) clauses readers e), tt);
       }
@@ -97,7 +97,7 @@ module _ (clauses : List Clause) (ok : Each ClauseOk clauses) (unit : QueryUnit)
       record {
         balanced =
             balanced-less _ _ _
-            (λ h n. omega (arith, count-front (g .query) h n goals g others front, count-failed (g .query) h n unit g rest))
+            (λ h n. omega (arith, count-taken (g .query) h n goals g others taken, count-failed (g .query) h n unit g rest))
             (s .balanced);
         chained = s .chained;
       }
@@ -113,7 +113,7 @@ module _ (clauses : List Clause) (ok : Each ClauseOk clauses) (unit : QueryUnit)
             (λ h n.
             omega (
               arith,
-              count-front k h n goals g others front,
+              count-taken k h n goals g others taken,
               count-reduced k h n clause given unit g rest,
               entered-at-other k h n (g .query) (map (renamed-goal (next-pair unit) (unit .compounds)) (clause .body)) d,
             ))
@@ -124,7 +124,7 @@ module _ (clauses : List Clause) (ok : Each ClauseOk clauses) (unit : QueryUnit)
       record {
         balanced =
             balanced-less _ _ _
-            (λ h n. omega (arith, count-front k h n goals g others front, count-waiting k h n readers unit g rest))
+            (λ h n. omega (arith, count-taken k h n goals g others taken, count-waiting k h n readers unit g rest))
             (s .balanced);
         chained =
             each-append _ (goals .waiting) _ (s .chained) ((λ its-own. absurd (d (eqb-true (g .query) k its-own))), tt);
@@ -133,7 +133,7 @@ module _ (clauses : List Clause) (ok : Each ClauseOk clauses) (unit : QueryUnit)
       record {
         balanced =
             balanced-less _ _ _
-            (λ h n. omega (arith, count-front k h n goals g others front, count-failed k h n unit g rest))
+            (λ h n. omega (arith, count-taken k h n goals g others taken, count-failed k h n unit g rest))
             (s .balanced);
         chained = s .chained;
       }
@@ -142,12 +142,12 @@ module _ (clauses : List Clause) (ok : Each ClauseOk clauses) (unit : QueryUnit)
 abbrev pub SoundAt : ℕ → State → Type 0
 SoundAt k state = Sound k (unit-at k (state .units) .values) (state .goals)
 
--- Each step keeps it.
+-- Each step keeps it, whichever goal of the queue it takes.
 pub step-sound : (clauses : List Clause) → Each ClauseOk clauses → (state : State) (g : Goal) (others : List Goal)
-    → state .goals .queue ≡ g ∷ others → (k : ℕ) → k < length (state .units) → SoundAt k state
+    → TakenOut g others (state .goals .queue) → (k : ℕ) → k < length (state .units) → SoundAt k state
     → SoundAt k (step (choice-for clauses state g) g others state)
 unfolding step choice-for
-step-sound clauses ok state g others front k inside s = go (eqb (g .query) k) refl
+step-sound clauses ok state g others taken k inside s = go (eqb (g .query) k) refl
   where
     unit : QueryUnit
     unit = unit-at (g .query) (state .units)
@@ -156,8 +156,8 @@ step-sound clauses ok state g others front k inside s = go (eqb (g .query) k) re
     go true e =
         let same : g .query ≡ k = eqb-true (g .query) k e in
         rw (← same, unit-at-set-same (state .units) (g .query) (unit-after (choice clauses unit (g .goal)) unit) (rw same inside))
-        (own-step clauses ok unit g (state .goals) others front (rw same s) (choice clauses unit (g .goal)) refl)
+        (own-step clauses ok unit g (state .goals) others taken (rw same s) (choice clauses unit (g .goal)) refl)
     go false e =
         let d : g .query ≡ k → ⊥ = eqb-false (g .query) k e in
         rw (unit-at-set-other (state .units) (g .query) k (unit-after (choice clauses unit (g .goal)) unit) (λ i. d (sym i)))
-        (other-step clauses ok unit g (state .goals) others front k _ d s (choice clauses unit (g .goal)))
+        (other-step clauses ok unit g (state .goals) others taken k _ d s (choice clauses unit (g .goal)))
