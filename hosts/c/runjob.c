@@ -1,25 +1,18 @@
-/* Runs one job and prints its report:
-
-       runjob [--budget N] [--pairs N] [--compounds N] [--goals N] [--buffer N] [--scratch N] [FILE]
-       runjob --check [FILE]
-
-   FILE is a job text; `-` or none is standard input. Without options the figures are those of the program glp: budget 10,000, room 1,024 pairs,
-   1,024 compounds, 128 goals. --buffer is the longest report that is wanted, in bytes, and 16,777,216 if it is not given; --scratch is how many
-   64-bit words are lent, and as many as the room needs if it is not given. No figure is tested here: the call answers any.
-
-   The report goes to standard output, with exit status 0. A refusal goes to standard error with exit status N, its number: what is wrong, and for 4, 5, 9
-   and 10 row and column, the line and a caret, as hosts/refusals/README.md has it. With --check the text is read and judged and not run: one without a
-   fault gets exit status 0 and no word. Other statuses: 64 bad usage, 66 no such file, 71 no memory or thread, 74 reading or writing failed. */
+/* Runs one job and prints its report, or the sections of it that are asked for: help.h has the options and exit statuses, runjob.1 more on them. No figure
+   is tested here: the call answers any. A refusal is shown as hosts/refusals/README.md has it. */
 #include <errno.h>
 #include <pthread.h>
 #include <stdio.h>
 #include <stdlib.h>
 #include <string.h>
 
+#include "folder.h"
+#include "help.h"
 #include "need.h"
+#include "sections.h"
 #include "shown.h"
 
-enum { USAGE = 64, NO_FILE = 66, NO_SYSTEM = 71, NO_IO = 74 };
+enum { USAGE = 64, NO_SECTION = 65, NO_FILE = 66, NO_SYSTEM = 71, NO_FOLDER = 73, NO_IO = 74 };
 
 enum { FIRST_BUFFER = 65536 };
 
@@ -35,11 +28,12 @@ static const size_t usual[FIGURES] = {[BUDGET] = 10000, [PAIRS] = 1024, [COMPOUN
    have, so 7 cannot come. And no report fits into a buffer of no bytes: a text without a fault is answered by 8, and by 8 alone. */
 static const size_t checking[FIGURES] = {[BUDGET] = 0, [PAIRS] = 8 * 16, [COMPOUNDS] = 8 * 32, [GOALS] = 8 * 8, [BUFFER] = 0};
 
-/* What the command line asks for. */
+/* What the command line asks for: the section, if one is, and the folder for all of them, or NULL. */
 struct options {
     size_t figures[FIGURES];
-    const char *file;
-    int check;
+    const char *file, *folder;
+    size_t section;
+    int one_section, check;
 };
 
 /* The arguments of a call and its answer. */
@@ -54,14 +48,16 @@ struct call {
     size_t line, length, offset;
 };
 
-static const char usage[] = "usage: runjob [--budget N] [--pairs N] [--compounds N] [--goals N] [--buffer N] [--scratch N] [FILE]\n"
-                            "       runjob --check [FILE]\n";
-
 static _Noreturn void end(int status, const char *what, const char *why) {
     fprintf(stderr, "runjob: %s: %s\n", what, why);
     if (status == USAGE)
         fputs(usage, stderr);
     exit(status);
+}
+
+static void flush(void) {
+    if (fflush(stdout) != 0 || ferror(stdout))
+        end(NO_IO, "standard output", strerror(errno));
 }
 
 /* Decimal digits alone, as a size. */
@@ -90,6 +86,23 @@ static int figure_named(const char *word) {
     return f;
 }
 
+/* Options that do not go together. */
+static void judge(const struct options *o, int figures_given) {
+    if (o->one_section && o->folder != NULL)
+        end(USAGE, "--section and --sections", "one of them at a time");
+    if (o->check && (o->one_section || o->folder != NULL))
+        end(USAGE, "--check", "the text is not run, so there is no section");
+    if (o->check && figures_given)
+        end(USAGE, "--check", "the text alone is judged, no figure");
+}
+
+static _Noreturn void print_help(void) {
+    fputs(usage, stdout);
+    fputs(help, stdout);
+    flush();
+    exit(0);
+}
+
 static struct options options(int count, char **words) {
     struct options o = {.file = NULL};
     int given[FIGURES] = {0}, any = 0;
@@ -100,8 +113,17 @@ static struct options options(int count, char **words) {
             given[f] = any = 1;
             o.figures[f] = decimal(names[f], words[i + 1]);
             i++;
+        } else if (strcmp(words[i], "--section") == 0) {
+            o.one_section = 1;
+            o.section = decimal("--section", words[++i]);
+        } else if (strcmp(words[i], "--sections") == 0) {
+            o.folder = words[++i];
+            if (o.folder == NULL)
+                end(USAGE, "--sections", "a folder is needed");
         } else if (strcmp(words[i], "--check") == 0)
             o.check = 1;
+        else if (strcmp(words[i], "--help") == 0)
+            print_help();
         else if (words[i][0] == '-' && words[i][1] != '\0')
             end(USAGE, words[i], "no such option");
         else if (o.file != NULL)
@@ -109,8 +131,7 @@ static struct options options(int count, char **words) {
         else
             o.file = words[i];
     }
-    if (o.check && any)
-        end(USAGE, "--check", "the text alone is judged, no figure");
+    judge(&o, any);
     if (o.check)
         memcpy(o.figures, checking, sizeof checking);
     if (!given[SCRATCH])
@@ -227,10 +248,48 @@ static void refuse(const struct call *c, const char *name) {
     }
 }
 
-static void print_report(const struct call *c) {
-    fwrite(c->buffer, 1, c->length, stdout);
-    if (fflush(stdout) != 0 || ferror(stdout))
-        end(NO_IO, "standard output", strerror(errno));
+static void print(struct stretch bytes) {
+    fwrite(bytes.text + bytes.from, 1, bytes.to - bytes.from, stdout);
+    flush();
+}
+
+static void print_section(struct stretch report, size_t wanted) {
+    size_t last = 0;
+    struct stretch section = run_line(report);
+    do
+        section = section_behind(report, section);
+    while (!is_empty(section) && ++last != wanted);
+    if (is_empty(section)) {
+        fprintf(stderr, "runjob: --section %zu: no such section; the last one is %zu\n", wanted, last);
+        exit(NO_SECTION);
+    }
+    print(section);
+}
+
+static void put_sections(struct stretch report, const char *folder) {
+    static const char work[] = "/.sections-XXXXXX";
+    size_t size = strlen(folder) + sizeof work;
+    char *work_path = lent(size);
+    snprintf(work_path, size, "%s%s", folder, work);
+    struct failure failure = write_sections(folder, work_path, report);
+    free(work_path);
+    if (failure.error != 0) {
+        fprintf(stderr, "runjob: %s", folder);
+        if (failure.section != 0)
+            fprintf(stderr, "/%zu", failure.section);
+        fprintf(stderr, ": %s; no section is written\n", strerror(failure.error));
+        exit(NO_FOLDER);
+    }
+    print(run_line(report));
+}
+
+static void put_report(struct stretch report, const struct options *o) {
+    if (o->one_section)
+        print_section(report, o->section);
+    else if (o->folder != NULL)
+        put_sections(report, o->folder);
+    else
+        print(report);
 }
 
 int main(int count, char **words) {
@@ -245,7 +304,7 @@ int main(int count, char **words) {
         call_with_buffer(&c, c.length);
     int good = o.check && c.number == TROSCUNEL_REPORT_LONG;
     if (c.number == TROSCUNEL_RAN)
-        print_report(&c);
+        put_report((struct stretch){c.buffer, 0, c.length}, &o);
     else if (!good)
         refuse(&c, from_standard_input(&o) ? "<stdin>" : o.file);
     free(c.buffer);

@@ -1,15 +1,7 @@
 /* The part of a text that a refusal points at, as hosts/refusals/README.md has it: row, column, the line and a caret. */
-#include <stddef.h>
-#include <stdint.h>
 #include <stdio.h>
 
-/* The bytes of a text from one offset up to another. */
-struct stretch {
-    const uint8_t *text;
-    size_t from, to;
-};
-
-static struct stretch part(struct stretch whole, size_t from, size_t to) { return (struct stretch){whole.text, from, to}; }
+#include "stretch.h"
 
 /* The line that holds an offset, without its end. The text's end belongs to the line of the last byte. */
 static struct stretch line_at(struct stretch text, size_t offset) {

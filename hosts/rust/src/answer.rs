@@ -8,7 +8,8 @@ use crate::shown::Place;
 /// The answer to a job: every job has one.
 #[derive(Clone, Debug, PartialEq, Eq)]
 pub enum Answer {
-    /// The job ran, and this is its report. Its first line says why the run ended and after how many steps.
+    /// The job ran, and this is its report. Its first line says why the run ended and after how many steps;
+    /// [`Report::of`](crate::Report::of) reads it and its sections.
     Ran(Vec<u8>),
     /// The job was refused; nothing of a report was written.
     Refused(Refusal),

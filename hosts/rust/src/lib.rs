@@ -2,7 +2,8 @@
 //!
 //! A [`Job`] is a text with its figures: a budget of steps, a [`Room`] and the longest report that is wanted. A
 //! [`Machine`] keeps what a call is lent and runs jobs one after the other. Every job gets an [`Answer`]: a report, or
-//! a [`Refusal`] that says what is wrong and shows where. Nothing has to be tested first.
+//! a [`Refusal`] that says what is wrong and shows where. Nothing has to be tested first. [`Report`] reads a report:
+//! the verdict, and for each query a [`Section`] with its values and goals.
 //!
 //! ```
 //! use troscunel::{Answer, Job, Machine, Refusal};
@@ -50,12 +51,14 @@
 mod answer;
 mod call;
 mod machine;
+mod report;
 mod room;
 mod shown;
 
 pub use answer::{Answer, Refusal};
 pub use call::{call, Given};
 pub use machine::{Job, Machine};
+pub use report::{Kind, Report, Section, Sections};
 pub use room::Room;
 pub use shown::Place;
 
