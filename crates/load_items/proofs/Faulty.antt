@@ -9,18 +9,19 @@ use native.Mathlib.Omega.{arith}
 use lib.ListN.{length, getD}
 use Rattle.meaning.specs.Bytes.{Bytes, same, any, if_then_else_}
 use Rattle.meaning.specs.Terms.{Half, Named, goals-occurrences}
-use Rattle.meaning.specs.Tokens.{Token, name, variable, integer, sign, bad, Tokens, ends, token, Front, blank, front, placed, tokens-from}
+use Rattle.meaning.specs.Tokens.{Token, name, variable, integer, sign, bad, Tokens, ends, token}
 use Rattle.meaning.specs.Faults.{Fault, occurs-at, clause-faults, query-faults, least}
 use Rattle.meaning.specs.Items.{is, place-of}
-use Rattle.laws.proofs.Lists.Tests.{differ, false-not-true, same-refl, same-true}
-use Rattle.laws.proofs.Lists.Among.{In, here, there, in-none, in-any}
+use Rattle.laws.proofs.Lists.Tests.{false-not-true, same-refl}
+use Rattle.laws.proofs.Lists.Among.{In, in-any}
 use Rattle.laws.proofs.Lists.Pigeonhole.{Distinct, distinct-last}
 use Rattle.laws.proofs.Reading.Rules.{nothing-twice, both-halves}
 use Rattle.laws.proofs.Reading.Passed.{Cut, by-number}
 use Rattle.laws.proofs.Reading.Faultless.{clause-kept, clause-clear, query-kept, query-clear}
-use Rattle.laws.proofs.Reading.Rising.{Rising, rising-from}
+use Rattle.laws.proofs.Reading.Rising.{Rising, tokens-from-rising}
 use Rattle.laws.proofs.Reading.Broken.{clause-fault-is, fault-in-clause, query-fault-is, fault-in-query}
 use Rattle.laws.proofs.Reading.Walk.{first-fault, first-is-least}
+use Rattle.laws.proofs.Reading.WhichByte.{all-known}
 use Rattle.load_tokens.specs.Fronts.{tokens-in}
 use Rattle.load_names.specs.Places.{Place, Placed, spellings, with-place, with-variable, variables-over}
 use Rattle.load_names.specs.Tables.{VariablesIn}
@@ -72,47 +73,14 @@ piece-rising low (token p t ts) h = (h .0, go (is "." t) (piece-rising (p + 1) t
     go true r = tt
     go false r = r
 
-placed-rising : (low at : ℕ) (f : Front) (behind : ℕ → Tokens) → low ≤ at → ((n : ℕ) → Rising (at + 1) (behind n)) → Rising low (placed at f behind)
-unfolding placed Rising
-placed-rising low at (blank n) behind e h = rising-from (at + 1) low (behind n) (omega arith) (h n)
-placed-rising low at (Front.token n t) behind e h = (e, h n)
-
-tokens-rising : (low at skip : ℕ) (cs : Bytes) → low ≤ at → Rising low (tokens-from at skip cs)
-unfolding tokens-from Rising
-tokens-rising low at skip [] e = tt
-tokens-rising low at zero (c ∷ cs) e = placed-rising low at (front c cs) _ e (λ n. tokens-rising (at + 1) (at + 1) n cs (omega arith))
-tokens-rising low at (suc skip) (c ∷ cs) e = tokens-rising low (at + 1) skip cs (omega arith)
-
 pub item-rising : (from : ℕ) (rest : Bytes) (at : ℕ) → Rising 0 (piece (tokens-in from rest at))
-item-rising from rest at = piece-rising 0 (tokens-in from rest at) (tokens-rising 0 (from + at) 0 _ (omega arith))
+item-rising from rest at = piece-rising 0 (tokens-in from rest at) (tokens-from-rising 0 (from + at) 0 _ (omega arith))
 
 -- What was read, by its tokens: the variables are these, and each half occurs among the tokens as often as in the goals.
 module _ (whole : Tokens) (xs : List Bytes) (gs : List Named) (distinct : Distinct xs) (rising : Rising 0 whole)
     (counts : (h : Half) (x : Bytes) → length (occurs-at h x whole) ≡ by-number (place-of x xs) (λ n. goals-occurrences h n gs)) where
-  no-other : (h : Half) (x : Bytes) → place-of x xs ≡ none → length (occurs-at h x whole) ≡ 0
-  unfolding by-number
-  no-other h x e = rw e at (counts h x)
-
-  place-in : (x : Bytes) (l : List Bytes) (n : ℕ) → place-of x l ≡ some n → In x l
-  unfolding place-of
-  place-in x [] n e = absurd (differ (cc))
-  place-in x (y ∷ l) n e = go (same x y) refl (place-of x l) refl (place-in x l)
-    where
-      go : (b : Bool) → same x y ≡ b → (o : Option ℕ) → place-of x l ≡ o → ((m : ℕ) → place-of x l ≡ some m → In x l) → In x (y ∷ l)
-      go true q o p further = here (same-true x y q)
-      go false q none p further = let e′ : none ≡ some n = rw (q, p, place-of) at e in absurd (differ (cc))
-      go false q (some m) p further = there (further m p)
-
-  in-length : {p : ℕ} (l : List ℕ) → In p l → 1 ≤ length l
-  in-length [] m = absurd (in-none m)
-  in-length (q ∷ l) m = omega arith
-
-  all-known : (h : Half) (x : Bytes) (p : ℕ) → In p (occurs-at h x whole) → In x xs
-  all-known h x p m = go (place-of x xs) refl
-    where
-      go : (o : Option ℕ) → place-of x xs ≡ o → In x xs
-      go none e = absurd (omega (arith, no-other h x e, in-length (occurs-at h x whole) m))
-      go (some n) e = place-in x xs n e
+  known : (h : Half) (x : Bytes) (p : ℕ) → In p (occurs-at h x whole) → In x xs
+  known = all-known whole xs (λ h n. goals-occurrences h n gs) counts
 
   pub clause-clean : nothing-twice (length xs) gs ≡ true → both-halves (length xs) gs ≡ true → least (clause-faults whole xs) ≡ none
   unfolding least
@@ -129,7 +97,7 @@ module _ (whole : Tokens) (xs : List Bytes) (gs : List Named) (distinct : Distin
     where
       first : first-fault true whole ≡ least (clause-faults whole xs)
       first =
-          first-is-least true whole xs all-known 0 rising (clause-faults whole xs)
+          first-is-least true whole xs known 0 rising (clause-faults whole xs)
           (λ f m. clause-fault-is whole f xs m) (λ f o. fault-in-clause whole f xs o)
 
       go : (l : List Fault) → clause-faults whole xs ≡ l → (f : Fault) × (least (clause-faults whole xs) ≡ some f) × (first-fault true whole ≡ some f)
@@ -144,7 +112,7 @@ module _ (whole : Tokens) (xs : List Bytes) (gs : List Named) (distinct : Distin
     where
       first : first-fault false whole ≡ least (query-faults whole xs)
       first =
-          first-is-least false whole xs all-known 0 rising (query-faults whole xs)
+          first-is-least false whole xs known 0 rising (query-faults whole xs)
           (λ f m. query-fault-is whole f xs m) (λ f o. fault-in-query whole f xs o)
 
       go : (l : List Fault) → query-faults whole xs ≡ l → (f : Fault) × (least (query-faults whole xs) ≡ some f) × (first-fault false whole ≡ some f)

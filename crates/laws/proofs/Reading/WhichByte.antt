@@ -40,7 +40,7 @@ in-length (q ∷ l) m = omega arith
 -- Every variable among an item's tokens was counted.
 module _ (piece : Tokens) (xs : List Bytes) (f : Half → ℕ → ℕ)
     (counts : (h : Half) (x : Bytes) → length (occurs-at h x piece) ≡ by-number (place-of x xs) (f h)) where
-  all-known : (h : Half) (x : Bytes) (p : ℕ) → In p (occurs-at h x piece) → In x xs
+  pub all-known : (h : Half) (x : Bytes) (p : ℕ) → In p (occurs-at h x piece) → In x xs
   unfolding by-number
   all-known h x p m = go (place-of x xs) refl
     where
