@@ -10,7 +10,7 @@
 extern "C" {
 #endif
 
-/* What the call answers. On 1 to 10 there is no report. */
+/* What the call answers. On 1 to 11 there is no report. */
 enum troscunel_number {
     TROSCUNEL_RAN = 0,               /* the job ran, and its report stands in the buffer */
     TROSCUNEL_OUT_OF_RANGE = 1,      /* the budget is over 1,000,000, or a room figure is not 1 to 65,535 */
@@ -22,7 +22,8 @@ enum troscunel_number {
     TROSCUNEL_QUERIES_PASS_ROOM = 7, /* the queries alone pass a room figure */
     TROSCUNEL_REPORT_LONG = 8,       /* the report is longer than the buffer or than 16,777,216 bytes */
     TROSCUNEL_WRITER_ALONE = 9,      /* in the clause that begins at this line the writer at this offset has no reader */
-    TROSCUNEL_READER_ALONE = 10      /* in the clause that begins at this line the reader at this offset has no writer */
+    TROSCUNEL_READER_ALONE = 10,     /* in the clause that begins at this line the reader at this offset has no writer */
+    TROSCUNEL_GUARD_REFUSED = 11     /* in the clause that begins at this line a guard is not in the table, or has a variable that is no reader of a writer in the head */
 };
 
 /* The largest figures that are not refused. */
@@ -32,10 +33,10 @@ enum troscunel_number {
 #define TROSCUNEL_LONGEST_REPORT 16777216 /* bytes; one more is 8 */
 
 /* How many 64-bit words of scratch a call needs for its room figures, each 1 to 65,535. */
-#define TROSCUNEL_NEED(pairs, compounds, goals) (40576 + 7 * (size_t)(pairs) + 8 * (size_t)(compounds) + 6 * (size_t)(goals))
+#define TROSCUNEL_NEED(pairs, compounds, goals) (42624 + 7 * (size_t)(pairs) + 8 * (size_t)(compounds) + 6 * (size_t)(goals))
 
 /* Bytes of stack that are enough for a call at any room (docs/LIMITS.md). It is measured, not proved, and scratch and buffer are not in it. */
-#define TROSCUNEL_STACK 8388608
+#define TROSCUNEL_STACK 9437184
 
 /* Runs the job text under a budget of steps and a room. Nothing has to be tested first: any text, figures and lengths get an answer.
 
@@ -45,16 +46,16 @@ enum troscunel_number {
                             active, waiting and failed together
    scratch, scratch_length  memory for the call, its length in 64-bit words; any content
    buffer, buffer_length    where the report goes; any content
-   line                     receives the line of 4, 5, 6, 9 and 10, counted from 1, and 0 otherwise
+   line                     receives the line of 4, 5, 6, 9, 10 and 11, counted from 1, and 0 otherwise
    length                   receives the report's length on 0; on 8 the length that it would have, at most 16,777,217; and 0 otherwise
    offset                   receives the byte of 4, 5, 9 and 10, counted from 0 over the whole text, and 0 otherwise: for 4 where the token begins, or
                             text_length where the text ends; for 5 where the second occurrence begins; for 9 and 10 the first one. It may lie on another
                             line than that of 5, 9 and 10, which is where the item begins
 
-   The result is one of enum troscunel_number. They are tried in the order 1, 2, 3, the text item by item (4 and 6 at a token, then 5, 9 and 10 at the item's
-   full stop, the one with the smallest offset), 7, 8.
+   The result is one of enum troscunel_number. They are tried in the order 1, 2, 3, the text item by item (4 and 6 at a token, then at the item's full stop
+   11, and then of 5, 9 and 10 the one with the smallest offset), 7, 8.
 
-   On 0 the report stands at the front of the buffer, without a zero byte behind it, and the other bytes of the buffer are as they were. On 1 to 10 all are.
+   On 0 the report stands at the front of the buffer, without a zero byte behind it, and the other bytes of the buffer are as they were. On 1 to 11 all are.
    On 1, 2 and 3 the scratch is as it was; otherwise its first TROSCUNEL_NEED words are zero and the others as they were.
 
    No pointer is null, also where its length is 0, and no two of the six overlap. The call keeps nothing: equal arguments get equal answers, and calls with

@@ -24,6 +24,6 @@ static const char help[] = "\n"
                            "  --scratch N        64-bit words that are lent (as many as the room needs)\n"
                            "  --help             print this\n"
                            "\n"
-                           "Exit status: 0; a refusal's number, 1 to 10; 64 bad usage; 65 no such section;\n"
+                           "Exit status: 0; a refusal's number, 1 to 11; 64 bad usage; 65 no such section;\n"
                            "66 no such file; 71 no memory or thread; 73 a folder or a file in it cannot be\n"
                            "written; 74 reading, or writing to standard output, failed.\n";

@@ -204,7 +204,7 @@ static void refuse_at(const struct call *c, const char *name) {
     put_line_and_caret(stderr, line, c->offset);
 }
 
-/* Any other refusal: one sentence, for a figure of the text with the line. */
+/* Any other refusal: one sentence, for a figure of the text or a guard with the line. */
 static void refuse_whole(const struct call *c, const char *name) {
     fputs(name, stderr);
     switch (c->number) {
@@ -222,6 +222,9 @@ static void refuse_whole(const struct call *c, const char *name) {
             fputs(": the text has no query\n", stderr);
         else
             fprintf(stderr, ":%zu: the item that begins here passes a figure (docs/LIMITS.md has them)\n", c->line);
+        break;
+    case TROSCUNEL_GUARD_REFUSED:
+        fprintf(stderr, ":%zu: in the clause that begins here a guard is not in the table, or has a variable that is no reader of a writer in the head\n", c->line);
         break;
     case TROSCUNEL_QUERIES_PASS_ROOM:
         fputs(": the queries alone pass a room figure\n", stderr);

@@ -34,6 +34,7 @@ fn show(answer: Answer, buffer: &[u8])
         Answer::TextLong => refused(3, 0),
         Answer::Refused(why) => match why {
             Refusal::NoItems(line, _) => refused(4, line),
+            Refusal::GuardRefused(line) => refused(11, line),
             Refusal::OccurrenceBroken(rule, line, _) => refused(rule_number(rule) as u64, line),
             Refusal::FigurePassed(line) => refused(6, line),
         },

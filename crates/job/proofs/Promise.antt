@@ -25,6 +25,7 @@ use Rattle.meaning.specs.Call.{
   figure-passed,
   queries-pass-room,
   report-long,
+  guard-refused,
   Outcome,
   in-range,
   untouched,
@@ -43,7 +44,7 @@ use Rattle.laws.proofs.Own.Shown.{section-shown, rest-shown, left-by}
 use Rattle.laws.proofs.Promise.{same-tries-same-section, both-rest-same-section}
 use Rattle.term.specs.Layout.{need-of}
 use Rattle.loader.proofs.OneAnswer.{back-rule, back-rule-of}
-use Rattle.loader.specs.declared.refusal.Refusal.the-variants.{NoItems, OccurrenceBroken, FigurePassed}
+use Rattle.loader.specs.declared.refusal.Refusal.the-variants.{NoItems, GuardRefused, OccurrenceBroken, FigurePassed}
 use Rattle.job.specs.Calling.{answer-of, outcome, Called}
 use Rattle.job.specs.declared.call.Answer.{Answer}
 use Rattle.job.specs.declared.call.Answer.the-variants.{
@@ -67,6 +68,7 @@ back (occurrence-broken rule at offset) = Refused (OccurrenceBroken (back-rule r
 back (figure-passed at) = Refused (FigurePassed at)
 back queries-pass-room = QueriesPassRoom
 back (report-long n) = ReportLong n
+back (guard-refused at) = Refused (GuardRefused at)
 
 back-answer : (r : Answer) → back (answer-of r) ≡ r
 unfolding back
@@ -75,6 +77,7 @@ back-answer OutOfRange = refl
 back-answer ScratchShort = refl
 back-answer TextLong = refl
 back-answer (Refused (NoItems at offset)) = refl
+back-answer (Refused (GuardRefused at)) = refl
 back-answer (Refused (OccurrenceBroken rule at offset)) = ap (λ b. Refused (OccurrenceBroken b at offset)) (back-rule-of rule)
 back-answer (Refused (FigurePassed at)) = refl
 back-answer QueriesPassRoom = refl

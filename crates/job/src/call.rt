@@ -24,7 +24,7 @@ ghost use Rattle.term.specs.Layout.{need-of, figures, InRange};
 ghost use Rattle.term.specs.States.{Ready, Finished};
 ghost use Rattle.job.specs.Calling.{answer-of, room-of, given, outcome, told as told-of};
 
-// The nine answers: with the report's length where it ran or was too long; 4, 5, 9, 10 and 6 as the loader told them.
+// The answers: with the report's length where it ran or was too long; 4, 11, 5, 9, 10 and 6 as the loader told them.
 pub enum Answer {
     Ran(usize),
     OutOfRange,

@@ -13,7 +13,7 @@ use lib.ListN.{length}
 use borrow.Author.Tests.{leb-true}
 use Rattle.meaning.specs.Bytes.{Bytes}
 use Rattle.meaning.specs.Terms.{Job}
-use Rattle.meaning.specs.Items.{Refusal, no-item, occurrence-rule, figure, no-query, Reading, job, refused, reading}
+use Rattle.meaning.specs.Items.{Refusal, no-item, guard-rule, occurrence-rule, figure, no-query, Reading, job, refused, reading}
 use Rattle.meaning.specs.State.{Room}
 use Rattle.meaning.specs.Run.{run, queries-fit}
 use Rattle.meaning.specs.Report.{report}
@@ -25,7 +25,7 @@ pub use Delivered.{Ran, ran-read-a-job, ran-reports, report-is-run-line-and-sect
 pub use Need.{Agree, lending, answer-does-not-hang-on-the-need, answer-with-any-need, case-with-any-need}
 -- The byte offset of 4, 5, 9 and 10: 0 with every other number; of 4 a token's start or the text's length, of the others where the item's first
 -- fault is spelled.
-pub use Offset.{StoppedAnswer, stopped-answer, BrokenAnswer, broken-answer, offset-with-four-numbers, OffsetSpelled, offset-spelled, spelling-inside}
+pub use Offset.{StoppedAnswer, stopped-answer, BrokenAnswer, broken-answer, GuardAnswer, guard-answer, offset-with-four-numbers, OffsetSpelled, offset-spelled, spelling-inside}
 
 Within : Outcome → Type 0
 Within o = length-of (o .answer) ≤ 16777217
@@ -33,6 +33,7 @@ Within o = length-of (o .answer) ≤ 16777217
 refusal-short : (text : Bytes) (r : Refusal) → length-of (refusal text r) ≡ 0
 unfolding refusal length-of
 refusal-short text (no-item place) = refl
+refusal-short text (guard-rule place) = refl
 refusal-short text (occurrence-rule place fault) = refl
 refusal-short text (figure place) = refl
 refusal-short text no-query = refl

@@ -9,6 +9,10 @@ pub mod Written
 pub mod Starts
 pub mod ValuesStay
 pub mod FailsLater
+pub mod NoWriter
+pub mod Grown
+pub mod CircleLater
+pub mod TrialLater
 pub mod FailsLaterExample
 use Prim.Native.Nat.{ℕ, _≤_}
 use mathlib.Core.Path.{_≡_}
@@ -24,7 +28,7 @@ unfoldable pub use Leaning.{Leans}
 pub use Leaning.{Links}
 pub use Search.{circle-at-says, circle-says, no-circle-says}
 -- In no state of a run does one.
-pub use Never.{NoCircle, values-at, step-no-circle, run-no-circle}
+pub use Never.{NoCircle, values-at, start-no-circle, step-no-circle, run-no-circle}
 -- Without a circle every chain of assigned pairs ends within the number of pairs; so does following a term, and writing it out.
 pub use Chains.{chains-end}
 pub use Following.{followed-within, followed-unassigned}
@@ -33,8 +37,12 @@ pub use Written.{applied-within, applied-unassigned}
 pub use Starts.{assigns, circle-from, circle-by-starts, circle-by-pairs, circle-by-assignments}
 -- A trial assigns pairs that had no value; so a value, once given, stays.
 pub use ValuesStay.{given-unassigned, values-after-stay, step-values-stay}
--- A clause whose comparison failed fails as long as the goal's own writers are unassigned.
-pub use FailsLater.{HoldsWriter, ValuesGrew, StillOpen, compared-fails-later, trial-fails-later}
+-- No value is a writer.
+pub use NoWriter.{NoWriters, start-no-writers, step-no-writers}
+-- A clause that failed, by a place, by the circle test or by a guard, fails as long as the goal's own writers are unassigned.
+pub use FailsLater.{HoldsWriter, ValuesGrew, StillOpen, compared-fails-later, trial-fails-later-by-a-place}
+pub use CircleLater.{GoalLater, goal-later-then, compared-agrees-later}
+pub use TrialLater.{Settles, trial-fails-later, all-fail-later, failed-stays-failed}
 
 -- What these say of a state of a run: the values of a query's pairs where a run ends, under any budget, in any room.
 module _ (job : Job) (limit : ℕ) (figures : Room) (place : ℕ) where

@@ -25,10 +25,12 @@ use Rattle.laws.proofs.Reading.{JobOk, accepted-keeps-the-occurrence-ru
 use Rattle.laws.proofs.Single.{
   SingleOccurrence,
   AssignedOnce,
+  FailedFail,
   single-occurrence,
   no-two-wait-on-one-pair,
   reduction-assigns-once,
   value-stays,
+  run-failed-goals-fail-again,
 }
 use Rattle.laws.proofs.Report.{tries-shown}
 use Rattle.laws.proofs.Call.{ran-read-a-job}
@@ -73,6 +75,10 @@ module _ (text : Bytes) (j : Job) (reads : reading text ≡ job j) (limit : ℕ)
       → value (unit-at k (step (choice-for (j .clauses) (run j limit figures .state) g) g others (run j limit figures .state) .units) .values) n
       ≡ some t
   text-value-stays = value-stays j rules limit figures
+
+  -- Each failed goal would fail again: no clause of it succeeds, and none waits; whatever was assigned since it failed, and guards too.
+  pub text-failed-goals-fail-again : FailedFail (j .clauses) (run j limit figures .state)
+  text-failed-goals-fail-again = run-failed-goals-fail-again j rules figures limit
 
   -- The goal in front holds pairs of its unit only.
   front-in-range : (g : Goal) (others : List Goal) → run j limit figures .state .goals .queue ≡ g ∷ others

@@ -9,19 +9,25 @@ pub mod Brackets
 pub mod Figures
 pub mod TokensFit
 pub mod Alike
+pub mod Rising
+pub mod Pairing
 pub mod Counting
 pub mod Passed
 pub mod Taken
 pub mod Occurring
+pub mod Bodies
 pub mod Faultless
-pub mod Rising
+pub mod RuleTokens
 pub mod Broken
 pub mod LeastOf
 pub mod Walk
 pub mod Readers
+pub mod BodyReaders
+pub mod GuardsRead
 pub mod Items
 pub mod WhichByte
 pub mod BrokenText
+pub mod GuardText
 pub mod Spelling
 pub mod Stopped
 pub mod StoppedText
@@ -46,14 +52,18 @@ pub use Rules.{ClauseOk, QueryOk, JobOk}
 pub use Figures.{JobFits}
 pub use Alike.{bare}
 pub use Items.{clause-pieces, query-pieces}
--- Which rule, which byte: an item that is read has a fault exactly if document 01's rules are broken in its terms, and is judged as before;
--- the least of its faults is the first that a walk over its tokens comes upon; no two share an offset.
+-- Which rule, which byte: an item that is read has a fault exactly if document 01's rules are broken in its terms, but for the readers that a guard
+-- licenses; the least of its faults is the first that a walk over its tokens comes upon, those of its guards left out; no two share an offset.
+-- A clause is judged so only if the table has its guards and their variables are readers of writers in the head.
 pub use WhichByte.{Judged, clause-rules, query-rules, clause-judged, query-judged, clause-as-before, query-as-before, clause-by-walk, query-by-walk}
-pub use Broken.{TwiceAt, AloneAt, FaultOf, clause-fault-is, fault-in-clause, query-fault-is, fault-in-query, Least, least-is, one-fault-at}
+pub use WhichByte.{unknown-guard-refused, other-variable-refused}
+pub use Broken.{none-free, TwiceAt, AloneAt, FaultOf, clause-fault-is, fault-in-clause, query-fault-is, fault-in-query, Least, least-is, one-fault-at}
 unfoldable pub use Walk.{first-fault}
 -- Of every text refused with 5, 9 or 10: the item, its rule and its first fault, at which that half of that variable stands and is spelled.
 pub use BrokenText.{ClauseBroken, QueryBroken, ItemBroken, OneBroken, refused-is-broken}
 pub use Spelling.{SpelledAt, spelled-at, stands-in-all}
+-- Of every text refused with 11: the clause, and that a guard is not in the table or has another variable.
+pub use GuardText.{GuardsBroken, OneGuarded, refused-has-other-guards}
 -- Of every text refused with 4: a token begins at its byte, or it is the text's length.
 pub use StoppedText.{stopped-at-a-token}
 -- Each clause and each query of an accepted text is read from the tokens of its own piece.
@@ -70,7 +80,7 @@ accepted-keeps-the-occurrence-rules text j e =
       queries-ok = each-paired QueryOk (query-ok (names-of text)) (r .queries);
     }
 
--- Every accepted text keeps document 01's figures, its integers are in range, and its compounds are numbered in order.
+-- Every accepted text keeps document 01's figures, its integers are in range, and its compounds are numbered in order, a guard's between head and body.
 -- Its names are those counted over the text: at most 256, no two the same, and each name of the job is among them.
 pub accepted-keeps-the-figures : (text : Bytes) (j : Job) → reading text ≡ job j → JobFits (names-of text) j
 accepted-keeps-the-figures text j e =

@@ -1,5 +1,7 @@
 -- Single occurrence, of every state of every run: written out, the goals of a query hold no writer twice and no reader twice.
--- Writing out is a flow from goals and live values, which hold no half twice; so is a chain from a waiting goal to a pair that it waits on.
+-- Writing out is a flow from goals and live values, which hold no half twice but of closed pairs; so is a chain from a waiting goal to a pair that it
+-- waits on. Each pair is assigned once, and each failed goal would fail again.
+pub mod Closed
 pub mod LiveValues
 pub mod Comparison
 pub mod WrittenOut
@@ -9,9 +11,12 @@ pub mod Balance
 pub mod Counting
 pub mod Step
 pub mod Run
+pub mod StillOpen
+pub mod FailedGoals
+pub mod Example
 use Prim.Native.Nat.{ℕ, _+_, _≤_, _<_}
 use mathlib.Core.Path.{_≡_, refl, ap, ap₂, sym, _∙_}
-use mathlib.Core.Bool.{Bool, true}
+use mathlib.Core.Bool.{Bool, true, false}
 use mathlib.Core.List.{List, [], _∷_, _++_, map}
 use mathlib.Core.Option.{none, some}
 use native.Mathlib.Omega.{arith}
@@ -26,6 +31,7 @@ use Rattle.meaning.specs.Step.{step}
 use Rattle.meaning.specs.Run.{choice-for, run}
 use Rattle.meaning.specs.Report.{applied}
 use Rattle.laws.proofs.Lists.{
+  differ,
   Each,
   each-among,
   each-implies,
@@ -45,18 +51,21 @@ use Rattle.laws.proofs.Lists.{
   TakenOut,
   taken-front,
 }
-use Rattle.laws.proofs.Terms.{occurs-itself}
+use Rattle.laws.proofs.Terms.{occurs-itself, occurs-stands}
 use Rattle.laws.proofs.Trial.{reduces-agrees}
 use Rattle.laws.proofs.Runs.{run-placed}
-use Rattle.laws.proofs.Circle.{NoCircle, run-no-circle, given-unassigned, step-values-stay}
+use Rattle.laws.proofs.Circle.{NoCircle, run-no-circle, applied-unassigned, given-unassigned, step-values-stay}
 use Rattle.laws.proofs.Reading.{ClauseOk, JobOk}
-use Rattle.laws.proofs.Single.LiveValues.{marks, flows-both, no-writer-marks}
+use Rattle.laws.proofs.Single.Closed.{closed, opens, unassigned-open}
+use Rattle.laws.proofs.Single.LiveValues.{marks, flows-both}
 use Rattle.laws.proofs.Single.WrittenOut.{all-applied-flow}
 use Rattle.laws.proofs.Single.Chains.{Reaches, reaches-inside, chain-flows}
 use Rattle.laws.proofs.Single.Balance.{Balanced, balanced-less, balanced-flow-once, given-once, given-inside, given-values-inside}
 use Rattle.laws.proofs.Single.Counting.{together, count-of-own, sum-together}
-use Rattle.laws.proofs.Single.Step.{arguments-of, Chained, SoundAt, balanced-taken}
+use Rattle.laws.proofs.Single.Step.{arguments-of, Chained, SoundAt, balanced-taken, given-fresh}
 use Rattle.laws.proofs.Single.Run.{run-sound}
+-- A goal that a step does not reduce keeps its writers; so each failed goal would fail again, in every state of every run.
+pub use FailedGoals.{Spared, step-goal-later, FailedFail, run-failed-goals-fail-again, reached-failed-goals-fail-again}
 
 -- The goals of a query, active, waiting and failed, each as the term that it is.
 abbrev pub goal-terms : Part → List Term
@@ -113,8 +122,26 @@ module _ (k : ℕ) (state : State) (s : SoundAt k state) where
   unfolding goals-of
   chained = each-those _ _ (state .goals .waiting) (s .chained)
 
+  -- Written out, no term holds a pair that is assigned.
+  none-left : (h : Half) (n : ℕ) (u : Term) → value values n ≡ some u → (ts : List Term) → sum (λ t. occurrences h n (applied (length values) values t)) ts ≡ 0
+  none-left h n u e [] = refl
+  none-left h n u e (t ∷ ts) =
+      let few = not-beyond (occurrences h n (applied (length values) values t)) 1 (λ m.
+      let unassigned : value values n ≡ none =
+      applied-unassigned values (s .no-circle) t n (occurs-stands (applied (length values) values t) h n m) in
+      differ (cc)) in
+      omega (arith, few, none-left h n u e ts)
+
+  idle : Each (λ w. Each (λ p. value values p ≡ none) (w .readers)) (goals .waiting)
+  unfolding goals-of
+  idle = each-those _ _ (state .goals .waiting) (s .idle)
+
   written : (h : Half) (n : ℕ) → sum (λ t. occurrences h n (applied (length values) values t)) terms ≤ 1
-  written h n = balanced-flow-once values _ _ balanced (all-applied-flow values (length values) terms) h n
+  written h n = go (closed values n) refl
+    where
+      go : (b : Bool) → closed values n ≡ b → sum (λ t. occurrences h n (applied (length values) values t)) terms ≤ 1
+      go false o = balanced-flow-once values _ _ balanced (all-applied-flow values (length values) terms) h n o
+      go true e = let its = opens values n e in omega (arith, none-left h n (its .value-held) (its .assigned) terms)
 
   readers-inside : (waiting : List Waiting)
       → ((h : Half) (n : ℕ) → length values ≤ n → sum (λ w. all-occurrences h n (arguments-of w)) waiting ≡ 0)
@@ -128,13 +155,13 @@ module _ (k : ℕ) (state : State) (s : SoundAt k state) where
   )
 
   -- Two chains from different goals end at different pairs.
-  chains-apart : (p : ℕ) (v w : Waiting)
+  chains-apart : (p : ℕ) (v w : Waiting) → value values p ≡ none
       → ((h : Half) (n : ℕ) → all-occurrences h n (arguments-of v) + all-occurrences h n (arguments-of w) ≤ sum (λ t. occurrences h n t) terms)
       → Reaches values p (arguments-of v) → Reaches values p (arguments-of w)
       → ⊥
-  chains-apart p v w less to-v to-w =
+  chains-apart p v w unassigned less to-v to-w =
       let both = balanced-less values _ (λ h n. all-occurrences h n (arguments-of v) + all-occurrences h n (arguments-of w)) less balanced in
-      let at-most = balanced-flow-once values _ _ both (flows-both (chain-flows values to-v) (chain-flows values to-w)) reader p in
+      let at-most = balanced-flow-once values _ _ both (flows-both (chain-flows values to-v) (chain-flows values to-w)) reader p (unassigned-open values p unassigned) in
       omega (arith, at-most, occurs-itself reader p)
 
   waiting-apart : (p : ℕ) (first between behind : List Waiting) (v w : Waiting) → goals .waiting ≡ first ++ v ∷ between ++ w ∷ behind
@@ -143,7 +170,8 @@ module _ (k : ℕ) (state : State) (s : SoundAt k state) where
   waiting-apart p first between behind v w e at-v at-w =
       let chains = each-split (Chained values) (first ++ v ∷ between) (w ∷ behind) (rw e at chained) in
       let chains-v = each-split (Chained values) first (v ∷ between) (chains .0) .1 .0 in
-      chains-apart p v w
+      let idles = each-split _ (first ++ v ∷ between) (w ∷ behind) (rw e at idle) in
+      chains-apart p v w (each-among _ p (w .readers) (idles .1 .0) at-w)
       (λ h n.
       let f : Waiting → ℕ = λ w. all-occurrences h n (arguments-of w) in
       omega (
@@ -166,7 +194,7 @@ module _ (k : ℕ) (state : State) (s : SoundAt k state) where
         written-once = written;
         assigned-writer-gone = λ n t e.
             each-zero (λ t. occurrences writer n t) terms
-            (omega (arith, balanced .fair writer n t e, no-writer-marks n (balanced .live)));
+            (balanced .gone n t e);
         waited-on-once = waiting-apart;
       }
 
@@ -233,12 +261,13 @@ pub sound-assigns-once : (state : State) (g : Goal) (others : List Goal) → Tak
 sound-assigns-once state g others taken s no-circle clause clause-ok given agrees =
     let unit = unit-at (g .query) (state .units) in
     let b = balanced-taken (unit .values) g (state .goals) others taken s in
+    let fresh = given-fresh clause unit (g .goal) given (no-circle (g .query)) agrees in
     record {
       unassigned-before = each-member _ given (given-unassigned clause unit (g .goal) given (no-circle (g .query)) agrees);
-      no-pair-twice = distinct given (given-once unit clause (g .goal) given _ clause-ok agrees b);
-      pairs-in-range = inside-each _ given (given-inside unit clause (g .goal) given _ clause-ok agrees b);
+      no-pair-twice = distinct given (given-once unit clause (g .goal) given _ clause-ok agrees fresh b);
+      pairs-in-range = inside-each _ given (given-inside unit clause (g .goal) given _ clause-ok agrees fresh b);
       values-in-range = λ h n e.
-          each-zero (λ a. occurrences h n (a .value)) given (given-values-inside unit clause (g .goal) given _ clause-ok agrees b h n e);
+          each-zero (λ a. occurrences h n (a .value)) given (given-values-inside unit clause (g .goal) given _ clause-ok agrees fresh b h n e);
     }
 
 -- No trial assigns a pair that has a value, and none assigns a pair twice; whether the circle test then fails it or not.

@@ -3,14 +3,16 @@ use Prim.Native.Char.{Char}
 use Prim.Native.Nat.{ℕ, zero, suc}
 use mathlib.Core.Path.{_≡_, refl}
 use mathlib.Core.Bool.{Bool, true, false}
-use mathlib.Core.List.{List, [], _∷_}
+use mathlib.Core.Logic.{inl, inr}
+use mathlib.Core.List.{List, [], _∷_, _++_}
 use mathlib.Core.Option.{Option, none, some}
 use native.Mathlib.Omega.{arith}
 use lib.Dec.{ltb, eqb}
 use lib.ListN.{length}
 use Rattle.meaning.specs.Bytes.{Bytes, byte, same, any, if_then_else_}
-use Rattle.meaning.specs.Terms.{Half, writer, reader, same-half, Constant, empty, Term, Terms, cell, compound, end, more, Named, as-term}
+use Rattle.meaning.specs.Terms.{Half, writer, reader, same-half, Constant, empty, Term, Terms, cell, named, compound, end, more, Named, as-term}
 use Rattle.meaning.specs.Tokens.{Token, name, variable, integer, sign, bad, Tokens, ends, token}
+use Rattle.meaning.specs.Table.{Element, whole, bare, equals, as-goals}
 use Rattle.meaning.specs.Faults.{is-half, occurs-at}
 use Rattle.meaning.specs.Items.{
   Counted,
@@ -48,11 +50,20 @@ use Rattle.meaning.specs.Items.{
   goal-from,
   goal,
   goals,
+  by-itself,
+  equals-behind,
+  element-behind,
+  Body,
+  unguarded,
+  here,
+  guarded,
+  behind-element,
+  body,
   Rule,
   rule,
 }
-use Rattle.laws.proofs.Lists.Tests.{false-not-true}
-use Rattle.laws.proofs.Lists.Tests.{same-refl}
+use Rattle.laws.proofs.Lists.Tests.{false-not-true, same-refl}
+use Rattle.laws.proofs.Reading.Rising.{StandsAt}
 use Rattle.load_faults.specs.Finding.{Passable, Walkable}
 
 unfoldable pub Good : Token → Type 0
@@ -271,11 +282,58 @@ goals-keeps (suc left) =
     then-keeps goal-keeps (λ g. then-keeps (either-keeps "," ".") (λ another.
     if-keeps another (then-keeps (goals-keeps left) (λ gs. give-keeps (g ∷ gs))) (give-keeps (g ∷ []))))
 
+by-itself-keeps : (t : Term) → Keeps (by-itself t)
+unfolding by-itself
+by-itself-keeps (compound n (named f) ts) = give-keeps (whole (record { number = n; name = f; arguments = ts }))
+by-itself-keeps (compound n cell ts) = next-keeps (λ place t. cannot-behind place t)
+by-itself-keeps (Term.constant (Constant.name f)) = give-keeps (bare f)
+by-itself-keeps (Term.constant (Constant.integer i)) = next-keeps (λ place t. cannot-behind place t)
+by-itself-keeps (Term.constant empty) = next-keeps (λ place t. cannot-behind place t)
+by-itself-keeps (Term.variable h n) = next-keeps (λ place t. cannot-behind place t)
+
+equals-behind-keeps : (left : Term) → Keeps (equals-behind left)
+unfolding equals-behind
+equals-behind-keeps left = then-keeps count-compound-keeps (λ n. then-keeps (term-keeps 16) (λ right. give-keeps (equals n left right)))
+
+element-behind-keeps : Keeps element-behind
+unfolding element-behind
+element-behind-keeps =
+    then-keeps (term-keeps 16) (λ t. if-next-keeps "=" (λ s e. behind s (sign-good "=" s e) (equals-behind-keeps t)) (by-itself-keeps t))
+
+unguarded-keeps : (place : ℕ) (gs : Option (List Named)) → Keeps (unguarded place gs)
+unfolding unguarded
+unguarded-keeps place none = cannot-keeps place
+unguarded-keeps place (some gs) = give-keeps (record { guards = []; goals = gs; behind = none })
+
+here-keeps : Keeps here
+unfolding here Fits
+here-keeps = record { keep = λ c s h. h }
+
+guarded-keeps : (es : List Element) → Keeps (guarded es)
+unfolding guarded
+guarded-keeps es =
+    then-keeps here-keeps (λ after. then-keeps (if-next-keeps "." (λ t e. behind t (sign-good "." t e) (give-keeps [])) (goals-keeps 8))
+    (λ gs. give-keeps (record { guards = es; goals = gs; behind = some after })))
+
+behind-element-keeps : (further : List Element → Reader Body) → ((es : List Element) → Keeps (further es)) → (es : List Element) (place : ℕ) (t : Token)
+    → KeepsBehind t (behind-element further es place t)
+unfolding behind-element
+behind-element-keeps further keeps es place t =
+    if-behind (is "," t) t (λ e. behind t (sign-good "," t e) (keeps es))
+    (λ e. if-behind (is "|" t) t (λ e. behind t (sign-good "|" t e) (guarded-keeps es))
+    (λ e. if-behind (is "." t) t (λ e. behind t (sign-good "." t e) (unguarded-keeps place (as-goals es))) (λ e. cannot-behind place t)))
+
+body-keeps : (left : ℕ) (before : List Element) → Keeps (body left before)
+unfolding body
+body-keeps zero before = and-keeps (standing-keeps begins-term) passes-keeps
+body-keeps (suc left) before =
+    then-keeps element-behind-keeps (λ e. next-keeps (λ place t. behind-element-keeps (body left) (body-keeps left) (before ++ (e ∷ [])) place t))
+
 rule-keeps : Keeps rule
 unfolding rule
 rule-keeps =
     then-keeps goal-keeps (λ head. then-keeps (either-keeps ":" ".") (λ implied.
-    then-keeps (if-keeps implied (goals-keeps 8) (give-keeps [])) (λ body. give-keeps (record { head = head; body = body }))))
+    then-keeps (if-keeps implied (body-keeps 8 []) (give-keeps (record { guards = []; goals = []; behind = none }))) (λ b. give-keeps (record { head = head; body = b }))))
 
 -- An item that was read to its full stop.
 pub rule-sound : (c d : Counted) (s : Tokens) (r : Rule) (stop : ℕ) → rule c s ≡ read r d (ends stop) → Sound s
@@ -285,6 +343,18 @@ rule-sound c d s r stop e = (rw e at (rule-keeps .keep c s)) tt
 pub goals-sound : (c d : Counted) (s : Tokens) (gs : List Named) (stop : ℕ) → goals 8 c s ≡ read gs d (ends stop) → Sound s
 unfolding Fits Sound
 goals-sound c d s gs stop e = (rw e at (goals-keeps 8 .keep c s)) tt
+
+-- Tokens that all stand among sound ones are sound: so those that count for a clause's pairing.
+good-there : (p : ℕ) (t : Token) (s : Tokens) → Sound s → StandsAt p t s → Good t
+unfolding Sound StandsAt
+good-there p t (ends place) h m = absurd m
+good-there p t (token place u rest) h (inl e) = let t-is : t ≡ u = e .1 in rw t-is (h .0)
+good-there p t (token place u rest) h (inr m) = good-there p t rest (h .1) m
+
+pub sound-among : (s part : Tokens) → Sound s → ((p : ℕ) (t : Token) → StandsAt p t part → StandsAt p t s) → Sound part
+unfolding Sound StandsAt
+sound-among s (ends place) h m = tt
+sound-among s (token place t rest) h m = (good-there place t s h (m place t (inl (refl, refl))), sound-among s rest h (λ p u k. m p u (inr k)))
 
 occurs-here : (place : ℕ) (h : Half) (x : Bytes) (rest : Tokens) → length (occurs-at h x (token place (variable h x) rest)) ≡ 0 → ⊥
 unfolding occurs-at is-half same-half if_then_else_

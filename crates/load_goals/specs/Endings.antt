@@ -2,20 +2,19 @@
 use Prim.Native.Nat.{ℕ, _+_, _-_, _≤_, _<_, min}
 use mathlib.Core.Path.{_≡_}
 use mathlib.Core.List.{List, [], _∷_, _++_}
-use mathlib.Core.Option.{some}
-use lib.ListN.{length, getD, set}
+use lib.ListN.{length, getD}
 use Rattle.meaning.specs.Bytes.{Bytes}
-use Rattle.meaning.specs.Terms.{Half, Named as Goal, as-term, count, goals-occurrences}
-use Rattle.meaning.specs.Tokens.{Tokens, ends, token, name, sign}
-use Rattle.meaning.specs.Items.{Counted, Reader, Rule, rule, read, malformed, passed, read-on, give, place-of, compound-of, term, goal, goals}
-use Rattle.term.specs.Cells.{Places as CellPlaces, stored, Known}
+use Rattle.meaning.specs.Terms.{Half, Named as Goal, goals-occurrences}
+use Rattle.meaning.specs.Tokens.{ends, token, sign}
+use Rattle.meaning.specs.Items.{Counted, Reader, read, malformed, passed, read-on, give, goals}
+use Rattle.term.specs.Cells.{Places as CellPlaces}
 use Rattle.term.specs.Frames.{Only}
 use Rattle.term.specs.Jobs.{GoalsKnown}
 use Rattle.term.specs.Layout.{trial-region}
 use Rattle.load_tokens.specs.Fronts.{tokens-in}
-use Rattle.load_names.specs.Places.{Place, Placed, spellings, with-place, before, names-over, variables-over, item-places}
+use Rattle.load_names.specs.Places.{Place, Placed, spellings, before, names-over, variables-over, item-places}
 use Rattle.load_openings.specs.Reading.{piece, counted-at, half-place, Stands, Open}
-use Rattle.load_image.specs.Image.{goals-stored, head-word}
+use Rattle.load_image.specs.Image.{goals-stored}
 use Rattle.load_openings.specs.declared.cursor.Cursor.{Cursor}
 use Rattle.load_openings.specs.declared.cursor.Read.{Read}
 use Rattle.load_openings.specs.declared.cursor.Read.the-variants.{Got, Malformed, Exceeded}
@@ -26,16 +25,9 @@ pub record Part (A : Type 0) : Type 0 where
   pub goals : A → List Goal
   pub size : A → ℕ
 
--- Goals from a place of the scratch on; a clause's head and body, whose words stand from there on.
+-- Goals from a place of the scratch on.
 unfoldable pub goals-part : ℕ → Part (List Goal)
 goals-part place = record { kept = λ p gs s. goals-stored p place gs s; goals = λ gs. gs; size = λ gs. length gs }
-
-unfoldable pub rule-part : ℕ → Part Rule
-rule-part place = record {
-  kept = λ p r s. goals-stored p place (r .body) (stored p (as-term (r .head)) s);
-  goals = λ r. r .head ∷ r .body;
-  size = λ r. length (r .body);
-}
 
 -- Read up to its full stop: the same value as the definitions' reader, over the tokens that were passed, with its goals kept and counted.
 pub record Ended {A : Type 0} (part : Part A) (by : Reader A) (text rest : Bytes) (from base : ℕ) (known vars : List Place) (c : Cursor)
@@ -87,16 +79,3 @@ NinthIs rest at (Got w c) = ⊥
 NinthIs rest at (Malformed place) =
     (place ≤ length rest) × ((from : ℕ) (counted : Counted) → goals 0 counted (piece (tokens-in from rest at)) ≡ malformed (from + place))
 NinthIs rest at Exceeded = (from : ℕ) (counted : Counted) → goals 0 counted (piece (tokens-in from rest at)) ≡ passed
-
--- A clause's head and body, with the head's word noted among the clauses' heads.
-abbrev pub RuleIs : (place k : ℕ) (text rest : Bytes) (from base : ℕ) (known vars : List Place) (c : Cursor)
-    (s item heads s′ names′ item′ heads′ : List ℕ) → Read → Type 0
-RuleIs place k text rest from base known vars c s item heads s′ names′ item′ heads′ (Got w c′) =
-    (a : Rule) × (passed : List Placed) × (stop : ℕ)
-    × Ended (rule-part place) rule text rest from base known vars c s item s′ names′ item′ w c′ a passed stop
-    × (heads′ ≡ set heads k (head-word (names-over passed known) (a .head)))
-    × (count (a .head .arguments) ≤ 6)
-RuleIs place k text rest from base known vars c s item heads s′ names′ item′ heads′ (Malformed at) =
-    EndIs (rule-part place) rule text rest from base known vars c s item s′ names′ item′ (Malformed at)
-RuleIs place k text rest from base known vars c s item heads s′ names′ item′ heads′ Exceeded =
-    EndIs (rule-part place) rule text rest from base known vars c s item s′ names′ item′ Exceeded

@@ -43,7 +43,7 @@ use Rattle.load_image.specs.Image.{
 }
 use Rattle.load_names.proofs.Numbering.{spellings-snoc, spellings-length}
 use Rattle.load_image.proofs.Steps.{added, name-added, variable-added, names-after, variables-after, Ends, Cut}
-use Rattle.load_image.proofs.Laid.{goals-known-wider}
+use Rattle.load_image.proofs.Laid.{goals-known-wider, guards-known-wider}
 use Rattle.load_image.proofs.LaidItems.{PieceIs, item-is}
 use Rattle.load_image.proofs.KeptEntries.{EntriesLaid}
 use Rattle.load_image.proofs.ImageHolds.{job-of}
@@ -132,8 +132,14 @@ clause-wider n n′ c w l = record {
   few-pairs = l .few-pairs;
   few-compounds = l .few-compounds;
   few-goals = l .few-goals;
-  numbered = l .numbered;
+  few-guards = l .few-guards;
+  behind-head = l .behind-head;
+  behind-guards = l .behind-guards;
+  head-numbered = l .head-numbered;
+  guards-numbered = l .guards-numbered;
+  body-numbered = l .body-numbered;
   known = goals-known-wider n n′ w (c .head ∷ c .body) (l .known);
+  guards-known = guards-known-wider n n′ w (c .guards) (l .guards-known);
 }
 
 query-wider : (n n′ : List Bytes) (q : Query) → ((f : Bytes) → KnownName n f → KnownName n′ f) → QueryLaid n q → QueryLaid n′ q

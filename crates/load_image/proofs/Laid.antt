@@ -18,6 +18,7 @@ use Rattle.meaning.specs.Terms.{
   end,
   more,
   Named,
+  Guard,
   count,
   as-term,
 }
@@ -39,6 +40,7 @@ use Rattle.meaning.specs.Items.{
   term,
 }
 use Rattle.term.specs.Cells.{Numbered, AllNumbered, KnownName, KnownConstant, KnownFunctor, Known, AllKnown}
+use Rattle.term.specs.Guards.{GuardsKnown}
 use Rattle.term.specs.Jobs.{GoalsNumbered, GoalsKnown}
 use Rattle.load_image.proofs.Steps.{
   name-added,
@@ -103,6 +105,11 @@ module _ (n n′ : List Bytes) (wider : (f : Bytes) → KnownName n f → KnownN
   unfolding GoalsKnown
   goals-known-wider [] k = tt
   goals-known-wider (g ∷ gs) k = (known-wider (as-term g) (k .0), goals-known-wider gs (k .1))
+
+  pub guards-known-wider : (gs : List Guard) → GuardsKnown n gs → GuardsKnown n′ gs
+  unfolding GuardsKnown
+  guards-known-wider [] k = tt
+  guards-known-wider (g ∷ gs) k = ((all-known-wider (g .arguments) (k .0 .0), k .0 .1, k .0 .2), guards-known-wider gs (k .1))
 
 -- A term, arguments of which so many may still come, a head or a goal: read from what had been counted up to what has been.
 pub record TermLaid (from : ℕ) (d : Counted) (t : Term) : Type 0 where

@@ -3,7 +3,9 @@ pub mod ImageHolds
 pub mod Keeping
 pub mod KeptEntries
 pub mod KeptItems
+pub mod StoredGuards
 pub mod Laid
+pub mod LaidElements
 pub mod LaidItems
 pub mod Links
 pub mod Loaded

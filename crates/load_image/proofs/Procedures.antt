@@ -28,8 +28,8 @@ pub record Headed (names : List Bytes) (g : Named) : Type 0 where
   pub few : count (g .arguments) ≤ 6
 
 pub clause-headed : (names : List Bytes) (c : Clause) → ClauseLaid names c → Headed names (c .head)
-unfolding GoalsNumbered GoalsKnown Numbered Known as-term
-clause-headed names c laid = record { known = laid .known .0 .0; few = laid .numbered .1 .1 }
+unfolding GoalsKnown Numbered Known as-term
+clause-headed names c laid = record { known = laid .known .0 .0; few = laid .head-numbered .1 }
 
 -- The test of a procedure, and the words of two heads.
 alike : Named → Named → Bool

@@ -25,6 +25,7 @@ use Rattle.meaning.specs.Items.{
   next,
   is,
   if-next,
+  here,
 }
 use Rattle.term.specs.Cells.{KnownName}
 
@@ -147,6 +148,21 @@ module _ {A B : Type 0} {n v : List Bytes} {c : Counted} {ts : Tokens} {P : Coun
         (first .go cut);
   }
 
+-- A token in front, with what it adds.
+onward-token : (place : ℕ) (t : Token) (c : Counted) (s : Tokens) (d : Counted) (u : Tokens)
+    → Onward (name-added t (c .names)) (variable-added t (c .variables)) c s d u → Onward (c .names) (c .variables) c (token place t s) d u
+unfolding names-after variables-after
+onward-token place t c s d u g = record {
+  names = g .names;
+  variables = g .variables;
+  order = g .order;
+  few-compounds = g .few-compounds;
+  few-variables = g .few-variables;
+  few-names = g .few-names;
+  wider = g .wider;
+  cut = g .cut;
+}
+
 module _ {A : Type 0} {c : Counted} {ts : Tokens} {P : Counted → Tokens → A → Type 0} where
   pub give-steps : (a : A) → P c ts a → StepsFrom c ts P (give a)
   unfolding give Good
@@ -163,20 +179,23 @@ module _ {A : Type 0} {c : Counted} {ts : Tokens} {P : Counted → Tokens → A 
       by (token place t s) cut =
           good-map (λ a d u. Onward (name-added t (c .names)) (variable-added t (c .variables)) c s d u × P d u a)
           (λ a d u. Onward (c .names) (c .variables) c (token place t s) d u × P d u a) (on place t c s)
-          (λ a d u g. (
-            record {
-              names = g .0 .names;
-              variables = g .0 .variables;
-              order = g .0 .order;
-              few-compounds = g .0 .few-compounds;
-              few-variables = g .0 .few-variables;
-              few-names = g .0 .few-names;
-              wider = g .0 .wider;
-              cut = g .0 .cut;
-            },
-            g .1,
-          ))
+          (λ a d u g. (onward-token place t c s d u (g .0), g .1))
           (h place t s .go (cut .1))
+
+  -- The same, told that nothing comes behind a full stop.
+  pub next-cut-steps : {on : ℕ → Token → Reader A}
+      → ((p : ℕ) (t : Token) (s : Tokens) → (is "." t ≡ true → Ends s) → Steps (name-added t (c .names)) (variable-added t (c .variables)) c s P (on p t))
+      → StepsFrom c ts P (next on)
+  unfolding next Good Cut
+  next-cut-steps {on} h = record { go = by ts }
+    where
+      by : (ts : Tokens) → Cut ts → Good (λ a d s. Onward (c .names) (c .variables) c ts d s × P d s a) (next on c ts)
+      by (ends place) cut = tt
+      by (token place t s) cut =
+          good-map (λ a d u. Onward (name-added t (c .names)) (variable-added t (c .variables)) c s d u × P d u a)
+          (λ a d u. Onward (c .names) (c .variables) c (token place t s) d u × P d u a) (on place t c s)
+          (λ a d u g. (onward-token place t c s d u (g .0), g .1))
+          (h place t s (cut .0) .go (cut .1))
 
 module _ {A : Type 0} {n v : List Bytes} {c : Counted} {ts : Tokens} {P : Counted → Tokens → A → Type 0} where
   pub passes-steps : Steps n v c ts P passes
@@ -239,3 +258,27 @@ module _ {A : Type 0} {c : Counted} {ts : Tokens} {P : Counted → Tokens → A 
           → Good (λ a d s. Onward (c .names) (c .variables) c ts d s × P d s a) (if-next ch first second c ts)
       by (ends place) left cut = left .go cut
       by (token place t s) left cut = test place t s left cut (is ch t) refl
+
+  -- The same of a full stop, behind which nothing comes.
+  pub if-stop-steps : {first second : Reader A} → ((s : Tokens) → Ends s → StepsFrom c s P first) → StepsFrom c ts P second
+      → StepsFrom c ts P (if-next "." first second)
+  unfolding if-next if_then_else_ Good Cut
+  if-stop-steps {first} {second} taken left = record { go = by ts left }
+    where
+      test : (place : ℕ) (t : Token) (s : Tokens) → StepsFrom c (token place t s) P second → Cut (token place t s) → (b : Bool) → is "." t ≡ b
+          → Good (λ a d u. Onward (c .names) (c .variables) c (token place t s) d u × P d u a) (if b then first c s else second c (token place t s))
+      test place t s left cut true h =
+          good-map (λ a d u. Onward (c .names) (c .variables) c s d u × P d u a)
+          (λ a d u. Onward (c .names) (c .variables) c (token place t s) d u × P d u a) (first c s)
+          (λ a d u g. (onward-then (onward-sign "." c place t s h (cut .1)) (g .0), g .1)) (taken s (cut .0 h) .go (cut .1))
+      test place t s left cut false h = left .go cut
+
+      by : (ts : Tokens) → StepsFrom c ts P second → Cut ts
+          → Good (λ a d s. Onward (c .names) (c .variables) c ts d s × P d s a) (if-next "." first second c ts)
+      by (ends place) left cut = left .go cut
+      by (token place t s) left cut = test place t s left cut (is "." t) refl
+
+-- The tokens that come next are told, and none is taken.
+pub here-steps : (c : Counted) (ts : Tokens) → StepsFrom c ts (λ d s b. (d ≡ c) × (s ≡ ts)) here
+unfolding here Good
+here-steps c ts = record { go = λ cut. (onward-same c ts cut, (refl, refl)) }

@@ -117,7 +117,8 @@ module _ (text : Bytes) (at : ℕ) where
         (if-front (next-is digit cs) _ _
         (if-token (no-leading-zero (run cs) && leb (value 0 (run cs)) 2147483648) (integer (minus (value 0 (run cs)))) bad tt tt) tt)
         (if-front (eqb c (byte ":") || eqb c (byte "?")) _ _ (if-front (next-is (λ d. eqb d (byte "-")) cs) _ _ tt tt)
-        (if-front (single-sign c) _ _ tt tt))))))))
+        (if-front (eqb c (byte "=")) _ _ (if-front (next-is (λ d. eqb d (byte "=")) cs) _ _ tt tt)
+        (if-front (single-sign c) _ _ tt tt)))))))))
 
   placed-spelled : (f : Front) (behind : ℕ → Tokens) → FrontSpelled text at f → ((n : ℕ) → TokensSpelled text (behind n))
       → TokensSpelled text (placed at f behind)

@@ -3,11 +3,26 @@ use Prim.Native.Nat.{ℕ, _+_, _*_}
 use mathlib.Core.List.{List, [], _∷_, map}
 use lib.ListN.{length, getD, set}
 use Rattle.meaning.specs.Bytes.{Bytes}
-use Rattle.meaning.specs.Terms.{Named, named, Clause, Query, as-term, count}
+use Rattle.meaning.specs.Terms.{
+  Test,
+  Term,
+  Terms,
+  compound,
+  end,
+  more,
+  Named,
+  named,
+  Guard,
+  Clause,
+  Query,
+  as-term,
+  count,
+}
 use Rattle.meaning.specs.Tokens.{Tokens, ends, token, tokens}
 use Rattle.meaning.specs.Items.{SoFar, Piece, nothing, clause, query, refused, item, pieces}
 use Rattle.term.specs.Cells.{Places as CellPlaces, term-word, functor-word, stored}
-use Rattle.term.specs.Layout.{procedure-slot, clause-record, clause-base, query-record, query-base, query-pairs-word, query-compounds-word, query-goals-from, query-variables-from, clause-pairs-word, clause-compounds-word, clause-goals-word, clause-goals-from}
+use Rattle.term.specs.Guards.{guard-word}
+use Rattle.term.specs.Layout.{procedure-slot, clause-record, clause-base, query-record, query-base, query-pairs-word, query-compounds-word, query-goals-from, query-variables-from, clause-pairs-word, clause-compounds-word, clause-goals-word, clause-goals-from, clause-guards-word, clause-tests-from}
 use Rattle.load_names.specs.Places.{Place, spellings, with-name, with-variable, item-places}
 
 -- Where the names first stand, over some tokens, behind those already known; where the variables do.
@@ -60,19 +75,47 @@ unfoldable pub places-stored : ℕ → List Place → List ℕ → List ℕ
 places-stored place [] s = s
 places-stored place (p ∷ ps) s = places-stored (place + 2) ps (set (set s place (p .at)) (place + 1) (length (p .spelling)))
 
--- The clause k: its head's compounds and its body goals, then its pairs, compounds and body goals counted. The record's first word is for the link.
+-- A guard's compounds: its own with its arguments'; of `==` the sides' compounds, and their words behind its own place; of `otherwise` none.
+unfoldable pub test-stored : Test → CellPlaces → Guard → Terms → List ℕ → List ℕ
+test-stored Test.an-integer places g ts s = stored places (compound (g .number) (named (g .row .name)) ts) s
+test-stored Test.a-constant places g ts s = stored places (compound (g .number) (named (g .row .name)) ts) s
+test-stored Test.a-compound places g ts s = stored places (compound (g .number) (named (g .row .name)) ts) s
+test-stored Test.ground places g ts s = stored places (compound (g .number) (named (g .row .name)) ts) s
+test-stored Test.known places g ts s = stored places (compound (g .number) (named (g .row .name)) ts) s
+test-stored Test.equal places g end s = s
+test-stored Test.equal places g (more t end) s = s
+test-stored Test.equal places g (more t (more u ts)) s =
+    set
+    (set (stored places u (stored places t s)) (places .compound (g .number) + 1) (term-word places t))
+    (places .compound (g .number) + 2)
+    (term-word places u)
+test-stored Test.otherwise places g ts s = s
+
+-- Guards: of each its compounds, and then its word at the next place of the record.
+unfoldable pub guards-stored : CellPlaces → ℕ → List Guard → List ℕ → List ℕ
+guards-stored places place [] s = s
+guards-stored places place (g ∷ gs) s =
+    guards-stored places (place + 1) gs (set (test-stored (g .row .test) places g (g .arguments) s) place (guard-word places g))
+
+-- The clause k: its head's compounds, its guards and its body goals, then its pairs, compounds, body goals and guards counted. The record's first word is for
+-- the link.
 unfoldable pub clause-stored : List Place → ℕ → Clause → List ℕ → List ℕ
 clause-stored names k c s =
+    let places = item-places names (clause-base k) in
     set
     (set
     (set
-    (goals-stored (item-places names (clause-base k)) (clause-goals-from k) (c .body) (stored (item-places names (clause-base k)) (as-term (c .head)) s))
+    (set
+    (goals-stored places (clause-goals-from k) (c .body)
+    (guards-stored places (clause-tests-from k) (c .guards) (stored places (as-term (c .head)) s)))
     (clause-pairs-word k)
     (c .pairs))
     (clause-compounds-word k)
     (c .compounds))
     (clause-goals-word k)
-    (length (c .body))
+    (length (c .body)))
+    (clause-guards-word k)
+    (length (c .guards))
 
 -- The query k: its goals, then its goals, pairs and compounds counted, then where its variables first stand.
 unfoldable pub query-stored : List Place → ℕ → Query → List Place → List ℕ → List ℕ

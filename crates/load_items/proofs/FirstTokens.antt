@@ -14,7 +14,7 @@ use Rattle.meaning.specs.Tokens.{variable, integer, sign, bad, Tokens, ends, to
 use Rattle.meaning.specs.Items.{is, is-name}
 use Rattle.term.proofs.Frames.{only-same}
 use Rattle.term.specs.Layout.{trial-region}
-use Rattle.load_tokens.specs.Fronts.{tokens-in, behind, FrontIs}
+use Rattle.load_tokens.specs.Fronts.{tokens-in, behind, double-sign, FrontIs}
 use Rattle.load_names.specs.Places.{Place}
 use Rattle.load_items.specs.Outcomes.{ItemIs}
 use Rattle.load_tokens.specs.declared.token.Token.the-variants.{End, Name, Writer, Reader, Integer as AnInteger, Sign, Bad}
@@ -24,7 +24,7 @@ use Rattle.load_items.proofs.Starts.{starts-none}
 
 pub query-sign : (rest : Bytes) (from b a : ℕ) → b ≡ 63 → FrontIs rest 0 (Sign b a)
     → (a + 2 ≤ length rest) × (tokens-in from rest 0 ≡ token (from + a) (sign 63) (tokens-in from rest (a + 2)))
-unfolding behind byte if_then_else_
+unfolding behind byte if_then_else_ double-sign
 query-sign rest from b a e h = let k = rw e at h in (k .1, k .2 from)
 
 module _ (text rest : Bytes) (from : ℕ) (known : List Place) (clauses queries : ℕ) (s heads names : List ℕ) where

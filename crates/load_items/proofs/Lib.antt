@@ -1,8 +1,15 @@
+pub mod Behind
+pub mod BehindBar
 pub mod Clauses
+pub mod Counted
 pub mod Faulty
 pub mod FirstTokens
+pub mod Halfway
 pub mod Heads
+pub mod MoreNames
 pub mod Occurrence
 pub mod PlacesKept
 pub mod Queries
 pub mod Starts
+pub mod StoredElements
+pub mod Wholes

@@ -5,11 +5,11 @@ use mathlib.Core.Bool.{Bool, true, false, _&&_}
 use mathlib.Core.List.{List, [], _∷_, map}
 use mathlib.Core.Option.{none, some}
 use native.Mathlib.Omega.{arith}
-use lib.ListN.{length, set}
+use lib.ListN.{length, getD, set, replicate, length-replicate}
 use Rattle.meaning.specs.Bytes.{Bytes, byte, if_then_else_}
 use Rattle.meaning.specs.Terms.{Half, Named, Query, goals-occurrences}
 use Rattle.meaning.specs.Tokens.{sign, Tokens, ends, token}
-use Rattle.meaning.specs.Faults.{Fault, occurs-at, query-faults, least}
+use Rattle.meaning.specs.Faults.{Fault, occurs-at, pairing, query-faults, least}
 use Rattle.meaning.specs.Items.{
   Counted,
   Piece,
@@ -45,14 +45,28 @@ use Rattle.load_faults.specs.Finding.{Searches}
 use Rattle.load_faults.proofs.Sound.{goals-sound}
 use Rattle.laws.proofs.Lists.Pigeonhole.{Distinct}
 use Rattle.laws.proofs.Reading.Rules.{nothing-twice}
+use Rattle.laws.proofs.Reading.Broken.{none-free}
 use Rattle.laws.proofs.Reading.Passed.{by-number}
 use Rattle.laws.proofs.Reading.Occurring.{goals-counts}
 use Rattle.laws.proofs.Reading.Faultless.{item-counts}
 use Rattle.load_items.proofs.Occurrence.{twice-is}
 use Rattle.load_items.proofs.Faulty.{variables-distinct, piece-cut, item-rising, query-clean, query-fault, searches, searches-from}
-use Rattle.load_items.proofs.Clauses.{three-words}
 use Rattle.load_items.proofs.PlacesKept.{kept-places, kept-only}
 use Rattle.load_items.proofs.Starts.{halves-from-none, query-many, query-reads}
+
+-- The same words at the same places.
+three-words : (l l′ : List ℕ) (i j k v v′ n n′ w w′ : ℕ) → l ≡ l′ → v ≡ v′ → n ≡ n′ → w ≡ w′
+    → set (set (set l i v) j n) k w ≡ set (set (set l′ i v′) j n′) k w′
+three-words l l′ i j k v v′ n n′ w w′ a b c d = rw (a, b, c, d)
+
+-- In a query no reader is free.
+zeros : (k n : ℕ) → _≡_ {A = ℕ} (getD (replicate k 0) n 0) 0
+zeros zero n = refl
+zeros (suc k) zero = refl
+zeros (suc k) (suc n) = zeros k n
+
+none-licensed : (n : ℕ) → _≡_ {A = ℕ} (getD (replicate 16 0) n 0) 0
+none-licensed n = zeros 16 n
 
 module _ (p : ℕ) (whole : Tokens) (gs : List Named) (names vars : List Place) (compounds : ℕ) (ts : Tokens) where
   judged-kept : least (query-faults whole (spellings vars)) ≡ none
@@ -72,10 +86,10 @@ module _ (text rest : Bytes) (from : ℕ) (names item₀ : List ℕ) (count₀ :
   pub query-passes : 8 ≤ k → item (so-far known clauses k) (piece (tokens-in from rest 0)) ≡ refused (figure (from + begins))
   query-passes h = rw tokens (query-many known clauses k (from + begins) (tokens-in from rest (begins + 2)) h)
 
-  module _ (few : k < 8) (c : Cursor) (at-first : c .at ≡ begins + 2) (none : c .compounds ≡ 0) where
+  module _ (few : k < 8) (c : Cursor) (at-first : c .at ≡ begins + 2) (none-yet : c .compounds ≡ 0) where
     reads-goals : item (so-far known clauses k) (piece (tokens-in from rest 0))
         ≡ query-piece (from + begins) (piece (tokens-in from rest (c .at))) (goals 8 (counted-at known [] (c .compounds)) (piece (tokens-in from rest (c .at))))
-    reads-goals = rw (at-first, none, tokens) (query-reads known clauses k (from + begins) (tokens-in from rest (begins + 2)) few)
+    reads-goals = rw (at-first, none-yet, tokens) (query-reads known clauses k (from + begins) (tokens-in from rest (begins + 2)) few)
 
     pub query-malformed : (a : ℕ) → goals 8 (counted-at known [] (c .compounds)) (piece (tokens-in from rest (c .at))) ≡ malformed (from + a)
         → item (so-far known clauses k) (piece (tokens-in from rest 0)) ≡ refused (no-item (from + a))
@@ -122,17 +136,19 @@ module _ (text rest : Bytes) (from : ℕ) (names item₀ : List ℕ) (count₀ :
       -- Something occurs twice: there is a least fault, and the search for it has what it asks.
       pub query-broken : none-twice item′ (c′ .variables) ≡ false
           → (f : Fault) × (item (so-far known clauses k) (piece (tokens-in from rest 0)) ≡ refused (occurrence-rule (from + begins) f))
-          × Searches rest from item′ (c′ .variables) false (begins + 2) vars′ f
-      unfolding whole goals-part
+          × Searches rest from item′ (c′ .variables) false (begins + 2) 0 (replicate 16 0) vars′ none-free none f
+      unfolding whole goals-part pairing
       query-broken h =
           let size : length (spellings vars′) ≡ c′ .variables = spellings-length vars′ ∙ sym (t .stands .variables-count) in
           let once : nothing-twice (c′ .variables) gs ≡ false = sym twice ∙ h in
           let (f, is-least, is-first) = query-fault whole (spellings vars′) gs distinct (item-rising from rest (c .at)) counts (rw size once) in (
             f,
             reads-all ∙ judged-broken (from + begins) whole gs known′ vars′ (c′ .compounds) (ends stop) f is-least,
-            searches-from rest from item′ (c′ .variables) false (c .at) (begins + 2) vars′ f at-first (searches rest from (c .at) item′ (c′ .variables) vars′ gs (t .stands .variables-in) (t .stands .variables-count)
+            searches-from rest from item′ (replicate 16 0) (c′ .variables) false (c .at) (begins + 2) 0 vars′ none-free none f at-first
+                (searches rest from (c .at) 0 item′ (replicate 16 0) (c′ .variables) vars′ gs none-free none (t .stands .variables-in) (t .stands .variables-count) refl
                 (halves-from-none item₀ item′ gs (b .empty) (t .halves))
-                (goals-sound (counted-at known [] (c .compounds)) (counted-at known′ vars′ (c′ .compounds)) whole gs stop (t .reads)) counts false f is-first),
+                (goals-sound (counted-at known [] (c .compounds)) (counted-at known′ vars′ (c′ .compounds)) whole gs stop (t .reads)) counts (length-replicate {A = ℕ} 16 0)
+                (λ x n e. rw (none-licensed n) refl) false f is-first),
           )
 
       the-query : Query

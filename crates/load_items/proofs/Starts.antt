@@ -47,7 +47,7 @@ no-variables rest = record {
   counted = λ k l. let e = getD-replicate {A = ℕ} 64 (32 + k) 0 0 (omega arith) in omega (arith, e);
 }
 
-no-halves : (h : Half) (n : ℕ) → n < 16 → _≡_ {A = ℕ} (getD (replicate 64 0) (half-place h n) 0) 0
+pub no-halves : (h : Half) (n : ℕ) → n < 16 → _≡_ {A = ℕ} (getD (replicate 64 0) (half-place h n) 0) 0
 unfolding half-place
 no-halves writer n l = getD-replicate {A = ℕ} 64 (32 + n) 0 0 (omega arith)
 no-halves reader n l = getD-replicate {A = ℕ} 64 (48 + n) 0 0 (omega arith)

@@ -1,1 +1,4 @@
+pub mod Counts
+pub mod Judging
 pub mod Outcomes
+pub mod Rules

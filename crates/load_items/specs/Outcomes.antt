@@ -7,7 +7,7 @@ use Rattle.meaning.specs.Bytes.{Bytes}
 use Rattle.meaning.specs.Terms.{Clause, Query, count}
 use Rattle.meaning.specs.Tokens.{Tokens, ends, token, sign}
 use Rattle.meaning.specs.Faults.{Fault}
-use Rattle.meaning.specs.Items.{Piece, clause, query, refused, no-item, occurrence-rule, figure, item}
+use Rattle.meaning.specs.Items.{Piece, clause, query, refused, no-item, guard-rule, occurrence-rule, figure, item}
 use Rattle.term.specs.Frames.{Only}
 use Rattle.term.specs.Jobs.{GoalsKnown}
 use Rattle.term.specs.Layout.{trial-region}
@@ -17,11 +17,13 @@ use Rattle.load_names.specs.Tables.{NamesIn}
 use Rattle.load_openings.specs.Reading.{piece, Open}
 use Rattle.load_faults.specs.Finding.{FaultIs}
 use Rattle.load_image.specs.Image.{so-far, clause-stored, query-stored, head-word}
+use Rattle.load_items.specs.Rules.{GuardsNamed}
 use Rattle.load_items.specs.declared.items.Item.{Item}
 use Rattle.load_items.specs.declared.items.Item.the-variants.{
   Clause as AClause,
   Query as AQuery,
   Malformed,
+  Unknown,
   Broken,
   Exceeded,
   Nothing,
@@ -47,6 +49,7 @@ pub record TookClause (text rest : Bytes) (from : ℕ) (known : List Place) (cla
   pub stored-is : s′ ≡ clause-stored (names-over passed known) clauses c s
   pub noted : heads′ ≡ set heads clauses (head-word (names-over passed known) (c .head))
   pub known-names : GoalsKnown (spellings (names-over passed known)) (c .head ∷ c .body)
+  pub guards-named : GuardsNamed (spellings (names-over passed known)) (c .guards)
   pub few : (clauses < 128) × (count (c .head .arguments) ≤ 6)
 
 pub record TookQuery (text rest : Bytes) (from : ℕ) (known : List Place) (clauses queries : ℕ) (s heads s′ names′ heads′ : List ℕ) (at count : ℕ)
@@ -69,6 +72,8 @@ ItemIs text rest from known clauses queries s heads s′ names names′ heads′
     × Only 0 trial-region s s′
 ItemIs text rest from known clauses queries s heads s′ names names′ heads′ (Malformed a) =
     (item (so-far known clauses queries) (piece (tokens-in from rest 0)) ≡ refused (no-item (from + a))) × (a ≤ length rest) × Only 0 trial-region s s′
+ItemIs text rest from known clauses queries s heads s′ names names′ heads′ (Unknown a) =
+    (item (so-far known clauses queries) (piece (tokens-in from rest 0)) ≡ refused (guard-rule (from + a))) × (a ≤ length rest) × Only 0 trial-region s s′
 ItemIs text rest from known clauses queries s heads s′ names names′ heads′ (Broken a fault) =
     (f : Fault) × (item (so-far known clauses queries) (piece (tokens-in from rest 0)) ≡ refused (occurrence-rule (from + a) f))
     × FaultIs (length rest) from fault f × (a ≤ length rest) × Only 0 trial-region s s′

@@ -1,20 +1,20 @@
-// Items: "`head.`, `head :- goal,..,goal.` or `?- goal,..,goal.`", each read into its places of the scratch.
+// Items: "`head.`, `head :- goal,..,goal.` or `?- goal,..,goal.`", each read into its places of the scratch and judged behind its full stop.
+use crate::rule::Ruled;
+use crate::rule::rule;
 use load_faults::faults::Fault;
 use load_faults::faults::first_fault;
-use load_goals::goals::goal;
 use load_goals::goals::goals;
+use load_guards::guards::foreign;
 use load_image::keep::keep_places;
-use load_names::rules::both_halves;
+use load_names::rules::clause_rules;
 use load_names::rules::nothing_twice;
 use load_openings::cursor::Cursor;
 use load_openings::cursor::Read;
-use load_tokens::next::Next;
-use load_tokens::next::next_of;
 use load_tokens::token::Token;
 use load_tokens::token::front;
-use term::layout::CLAUSE_BODY;
 use term::layout::CLAUSE_COMPOUNDS;
 use term::layout::CLAUSE_GOALS;
+use term::layout::CLAUSE_GUARDS;
 use term::layout::CLAUSE_PAIRS;
 use term::layout::CLAUSE_STRIDE;
 use term::layout::CLAUSES;
@@ -35,63 +35,18 @@ ghost use lib.ListN.{length};
 ghost use Rattle.load_names.specs.Places.{Place};
 ghost use Rattle.meaning.specs.Bytes.{Bytes};
 ghost use Rattle.meaning.specs.Tokens.{Tokens, token, name, sign};
-ghost use Rattle.term.specs.Layout.{trial-region, trial-base, item-compounds};
+ghost use Rattle.term.specs.Layout.{trial-region};
 ghost use Rattle.load_tokens.specs.Fronts.{tokens-in};
 ghost use Rattle.load_items.specs.Outcomes.{ItemIs, Begins, Lent};
-ghost use Rattle.load_openings.specs.Reading.{Stands};
-ghost use Rattle.load_goals.specs.Endings.{RuleIs};
-
-// Head and body of a clause: how many body goals there are. The head's own word is noted for the clause of this number.
-fn rule(
-    text: &[u8],
-    rest: &[u8],
-    from: usize,
-    s: &mut [u64],
-    names: &mut [u64],
-    item: &mut [u64],
-    heads: &mut [u64],
-    base: usize,
-    place: usize,
-    k: usize,
-    c: Cursor,
-) -> Read
-    requires { ⌜ (base + item-compounds ≤ trial-base) × (place + 8 ≤ trial-region) × (trial-region ≤ length (now s)) × (length (now s) < 1152921504606846976) × (k < 128) × (length (now heads) ≡ 128) × (c .compounds ≡ 0) ⌝ }
-    requires { ⌜ ((known : List Place) × (vars : List Place) × Stands (now text) (now rest) from (now names) (now item) c known vars) ⌝ }
-    ensures { λ r. ⌜ ((known : List Place) (vars : List Place) → Stands (now (text .entry)) (now (rest .entry)) from (now (names .entry)) (now (item .entry)) c known vars
-        → RuleIs place k (now (text .entry)) (now (rest .entry)) from base known vars c (now (s .entry)) (now (item .entry)) (now (heads .entry)) (now (s .exit)) (now (names .exit)) (now (item .exit)) (now (heads .exit)) r) ⌝ }
-{
-    match goal(text, rest, from, s, names, item, base, c) {
-        Read::Got(_, e) => {
-            heads[k] = s[COMPOUND_WORDS * base];
-            let at = e.at;
-            match next_of(rest, at, b':', b'.', b'.') {
-                Next::First(behind) => goals(
-                    text,
-                    rest,
-                    from,
-                    s,
-                    names,
-                    item,
-                    base,
-                    place,
-                    Cursor { at: behind, ..e },
-                ),
-                Next::Second(behind) => Read::Got(0, Cursor { at: behind, ..e }),
-                Next::Third(a) => Read::Malformed(a),
-                Next::Other(a) => Read::Malformed(a),
-            }
-        }
-        Read::Malformed(a) => Read::Malformed(a),
-        Read::Exceeded => Read::Exceeded,
-    }
-}
+ghost use Rattle.load_items.specs.Judging.{Whole, Judging, JudgedIs};
 
 // An item read, up to the byte behind its full stop, with the names counted so far; or 4 at a place; or where it begins
-// with 6, and with the rule and the byte that break it; or nothing is left.
+// with 11 and 6, and with the rule and the byte that break it; or nothing is left.
 pub enum Item {
     Clause(usize, usize),
     Query(usize, usize),
     Malformed(usize),
+    Unknown(usize),
     Broken(usize, Fault),
     Exceeded(usize),
     Nothing,
@@ -106,6 +61,43 @@ fn first(names: usize, at: usize) -> Cursor
         variables: 0,
         compounds: 0,
     }
+}
+
+// The clause of this number behind its full stop, with so many guards and goals: "11 with another variable", then 5, 9 and 10; or its words are stored.
+fn judged(
+    rest: &[u8],
+    s: &mut [u64],
+    item: &[u64],
+    in_head: &[u64],
+    in_guards: &[u64],
+    licensed: &[u64],
+    k: usize,
+    begins: usize,
+    guards: usize,
+    bar: usize,
+    goals: u64,
+    c: Cursor,
+) -> Item
+    requires { ⌜ (k < 128) × (trial-region ≤ length (now s)) × (length (now s) < 1152921504606846976) ⌝ }
+    requires { ⌜ ((w : Whole) × Judging (now rest) (now s) (now item) (now in_head) (now in_guards) (now licensed) k begins guards bar goals c w) ⌝ }
+    ensures { λ r. ⌜ ((w : Whole) → Judging (now (rest .entry)) (now (s .entry)) (now (item .entry)) (now (in_head .entry)) (now (in_guards .entry)) (now (licensed .entry))
+        k begins guards bar goals c w
+        → JudgedIs (now (rest .entry)) k (now (s .exit)) w r) ⌝ }
+{
+    let counts = &in_head[32..];
+    if foreign(in_guards, counts, c.variables) {
+        return Item::Unknown(begins);
+    }
+    if !clause_rules(item, counts, licensed, c.variables) {
+        let fault = first_fault(rest, item, c.variables, true, 0, bar, licensed);
+        return Item::Broken(begins, fault);
+    }
+    let record = CLAUSES + CLAUSE_STRIDE * k;
+    s[record + CLAUSE_PAIRS] = word(c.variables);
+    s[record + CLAUSE_COMPOUNDS] = word(c.compounds);
+    s[record + CLAUSE_GOALS] = goals;
+    s[record + CLAUSE_GUARDS] = word(guards);
+    Item::Clause(c.at, c.names)
 }
 
 // The clause of this number, whose first token is a name at an offset of the rest.
@@ -130,7 +122,9 @@ fn clause(
     if 128 <= k {
         return Item::Exceeded(begins);
     }
-    let record = CLAUSES + CLAUSE_STRIDE * k;
+    let mut in_head = [0u64; 64];
+    let mut in_guards = [0u64; 64];
+    let mut licensed = [0u64; 16];
     match rule(
         text,
         rest,
@@ -139,27 +133,29 @@ fn clause(
         names,
         item,
         heads,
-        ITEMS / COMPOUND_WORDS + ITEM_COMPOUNDS * k,
-        record + CLAUSE_BODY,
+        &mut in_head,
+        &mut in_guards,
+        &mut licensed,
         k,
         first(known, 0),
     ) {
-        Read::Got(body, c) => {
-            if !nothing_twice(item, c.variables) {
-                let fault = first_fault(rest, item, c.variables, true, 0);
-                return Item::Broken(begins, fault);
-            }
-            if !both_halves(item, c.variables) {
-                let fault = first_fault(rest, item, c.variables, true, 0);
-                return Item::Broken(begins, fault);
-            }
-            s[record + CLAUSE_PAIRS] = word(c.variables);
-            s[record + CLAUSE_COMPOUNDS] = word(c.compounds);
-            s[record + CLAUSE_GOALS] = body;
-            Item::Clause(c.at, c.names)
-        }
-        Read::Malformed(a) => Item::Malformed(a),
-        Read::Exceeded => Item::Exceeded(begins),
+        Ruled::Got(guards, bar, goals, c) => judged(
+            rest,
+            s,
+            item,
+            &in_head,
+            &in_guards,
+            &licensed,
+            k,
+            begins,
+            guards,
+            bar,
+            goals,
+            c,
+        ),
+        Ruled::Unknown => Item::Unknown(begins),
+        Ruled::Malformed(a) => Item::Malformed(a),
+        Ruled::Exceeded => Item::Exceeded(begins),
     }
 }
 
@@ -199,7 +195,8 @@ fn query(
     ) {
         Read::Got(count, c) => {
             if !nothing_twice(item, c.variables) {
-                let fault = first_fault(rest, item, c.variables, false, begins + 2);
+                let licensed = [0u64; 16];
+                let fault = first_fault(rest, item, c.variables, false, begins + 2, 0, &licensed);
                 return Item::Broken(begins, fault);
             }
             s[record] = count;

@@ -16,7 +16,8 @@ use Rattle.meaning.specs.Items.{place-of}
 use Rattle.laws.proofs.Lists.Tests.{same-true}
 use Rattle.load_names.specs.Places.{Place, spellings}
 use Rattle.load_names.specs.Tables.{hash-from, hash-of, no-place, last-with}
-use Rattle.load_names.proofs.Spellings.{same-false, place-at, place-none}
+use Rattle.term.proofs.Compared.{same-false}
+use Rattle.load_names.proofs.Spellings.{place-at, place-none}
 
 pub hash-fits : (f : Bytes) → hash-of f < 256
 unfolding hash-of

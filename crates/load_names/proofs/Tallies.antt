@@ -21,7 +21,7 @@ and-true : (a : Bool) → a && true ≡ a
 and-true true = refl
 and-true false = refl
 
-and-false : (a : Bool) → a && false ≡ false
+pub and-false : (a : Bool) → a && false ≡ false
 and-false true = refl
 and-false false = refl
 
@@ -54,7 +54,7 @@ all-fails test (suc m) n h t =
     (eq-or-lt-of-le below))
 
 -- Both tests at once.
-swap-and : (a b c d : Bool) → (a && b) && (c && d) ≡ (a && c) && (b && d)
+pub swap-and : (a b c d : Bool) → (a && b) && (c && d) ≡ (a && c) && (b && d)
 swap-and true true c d = refl
 swap-and true false true d = refl
 swap-and true false false d = refl

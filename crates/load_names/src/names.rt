@@ -1,6 +1,7 @@
 // The names of the text, numbered in order of first occurrence. A table of 1,024 words: for each name its first byte in the text and its
 // length, two words a name; at 512 for each hash the last name that has it, plus one; and at 768 for each name the one before it with the
 // same hash, plus one. So a name is compared only with those of its own hash.
+use term::bytes::same;
 use term::word::index;
 use term::word::word;
 ghost use mathlib.Core.Path.{_≡_};
@@ -44,21 +45,6 @@ fn hash(rest: &[u8], a: usize, e: usize) -> usize
         i += 1;
     }
     h % 256
-}
-
-// Whether n bytes of the rest from i and of the text from j are the same.
-fn same(rest: &[u8], i: usize, text: &[u8], j: usize, n: usize) -> bool
-    requires { ⌜ (i + n ≤ length (now rest)) × (j + n ≤ length (now text)) ⌝ }
-    ensures { λ r. ⌜ r ≡ alike (slice i (i + n) (now (rest .entry))) (slice j (j + n) (now (text .entry))) ⌝ }
-{
-    let mut k = 0;
-    while k < n {
-        if rest[i + k] != text[j + k] {
-            return false;
-        }
-        k += 1;
-    }
-    true
 }
 
 // Whether the place of this number is spelled as the bytes of the rest from a to e.

@@ -29,7 +29,7 @@ use Rattle.meaning.specs.Items.{
   goal,
 }
 use Rattle.term.specs.Frames.{Only}
-use Rattle.load_tokens.specs.Fronts.{tokens-in, behind, FrontIs}
+use Rattle.load_tokens.specs.Fronts.{tokens-in, double-sign, behind, FrontIs}
 use Rattle.load_names.specs.Answers.{NameIs}
 use Rattle.load_openings.specs.Openings.{Opens, OpeningIs}
 use Rattle.load_names.specs.Places.{Place, Placed, spellings, with-place, with-name, with-variable, before, names-over, variables-over}
@@ -96,7 +96,7 @@ goal-ends counted n = refl
 
 pub behind-after : (b a : ℕ) → a ≤ behind b a
 unfolding behind if_then_else_
-behind-after b a = after (eqb b (byte ":") || eqb b (byte "?")) where
+behind-after b a = after (double-sign b) where
   after : (t : Bool) → a ≤ (if t then a + 2 else a + 1)
   after true = omega arith
   after false = omega arith

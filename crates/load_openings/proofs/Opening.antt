@@ -16,7 +16,7 @@ use Rattle.meaning.specs.Items.{Counted, read, is, count-name, term}
 use Rattle.term.specs.Cells.{term-word, stored, Numbered, Known}
 use Rattle.term.specs.Cells.{bits as cell-bits}
 use Rattle.term.specs.Words.{integer-word, packed, name-word}
-use Rattle.load_tokens.specs.Fronts.{tokens-in, FrontIs, bits, behind}
+use Rattle.load_tokens.specs.Fronts.{tokens-in, FrontIs, bits, double-sign, behind}
 use Rattle.load_names.specs.Places.{Place, spellings, with-place, with-name, with-variable, item-places}
 use Rattle.load_names.specs.Answers.{NameIs}
 use Rattle.load_tokens.specs.Nexts.{SignAt, one-of}
@@ -291,11 +291,11 @@ module _ (left : ℕ) (text rest : Bytes) (from : ℕ) (known vars : List Place)
   -- A list.
   module _ (b a : ℕ) (front : FrontIs rest (c .at) (Sign b a)) (square : b ≡ 91) where
     follows : tokens-in from rest (c .at) ≡ token (from + a) (sign 91) (tokens-in from rest (a + 1))
-    unfolding behind byte if_then_else_
+    unfolding behind double-sign byte if_then_else_
     follows = rw square at (front .2 from)
 
     inside : a + 1 ≤ length rest
-    unfolding behind byte if_then_else_
+    unfolding behind double-sign byte if_then_else_
     inside = rw square at (front .1)
 
     bracket : here ≡ token (from + a) (sign 91) (piece (tokens-in from rest (a + 1)))

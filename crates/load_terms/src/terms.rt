@@ -83,7 +83,7 @@ pub fn term(
     left: usize,
     c: Cursor,
 ) -> Read
-    requires { ⌜ (left ≤ 15) × (item-end base ≤ length (now s)) × (length (now s) < 1152921504606846976) ⌝ }
+    requires { ⌜ (left ≤ 16) × (item-end base ≤ length (now s)) × (length (now s) < 1152921504606846976) ⌝ }
     requires { ⌜ ((known : List Place) × (vars : List Place) × Stands (now text) (now rest) from (now names) (now item) c known vars) ⌝ }
     ensures { λ r. ⌜ ((known : List Place) (vars : List Place) → Stands (now (text .entry)) (now (rest .entry)) from (now (names .entry)) (now (item .entry)) c known vars
         → ReadIs (λ (t : Term). t) (term-reader left) (now (text .entry)) (now (rest .entry)) from base known vars c (now (s .entry)) (now (item .entry)) (now (s .exit)) (now (names .exit)) (now (item .exit)) r) ⌝ }

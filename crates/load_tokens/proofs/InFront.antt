@@ -11,7 +11,7 @@ use borrow.Author.Tests.{eq-eqb, ne-eqb}
 use Rattle.meaning.specs.Bytes.{Bytes, byte, if_then_else_}
 use Rattle.meaning.specs.Tokens.{token, sign}
 use Rattle.meaning.specs.Items.{begins-term}
-use Rattle.load_tokens.specs.Fronts.{tokens-in, behind, FrontIs}
+use Rattle.load_tokens.specs.Fronts.{tokens-in, double-sign, behind, FrontIs}
 use Rattle.load_tokens.specs.Nexts.{one-of, Stops, Goes, SignAt, NextIs}
 use Rattle.load_tokens.specs.declared.next.Next.{Next}
 use Rattle.load_tokens.specs.declared.next.Next.the-variants.{First, Second, Third, Other}
@@ -27,11 +27,11 @@ if-past false a = omega arith
 
 pub behind-past : (x a : ℕ) → a < behind x a
 unfolding behind
-behind-past x a = if-past (eqb x (byte ":") || eqb x (byte "?")) a
+behind-past x a = if-past (double-sign x) a
 
 module _ (rest : Bytes) (at : ℕ) where
   pub sign-front : (x a : ℕ) → FrontIs rest at (Sign x a) → SignAt rest at x (behind x a)
-  sign-front x a f = record { place = a; forward = omega (arith, behind-past x a, f .0); inside = f .1; follows = f .2 }
+  sign-front x a f = record { place = a; ends-at = refl; forward = omega (arith, behind-past x a, f .0); inside = f .1; follows = f .2 }
 
   -- Another sign is none of the three.
   module _ (x y z : ℕ) where

@@ -9,10 +9,10 @@ use lib.ListN.{length, drop, getD, length-drop, drop-of-length-le}
 use mathlib.Core.List.{[], _∷_}
 use borrow.Author.Tests.{eqb-true}
 use Rattle.meaning.specs.Bytes.{Bytes, byte, if_then_else_}
-use Rattle.meaning.specs.Tokens.{tokens-words, Front, bad, sign, lowercase, uppercase, digit, underscore, separates, single-sign, in-run, run, next-is, unsigned, name-front, variable-front, double-front, minus-front, front}
+use Rattle.meaning.specs.Tokens.{tokens-words, Front, bad, sign, lowercase, uppercase, digit, underscore, separates, single-sign, in-run, run, next-is, unsigned, name-front, variable-front, minus-front, front}
 use Rattle.laws.proofs.Reading.NameBytes.{row-is-the-former-test}
 use Rattle.load_tokens.proofs.Parts.{drop-next}
-use Rattle.load_tokens.specs.Fronts.{begins-sign}
+use Rattle.load_tokens.specs.Fronts.{double-sign, second, begins-sign}
 use Rattle.load_tokens.proofs.Classes.{either, of-signs, lowercase-bytes, uppercase-bytes, digit-bytes, not-lowercase, not-uppercase, not-separates, not-remark}
 
 -- The byte at an offset, as the next one of what stands behind.
@@ -58,15 +58,20 @@ module _ (c : ℕ) (cs : Bytes) where
   unfolding tokens-words
   minus-leads e = rw e
 
-  double-by : (eqb c (byte ":") || eqb c (byte "?")) ≡ true → (b : Bool) → eqb c (byte ":") ≡ b → front c cs ≡ double-front c cs
-  unfolding tokens-words
-  double-by t true e = rw (eqb-true c 58 e)
-  double-by t false e =
-      let question : eqb c 63 ≡ true = rw e at t in
-      rw (eqb-true c 63 question)
+  -- What a sign of two bytes is by the byte behind its first.
+  abbrev pub by-second : Front
+  by-second = if next-is (λ d. eqb d (second c)) cs then Front.token 1 (sign c) else Front.token 0 bad
 
-  pub double-leads : (eqb c (byte ":") || eqb c (byte "?")) ≡ true → front c cs ≡ double-front c cs
-  double-leads t = double-by t (eqb c (byte ":")) refl
+  double-by : double-sign c ≡ true → (b d : Bool) → eqb c (byte ":") ≡ b → eqb c (byte "?") ≡ d → front c cs ≡ by-second
+  unfolding tokens-words double-sign second
+  double-by t true d e f = rw (eqb-true c 58 e)
+  double-by t false true e f = rw (eqb-true c 63 f)
+  double-by t false false e f =
+      let equals : eqb c 61 ≡ true = rw (e, f) at t in
+      rw (eqb-true c 61 equals)
+
+  pub double-leads : double-sign c ≡ true → front c cs ≡ by-second
+  double-leads t = double-by t (eqb c (byte ":")) (eqb c (byte "?")) refl refl
 
   pub sign-leads : single-sign c ≡ true → front c cs ≡ Front.token 0 (sign c)
   unfolding tokens-words
@@ -86,19 +91,20 @@ module _ (c : ℕ) (cs : Bytes) where
     pub no-sign : begins-sign c cs ≡ false
 
   module _ (o : Nothing) where
-    bad-by : (b : Bool) → (eqb c (byte ":") || eqb c (byte "?")) ≡ b → front c cs ≡ Front.token 0 bad
-    unfolding front if_then_else_ double-front begins-sign
+    bad-by : (b : Bool) → double-sign c ≡ b → front c cs ≡ Front.token 0 bad
+    unfolding front if_then_else_ double-sign begins-sign
     bad-by true t =
-        let dash = either (single-sign c) _ (o .no-sign) .1 in
-        let behind : next-is (λ d. eqb d (byte "-")) cs ≡ false = rw t at dash in
+        let other = either (single-sign c) _ (o .no-sign) .1 in
+        let behind : next-is (λ d. eqb d (second c)) cs ≡ false = rw t at other in
         double-leads t ∙ rw behind
     bad-by false t =
         let single = either (single-sign c) _ (o .no-sign) .0 in
         let k = either (lowercase c || uppercase c || digit c) (underscore c) (sym (row-is-the-former-test c) ∙ o .no-run) in
         let d = either (lowercase c || uppercase c) (digit c) (k .0) in
         let l = either (lowercase c) (uppercase c) (d .0) in
-        rw (o .no-separator, o .no-remark, l .0, l .1, d .1, k .1, o .no-minus, t, single)
+        let two = either (eqb c (byte ":") || eqb c (byte "?")) (eqb c (byte "=")) t in
+        rw (o .no-separator, o .no-remark, l .0, l .1, d .1, k .1, o .no-minus, two .0, two .1, single)
 
     -- "Any other byte" is a bad token.
     pub bad-leads : front c cs ≡ Front.token 0 bad
-    bad-leads = bad-by (eqb c (byte ":") || eqb c (byte "?")) refl
+    bad-leads = bad-by (double-sign c) refl

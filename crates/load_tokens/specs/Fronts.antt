@@ -24,13 +24,20 @@ abbrev pub bits : Integer → ℕ
 bits (plus n) = n
 bits (minus n) = 4294967296 - n
 
--- The first byte behind a sign: `:-` and `?-` have two bytes.
+-- The first byte of a sign of two, `:-`, `?-` or `==`, and the second byte by the first.
+unfoldable pub double-sign : ℕ → Bool
+double-sign c = eqb c (byte ":") || eqb c (byte "?") || eqb c (byte "=")
+
+unfoldable pub second : ℕ → ℕ
+second c = if eqb c (byte "=") then byte "=" else byte "-"
+
+-- The first byte behind a sign.
 unfoldable pub behind : ℕ → ℕ → ℕ
-behind c a = if eqb c (byte ":") || eqb c (byte "?") then a + 2 else a + 1
+behind c a = if double-sign c then a + 2 else a + 1
 
 -- A byte begins a sign: one of a single byte, or of two, whose second is the next byte.
 unfoldable pub begins-sign : ℕ → Bytes → Bool
-begins-sign c cs = single-sign c || (eqb c (byte ":") || eqb c (byte "?")) && next-is (λ d. eqb d (byte "-")) cs
+begins-sign c cs = single-sign c || double-sign c && next-is (λ d. eqb d (second c)) cs
 
 -- What the code's answer says of the tokens of the rest from a place on, wherever in the text the rest begins.
 abbrev pub FrontIs : Bytes → ℕ → Token → Type 0

@@ -7,7 +7,7 @@ use lib.ListN.{length}
 use Rattle.meaning.specs.Bytes.{Bytes}
 use Rattle.meaning.specs.Tokens.{Token, Tokens, ends, token, name, variable, integer, sign, bad}
 use Rattle.meaning.specs.Items.{begins-term}
-use Rattle.load_tokens.specs.Fronts.{tokens-in, FrontIs}
+use Rattle.load_tokens.specs.Fronts.{tokens-in, behind, FrontIs}
 use Rattle.load_tokens.specs.declared.next.Start.{Start}
 use Rattle.load_tokens.specs.declared.next.Start.the-variants.{Can, Cannot}
 use Rattle.load_tokens.specs.declared.token.Token.the-variants as tokens
@@ -36,12 +36,13 @@ abbrev pub Goes : (Token → Bool) → Tokens → Type 0
 Goes can (ends p) = ⊥
 Goes can (token p t others) = can t ≡ true
 
--- This sign comes next, and ends at a place of the rest.
-pub record SignAt (rest : Bytes) (at x behind : ℕ) : Type 0 where
+-- This sign comes next, and the first place behind it is a place of the rest.
+pub record SignAt (rest : Bytes) (at x next : ℕ) : Type 0 where
   pub place : ℕ
-  pub forward : at < behind
-  pub inside : behind ≤ length rest
-  pub follows : (from : ℕ) → tokens-in from rest at ≡ token (from + place) (sign x) (tokens-in from rest behind)
+  pub ends-at : next ≡ behind x place
+  pub forward : at < next
+  pub inside : next ≤ length rest
+  pub follows : (from : ℕ) → tokens-in from rest at ≡ token (from + place) (sign x) (tokens-in from rest next)
 
 abbrev pub StartIs : Bytes → ℕ → Start → Type 0
 StartIs rest at Can = (from : ℕ) → Goes begins-term (tokens-in from rest at)
@@ -52,11 +53,11 @@ MarkIs rest at (Sign c a) = FrontIs rest at (tokens.Sign c a)
 MarkIs rest at (NoSign a) = (a ≤ length rest) × ((x y z from : ℕ) → Stops (one-of x y z) (from + a) (tokens-in from rest at))
 
 abbrev pub IsNextSign : Bytes → ℕ → ℕ → IsNext → Type 0
-IsNextSign rest at x (Yes behind) = SignAt rest at x behind
+IsNextSign rest at x (Yes next) = SignAt rest at x next
 IsNextSign rest at x (No a) = (a ≤ length rest) × ((from : ℕ) → Stops (one-of x x x) (from + a) (tokens-in from rest at))
 
 abbrev pub NextIs : Bytes → ℕ → ℕ → ℕ → ℕ → Next → Type 0
-NextIs rest at x y z (First behind) = SignAt rest at x behind
-NextIs rest at x y z (Second behind) = (eqb y x ≡ false) × SignAt rest at y behind
-NextIs rest at x y z (Third behind) = (eqb z x ≡ false) × (eqb z y ≡ false) × SignAt rest at z behind
+NextIs rest at x y z (First next) = SignAt rest at x next
+NextIs rest at x y z (Second next) = (eqb y x ≡ false) × SignAt rest at y next
+NextIs rest at x y z (Third next) = (eqb z x ≡ false) × (eqb z y ≡ false) × SignAt rest at z next
 NextIs rest at x y z (Other a) = (a ≤ length rest) × ((from : ℕ) → Stops (one-of x y z) (from + a) (tokens-in from rest at))

@@ -1,7 +1,7 @@
-// Document 01, 'Job text', first paragraph: the token in front of a part of the text, from an offset on.
+// Document 01, 'Job text', first paragraph, with `==` of document 02, T-02: the token in front of a part of the text, from an offset on.
 
 ghost use mathlib.Core.Path.{_≡_};
-ghost use mathlib.Core.Bool.{true, _||_};
+ghost use mathlib.Core.Bool.{true};
 ghost use Prim.Native.Nat.{_+_, _-_, _≤_, _<_};
 ghost use lib.Dec.{leb, eqb};
 ghost use lib.ListN.{length, drop, getD};
@@ -10,7 +10,7 @@ ghost use Rattle.meaning.specs.Bytes.{byte, if_then_else_, all};
 ghost use Rattle.meaning.specs.Tokens.{value, next-is};
 ghost use Rattle.meaning.specs.Tokens as tokens;
 ghost use Rattle.load_tokens.specs.Ends.{Skipped, end-of-run, end-of-remark};
-ghost use Rattle.load_tokens.specs.Fronts.{FrontIs, begins-sign, behind};
+ghost use Rattle.load_tokens.specs.Fronts.{FrontIs, double-sign, second, begins-sign, behind};
 
 // What stands in front, with where it begins and where it ends; of a reader the `?` is not counted in its end.
 pub enum Token {
@@ -87,15 +87,23 @@ fn single_sign(c: u8) -> bool
     }
 }
 
-// The first byte of `:-` and of `?-`.
+// The first byte of `:-`, of `?-` and of `==`.
 fn begins_double(c: u8) -> bool
-    ensures { λ r. ⌜ r ≡ (eqb c (byte ":") || eqb c (byte "?")) ⌝ }
+    ensures { λ r. ⌜ r ≡ double-sign c ⌝ }
 {
     match c {
         b':' => true,
         b'?' => true,
+        b'=' => true,
         _ => false,
     }
+}
+
+// The second byte of a sign of two bytes, by its first.
+fn second_byte(c: u8) -> u8
+    ensures { λ r. ⌜ r ≡ second c ⌝ }
+{
+    if c == b'=' { b'=' } else { b'-' }
 }
 
 // The end of a remark: its LF, or the end of the text.
@@ -235,18 +243,18 @@ fn variable(rest: &[u8], a: usize, e: usize) -> Token
     Token::Writer(a, e)
 }
 
-// Whether a `-` stands right behind a byte.
-fn dashed(rest: &[u8], a: usize) -> bool
+// Whether this byte stands right behind a place.
+fn followed(rest: &[u8], a: usize, by: u8) -> bool
     requires { ⌜ a < length (now rest) ⌝ }
-    ensures { λ r. ⌜ r ≡ next-is (λ d. eqb d (byte "-")) (drop (a + 1) (now (rest .entry))) ⌝ }
+    ensures { λ r. ⌜ r ≡ next-is (λ d. eqb d by) (drop (a + 1) (now (rest .entry))) ⌝ }
 {
     if rest.len() <= a + 1 {
         return false;
     }
-    rest[a + 1] == b'-'
+    rest[a + 1] == by
 }
 
-// Whether a byte begins a sign: one of a single byte, or `:-` or `?-`.
+// Whether a byte begins a sign: one of a single byte, or `:-`, `?-` or `==`.
 pub fn begins_sign(rest: &[u8], a: usize, c: u8) -> bool
     requires { ⌜ a < length (now rest) ⌝ }
     ensures { λ r. ⌜ r ≡ begins-sign c (drop (a + 1) (now (rest .entry))) ⌝ }
@@ -255,7 +263,7 @@ pub fn begins_sign(rest: &[u8], a: usize, c: u8) -> bool
         return true;
     }
     if begins_double(c) {
-        return dashed(rest, a);
+        return followed(rest, a, second_byte(c));
     }
     false
 }

@@ -5,10 +5,11 @@ use mathlib.Core.List.{List, [], _∷_, _++_, map}
 use native.Mathlib.Omega.{arith}
 use lib.ListN.{length, set}
 use Rattle.meaning.specs.Bytes.{Bytes}
-use Rattle.meaning.specs.Terms.{Clause, Query, Job, count}
+use Rattle.meaning.specs.Terms.{Clause, Query, Job, as-term, count}
 use Rattle.meaning.specs.Items.{Refusal, Reading, job, refused, with-clause, with-query}
 use Rattle.term.specs.Jobs.{GoalsKnown}
-use Rattle.term.specs.Layout.{clause-base, query-base, query-goals-from, clause-goals-from}
+use Rattle.term.specs.Cells.{stored}
+use Rattle.term.specs.Layout.{clause-base, query-base, query-goals-from, clause-goals-from, clause-tests-from}
 use Rattle.load_names.specs.Places.{Place, spellings, item-places}
 use Rattle.load_image.specs.Image.{
   Entry,
@@ -27,7 +28,9 @@ use Rattle.load_image.specs.Image.{
 use Rattle.loader.specs.Loading.{with-entries, EntriesKnown}
 use Rattle.load_openings.proofs.Passing.{More}
 use Rattle.load_goals.proofs.GoalLists.{still-known, still-goals, still-stored}
+use Rattle.load_items.specs.Rules.{GuardsNamed}
 use Rattle.load_items.proofs.Heads.{still-head}
+use Rattle.load_items.proofs.MoreNames.{still-guards, still-named-guards}
 
 pub with-snoc : (es : List Entry) (e : Entry) (r : Reading) → with-entries (es ++ (e ∷ [])) r ≡ with-entries es (with-entries (e ∷ []) r)
 unfolding with-entries
@@ -94,15 +97,18 @@ module _ (known known′ : List Place) (m : More known known′) where
   pub entries-still-known : (es : List Entry) → EntriesKnown (spellings known) es → EntriesKnown (spellings known′) es
   unfolding EntriesKnown
   entries-still-known [] k = tt
-  entries-still-known (a-clause c ∷ es) k = (still-known known known′ 0 m (c .head ∷ c .body) (k .0), k .1, entries-still-known es (k .2))
+  entries-still-known (a-clause c ∷ es) k =
+      ((still-known known known′ 0 m (c .head ∷ c .body) (k .0 .0), still-named-guards known known′ 0 m (c .guards) (k .0 .1)), k .1, entries-still-known es (k .2))
   entries-still-known (a-query q vs ∷ es) k = (still-known known known′ 0 m (q .goals) (k .0), entries-still-known es (k .1))
 
-  clause-still : (k : ℕ) (c : Clause) (s : List ℕ) → GoalsKnown (spellings known) (c .head ∷ c .body) → clause-stored known′ k c s ≡ clause-stored known k c s
+  clause-still : (k : ℕ) (c : Clause) (s : List ℕ) → GoalsKnown (spellings known) (c .head ∷ c .body) × GuardsNamed (spellings known) (c .guards)
+      → clause-stored known′ k c s ≡ clause-stored known k c s
   unfolding clause-stored GoalsKnown
   clause-still k c s h =
       rw (
-        still-stored known known′ (clause-base k) m (c .head) s (h .0),
-        still-goals known known′ (clause-base k) m (clause-goals-from k) (c .body) _ (h .1),
+        still-stored known known′ (clause-base k) m (c .head) s (h .0 .0),
+        still-guards known known′ (clause-base k) m (clause-tests-from k) (c .guards) (stored (item-places known (clause-base k)) (as-term (c .head)) s) (h .1),
+        still-goals known known′ (clause-base k) m (clause-goals-from k) (c .body) _ (h .0 .1),
       )
 
   query-still : (k : ℕ) (q : Query) (vs : List Place) (s : List ℕ) → GoalsKnown (spellings known) (q .goals) → query-stored known′ k q vs s ≡ query-stored known k q vs s
@@ -120,5 +126,5 @@ module _ (known known′ : List Place) (m : More known known′) where
   pub heads-still : (es : List Entry) → EntriesKnown (spellings known) es → head-words known′ (clauses-of es) ≡ head-words known (clauses-of es)
   unfolding head-words EntriesKnown clauses-of GoalsKnown
   heads-still [] h = refl
-  heads-still (a-clause c ∷ es) h = rw (still-head known known′ m (c .head) (h .0 .0)) (ap (λ l. head-word known (c .head) ∷ l) (heads-still es (h .2)))
+  heads-still (a-clause c ∷ es) h = rw (still-head known known′ m (c .head) (h .0 .0 .0)) (ap (λ l. head-word known (c .head) ∷ l) (heads-still es (h .2)))
   heads-still (a-query g vs ∷ es) h = heads-still es (h .1)

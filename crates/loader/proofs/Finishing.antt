@@ -84,7 +84,7 @@ heads-bounds : (places : List Place) (es : List Entry) → EntriesKnown (spellin
     → (8 ≤ getD (head-words places (clauses-of es)) k 0) × (getD (head-words places (clauses-of es)) k 0 < 2056)
 unfolding clauses-of head-words EntriesKnown
 heads-bounds places [] h many k l = absurd (omega arith)
-heads-bounds places (a-clause c ∷ es) h many zero l = head-bounds places c (h .0) (h .1) many
+heads-bounds places (a-clause c ∷ es) h many zero l = head-bounds places c (h .0 .0) (h .1) many
 heads-bounds places (a-clause c ∷ es) h many (suc k) l = heads-bounds places es (h .2) many k (omega arith)
 heads-bounds places (a-query q vs ∷ es) h many k l = heads-bounds places es (h .1) many k l
 

@@ -20,6 +20,7 @@ use Rattle.meaning.specs.Call.{
   figure-passed,
   queries-pass-room,
   report-long,
+  guard-refused,
   refusal,
 }
 use Rattle.load_faults.specs.Finding.{rule-of}
@@ -28,7 +29,7 @@ use Rattle.load_faults.specs.declared.faults.Broken.the-variants.{Twice, Writer
 use Rattle.loader.specs.Loading.{LoadedIs}
 use Rattle.loader.specs.Refusals.{refusal-answer}
 use Rattle.loader.specs.declared.refusal.Refusal.{Refusal as Why}
-use Rattle.loader.specs.declared.refusal.Refusal.the-variants.{NoItems, OccurrenceBroken, FigurePassed}
+use Rattle.loader.specs.declared.refusal.Refusal.the-variants.{NoItems, GuardRefused, OccurrenceBroken, FigurePassed}
 use Rattle.loader.specs.declared.load.Loaded.{Loaded}
 use Rattle.loader.specs.declared.load.Loaded.the-variants.{Job as AJob, Refused}
 
@@ -64,10 +65,12 @@ back (occurrence-broken rule at offset) = OccurrenceBroken (back-rule rule) at o
 back (figure-passed at) = FigurePassed at
 back queries-pass-room = NoItems 0 0
 back (report-long n) = NoItems 0 0
+back (guard-refused at) = GuardRefused at
 
 back-refusal : (x : Why) → back (refusal-answer x) ≡ x
 unfolding back
 back-refusal (NoItems at offset) = refl
+back-refusal (GuardRefused at) = refl
 back-refusal (OccurrenceBroken rule at offset) = ap (λ b. OccurrenceBroken b at offset) (back-rule-of rule)
 back-refusal (FigurePassed at) = refl
 

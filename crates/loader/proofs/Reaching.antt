@@ -195,7 +195,7 @@ module _ (text : Bytes) (s₀ s names heads : List ℕ) (from clauses queries kn
         heads-size = ap length (k .noted) ∙ length-set heads clauses (head-word places′ (c .head)) ∙ r .heads-size;
         known-names =
             known-snoc-entries (spellings places′) done (a-clause c ∷ []) (entries-still-known places places′ m done (r .known-names))
-            (k .known-names, k .few .1, tt);
+            ((k .known-names, k .guards-named), k .few .1, tt);
         only = only-then 0 trial-region s₀ s s′ (r .only) only;
       }
 

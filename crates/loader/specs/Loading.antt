@@ -29,6 +29,7 @@ use Rattle.load_image.specs.Image.{
   head-words,
   image,
 }
+use Rattle.load_items.specs.Rules.{GuardsNamed}
 use Rattle.loader.specs.Refusals.{refusal-answer, at-line}
 use Rattle.loader.specs.declared.load.Loaded.{Loaded}
 use Rattle.loader.specs.declared.load.Loaded.the-variants.{Job as AJob, Refused}
@@ -44,7 +45,8 @@ with-entries (a-query q vs ∷ es) r = with-query q (with-entries es r)
 -- The entries' names are among these, and no head has more than 6 arguments.
 unfoldable pub EntriesKnown : List Bytes → List Entry → Type 0
 EntriesKnown names [] = Unit {0}
-EntriesKnown names (a-clause c ∷ es) = GoalsKnown names (c .head ∷ c .body) × (count (c .head .arguments) ≤ 6) × EntriesKnown names es
+EntriesKnown names (a-clause c ∷ es) =
+    (GoalsKnown names (c .head ∷ c .body) × GuardsNamed names (c .guards)) × (count (c .head .arguments) ≤ 6) × EntriesKnown names es
 EntriesKnown names (a-query q vs ∷ es) = GoalsKnown names (q .goals) × EntriesKnown names es
 
 -- Some items have been read, up to the byte behind a full stop.

@@ -88,6 +88,9 @@ fn all_items(text: &[u8], s: &mut [u64], names: &mut [u64], heads: &mut [u64]) -
             Item::Malformed(a) => {
                 return Listed::Stopped(Refusal::NoItems(from + a, from + a));
             }
+            Item::Unknown(a) => {
+                return Listed::Stopped(Refusal::GuardRefused(from + a));
+            }
             Item::Broken(a, fault) => {
                 let rule = fault.rule;
                 let offset = from + fault.offset;
@@ -109,6 +112,7 @@ fn told_at_line(text: &[u8], why: Refusal) -> Refusal
 {
     match why {
         Refusal::NoItems(place, offset) => Refusal::NoItems(line(text, place), offset),
+        Refusal::GuardRefused(place) => Refusal::GuardRefused(line(text, place)),
         Refusal::OccurrenceBroken(rule, place, offset) => {
             Refusal::OccurrenceBroken(rule, line(text, place), offset)
         }

@@ -1,4 +1,4 @@
-// Why a text is refused: 4, 5, 9, 10 or 6, under the names of the definitions' `Answer`. One enum from the reading to the exported call.
+// Why a text is refused: 4, 11, 5, 9, 10 or 6, under the names of the definitions' `Answer`. One enum from the reading to the exported call.
 use load_faults::faults::Broken;
 ghost use mathlib.Core.Path.{_≡_};
 ghost use Rattle.meaning.specs.Call.{rule-number as number-of-rule};
@@ -7,6 +7,7 @@ ghost use Rattle.load_faults.specs.Finding.{rule-of};
 // It holds a place in the text while that is read, and the line once it is told; behind it the byte, where the number has one.
 pub enum Refusal {
     NoItems(usize, usize),
+    GuardRefused(usize),
     OccurrenceBroken(Broken, usize, usize),
     FigurePassed(usize),
 }

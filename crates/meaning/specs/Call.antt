@@ -7,7 +7,7 @@ use lib.ListN.{length, drop, replicate}
 use Rattle.meaning.specs.Bytes.{Bytes, if_then_else_}
 use Rattle.meaning.specs.Terms.{Job}
 use Rattle.meaning.specs.Faults.{Broken, twice, writer-alone, reader-alone}
-use Rattle.meaning.specs.Items.{Refusal, no-item, occurrence-rule, figure, no-query, Reading, job, refused, reading, line, items-words}
+use Rattle.meaning.specs.Items.{Refusal, no-item, guard-rule, occurrence-rule, figure, no-query, Reading, job, refused, reading, line, items-words}
 use Rattle.meaning.specs.State.{Room}
 use Rattle.meaning.specs.Run.{run, queries-fit}
 use Rattle.meaning.specs.Report.{report, report-words}
@@ -32,6 +32,7 @@ pub data Answer : Type 0 where
   figure-passed : ℕ → Answer
   queries-pass-room : Answer
   report-long : ℕ → Answer
+  guard-refused : ℕ → Answer
 
 -- "Number 5 becomes 5 (the same half twice), 9 (a writer without its reader) and 10 (a reader without its writer)."
 unfoldable pub rule-number : Broken → ℕ
@@ -50,6 +51,7 @@ number (occurrence-broken rule at offset) = rule-number rule
 number (figure-passed at) = 6
 number queries-pass-room = 7
 number (report-long report) = 8
+number (guard-refused at) = 11
 
 unfoldable pub line-of : Answer → ℕ
 line-of (ran report) = 0
@@ -61,6 +63,7 @@ line-of (occurrence-broken rule at offset) = at
 line-of (figure-passed at) = at
 line-of queries-pass-room = 0
 line-of (report-long report) = 0
+line-of (guard-refused at) = at
 
 -- "4, 5, 9 and 10 also return a byte offset, 0 with every other number."
 unfoldable pub offset-of : Answer → ℕ
@@ -73,6 +76,7 @@ offset-of (occurrence-broken rule at offset) = offset
 offset-of (figure-passed at) = 0
 offset-of queries-pass-room = 0
 offset-of (report-long report) = 0
+offset-of (guard-refused at) = 0
 
 unfoldable pub length-of : Answer → ℕ
 length-of (ran report) = report
@@ -84,6 +88,7 @@ length-of (occurrence-broken rule at offset) = 0
 length-of (figure-passed at) = 0
 length-of queries-pass-room = 0
 length-of (report-long report) = report
+length-of (guard-refused at) = 0
 
 -- The answer with the two buffers as they are when the call ends.
 pub record Outcome : Type 0 where
@@ -99,9 +104,10 @@ in-range budget room =
     && (leb 1 (room .compounds) && leb (room .compounds) 65535)
     && (leb 1 (room .goals) && leb (room .goals) 65535)
 
--- 4, 5, 9, 10 and 6, with their lines; "0 for no query". "For 4 the token's start (the text's length at its end)": the token's own place.
+-- 4, 5, 9, 10, 6 and 11, with their lines; "0 for no query". "For 4 the token's start (the text's length at its end)": the token's own place.
 unfoldable pub refusal : Bytes → Refusal → Answer
 refusal text (no-item place) = no-items (line text place) place
+refusal text (guard-rule place) = guard-refused (line text place)
 refusal text (occurrence-rule place fault) = occurrence-broken (fault .rule) (line text place) (fault .offset)
 refusal text (figure place) = figure-passed (line text place)
 refusal text no-query = figure-passed 0
@@ -113,7 +119,7 @@ untouched answer given = record { answer = answer; buffer = given .buffer; scrat
 unfoldable pub cleared : ℕ → List ℕ → List ℕ
 cleared need scratch = replicate need 0 ++ drop need scratch
 
--- "On 1 to 8 the whole report buffer keeps its values", and on 9 and 10, which take 5's place.
+-- "On 1 to 8 the whole report buffer keeps its values", and on 9 and 10, which take 5's place, and on 11.
 unfoldable pub refuses : ℕ → Answer → Given → Outcome
 refuses need answer given = record { answer = answer; buffer = given .buffer; scratch = cleared need (given .scratch) }
 

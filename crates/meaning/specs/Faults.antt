@@ -1,4 +1,5 @@
--- Document 02, T-01, "Say which rule, say which byte": the occurrence rules of document 01 over an item's tokens, and where one is broken.
+-- Document 02, T-01, "Say which rule, say which byte": the occurrence rules of document 01 over an item's tokens, and where one is broken;
+-- with T-02, what a clause's guards change in them.
 use Prim.Native.Nat.{ℕ}
 use mathlib.Core.Bool.{Bool, false, _&&_}
 use mathlib.Core.List.{List, [], _∷_, _++_}
@@ -6,7 +7,7 @@ use mathlib.Core.Option.{Option, none, some}
 use lib.Dec.{leb}
 use Rattle.meaning.specs.Bytes.{Bytes, same, if_then_else_}
 use Rattle.meaning.specs.Terms.{Half, writer, reader, same-half, terms-words}
-use Rattle.meaning.specs.Tokens.{Token, name, variable, integer, sign, bad, Tokens, ends, token}
+use Rattle.meaning.specs.Tokens.{Token, name, variable, integer, sign, bad, Tokens, ends, token, is, tokens-words}
 
 -- Document 02: "5 (the same half twice), 9 (a writer without its reader) and 10 (a reader without its writer)."
 pub data Broken : Type 0 where
@@ -52,10 +53,30 @@ alone-of piece x =
     alone-faults writer-alone (occurs-at writer x piece) (occurs-at reader x piece)
     ++ alone-faults reader-alone (occurs-at reader x piece) (occurs-at writer x piece)
 
--- In a clause both rules hold, of each of its variables.
-unfoldable pub clause-faults : Tokens → List Bytes → List Fault
-clause-faults piece [] = []
-clause-faults piece (x ∷ variables) = (twice-of piece x ++ alone-of piece x) ++ clause-faults piece variables
+-- A clause's tokens up to its `:-`, and behind that sign others.
+unfoldable pub up-to-implied : Tokens → Tokens → Tokens
+up-to-implied (ends place) behind = ends place
+up-to-implied (token place t rest) behind = token place t (if is ":" t then behind else up-to-implied rest behind)
+
+-- "Occurrences in guards don't count for the pairing" (T-02): the tokens that count, of a clause without a bar, and of one with these behind its bar.
+unfoldable pub pairing : Option Tokens → Tokens → Tokens
+pairing none piece = piece
+pairing (some behind) piece = up-to-implied piece behind
+
+-- The head's tokens.
+unfoldable pub head-tokens : Tokens → Tokens
+head-tokens piece = up-to-implied piece (ends 0)
+
+-- "A reader that is itself the argument of a ground, integer or constant guard may stand several times in that clause's body, and once in its head as
+-- well" (T-02): of a reader that is free so, only the head's occurrences are judged.
+unfoldable pub twice-in-clause : Bool → Tokens → Bytes → List Fault
+twice-in-clause free piece x =
+    twice-faults (occurs-at writer x piece) ++ twice-faults (occurs-at reader x (if free then head-tokens piece else piece))
+
+-- In a clause both rules hold, of each of its variables, of which some have readers that are free.
+unfoldable pub clause-faults : (Bytes → Bool) → Tokens → List Bytes → List Fault
+clause-faults free piece [] = []
+clause-faults free piece (x ∷ variables) = (twice-in-clause (free x) piece x ++ alone-of piece x) ++ clause-faults free piece variables
 
 -- "In a query nothing occurs twice; either half may be missing."
 unfoldable pub query-faults : Tokens → List Bytes → List Fault
@@ -72,5 +93,5 @@ least [] = none
 least (f ∷ faults) = some (smaller f (least faults))
 
 unfoldable pub faults-words : Unit {0}
-unfolding terms-words is-half occurs-at twice-faults alone-faults twice-of alone-of clause-faults query-faults smaller least
+unfolding tokens-words terms-words is-half occurs-at twice-faults alone-faults twice-of alone-of up-to-implied pairing head-tokens twice-in-clause clause-faults query-faults smaller least
 faults-words = tt

@@ -1,4 +1,5 @@
--- Document 01, 'Job text' and 'What the caller gets back', and document 02, T-01: items read from tokens, the figures, and 4, 5, 6, 9 and 10.
+-- Document 01, 'Job text' and 'What the caller gets back', and document 02, T-01 and T-02: items read from tokens, the figures, the guards, and 4, 5, 6, 9, 10
+-- and 11.
 use Prim.Native.Nat.{ℕ, zero, suc, _+_, _-_, min}
 use Prim.Native.Char.{Char}
 use mathlib.Core.Bool.{Bool, true, false, not, _&&_, _||_}
@@ -6,18 +7,20 @@ use mathlib.Core.List.{List, [], _∷_, _++_}
 use mathlib.Core.Option.{Option, none, some}
 use lib.Dec.{leb, ltb, eqb}
 use lib.ListN.{length, take}
-use Rattle.meaning.specs.Bytes.{Bytes, bytes-words, byte, same, if_then_else_, any, those}
+use Rattle.meaning.specs.Bytes.{Bytes, bytes-words, byte, same, if_then_else_, all, any, those}
 use Rattle.meaning.specs.Terms.{
   Constant,
   empty,
   Functor,
   cell,
+  named,
   Term,
   Terms,
   compound,
   end,
   more,
   Named,
+  Guard,
   Clause,
   Query,
   Job,
@@ -25,7 +28,9 @@ use Rattle.meaning.specs.Terms.{
   terms-words,
 }
 use Rattle.meaning.specs.Tokens.{Token, name, variable, integer, sign, bad, Tokens, ends, token, tokens, tokens-words}
-use Rattle.meaning.specs.Faults.{Fault, clause-faults, query-faults, least, faults-words}
+use Rattle.meaning.specs.Faults.{Fault, pairing, clause-faults, query-faults, least, faults-words}
+use Rattle.meaning.specs.Table.{Element, whole, bare, equals, as-goals, as-guards, of-the-head, licensed, table-words}
+unfoldable pub use Rattle.meaning.specs.Tokens.{is}
 
 -- What has been counted when a token is reached: the names of the text so far, the variables and the compounds of the item so far.
 pub record Counted : Type 0 where
@@ -70,14 +75,6 @@ passes counted rest = passed
 unfoldable pub next : {A : Type 0} → (ℕ → Token → Reader A) → Reader A
 next on counted (ends place) = malformed place
 next on counted (token place t rest) = on place t counted rest
-
--- A token is this sign.
-unfoldable pub is : Char → Token → Bool
-is c (name f) = false
-is c (variable h x) = false
-is c (integer i) = false
-is c (sign b) = eqb b (byte c)
-is c bad = false
 
 -- A token is a name; a token can begin a term.
 unfoldable pub is-name : Token → Bool
@@ -213,22 +210,82 @@ goals (suc left) = do
   another ← either "," "."
   if another then (goals left >>= λ gs. give (g ∷ gs)) else give (g ∷ [])
 
--- "An item is `head.`, `head :- goal,..,goal.` or `?- goal,..,goal.`": head and body, or the query's goals behind its `?-`.
+-- "A clause may read `head :- guard,..,guard | goal,..,goal.`" (02, T-02). A term that no `==` follows is an element only if it begins with a name; behind any
+-- other the next token cannot stand.
+unfoldable pub by-itself : Term → Reader Element
+by-itself (compound n (named f) ts) = give (whole (record { number = n; name = f; arguments = ts }))
+by-itself (compound n cell ts) = next (λ place t. cannot-stand place)
+by-itself (Term.constant (Constant.name f)) = give (bare f)
+by-itself (Term.constant (Constant.integer i)) = next (λ place t. cannot-stand place)
+by-itself (Term.constant empty) = next (λ place t. cannot-stand place)
+by-itself (Term.variable h n) = next (λ place t. cannot-stand place)
+
+-- The right side of `==`, which is counted as a compound at its token.
+unfoldable pub equals-behind : Term → Reader Element
+equals-behind left = do
+  n ← count-compound
+  right ← term 16
+  give (equals n left right)
+
+-- The parenthesis of an element is the first of the 16 brackets; each side of `==` has 16.
+unfoldable pub element-behind : Reader Element
+element-behind = do
+  t ← term 16
+  if-next "=" (equals-behind t) (by-itself t)
+
+-- What stands behind `:-`: the guards before the bar, not yet judged, the goals up to the full stop, and the tokens behind the bar if there is one.
+pub record Body : Type 0 where
+  pub guards : List Element
+  pub goals : List Named
+  pub behind : Option Tokens
+
+-- At the full stop the elements are the goals, if all of them can be.
+unfoldable pub unguarded : ℕ → Option (List Named) → Reader Body
+unguarded place none = cannot-stand place
+unguarded place (some gs) = give (record { guards = []; goals = gs; behind = none })
+
+-- The tokens that come next; none is taken.
+unfoldable pub here : Reader Tokens
+here counted rest = read rest counted rest
+
+-- At the bar they are the guards, "and perhaps no goal" follows.
+unfoldable pub guarded : List Element → Reader Body
+guarded es = do
+  behind ← here
+  gs ← if-next "." (give []) (goals 8)
+  give (record { guards = es; goals = gs; behind = some behind })
+
+unfoldable pub behind-element : (List Element → Reader Body) → List Element → ℕ → Token → Reader Body
+behind-element further es place t =
+    if is "," t then further es
+    else if is "|" t then guarded es
+    else if is "." t then unguarded place (as-goals es)
+    else cannot-stand place
+
+-- "With 1 to 8 guards", or 8 body goals: "a ninth guard is 6", at its first token. `before` are the elements so far.
+unfoldable pub body : ℕ → List Element → Reader Body
+body zero before = standing begins-term >> passes
+body (suc left) before = do
+  e ← element-behind
+  next (behind-element (body left) (before ++ (e ∷ [])))
+
+-- "An item is `head.`, `head :- goal,..,goal.` or `?- goal,..,goal.`": head and what stands behind `:-`, or the query's goals behind its `?-`.
 pub record Rule : Type 0 where
   pub head : Named
-  pub body : List Named
+  pub body : Body
 
 unfoldable pub rule : Reader Rule
 rule = do
   head ← goal
   implied ← either ":" "."
-  body ← if implied then goals 8 else give []
-  give (record { head = head; body = body })
+  behind ← if implied then body 8 [] else give (record { guards = []; goals = []; behind = none })
+  give (record { head = head; body = behind })
 
--- Why a text is refused, with the place from which the line is computed: the token for 4, where the item begins for 5, 9, 10 and 6.
+-- Why a text is refused, with the place from which the line is computed: the token for 4, where the item begins for 5, 9, 10, 6 and 11.
 -- "9 and 10 take 5's place in the order"; which of the three it is, and at which byte, the fault says.
 pub data Refusal : Type 0 where
   no-item : ℕ → Refusal
+  guard-rule : ℕ → Refusal
   occurrence-rule : ℕ → Fault → Refusal
   figure : ℕ → Refusal
   no-query : Refusal
@@ -251,11 +308,26 @@ unfoldable pub unless-broken : ℕ → Option Fault → Piece → Piece
 unless-broken begins none accepted = accepted
 unless-broken begins (some fault) accepted = refused (occurrence-rule begins fault)
 
+-- A variable whose reader a guard licenses.
+unfoldable pub free : List Guard → List Bytes → Bytes → Bool
+free guards variables x = elim (place-of x variables) [ none ↦ false | some n ↦ licensed guards n ]
+
+-- A clause whose guards the table has: "11 with another variable, judged after the item's full stop and before 5".
+unfoldable pub with-guards : ℕ → Tokens → Rule → Counted → List Guard → Piece
+with-guards begins piece r counted guards =
+    if all (of-the-head (length (counted .variables)) (r .head)) guards
+    then unless-broken begins (least (clause-faults (free guards (counted .variables)) (pairing (r .body .behind) piece) (counted .variables)))
+    (clause (record { head = r .head; guards = guards; body = r .body .goals; pairs = length (counted .variables); compounds = counted .compounds }) (counted .names))
+    else refused (guard-rule begins)
+
+-- "11 for a guard not in the table, with 5's line."
+unfoldable pub unless-unknown : ℕ → Tokens → Rule → Counted → Option (List Guard) → Piece
+unless-unknown begins piece r counted none = refused (guard-rule begins)
+unless-unknown begins piece r counted (some guards) = with-guards begins piece r counted guards
+
 -- A clause by its tokens and what was read from them.
 unfoldable pub clause-piece : ℕ → Tokens → Read Rule → Piece
-clause-piece begins piece (read r counted rest) =
-    unless-broken begins (least (clause-faults piece (counted .variables)))
-    (clause (record { head = r .head; body = r .body; pairs = length (counted .variables); compounds = counted .compounds }) (counted .names))
+clause-piece begins piece (read r counted rest) = unless-unknown begins piece r counted (as-guards (r .body .guards))
 clause-piece begins piece (malformed place) = refused (no-item place)
 clause-piece begins piece passed = refused (figure begins)
 
@@ -339,5 +411,5 @@ unfoldable pub line : Bytes → ℕ → ℕ
 line text place = 1 + length (those (λ c. eqb c (byte "\n")) (take (min place (length text - 1)) text))
 
 unfoldable pub items-words : Unit {0}
-unfolding terms-words tokens-words faults-words read-on _>>=_ _>>_ give cannot-stand passes next is is-name begins-term standing expect either if-next count-name place-of new-variable count-variable count-compound arguments compound-of tail-of elements list-of term-from term goal-from goal goals rule unless-broken clause-piece query-piece fresh clause-from query-from item-from item onto pieces with-clause with-query items asked reading line
+unfolding terms-words tokens-words faults-words table-words read-on _>>=_ _>>_ give cannot-stand passes next is-name begins-term standing expect either if-next count-name place-of new-variable count-variable count-compound arguments compound-of tail-of elements list-of term-from term goal-from goal goals by-itself equals-behind element-behind unguarded here guarded behind-element body rule unless-broken free with-guards unless-unknown clause-piece query-piece fresh clause-from query-from item-from item onto pieces with-clause with-query items asked reading line
 items-words = tt

@@ -2,10 +2,12 @@ pub mod Bytes
 pub mod Terms
 pub mod Tokens
 pub mod Faults
+pub mod Table
 pub mod Items
 pub mod State
 pub mod Compare
 pub mod Circle
+pub mod Guards
 pub mod Trial
 pub mod Step
 pub mod Run

@@ -30,17 +30,11 @@ use Rattle.meaning.specs.Terms.{
   more,
   Query,
   pairs-of,
-  replaced,
   as-term,
 }
-use Rattle.meaning.specs.State.{Values, value, Goal, Waiting, State, Part, part-of}
+use Rattle.meaning.specs.State.{Values, Goal, Waiting, State, Part, part-of}
+unfoldable pub use Rattle.meaning.specs.State.{applied}
 use Rattle.meaning.specs.Run.{Verdict, rest, budget, room, Ended, run-words}
-
--- "Values are written out with every assignment applied", over no more links than given.
-unfoldable pub applied : ℕ → Values → Term → Term
-applied zero values t = t
-applied (suc links) values t =
-    replaced (λ h p. elim (value values p) [ none ↦ variable h p | some u ↦ applied links values u ]) t
 
 -- "An unassigned pair is `_1`, `_2`, .. in order of first appearance in the section": its number, from the section's pairs in that order.
 unfoldable pub number-in : ℕ → List ℕ → ℕ
@@ -173,5 +167,5 @@ unfoldable pub report : List Query → Ended → Bytes
 report queries last = run-line last ++ joined (sections 0 queries (last .state))
 
 unfoldable pub report-words : Unit {0}
-unfolding run-words applied number-in variable-bytes integer-bytes behind-bar empty-bytes before-element constant-bytes written element-and-tail tail-bytes first-argument other-arguments value-lines goal-lines part-lines lines-applied pairs-shown unassigned-pairs line-bytes lines-bytes header section sections verdict-bytes run-line report
+unfolding run-words number-in variable-bytes integer-bytes behind-bar empty-bytes before-element constant-bytes written element-and-tail tail-bytes first-argument other-arguments value-lines goal-lines part-lines lines-applied pairs-shown unassigned-pairs line-bytes lines-bytes header section sections verdict-bytes run-line report
 report-words = tt

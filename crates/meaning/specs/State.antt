@@ -6,7 +6,7 @@ use mathlib.Core.Option.{Option, none, some}
 use lib.Dec.{leb, eqb}
 use lib.ListN.{length, getD, replicate}
 use Rattle.meaning.specs.Bytes.{Bytes, bytes-words, those}
-use Rattle.meaning.specs.Terms.{Term, Named, Clause, Query, Job, terms-words}
+use Rattle.meaning.specs.Terms.{Term, variable, Named, Clause, Query, Job, replaced, terms-words}
 
 -- "Three room figures (pairs, compounds, goals)."
 pub record Room : Type 0 where
@@ -20,6 +20,12 @@ Values = List (Option Term)
 
 unfoldable pub value : Values → ℕ → Option Term
 value values n = getD values n none
+
+-- "Values are written out with every assignment applied", over no more links than given.
+unfoldable pub applied : ℕ → Values → Term → Term
+applied zero values t = t
+applied (suc links) values t =
+    replaced (λ h p. elim (value values p) [ none ↦ variable h p | some u ↦ applied links values u ]) t
 
 -- What belongs to one query: the values of its pairs, the number of its compounds, its number of tries.
 pub record QueryUnit : Type 0 where
@@ -112,5 +118,5 @@ unfoldable pub part-of : ℕ → State → Part
 part-of place state = record { unit = unit-at place (state .units); goals = goals-of place (state .goals) }
 
 unfoldable pub state-words : Unit {0}
-unfolding terms-words value no-unit unit-at number-of first-unit goals-at all-goals query-pairs query-compounds start of goals-of part-of
+unfolding terms-words value applied no-unit unit-at number-of first-unit goals-at all-goals query-pairs query-compounds start of goals-of part-of
 state-words = tt

@@ -1,4 +1,4 @@
--- Document 01, 'Job text': what a term, a clause, a query and a job are.
+-- Document 01, 'Job text', with document 02, T-02: what a term, a guard, a clause, a query and a job are.
 use Prim.Native.Nat.{ℕ, zero, suc, _+_}
 use mathlib.Core.Bool.{Bool, true, false, _&&_, _||_}
 use mathlib.Core.List.{List, [], _∷_}
@@ -42,9 +42,27 @@ pub record Named : Type 0 where
   pub name : Bytes
   pub arguments : Terms
 
--- `head.` or `head :- goal,..,goal.`, with the number of its pairs and of its compounds, head and goals and list cells counted.
+-- What a guard asks: "integer, constant, compound, ground, known, `==` and otherwise" (02, T-02).
+pub data Test : Type 0 where
+  an-integer a-constant a-compound ground known equal otherwise : Test
+
+-- A row of the "fixed table of names and argument counts", with whether success means ground.
+pub record Row : Type 0 where
+  pub name : Bytes
+  pub count : ℕ
+  pub test : Test
+  pub means-ground : Bool
+
+-- A guard: its row, its arguments, and the number of the compound that it is; otherwise is none, and has 0.
+pub record Guard : Type 0 where
+  pub row : Row
+  pub number : ℕ
+  pub arguments : Terms
+
+-- `head.`, `head :- goal,..,goal.` or `head :- guard,..,guard | goal,..,goal.`, with the number of its pairs and of its compounds, head, guards, goals and list cells counted.
 pub record Clause : Type 0 where
   pub head : Named
+  pub guards : List Guard
   pub body : List Named
   pub pairs : ℕ
   pub compounds : ℕ

@@ -1,4 +1,4 @@
--- Document 01, 'Job text', first paragraph: the text as tokens, each with the offset at which it begins.
+-- Document 01, 'Job text', first paragraph, with `==` of document 02, T-02: the text as tokens, each with the offset at which it begins.
 use Prim.Native.Nat.{ℕ, zero, suc, _+_, _*_, _-_}
 use Prim.Native.Char.{Char}
 use mathlib.Core.Bool.{Bool, true, false, not, _&&_, _||_}
@@ -8,7 +8,7 @@ use lib.ListN.{length, drop}
 use Rattle.meaning.specs.Bytes.{Bytes, bytes-words, byte, bytes, same, if_then_else_, all}
 use Rattle.meaning.specs.Terms.{Half, writer, reader, Integer, plus, minus}
 
--- A sign is known by its first byte: `:` is `:-`, `?` is `?-`.
+-- A sign is known by its first byte: `:` is `:-`, `?` is `?-`, `=` is `==`.
 pub data Token : Type 0 where
   name : Bytes → Token
   variable : Half → Bytes → Token
@@ -102,9 +102,9 @@ variable-front cs behind =
     then token (length cs) (unless-overlong cs (variable reader cs))
     else token (length cs - 1) (unless-overlong cs (variable writer cs))
 
--- Signs of two bytes: `:-` and `?-`.
-unfoldable pub double-front : ℕ → Bytes → Front
-double-front c cs = if next-is (λ d. eqb d (byte "-")) cs then token 1 (sign c) else token 0 bad
+-- Signs of two bytes: `:-`, `?-` and `==`, by the second.
+unfoldable pub double-front : Char → ℕ → Bytes → Front
+double-front second c cs = if next-is (λ d. eqb d (byte second)) cs then token 1 (sign c) else token 0 bad
 
 -- "A `-` right before a first digit" belongs to the run.
 unfoldable pub minus-front : Bytes → Front
@@ -120,7 +120,8 @@ front c cs =
     else if digit c then token (length (run cs)) (unsigned (c ∷ run cs))
     else if underscore c then token (length (run cs)) bad
     else if eqb c (byte "-") then minus-front cs
-    else if eqb c (byte ":") || eqb c (byte "?") then double-front c cs
+    else if eqb c (byte ":") || eqb c (byte "?") then double-front "-" c cs
+    else if eqb c (byte "=") then double-front "=" c cs
     else if single-sign c then token 0 (sign c)
     else token 0 bad
 
@@ -138,6 +139,14 @@ tokens-from at (suc skip) (c ∷ cs) = tokens-from (at + 1) skip cs
 unfoldable pub tokens : Bytes → Tokens
 tokens text = tokens-from 0 0 text
 
+-- A token is this sign.
+unfoldable pub is : Char → Token → Bool
+is c (name f) = false
+is c (variable h x) = false
+is c (integer i) = false
+is c (sign b) = eqb b (byte c)
+is c bad = false
+
 unfoldable pub tokens-words : Unit {0}
-unfolding bytes-words between lowercase uppercase digit underscore separates single-sign in-run run remark next-is unless-overlong value no-leading-zero unsigned negative name-front variable-front double-front minus-front front placed tokens-from tokens
+unfolding bytes-words between lowercase uppercase digit underscore separates single-sign in-run run remark next-is unless-overlong value no-leading-zero unsigned negative name-front variable-front double-front minus-front front placed tokens-from tokens is
 tokens-words = tt

@@ -1,4 +1,4 @@
--- Document 01, 'One step': the trial of a clause, and the choice of a clause.
+-- Document 01, 'One step', with document 02's guards: the trial of a clause, and the choice of a clause.
 use Prim.Native.Nat.{ℕ, zero, suc, _+_}
 use mathlib.Core.Bool.{Bool, true, false, _&&_}
 use mathlib.Core.List.{List, [], _∷_, _++_}
@@ -10,6 +10,7 @@ use Rattle.meaning.specs.Terms.{Named, Clause, count, all-renamed}
 use Rattle.meaning.specs.State.{Values, QueryUnit}
 use Rattle.meaning.specs.Compare.{Assignment, Result, succeeds, waits, fails, followed, places, compare-words}
 use Rattle.meaning.specs.Circle.{circle, circle-words}
+use Rattle.meaning.specs.Guards.{in-order, guards-words}
 
 -- "A trial renames the clause apart": its pairs and compounds come next in the unit.
 unfoldable pub next-pair : QueryUnit → ℕ
@@ -39,8 +40,14 @@ tested clause unit (succeeds given) = if circle (values-after clause given unit)
 tested clause unit (waits readers) = waits readers
 tested clause unit fails = fails
 
-unfoldable pub trial : Clause → QueryUnit → Named → Result
-trial clause unit goal = tested clause unit (compared clause unit goal)
+-- "After the circle test, each guard in order" (02, T-02); `earlier` are the readers on which the procedure's earlier clauses wait.
+unfoldable pub guarded : List ℕ → Clause → QueryUnit → Result → Result
+guarded earlier clause unit (succeeds given) = in-order earlier given (unit .values) (next-pair unit) (clause .guards)
+guarded earlier clause unit (waits readers) = waits readers
+guarded earlier clause unit fails = fails
+
+unfoldable pub trial : List ℕ → Clause → QueryUnit → Named → Result
+trial earlier clause unit goal = guarded earlier clause unit (tested clause unit (compared clause unit goal))
 
 -- "Name and number of arguments together select the procedure; its clauses keep text order."
 unfoldable pub procedure : List Clause → Named → List Clause
@@ -62,7 +69,7 @@ none-succeeds (r ∷ readers) = joins-waiting (r ∷ readers)
 unfoldable pub choice-from : List ℕ → List Clause → QueryUnit → Named → Choice
 choice-from readers [] unit goal = none-succeeds readers
 choice-from readers (clause ∷ clauses) unit goal =
-    elim (trial clause unit goal) [
+    elim (trial readers clause unit goal) [
       | succeeds given ↦ reduces clause given
       | waits others ↦ choice-from (readers ++ others) clauses unit goal
       | fails ↦ choice-from readers clauses unit goal
@@ -72,5 +79,5 @@ unfoldable pub choice : List Clause → QueryUnit → Named → Choice
 choice clauses unit goal = choice-from [] (procedure clauses goal) unit goal
 
 unfoldable pub trial-words : Unit {0}
-unfolding compare-words circle-words next-pair compared with-pairs assigned values-after tested trial procedure none-succeeds choice-from choice
+unfolding compare-words circle-words guards-words next-pair compared with-pairs assigned values-after tested guarded trial procedure none-succeeds choice-from choice
 trial-words = tt

@@ -272,6 +272,8 @@ trying s text names j figures limit atlas slots t stamp g others r front =
         h .lies .pairs-fit,
       );
       links-are = refl;
+      few-links = omega (arith, r .in-range .pairs);
+      near = omega (arith, r .in-range .compounds);
       ends-behind = omega arith;
       ends = unit-ends s text names j figures limit atlas slots t stamp r q (goal .query);
       grounds = grounds-of s names figures atlas (state .units) (state .pairs) (state .compounds) (t .cells) (h .lies) (r .grounds) q (goal .query);

@@ -31,7 +31,7 @@ use Rattle.run_compare.specs.Gifts.{Entry, entries-of, assignments}
 use Rattle.run_compare.specs.Compare.{item-places}
 use Rattle.run_trial.proofs.Once.{AllApart, once-apart, no-entry, entries-differ, entry-words, entry-held}
 use Rattle.run_effects.specs.Build.{Item, Copies, total, ListSpread, Goes, Moved}
-use Rattle.run_effects.proofs.Spreading.{total-append, list-spread-append, rising-append, goals-rising, goal-copies-stay, entry-copies-stay}
+use Rattle.run_effects.proofs.Spreading.{total-append, list-spread-append, rising-later, rising-append, goals-rising, goal-copies-stay, entry-copies-stay}
 use Rattle.run_trial.specs.Choosing.{template}
 use Rattle.run_queues.specs.Log.{Slot, LogOk}
 use Rattle.run_effects.specs.Reducing.{Apart, HeadAssigned, EntryTerms, entry-terms, Assigning, EntriesGiven, GoalAssigned, goal-terms, Adding, GoalsHeld, Added, entry-places, hit, hits, woken, quieted, emptied, NotLogged, Wakes, Waked, AddsWoken, WokenAdded}
@@ -125,7 +125,8 @@ module _ {s : List ℕ} {text : Bytes} {names : List Bytes} {j : Job} {figures :
       fresh (gave .low) (c .compounds) cells C (entry-terms list ++ goal-terms (c .body))
       (rising-append (gave .low) (gave .high) (c .compounds) (entry-terms list) (goal-terms (c .body))
       (entries-rising s (setting figures (atlas q) unit) (template k c) (gave .low) (gave .high) list (gave .held))
-      (goals-rising (gave .high) (c .compounds) (c .body) (red .gave .body)))
+      (rising-later (red .gave .body-from) (gave .high) (c .compounds) (goal-terms (c .body)) (red .gave .body-behind)
+      (goals-rising (red .gave .body-from) (c .compounds) (c .body) (red .gave .body))))
       cells-behind (lies .cells-fit)
 
   abbrev y : Copies

@@ -14,7 +14,8 @@ use Rattle.term.specs.Layout.{waiters-region, sets-region, readers-region, wait
 use Rattle.term.specs.States.{Atlas, setting-at, goal-word, listed}
 use Rattle.term.specs.declared.state.Standing.{Standing}
 use Rattle.run_readers.specs.Readers.{all-met}
-use Rattle.run_trial.specs.Choosing.{Succeeded, AllBelow}
+use Rattle.run_asked.specs.Asking.{AllBelow}
+use Rattle.run_trial.specs.Choosing.{Succeeded}
 use Rattle.run_queues.specs.Log.{Slot, present, LogOk, LogOnly}
 use Rattle.run_between.specs.Running.{Running}
 

@@ -60,7 +60,7 @@ list-spread-append y to (t ∷ ts) us k =
     ((k .0, first), rw place second)
 
 -- What rises from a number rises from any before it.
-rising-later : (lo lo′ hi : ℕ) (ts : List Term) → lo′ ≤ lo → Rising lo hi ts → Rising lo′ hi ts
+pub rising-later : (lo lo′ hi : ℕ) (ts : List Term) → lo′ ≤ lo → Rising lo hi ts → Rising lo′ hi ts
 unfolding Rising
 rising-later lo lo′ hi [] l k = omega arith
 rising-later lo lo′ hi (t ∷ ts) l (a, b, m, n, k) = (a, b, omega arith, n, k)

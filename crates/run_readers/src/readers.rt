@@ -28,7 +28,7 @@ pub fn asks(s: &[u64], n: usize) -> bool
 }
 
 // A pair joins the n that the list has, unless it is among them. How many it has then.
-fn meet(s: &mut [u64], readers: usize, pairs: usize, n: usize, p: usize) -> usize
+pub fn meet(s: &mut [u64], readers: usize, pairs: usize, n: usize, p: usize) -> usize
     requires { ⌜ Readers (now s) readers pairs n × (p < pairs) ⌝ }
     ensures { λ r. ⌜ Met (now (s .entry)) (now (s .exit)) readers pairs n (p ∷ []) r ⌝ }
 {

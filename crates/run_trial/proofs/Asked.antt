@@ -3,6 +3,7 @@
 use Prim.Native.Nat.{ℕ, zero, suc, _+_, _*_, _≤_, _<_}
 use mathlib.Core.Path.{_≡_, refl, sym, ap, _∙_}
 use mathlib.Core.Bool.{Bool, true, false}
+use mathlib.Core.Logic.{⊎-elim}
 use mathlib.Core.List.{List, [], _∷_, _++_, map, append-nil, append-assoc}
 use native.Mathlib.Omega.{arith}
 use lib.Dec.{eqb}
@@ -10,7 +11,7 @@ use lib.ListN.{length, getD, set, length-set}
 use lib.Seq.{getD-set-same, getD-set-other}
 use borrow.Author.Tests.{eqb-true, eqb-false}
 use Rattle.meaning.specs.Bytes.{if_then_else_}
-use Rattle.laws.proofs.Lists.Among.{In, here, in-append-left, in-append-right}
+use Rattle.laws.proofs.Lists.Among.{In, here, in-cons-cases, in-none, in-append-left, in-append-right}
 use Rattle.term.specs.Cells.{Places, term-word}
 use Rattle.term.specs.Setting.{Setting}
 use Rattle.term.proofs.Cells.{word-positive}
@@ -21,7 +22,7 @@ use Rattle.run_compare.specs.Notes.{Note, given, asked, asks-in, noted, written
 use Rattle.run_compare.specs.Compare.{Template, AllNoted}
 use Rattle.run_readers.specs.Readers.{asked-in}
 use Rattle.run_readers.proofs.Asking.{asked-kept, asked-more, asked-less}
-use Rattle.run_trial.specs.Choosing.{AllBelow}
+use Rattle.run_asked.specs.Asking.{AllBelow}
 
 -- One note more: of a pair with a term, of a pair with none.
 module _ (s : List ℕ) (n p w : ℕ) (large : woken-part ≤ length s) (room : n < 192) where
@@ -105,6 +106,11 @@ none-mapped f [] e = refl
 none-mapped f (r ∷ l) e =
     let wrong : _≡_ {A = ℕ} 0 1 = cc in
     absurd (omega arith)
+
+pub mapped-below : (n most : ℕ) (f : ℕ → ℕ) → ((q : ℕ) → q < n → f q < most) → (l : List ℕ) → AllBelow n l → {p : ℕ} → In p (map f l) → p < most
+mapped-below n most f small [] b m = absurd (in-none m)
+mapped-below n most f small (q ∷ l) b {p} m =
+    ⊎-elim (λ e. rw e (small q (b .0))) (mapped-below n most f small l (b .1)) (in-cons-cases m)
 
 pub below-both : (n : ℕ) (a b : List ℕ) → AllBelow n a → AllBelow n b → AllBelow n (a ++ b)
 below-both n [] b h k = k

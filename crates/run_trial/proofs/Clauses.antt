@@ -1,9 +1,9 @@
 -- The walk over the clauses of a procedure: the clauses passed, those left, and the readers that they wait on so far, a set in the region of the
 -- readers.
-use Prim.Native.Nat.{ℕ, zero, suc, _+_, _-_, _*_, _≤_, _<_, _^_}
+use Prim.Native.Nat.{ℕ, _+_, _-_, _*_, _≤_, _<_, _^_}
 use mathlib.Core.Path.{_≡_, refl, sym, subst, ap, _∙_}
 use mathlib.Core.Bool.{Bool, _&&_}
-use mathlib.Core.Logic.{_⊎_, inl, inr, _≢_, ⊎-elim}
+use mathlib.Core.Logic.{_⊎_, inl, inr, _≢_}
 use mathlib.Core.List.{List, [], _∷_, _++_, map, map-append, append-assoc}
 use native.Mathlib.Omega.{arith}
 use lib.Dec.{eqb}
@@ -15,7 +15,6 @@ use Rattle.meaning.specs.Terms.{Clause, Job, Named, count, as-term}
 use Rattle.meaning.specs.State.{Room, Goal, QueryUnit}
 use Rattle.meaning.specs.Compare.{Assignment, succeeds, waits, fails}
 use Rattle.meaning.specs.Trial.{reduces, joins-waiting, joins-failed, procedure, trial, none-succeeds, choice-from, choice}
-use Rattle.laws.proofs.Lists.Among.{In, in-cons-cases, in-none}
 use Rattle.laws.proofs.Lists.Filters.{length-those}
 use Rattle.term.specs.Cells.{Places, Known, KnownName, number-of}
 use Rattle.term.specs.Holds.{Holds}
@@ -23,28 +22,25 @@ use Rattle.term.specs.Jobs.{ClauseAt, Linked, procedure-place}
 use Rattle.term.specs.States.{listed}
 use Rattle.term.proofs.Held.{linked-none-left, linked-next}
 use Rattle.term.proofs.Numbers.{number-below}
-use Rattle.term.specs.Layout.{compounds-region, gift-pair, gift-term, woken-part, procedure-slot, clause-record}
+use Rattle.term.specs.Layout.{compounds-region, woken-part, procedure-slot, clause-record}
 use Rattle.term.specs.Words.{packed}
-use Rattle.run_readers.specs.Readers.{asked-in, all-met, Readers, Met}
+use Rattle.run_readers.specs.Readers.{all-met}
 use Rattle.run_readers.proofs.AllMet.{all-met-append, all-met-not-none}
-use Rattle.run_readers.proofs.Ranks.{listed-kept, readers-none, readers-kept}
+use Rattle.run_readers.proofs.Ranks.{listed-length, readers-none}
+use Rattle.run_asked.specs.Asking.{AllBelow}
 use Rattle.run_trial.specs.declared.choice.TrialResult.{TrialResult}
 use Rattle.run_trial.specs.declared.choice.TrialResult.the-variants.{Succeeds, Waits, Fails}
 use Rattle.run_trial.specs.declared.choice.ChoiceResult.the-variants.{Reduces, Waits as WaitsOn, Fails as FailsAll}
-use Rattle.run_trial.specs.Choosing.{unit-of, Trying, ArgumentsStand, MarksBelow, NewMarks, TrialOnly, Candidate, clause-after, TrialIs, AllBelow, ChoiceIs}
+use Rattle.run_trial.specs.Choosing.{unit-of, Trying, ArgumentsStand, MarksBelow, NewMarks, TrialOnly, Gathered, Candidate, clause-after, TrialIs, ChoiceIs}
 use Rattle.run_trial.proofs.choice.TrialResult.{the-type}
-use Rattle.run_trial.proofs.Asked.{asked-at, below-both}
+use Rattle.run_trial.proofs.Asked.{below-both}
 use Rattle.run_trial.proofs.Following.{Ready}
 use Rattle.run_trial.proofs.Staying.{
   trial-only-same,
   trial-only-then,
   trial-only-wider,
-  trial-only-more,
-  trial-only-readers,
   new-marks-none,
   new-marks-then,
-  new-marks-same,
-  new-marks-of,
   low-stays,
   clause-stays,
   linked-stays,
@@ -54,38 +50,26 @@ use Rattle.run_trial.proofs.Staying.{
 
 -- What a clause's trial makes of the choice.
 module _ (readers : List ℕ) (c : Clause) (cs : List Clause) (unit : QueryUnit) (goal : Named) where
-  pub from-succeeds : (given : List Assignment) → trial c unit goal ≡ succeeds given → choice-from readers (c ∷ cs) unit goal ≡ reduces c given
+  pub from-succeeds : (given : List Assignment) → trial readers c unit goal ≡ succeeds given → choice-from readers (c ∷ cs) unit goal ≡ reduces c given
   unfolding choice-from
   from-succeeds given e = rw (e, choice-from) refl
 
-  pub from-waits : (others : List ℕ) → trial c unit goal ≡ waits others
+  pub from-waits : (others : List ℕ) → trial readers c unit goal ≡ waits others
       → choice-from readers (c ∷ cs) unit goal ≡ choice-from (readers ++ others) cs unit goal
   unfolding choice-from
   from-waits others e = rw (e, choice-from) refl
 
-  pub from-fails : trial c unit goal ≡ fails → choice-from readers (c ∷ cs) unit goal ≡ choice-from readers cs unit goal
+  pub from-fails : trial readers c unit goal ≡ fails → choice-from readers (c ∷ cs) unit goal ≡ choice-from readers cs unit goal
   unfolding choice-from
   from-fails e = rw (e, choice-from) refl
-
-length-listed : (s : List ℕ) (from n : ℕ) → length (listed s from n) ≡ n
-unfolding listed
-length-listed s from zero = refl
-length-listed s from (suc n) = length-append (listed s from n) (getD s (from + n) 0 ∷ []) ∙ rw (length-listed s from n) (omega arith)
 
 none-long : (l : List ℕ) → length l ≡ 0 → l ≡ []
 none-long [] e = refl
 none-long (p ∷ l) e = absurd (omega arith)
 
--- A trial that does not succeed: its readers join those met before, or it fails.
-abbrev pub Passed : List ℕ → ℕ → ℕ → ℕ → TrialResult → List ℕ → ℕ → Type 0
-Passed s marks links readers r s′ readers′ =
-    ((n : ℕ) × (r ≡ Waits n) × Met s s′ (marks + links) links readers (asked-in s n) readers′)
-    ⊎ ((r ≡ Fails) × (s′ ≡ s) × (readers′ ≡ readers))
-
-pub passed-length : (s : List ℕ) (marks links readers : ℕ) (r : TrialResult) (s′ : List ℕ) (readers′ : ℕ) → Passed s marks links readers r s′ readers′
-    → length s′ ≡ length s
-passed-length s marks links readers r s′ readers′ (inl (n, e, met)) = met .only .size
-passed-length s marks links readers r s′ readers′ (inr (e, is, more)) = ap length is
+-- A trial that does not succeed: it waits, and the step has met so many readers now; or it fails, and the step has met as many as before.
+abbrev pub Passed : ℕ → TrialResult → ℕ → Type 0
+Passed readers r readers′ = ((n : ℕ) × (r ≡ Waits n) × (readers′ ≡ n)) ⊎ ((r ≡ Fails) × (readers′ ≡ readers))
 
 pub neither : (r : TrialResult) → OneOf (1 ∷ 2 ∷ []) (tagOf the-type r) → OneOf (0 ∷ 2 ∷ []) (tagOf the-type r) → r ≡ Fails
 neither (Succeeds n) a b = absurd (miss (1 ∷ 2 ∷ []) 0 tt a)
@@ -109,8 +93,7 @@ pub record Walk (s₀ s : List ℕ) (names : List Bytes) (j : Job) (limit : ℕ)
   pub linked : Linked s (ClauseAt s names) next rest
   pub stamp-is : stamp ≡ first + 256 * length passed
   pub marks-now : MarksBelow s marks (figures .pairs) stamp
-  pub met : Readers s (marks + figures .pairs) (figures .pairs) readers
-  pub words : listed s (marks + figures .pairs) readers ≡ all-met [] (map (λ p. at .pair p) waiting)
+  pub gathered : Gathered s at (marks + figures .pairs) (figures .pairs) readers waiting
   pub below : AllBelow (length (unit-of j limit figures g .values)) waiting
   pub same-choice : choice-from waiting rest (unit-of j limit figures g) (g .goal) ≡ choice (j .clauses) (unit-of j limit figures g) (g .goal)
   pub grounds : NewMarks at (unit-of j limit figures g .values) marks (figures .pairs) s₀ s
@@ -166,8 +149,7 @@ module _ {s : List ℕ} {text : Bytes} {names : List Bytes} {j : Job} {limit : �
         (t .held .procedures (g .goal) known few-arguments);
     stamp-is = omega arith;
     marks-now = new;
-    met = readers-none s (marks + figures .pairs) (figures .pairs) (omega (arith, t .inside));
-    words = refl;
+    gathered = record { ok = readers-none s (marks + figures .pairs) (figures .pairs) (omega (arith, t .inside)); words = refl };
     below = tt;
     same-choice = refl;
     grounds = new-marks-none at (unit-of j limit figures g .values) marks (figures .pairs) s;
@@ -219,17 +201,13 @@ module _ {s₀ s : List ℕ} {text : Bytes} {names : List Bytes} {j : Job} {limi
     behind : compounds-region ≤ marks
     behind = omega (arith, t .values-behind, t .marks-behind)
 
-    module _ {s₃ : List ℕ} {r : TrialResult} (told : TrialIs s s₃ j limit figures at g marks stamp (next - 1) (turn .0) r) where
-      one-trial : TrialOnly woken-part marks (3 * figures .pairs) s s₃
-      one-trial = trial-only-more (3 * figures .pairs) (omega arith) (told .only)
-
+    module _ {s₃ : List ℕ} {r : TrialResult}
+        (told : TrialIs s s₃ j limit figures at g marks readers stamp (next - 1) (turn .0) (w .waiting) r) where
       tried-frame : TrialOnly woken-part marks (3 * figures .pairs) s₀ s₃
-      tried-frame = trial-only-then (w .only) one-trial
+      tried-frame = trial-only-then (w .only) (told .only)
 
       grounds-tried : NewMarks at (unit-of j limit figures g .values) marks (figures .pairs) s₀ s₃
-      grounds-tried =
-          new-marks-then at (unit-of j limit figures g .values) marks (figures .pairs) s₀ s s₃ (w .grounds)
-          (new-marks-of at (unit-of j limit figures g .values) marks (figures .pairs) s s₃ (told .grounds))
+      grounds-tried = new-marks-then at (unit-of j limit figures g .values) marks (figures .pairs) s₀ s s₃ (w .grounds) (told .grounds)
 
       marks-tried : MarksBelow s₃ marks (figures .pairs) (first + 32768)
       marks-tried a l h = omega (arith, told .marks-now a l h, turn-stamp)
@@ -238,13 +216,13 @@ module _ {s₀ s : List ℕ} {text : Bytes} {names : List Bytes} {j : Job} {limi
       pub turn-succeeds : (n : ℕ) → r ≡ Succeeds n → ChoiceIs s₀ s₃ names j limit figures at g marks first (Reduces (next - 1) n)
       turn-succeeds n e = go (rw e at told)
         where
-          taken : (given : List Assignment) → trial (turn .0) (unit-of j limit figures g) (g .goal) ≡ succeeds given
+          taken : (given : List Assignment) → trial (w .waiting) (turn .0) (unit-of j limit figures g) (g .goal) ≡ succeeds given
               → choice (j .clauses) (unit-of j limit figures g) (g .goal) ≡ reduces (turn .0) given
           taken given q =
               sym (w .same-choice) ∙ ap (λ l. choice-from (w .waiting) l (unit-of j limit figures g) (g .goal)) (turn .2)
               ∙ from-succeeds (w .waiting) (turn .0) (turn .1) (unit-of j limit figures g) (g .goal) given q
 
-          go : TrialIs s s₃ j limit figures at g marks stamp (next - 1) (turn .0) (Succeeds n)
+          go : TrialIs s s₃ j limit figures at g marks readers stamp (next - 1) (turn .0) (w .waiting) (Succeeds n)
               → ChoiceIs s₀ s₃ names j limit figures at g marks first (Reduces (next - 1) n)
           go is = record {
             only = trial-only-wider compounds-region (omega arith) tried-frame;
@@ -253,120 +231,75 @@ module _ {s₀ s : List ℕ} {text : Bytes} {names : List Bytes} {j : Job} {limi
               turn .0,
               is .told .0,
               taken (is .told .0) (is .told .1),
-              clause-stays marks (figures .pairs) s s₃ (trial-only-wider compounds-region (omega arith) (told .only)) behind names (next - 1) (turn .0) (turn .3),
+              clause-stays marks (3 * figures .pairs) s s₃ (trial-only-wider compounds-region (omega arith) (told .only)) behind names (next - 1) (turn .0)
+                  (turn .3),
               is .told .2,
             );
             grounds = grounds-tried;
           }
 
-      -- It fails or waits: what is passed on, and what is kept of it in the scratch.
-      rest-choice : (others : List ℕ)
-          → choice-from (w .waiting) (turn .0 ∷ turn .1) (unit-of j limit figures g) (g .goal)
-          ≡ choice-from others (turn .1) (unit-of j limit figures g) (g .goal)
-          → choice-from others (turn .1) (unit-of j limit figures g) (g .goal) ≡ choice (j .clauses) (unit-of j limit figures g) (g .goal)
-      rest-choice others e =
-          sym (ap (λ l. choice-from (w .waiting) l (unit-of j limit figures g) (g .goal)) (turn .2) ∙ e) ∙ w .same-choice
-
+      -- It fails or waits: the next clause is tried, with the readers that the step has met then.
       one-more : length (w .passed ++ (turn .0 ∷ [])) ≡ length (w .passed) + 1
       one-more = length-append (w .passed) (turn .0 ∷ [])
 
       whole-more : procedure (j .clauses) (g .goal) ≡ (w .passed ++ (turn .0 ∷ [])) ++ turn .1
       whole-more = w .whole ∙ ap (λ l. w .passed ++ l) (turn .2) ∙ sym (append-assoc (w .passed) (turn .0 ∷ []) (turn .1))
 
-      linked-more : (s′ : List ℕ) → TrialOnly compounds-region marks (3 * figures .pairs) s s′
-          → Linked s′ (ClauseAt s′ names) (getD s′ (clause-record (next - 1)) 0) (turn .1)
-      linked-more s′ o =
-          subst (λ v. Linked s′ (ClauseAt s′ names) v (turn .1))
-          (sym (low-stays marks (3 * figures .pairs) s s′ o behind (clause-record (next - 1)) (omega (arith, turn .3 .number))))
-          (linked-stays marks (3 * figures .pairs) s s′ o behind names (getD s (clause-record (next - 1)) 0) (turn .1) (turn .4))
+      linked-more : Linked s₃ (ClauseAt s₃ names) (getD s₃ (clause-record (next - 1)) 0) (turn .1)
+      linked-more =
+          let o : TrialOnly compounds-region marks (3 * figures .pairs) s s₃ = trial-only-wider compounds-region (omega arith) (told .only) in
+          subst (λ v. Linked s₃ (ClauseAt s₃ names) v (turn .1))
+          (sym (low-stays marks (3 * figures .pairs) s s₃ o behind (clause-record (next - 1)) (omega (arith, turn .3 .number))))
+          (linked-stays marks (3 * figures .pairs) s s₃ o behind names (getD s (clause-record (next - 1)) 0) (turn .1) (turn .4))
 
-      readers-there : (k : ℕ) → marks + figures .pairs ≤ k → getD s₃ k 0 ≡ getD s k 0
-      readers-there k a = told .only .same k (inr (omega (arith, behind))) (inr a)
+      onward : (waiting : List ℕ) (readers′ : ℕ) → Gathered s₃ at (marks + figures .pairs) (figures .pairs) readers′ waiting
+          → AllBelow (length (unit-of j limit figures g .values)) waiting
+          → choice-from (w .waiting) (turn .0 ∷ turn .1) (unit-of j limit figures g) (g .goal)
+          ≡ choice-from waiting (turn .1) (unit-of j limit figures g) (g .goal)
+          → Walk s₀ s₃ names j limit figures at g marks first readers′ (stamp + 256) (getD s₃ (clause-record (next - 1)) 0)
+      onward waiting readers′ gathered below e = record {
+        waiting = waiting;
+        passed = w .passed ++ (turn .0 ∷ []);
+        rest = turn .1;
+        whole = whole-more;
+        only = tried-frame;
+        linked = linked-more;
+        stamp-is = omega (arith, w .stamp-is, one-more);
+        marks-now = told .marks-now;
+        gathered = gathered;
+        below = below;
+        same-choice = sym (ap (λ l. choice-from (w .waiting) l (unit-of j limit figures g) (g .goal)) (turn .2) ∙ e) ∙ w .same-choice;
+        grounds = grounds-tried;
+      }
 
-      tried-met : Readers s₃ (marks + figures .pairs) (figures .pairs) readers
-      tried-met =
-          readers-kept s s₃ (marks + figures .pairs) (figures .pairs) readers (told .only .size) (λ k a b. readers-there k a) (w .met)
-
-      tried-words : listed s₃ (marks + figures .pairs) readers ≡ all-met [] (map (λ p. at .pair p) (w .waiting))
-      tried-words = listed-kept s s₃ (marks + figures .pairs) readers (λ k a b. readers-there k a) ∙ w .words
-
-      pub turn-fails : r ≡ Fails → Walk s₀ s₃ names j limit figures at g marks first readers (stamp + 256) (getD s₃ (clause-record (next - 1)) 0)
+      turn-fails : r ≡ Fails → Walk s₀ s₃ names j limit figures at g marks first readers (stamp + 256) (getD s₃ (clause-record (next - 1)) 0)
+      unfolding all-met
       turn-fails e =
-          let is : TrialIs s s₃ j limit figures at g marks stamp (next - 1) (turn .0) Fails = rw e at told in
-          record {
-            waiting = w .waiting;
-            passed = w .passed ++ (turn .0 ∷ []);
-            rest = turn .1;
-            whole = whole-more;
-            only = tried-frame;
-            linked = linked-more s₃ (trial-only-wider compounds-region (omega arith) one-trial);
-            stamp-is = omega (arith, w .stamp-is, one-more);
-            marks-now = told .marks-now;
-            met = tried-met;
-            words = tried-words;
-            below = w .below;
-            same-choice = rest-choice (w .waiting)
-                (from-fails (w .waiting) (turn .0) (turn .1) (unit-of j limit figures g) (g .goal) (is .told));
-            grounds = grounds-tried;
-          }
+          let is : TrialIs s s₃ j limit figures at g marks readers stamp (next - 1) (turn .0) (w .waiting) Fails = rw e at told in
+          onward (w .waiting) readers (record { ok = is .told .1 .ok; words = is .told .1 .list ∙ w .gathered .words }) (w .below)
+          (from-fails (w .waiting) (turn .0) (turn .1) (unit-of j limit figures g) (g .goal) (is .told .0))
 
-      -- What `meet_all` asks: the pairs noted are the unit's, and the unit's are the room's.
-      turn-small : (n : ℕ) → r ≡ Waits n → (n ≤ 192)
-          × ((i : ℕ) → i < n → getD s₃ (gift-term i) 0 ≡ 0 → getD s₃ (gift-pair i) 0 < figures .pairs)
-      turn-small n e =
-          let is : TrialIs s s₃ j limit figures at g marks stamp (next - 1) (turn .0) (Waits n) = rw e at told in (
-            is .told .3,
-            λ i h z.
-                mapped-below (is .told .0) (is .told .5) (rw (is .told .4) at (asked-at s₃ n i h z)),
-          )
-        where
-          mapped-below : (l : List ℕ) → AllBelow (length (unit-of j limit figures g .values)) l → {p : ℕ} → In p (map (λ q. at .pair q) l) → p < figures .pairs
-          mapped-below [] b m = absurd (in-none m)
-          mapped-below (q ∷ l) b {p} m =
-              ⊎-elim (λ e. rw e (t .unit .held .place q (b .0))) (mapped-below l (b .1)) (in-cons-cases m)
-
-      pub turn-meets : (n : ℕ) → r ≡ Waits n → Readers s₃ (marks + links) links readers × (woken-part ≤ marks + links) × (n ≤ 192)
-          × ((i : ℕ) → i < n → getD s₃ (gift-term i) 0 ≡ 0 → getD s₃ (gift-pair i) 0 < links)
-      turn-meets n e =
-          let small = turn-small n e in
-          rw (t .links-are) (tried-met, omega (arith, behind), small .0, small .1)
-
-      turn-waits : (n : ℕ) (s₄ : List ℕ) (readers′ : ℕ) → r ≡ Waits n
-          → Met s₃ s₄ (marks + figures .pairs) (figures .pairs) readers (asked-in s₃ n) readers′
-          → Walk s₀ s₄ names j limit figures at g marks first readers′ (stamp + 256) (getD s₄ (clause-record (next - 1)) 0)
-      turn-waits n s₄ readers′ e met =
-          let is : TrialIs s s₃ j limit figures at g marks stamp (next - 1) (turn .0) (Waits n) = rw e at told in
-          let write : TrialOnly woken-part marks (3 * figures .pairs) s₃ s₄ = trial-only-readers woken-part marks (figures .pairs) (met .only) in
+      turn-waits : (n : ℕ) → r ≡ Waits n → Walk s₀ s₃ names j limit figures at g marks first n (stamp + 256) (getD s₃ (clause-record (next - 1)) 0)
+      turn-waits n e =
+          let is : TrialIs s s₃ j limit figures at g marks readers stamp (next - 1) (turn .0) (w .waiting) (Waits n) = rw e at told in
           let others = is .told .0 in
-          record {
-            waiting = w .waiting ++ others;
-            passed = w .passed ++ (turn .0 ∷ []);
-            rest = turn .1;
-            whole = whole-more;
-            only = trial-only-then tried-frame write;
-            linked = linked-more s₄ (trial-only-wider compounds-region (omega arith) (trial-only-then one-trial write));
-            stamp-is = omega (arith, w .stamp-is, one-more);
-            marks-now = λ k a b. rw (met .only .below k (omega arith)) (told .marks-now k a b);
-            met = met .ok;
+          onward (w .waiting ++ others) n
+          (record {
+            ok = is .told .3 .ok;
             words =
-                met .list
-                ∙ rw (tried-words, is .told .4)
-                (sym (all-met-append [] (map (λ q. at .pair q) (w .waiting)) (map (λ q. at .pair q) others)))
+                is .told .3 .list
+                ∙ ap (λ l. all-met l (map (λ q. at .pair q) others)) (w .gathered .words)
+                ∙ sym (all-met-append [] (map (λ q. at .pair q) (w .waiting)) (map (λ q. at .pair q) others))
                 ∙ ap (all-met []) (sym (map-append (λ q. at .pair q) (w .waiting) others));
-            below = below-both (length (unit-of j limit figures g .values)) (w .waiting) others (w .below) (is .told .5);
-            same-choice = rest-choice (w .waiting ++ others)
-                (from-waits (w .waiting) (turn .0) (turn .1) (unit-of j limit figures g) (g .goal) others (is .told .1));
-            grounds =
-                new-marks-then at (unit-of j limit figures g .values) marks (figures .pairs) s₀ s₃ s₄ grounds-tried
-                (new-marks-same at (unit-of j limit figures g .values) marks (figures .pairs) s₃ s₄
-                (λ q h. met .only .below (marks + q) (omega arith)));
-          }
+          })
+          (below-both (length (unit-of j limit figures g .values)) (w .waiting) others (w .below) (is .told .2))
+          (from-waits (w .waiting) (turn .0) (turn .1) (unit-of j limit figures g) (g .goal) others (is .told .1))
 
       -- Either way.
-      pub turn-passed : (s′ : List ℕ) (readers′ : ℕ) → Passed s₃ marks links readers r s′ readers′
-          → Walk s₀ s′ names j limit figures at g marks first readers′ (stamp + 256) (getD s′ (clause-record (next - 1)) 0)
-      turn-passed s′ readers′ (inl (n, e, met)) = turn-waits n s′ readers′ e (rw (t .links-are) at met)
-      turn-passed s′ readers′ (inr (e, is, more)) = rw (is, more) (turn-fails e)
+      pub turn-passed : (readers′ : ℕ) → Passed readers r readers′
+          → Walk s₀ s₃ names j limit figures at g marks first readers′ (stamp + 256) (getD s₃ (clause-record (next - 1)) 0)
+      turn-passed readers′ (inl (n, e, is)) = rw is (turn-waits n e)
+      turn-passed readers′ (inr (e, is)) = rw is (turn-fails e)
 
   -- No clause is left.
   module _ (none-left : next ≡ 0) where
@@ -382,7 +315,7 @@ module _ {s₀ s : List ℕ} {text : Bytes} {names : List Bytes} {j : Job} {limi
 
     -- Readers are met exactly if some are waited on.
     as-many : length (all-met [] (map (λ p. at .pair p) (w .waiting))) ≡ readers
-    as-many = sym (ap length (w .words)) ∙ length-listed s (marks + figures .pairs) readers
+    as-many = sym (ap length (w .gathered .words)) ∙ listed-length s (marks + figures .pairs) readers
 
     pub all-fail : readers ≡ 0 → ChoiceIs s₀ s names j limit figures at g marks first FailsAll
     unfolding none-succeeds
@@ -399,7 +332,7 @@ module _ {s₀ s : List ℕ} {text : Bytes} {names : List Bytes} {j : Job} {limi
     some-wait e = record {
       only = walked;
       marks-now = marks-passed;
-      told = (w .waiting, go (w .waiting) as-many all-passed, w .met .few, w .words, w .below);
+      told = (w .waiting, go (w .waiting) as-many all-passed, w .gathered .ok .few, w .gathered .words, w .below);
       grounds = w .grounds;
     }
       where

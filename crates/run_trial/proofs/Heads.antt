@@ -4,21 +4,21 @@ use Prim.Native.Nat.{ℕ, _+_, _*_, _≤_}
 use mathlib.Core.Path.{_≡_, refl, sym, subst, ap, fun-ext, _∙_}
 use mathlib.Core.Bool.{Bool, true, _&&_}
 use mathlib.Core.Logic.{inr}
-use mathlib.Core.List.{List}
+use mathlib.Core.List.{List, [], _∷_}
 use native.Mathlib.Omega.{arith}
 use lib.Dec.{eqb}
 use lib.ListN.{length}
 use borrow.Author.Tests.{eqb-true}
 use Rattle.meaning.specs.Bytes.{Bytes, same}
-use Rattle.meaning.specs.Terms.{plus, minus, Constant, Term, Terms, end, more, named, Clause, Job, count, all-renamed, as-term}
+use Rattle.meaning.specs.Terms.{plus, minus, Constant, Term, Terms, end, more, named, Guard, Clause, Job, count, all-renamed, as-term}
 use Rattle.meaning.specs.State.{Room, Goal}
 use Rattle.meaning.specs.Compare.{followed, places}
 use Rattle.meaning.specs.Trial.{procedure, compared}
 use Rattle.laws.proofs.Lists.Among.{In, here, in-append-right}
-use Rattle.laws.proofs.Lists.EachOf.{each-in, each-all, each-those, those-member}
+use Rattle.laws.proofs.Lists.EachOf.{Each, each-in, each-all, each-those, those-member}
 use Rattle.laws.proofs.Lists.Tests.{and-right}
 use Rattle.laws.proofs.Reading.{JobOk, accepted-keeps-the-occurrence-rules, accepted-keeps-the-figures, names-of}
-use Rattle.laws.proofs.Reading.Figures.{Bounds, IntegerFits, ConstantFits, TermFits, TermsFit, ClauseFits}
+use Rattle.laws.proofs.Reading.Figures.{Bounds, IntegerFits, ConstantFits, TermFits, TermsFit, GuardFits, ClauseFits}
 use Rattle.laws.proofs.Circle.{run-followed-within}
 use Rattle.term.specs.Cells.{Places, Known, Numbered}
 use Rattle.term.specs.Holds.{Holds}
@@ -27,8 +27,10 @@ use Rattle.term.specs.Setting.{Within, AllWithin, Ranged, AllRanged, RangedCons
 use Rattle.term.specs.States.{setting}
 use Rattle.term.proofs.Held.{head-first}
 use Rattle.term.proofs.Jobs.{goals-numbered-order}
+use Rattle.term.proofs.KeptGuards.{guards-numbered-order}
 use Rattle.term.specs.Layout.{clause-head}
 use Rattle.run_compare.specs.Compare.{HeadAgainst, TrialStands, places-outcome}
+use Rattle.run_guards.specs.Guarding.{GuardsFit}
 use Rattle.run_trial.specs.Choosing.{unit-of, Trying, ArgumentsStand, Candidate, template}
 use Rattle.run_compare.proofs.Given.{compared-outcome}
 
@@ -65,6 +67,14 @@ module _ (b : Bounds) where
     all-fit-ranged end f = tt
     all-fit-ranged (more t ts) f = (fits-ranged t (f .0), all-fit-ranged ts (f .1))
 
+  pub all-guards-fit : (gs : List Guard) → Each (GuardFits b) gs → GuardsFit (b .pairs) (b .compounds) gs
+  unfolding GuardsFit
+  all-guards-fit [] f = tt
+  all-guards-fit (g ∷ gs) f = (
+    (all-fit-within (g .arguments) (f .0 .arguments), all-fit-ranged (g .arguments) (f .0 .arguments), f .0 .in-table),
+    all-guards-fit gs (f .1),
+  )
+
 -- A clause of a procedure is one of the job's, and has as many arguments as the goal.
 module _ {s : List ℕ} {names : List Bytes} {j : Job} {g : Goal} {k : ℕ} {c : Clause} (m : Candidate s names j g k c) where
   in-its-procedure : In c (procedure (j .clauses) (g .goal))
@@ -93,7 +103,7 @@ module _ {s : List ℕ} {text : Bytes} {names : List Bytes} {j : Job} {limit : �
   fits : ClauseFits (names-of text) c
   fits = each-in (ClauseFits (names-of text)) (accepted-keeps-the-figures text j (t .reads) .clauses) (one-of-the-job m)
 
-  clause-held : ClauseAt s (at .names) k c
+  pub clause-held : ClauseAt s (at .names) k c
   clause-held = subst (λ l. ClauseAt s l k c) (sym (t .names-are)) (m .at)
 
   stands : TrialStands s (setting figures at (unit-of j limit figures g)) (template k c) values links
@@ -107,27 +117,34 @@ module _ {s : List ℕ} {text : Bytes} {names : List Bytes} {j : Job} {limit : �
     compounds = m .at .held .laid .few-compounds;
   }
 
-  -- How far the head's compounds are numbered.
-  pub head-end : ℕ
-  unfolding GoalsNumbered
-  head-end = m .at .held .laid .numbered .0
+  -- How far the head's compounds are numbered; those of the body behind the guards', which are behind them.
+  abbrev pub head-end : ℕ
+  head-end = m .at .held .laid .behind-head
 
-  -- The body's are numbered behind them.
-  pub body-numbered : GoalsNumbered head-end (c .compounds) (c .body)
-  unfolding GoalsNumbered head-end
-  body-numbered = m .at .held .laid .numbered .2
+  abbrev pub body-start : ℕ
+  body-start = m .at .held .laid .behind-guards
+
+  pub body-behind : head-end ≤ body-start
+  body-behind = guards-numbered-order head-end body-start (c .guards) (m .at .held .laid .guards-numbered)
+
+  pub body-numbered : GoalsNumbered body-start (c .compounds) (c .body)
+  body-numbered = m .at .held .laid .body-numbered
+
+  -- The guards' arguments are terms of the clause, and their rows are the table's.
+  pub guards-fit : GuardsFit (c .pairs) (c .compounds) (c .guards)
+  guards-fit = all-guards-fit (record { pairs = c .pairs; compounds = c .compounds; names = names-of text }) (c .guards) (fits .guards)
 
   pub against : ArgumentsStand s j limit figures at g links
       → HeadAgainst s (setting figures at (unit-of j limit figures g)) (template k c) values links
       (c .head .number) (named (c .head .name)) (c .head .arguments) 1 head-end (g .goal .arguments) (clause-head k)
-  unfolding GoalsNumbered GoalsKnown Numbered Known Holds as-term head-end
+  unfolding GoalsKnown Numbered Known Holds as-term
   against stand =
       let laid = clause-held .held .laid in
       let first : c .head .number ≡ 0 = head-first (at .names) c laid in
-      let end : head-end ≤ c .compounds = goals-numbered-order head-end (c .compounds) (c .body) (m .at .held .laid .numbered .2) in
+      let end : head-end ≤ c .compounds = omega (arith, body-behind, goals-numbered-order body-start (c .compounds) (c .body) body-numbered) in
       let few : c .compounds ≤ 32 = laid .few-compounds in
       let bounds : Bounds = record { pairs = c .pairs; compounds = c .compounds; names = names-of text } in
-      let size : count (c .head .arguments) ≤ 6 = m .at .held .laid .numbered .1 .1 in
+      let size : count (c .head .arguments) ≤ 6 = m .at .held .laid .head-numbered .1 in
       record {
         large = omega (arith, t .held .inside);
         head = record {
@@ -138,7 +155,7 @@ module _ {s : List ℕ} {text : Bytes} {names : List Bytes} {j : Job} {limit : �
             within = all-fit-within bounds (c .head .arguments) (fits .head .arguments);
             known = laid .known .0 .1;
             ranged = all-fit-ranged bounds (c .head .arguments) (fits .head .arguments);
-            numbered = m .at .held .laid .numbered .1 .2;
+            numbered = m .at .held .laid .head-numbered .2;
             high = end;
             rising = omega arith;
           };

@@ -1,3 +1,4 @@
+pub mod Answering
 pub mod Clauses
 pub mod Following
 pub mod Heads

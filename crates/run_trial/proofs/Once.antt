@@ -1,20 +1,24 @@
 -- What is assigned once: of assignments for different pairs each is the value afterwards. Of what a trial gives, the entries are some, in order, and
 -- every other is given to the clause's pairs.
 use Prim.Native.Nat.{ℕ, zero, suc, _+_, _*_, _≤_, _<_}
-use mathlib.Core.Path.{_≡_, refl, sym, ap, _∙_}
+use mathlib.Core.Path.{_≡_, refl, sym, subst, ap, _∙_}
+use mathlib.Core.Bool.{Bool, true, false}
 use mathlib.Core.Logic.{_⊎_, inl, inr, _≢_}
 use mathlib.Core.List.{List, [], _∷_, _++_, append-assoc}
-use mathlib.Core.Option.{some}
+use mathlib.Core.Option.{none, some}
 use native.Mathlib.Omega.{arith}
+use lib.Dec.{eqb}
 use lib.ListN.{length, getD, set, length-set}
-use Rattle.meaning.specs.Terms.{Term, Constant, renamed}
+use borrow.Author.Tests.{eqb-true, eqb-false}
+use Rattle.meaning.specs.Terms.{writer, Term, Constant, renamed}
 use Rattle.meaning.specs.State.{Values, value}
 use Rattle.meaning.specs.Compare.{Assignment}
 use Rattle.meaning.specs.Trial.{assigned}
+use Rattle.meaning.specs.Guards.{given-to}
 use Rattle.laws.proofs.Lists.Among.{In, here, there, in-cons-cases, in-none}
 use Rattle.laws.proofs.Lists.EachOf.{Each, each-in, each-member}
 use Rattle.laws.proofs.Single.{AssignedOnce}
-use Rattle.laws.proofs.Trial.Values.{value-assigned-other, value-set-same}
+use Rattle.laws.proofs.Trial.Values.{value-assigned-other, value-set-same, value-set-other}
 use Rattle.term.specs.Cells.{Places, term-word}
 use Rattle.term.specs.Setting.{Setting, UnitTerm}
 use Rattle.term.proofs.Cells.{numbered-order}
@@ -68,6 +72,29 @@ assigned-is (b ∷ given) values a apart m h = go (in-cons-cases m) (assigned-is
         (value-assigned-other given next (b .pair) (λ d n. each-in (λ d. b .pair ≢ d .pair) (apart .0) n)
         ∙ value-set-same values (b .pair) (some (b .value)) (rw e at h))
     go (inr n) further = further n (omega (arith, length-set values (b .pair) (some (b .value))))
+
+-- What the definition of the guards looks up is that value; of a pair that had none and is given none it is the pair's own writer.
+pub given-to-is : (given : List Assignment) (values : Values) (p : ℕ) → AllApart given → p < length values → value values p ≡ none
+    → ((value (assigned given values) p ≡ none) × (given-to given p ≡ Term.variable writer p)) ⊎ (value (assigned given values) p ≡ some (given-to given p))
+unfolding assigned given-to
+given-to-is [] values p apart h e = inl (e, refl)
+given-to-is (a ∷ given) values p apart h e =
+    go (eqb (a .pair) p) refl (given-to-is given next p (apart .1) (omega (arith, length-set values (a .pair) (some (a .value)))))
+  where
+    next : Values
+    next = set values (a .pair) (some (a .value))
+
+    Is : Term → Type 0
+    Is t = ((value (assigned given next) p ≡ none) × (t ≡ Term.variable writer p)) ⊎ (value (assigned given next) p ≡ some t)
+
+    go : (b : Bool) → eqb (a .pair) p ≡ b → (value next p ≡ none → Is (given-to given p))
+        → Is (elim b [ true ↦ a .value | false ↦ given-to given p ])
+    go true q further =
+        let same : a .pair ≡ p = eqb-true (a .pair) p q in
+        inr (subst (λ n. value (assigned given next) n ≡ some (a .value)) same
+        (assigned-is (a ∷ given) values a apart (here refl) (omega arith)))
+    go false q further =
+        further (value-set-other values (a .pair) p (some (a .value)) (λ f. eqb-false (a .pair) p q (sym f)) ∙ e)
 
 -- The entries among the assignments.
 pub no-entry : Entry

@@ -1,6 +1,6 @@
 -- What a change of the trial's region, of marks and of the readers met alone leaves as it was: the job, the goal and its unit, a clause's head, what a trial gave.
 use Prim.Native.Nat.{ℕ, _+_, _*_, _≤_, _<_}
-use mathlib.Core.Path.{_≡_, refl, sym, subst, _∙_}
+use mathlib.Core.Path.{_≡_, refl, sym, subst, ap, _∙_}
 use mathlib.Core.Logic.{_⊎_, inl, inr, ⊎-elim}
 use mathlib.Core.List.{List, [], _∷_}
 use native.Mathlib.Omega.{arith}
@@ -24,7 +24,10 @@ use Rattle.run_circle.proofs.Grounds.{new-same}
 use Rattle.run_compare.specs.Gifts.{Gift, to-head, to-goal, Entry, EntriesAt}
 use Rattle.run_compare.specs.Compare.{Template, item, HeadTerm, AllEntries, AllGiven}
 use Rattle.run_chains.proofs.Followed.{followed-alike}
-use Rattle.run_trial.specs.Choosing.{unit-of, Trying, ArgumentsStand, TrialOnly, NewMarks, MarksBelow}
+use Rattle.run_readers.specs.Readers.{all-met, Readers}
+use Rattle.run_readers.proofs.Ranks.{listed-kept, readers-kept}
+use Rattle.run_asked.specs.Asking.{Joined}
+use Rattle.run_trial.specs.Choosing.{unit-of, Trying, ArgumentsStand, TrialOnly, NewMarks, MarksBelow, Candidate}
 
 -- Frames: nothing changed, one change after another, a wider region, more words behind the marks, a change of the trial's region, of marks.
 pub trial-only-same : (top marks pairs : ℕ) (s : List ℕ) → TrialOnly top marks pairs s s
@@ -70,6 +73,23 @@ trial-only-readers {s} {t} top marks pairs f = record { size = f .size; same = �
     go : (k : ℕ) → (k < marks) ⊎ (marks + 3 * pairs ≤ k) → getD t k 0 ≡ getD s k 0
     go k (inl a) = f .below k (omega arith)
     go k (inr a) = f .above k (omega arith)
+
+-- The step's set of readers, which stands behind the marks, where it is left alone; and what joins it after that.
+pub set-stays : {s t : List ℕ} {marks pairs n : ℕ} → compounds-region ≤ marks → TrialOnly compounds-region marks pairs s t
+    → Readers s (marks + pairs) pairs n → Joined s t (marks + pairs) pairs n [] n
+unfolding all-met
+set-stays {s} {t} {marks} {pairs} {n} behind o r = record {
+  ok = readers-kept s t (marks + pairs) pairs n (o .size) (λ k a b. there k a) r;
+  list = listed-kept s t (marks + pairs) n (λ k a b. there k a);
+}
+  where
+    there : (k : ℕ) → marks + pairs ≤ k → getD t k 0 ≡ getD s k 0
+    there k a = o .same k (inr (omega arith)) (inr a)
+
+pub joined-then : {s t u : List ℕ} {list pairs n m : ℕ} {ps : List ℕ} → Joined s t list pairs n [] n → Joined t u list pairs n ps m
+    → Joined s u list pairs n ps m
+unfolding all-met
+joined-then {ps = ps} a b = record { ok = b .ok; list = b .list ∙ ap (λ l. all-met l ps) (a .list) }
 
 -- A compound's own words are below the trial's region, or behind it and before the marks.
 abbrev pub Apart : ℕ → Places → ℕ → Type 0
@@ -162,6 +182,16 @@ module _ (marks pairs : ℕ) (s s′ : List ℕ) (o : TrialOnly compounds-region
       linked-map s s′ (ClauseAt s names) (ClauseAt s′ names) w cs
       (λ k c a. (clause-stays names k c a, low-stays (clause-record k) (omega (arith, a .number)))) l
 
+-- A clause of the goal's procedure.
+pub candidate-stays : {marks pairs : ℕ} {s s′ : List ℕ} {names : List Bytes} {j : Job} {g : Goal} {k : ℕ} {c : Clause}
+    → TrialOnly compounds-region marks pairs s s′ → compounds-region ≤ marks → Candidate s names j g k c → Candidate s′ names j g k c
+candidate-stays {marks} {pairs} {s} {s′} {names} {k = k} {c} o behind m = record {
+  at = clause-stays marks pairs s s′ o behind names k c (m .at);
+  before = m .before;
+  after = m .after;
+  in-procedure = m .in-procedure;
+}
+
 -- Where the goal's unit has its compounds.
 pub compounds-apart : {s : List ℕ} {text : Bytes} {names : List Bytes} {j : Job} {limit : ℕ} {figures : Room} {at : Places}
     {g : Goal} {others : List Goal} {values marks links goal : ℕ}
@@ -218,6 +248,8 @@ trying-stays {s} {s′} {names = names} {j} {limit} {figures} {at} {g} {values =
       inside = omega (arith, t .inside, o .size);
       enough = t .enough;
       links-are = t .links-are;
+      few-links = t .few-links;
+      near = t .near;
       ends-behind = t .ends-behind;
       ends = ends-stay marks (3 * figures .pairs) s s′ o behind x (compounds-apart t) values (t .ends-behind) (t .ends);
       grounds = grounds-below at (unit-of j limit figures g .values) marks (figures .pairs) (t .apart) (t .unit .held .place) s s′ new (t .grounds);

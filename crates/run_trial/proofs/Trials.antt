@@ -1,5 +1,5 @@
--- The trial of a clause: what its comparison asks; what the circle test asks where all places agree; and what the trial tells, also where it waits.
--- Each pair of the goal is given a term at most once, and had none before.
+-- The trial of a clause: what its comparison asks; what the circle test asks where all places agree; and what is given behind it. Each pair of the goal is
+-- given a term at most once, and had none before.
 use Prim.Native.Nat.{ℕ, _+_, _*_, _≤_, _<_, _^_}
 use mathlib.Core.Path.{_≡_, refl, sym, subst, ap, _∙_}
 use mathlib.Core.Bool.{Bool, true, false}
@@ -9,10 +9,11 @@ use mathlib.Core.Option.{none, some}
 use native.Mathlib.Omega.{arith}
 use lib.ListN.{length, getD}
 use Rattle.meaning.specs.Bytes.{Bytes, if_then_else_}
-use Rattle.meaning.specs.Terms.{Functor, Term, Terms, Clause, Job, count, named, renamed}
+use Rattle.meaning.specs.Terms.{writer, Functor, Term, Terms, Clause, Job, count, named, renamed}
 use Rattle.meaning.specs.State.{Room, Goal, value}
-use Rattle.meaning.specs.Compare.{Assignment, succeeds, waits, fails}
-use Rattle.meaning.specs.Trial.{with-pairs, values-after, compared, tested, trial}
+use Rattle.meaning.specs.Compare.{Assignment, succeeds, fails}
+use Rattle.meaning.specs.Guards.{given-to}
+use Rattle.meaning.specs.Trial.{with-pairs, values-after, compared, tested, guarded, trial}
 use Rattle.laws.proofs.Circle.{run-no-circle}
 use Rattle.laws.proofs.Lists.Among.{In}
 use Rattle.laws.proofs.Lists.EachOf.{each-in}
@@ -23,41 +24,44 @@ use Rattle.laws.proofs.Trial.Values.{
   value-after-cases,
   value-assigned-other,
   value-with-pairs,
+  value-beyond,
   assigned-below,
 }
-use Rattle.term.specs.Cells.{Places}
+use Rattle.term.specs.Cells.{Places, term-word}
 use Rattle.term.specs.Frames.{Only}
-use Rattle.term.specs.Jobs.{GoalsNumbered}
+use Rattle.term.specs.Holds.{value-word}
 use Rattle.term.specs.Setting.{Setting, UnitTerm}
 use Rattle.term.specs.States.{setting}
+use Rattle.term.proofs.Cells.{word-positive}
 use Rattle.term.specs.Layout.{trial-region, compounds-region, gifts-part, woken-part, clause-head}
 use Rattle.run_compare.specs.declared.compare.CompareResult.{CompareResult}
-use Rattle.run_compare.specs.declared.compare.CompareResult.the-variants.{Noted, Fails}
-use Rattle.run_trial.specs.declared.choice.TrialResult.the-variants.{Succeeds, Waits as WaitsOn, Fails as FailsAll}
+use Rattle.run_compare.specs.declared.compare.CompareResult.the-variants.{Noted}
 use Rattle.run_compare.specs.Gifts.{Gift, assignments, entries, recorded, Entry as GiftEntry, entries-of, EntriesAt}
 use Rattle.run_compare.specs.Notes.{Note, gifts-in, asks-in, noted, written}
 use Rattle.run_circle.specs.Circle.{Trial, Entry, Tried, Tested, entry-pair}
 use Rattle.run_circle.specs.Ground.{NewGrounds}
 use Rattle.run_circle.proofs.Grounds.{new-then}
 use Rattle.run_compare.specs.Compare.{Template, item, HeadAgainst, AllGiven, AllEntries, Answers, Gave, places-outcome}
-use Rattle.run_trial.specs.Choosing.{unit-of, Trying, ArgumentsStand, TrialOnly, MarksBelow, template, Candidate, TrialIs}
+use Rattle.run_asked.specs.Asking.{GaveAt}
+use Rattle.run_trial.specs.Choosing.{unit-of, Trying, ArgumentsStand, TrialOnly, MarksBelow, template, Candidate, Succeeded}
 use Rattle.run_compare.proofs.Given.{entries-length, entries-at, entries-held, gave}
-use Rattle.run_compare.proofs.Notes.{outcome-succeeds, outcome-waits, gifts-held, gifts-counted, gifts-recorded}
+use Rattle.run_compare.proofs.Notes.{outcome-succeeds, gifts-held, gifts-counted, gifts-recorded}
 use Rattle.run_readers.specs.Readers.{asked-in, is-some}
 use Rattle.run_readers.proofs.AllMet.{none-is-empty, some-not-none}
-use Rattle.run_trial.proofs.Asked.{asked-are, asks-below, none-mapped}
-use Rattle.run_trial.proofs.Heads.{rules-kept, one-of-the-job, head-end, body-numbered, against, compared-is}
-use Rattle.run_trial.proofs.Once.{once-apart, assigned-is, no-entry, entry-assigned, entries-differ, to-clause, to-unit, entry-words, entry-held}
+use Rattle.run_trial.proofs.Asked.{asked-are, none-mapped}
+use Rattle.run_trial.proofs.Heads.{rules-kept, one-of-the-job, head-end, body-start, body-behind, body-numbered, against, compared-is}
+use Rattle.run_trial.proofs.Once.{once-apart, assigned-is, given-to-is, no-entry, entry-assigned, entries-differ, to-clause, to-unit, entry-words, entry-held}
 use Rattle.run_trial.proofs.Staying.{
   trial-only-then,
   trial-only-wider,
+  trial-only-more,
   trial-only-region,
   trial-only-marks,
   compounds-apart,
   grounds-stay,
   trying-tried,
   arguments-stay,
-  clause-stays,
+  candidate-stays,
   unit-term-stays,
   head-term-stays,
   all-entries-stay,
@@ -73,22 +77,17 @@ module _ {s s₁ : List ℕ} {text : Bytes} {names : List Bytes} {j : Job} {limi
   pub begun-frame : TrialOnly compounds-region marks (figures .pairs) s s₁
   begun-frame = trial-only-region compounds-region marks (figures .pairs) (omega arith) begun
 
-  marks-high : woken-part ≤ marks
+  pub marks-high : woken-part ≤ marks
   marks-high = omega (arith, t .values-behind, t .marks-behind)
 
-  begun-grounds : NewGrounds at (unit-of j limit figures g .values) marks s s₁
+  pub begun-grounds : NewGrounds at (unit-of j limit figures g .values) marks s s₁
   begun-grounds = grounds-stay at (unit-of j limit figures g .values) marks (omega (arith, marks-high)) begun
 
   pub begun-trying : Trying s₁ text names j limit figures at g others values marks links goal
   begun-trying = trying-tried begun-frame begun-grounds t
 
   pub begun-candidate : Candidate s₁ names j g k c
-  begun-candidate = record {
-    at = clause-stays marks (figures .pairs) s s₁ begun-frame (omega (arith, t .values-behind, t .marks-behind)) names k c (m .at);
-    before = m .before;
-    after = m .after;
-    in-procedure = m .in-procedure;
-  }
+  begun-candidate = candidate-stays begun-frame (omega (arith, t .values-behind, t .marks-behind)) m
 
   -- How far the head's compounds are numbered.
   abbrev pub to : ℕ
@@ -321,116 +320,98 @@ module _ {s s₁ : List ℕ} {text : Bytes} {names : List Bytes} {j : Job} {limi
       tested-frame : TrialOnly woken-part marks (figures .pairs) s₂ s₃
       tested-frame = trial-only-marks woken-part (answer .only)
 
-      whole-frame : TrialOnly woken-part marks (figures .pairs) s s₃
+      pub whole-frame : TrialOnly woken-part marks (figures .pairs) s s₃
       whole-frame =
           trial-only-then (trial-only-region woken-part marks (figures .pairs) (omega arith) begun)
           (trial-only-then (trial-only-region woken-part marks (figures .pairs) (omega arith) (told .only)) tested-frame)
 
-      grounds-after : NewGrounds at (unit-of j limit figures g .values) marks s s₃
+      pub grounds-after : NewGrounds at (unit-of j limit figures g .values) marks s s₃
       grounds-after =
           new-then at (unit-of j limit figures g .values) marks s s₁ s₃ begun-grounds
           (new-then at (unit-of j limit figures g .values) marks s₁ s₂ s₃ agreed-grounds (answer .grounds))
 
-      marks-after : MarksBelow s₃ marks (figures .pairs) (stamp + 256)
+      pub marks-after : MarksBelow s₃ marks (figures .pairs) (stamp + 192)
       marks-after a l h = omega (arith, answer .stamps-new a l h, few-entries)
 
-      tested-is : trial c (unit-of j limit figures g) (g .goal) ≡ (if found then fails else succeeds given)
+      pub tested-is : (earlier : List ℕ)
+          → trial earlier c (unit-of j limit figures g) (g .goal) ≡ guarded earlier c (unit-of j limit figures g) (if found then fails else succeeds given)
       unfolding trial tested
-      tested-is = rw (agrees, tested, answer .answer) refl
+      tested-is earlier = rw (agrees, tested, answer .answer) refl
 
       before-marks : (a : ℕ) → a < woken-part → getD s₃ a 0 ≡ getD s₂ a 0
       before-marks a h = answer .only .below a (omega (arith, t .values-behind, t .marks-behind))
 
-      pub circle-fails : found ≡ true → TrialIs s s₃ j limit figures at g marks stamp k c FailsAll
-      unfolding if_then_else_
-      circle-fails e = record { only = whole-frame; marks-now = marks-after; told = rw e at tested-is; grounds = grounds-after }
+      whole : TrialOnly compounds-region marks (figures .pairs) s s₃
+      whole = trial-only-wider compounds-region (omega arith) whole-frame
 
-      pub no-circle-succeeds : found ≡ false → TrialIs s s₃ j limit figures at g marks stamp k c (Succeeds n)
-      unfolding if_then_else_
-      no-circle-succeeds e =
-          let all = given-then .0 in
-          record {
-            only = whole-frame;
-            marks-now = marks-after;
-            told = (
-              given,
-              rw e at tested-is,
+      behind : compounds-region ≤ marks
+      behind = omega (arith, t .values-behind, t .marks-behind)
+
+      pub tested-trying : Trying s₃ text names j limit figures at g others values marks links goal
+      tested-trying = trying-tried whole grounds-after t
+
+      pub tested-candidate : Candidate s₃ names j g k c
+      tested-candidate = candidate-stays whole behind m
+
+      -- What the guards read of the clause's pairs.
+      pub gave-at : (a : ℕ) → a < c .pairs → GaveAt s₃ x given a
+      unfolding values-after
+      gave-at a h =
+          let p = length (x .values) + a in
+          let base = with-pairs (c .pairs) (x .values) in
+          let nothing : value base p ≡ none = value-with-pairs (c .pairs) (x .values) p ∙ value-beyond (x .values) p (omega arith) in
+          go (given-to-is given base p (once-apart once) (omega (arith, base-long)) nothing)
+        where
+          there : getD s₃ (trial-region + a) 0 ≡ value-word at (value (values-after c given (unit-of j limit figures g)) (length (x .values) + a))
+          there = before-marks (trial-region + a) (omega (arith, few)) ∙ given-then .0 .clause-values a h
+
+          go : ((value (values-after c given (unit-of j limit figures g)) (length (x .values) + a) ≡ none)
+              × (given-to given (length (x .values) + a) ≡ Term.variable writer (length (x .values) + a)))
+              ⊎ (value (values-after c given (unit-of j limit figures g)) (length (x .values) + a) ≡ some (given-to given (length (x .values) + a)))
+              → GaveAt s₃ x given a
+          go (inl (e, own)) =
+              let none-there : getD s₃ (trial-region + a) 0 ≡ 0 = there ∙ ap (value-word at) e in
+              record { nothing = λ q. own; word = λ d. absurd (d none-there); term = λ d. absurd (d none-there) }
+          go (inr e) =
+              let u = given-to given (length (x .values) + a) in
+              let some-there : getD s₃ (trial-region + a) 0 ≡ term-word at u = there ∙ ap (value-word at) e in
               record {
-                few = few-entries;
-                gave = record {
-                  list = all .list;
-                  size = all .size;
-                  stand = entries-stay s₂ s₃ (item x y) at 0 (all .list) (λ a l h. before-marks a (omega (arith, all .size, few-entries))) (all .stand);
-                  held = all-entries-stay marks (figures .pairs) s₁ s₃
-                      (trial-only-then agreed-frame (trial-only-wider compounds-region (omega arith) tested-frame))
-                      (omega (arith, t .values-behind, t .marks-behind)) x y (m .at .number) (m .at .held .laid .few-compounds) (all .low) (all .high) (all .list) (all .held);
-                  unit-values = all .unit-values;
-                  clause-values = λ a h. before-marks (trial-region + a) (omega (arith, few)) ∙ all .clause-values a h;
-                  gifts = all .gifts;
-                  given-are = all .given-are;
-                  low = all .low;
-                  high = all .high;
-                  list-is = all .list-is;
-                  gifts-held = all-given-stay marks (figures .pairs) s₁ s₃
-                      (trial-only-then agreed-frame (trial-only-wider compounds-region (omega arith) tested-frame))
-                      (omega (arith, t .values-behind, t .marks-behind)) x y (m .at .number) (m .at .held .laid .few-compounds) (compounds-apart t)
-                      (all .low) (all .high) (all .gifts) (all .gifts-held);
-                  pairs-are = all .pairs-are;
-                };
-                body = subst (λ h. GoalsNumbered h (c .compounds) (c .body)) (sym (given-then .1)) (body-numbered begun-trying begun-candidate);
-              },
-            );
-            grounds = grounds-after;
+                nothing = λ q. absurd (omega (arith, word-positive at u));
+                word = λ d. some-there;
+                term = λ d.
+                    unit-term-stays marks (figures .pairs) s₂ s₃ (trial-only-wider compounds-region (omega arith) tested-frame) behind x (compounds-apart t) u
+                    (to-pair a u e);
+              }
+
+      -- What is given stands still behind the guards, which change marks and the step's readers alone.
+      pub succeeded : (s₄ : List ℕ) → Only marks (marks + 3 * figures .pairs) s₃ s₄ → Succeeded s₄ x k c given n
+      succeeded s₄ o =
+          let all = given-then .0 in
+          let still : TrialOnly compounds-region marks (3 * figures .pairs) s₁ s₄ =
+          trial-only-then
+          (trial-only-more (3 * figures .pairs) (omega arith) (trial-only-then agreed-frame (trial-only-wider compounds-region (omega arith) tested-frame)))
+          (trial-only-marks compounds-region o) in
+          let low : (a : ℕ) → a < woken-part → getD s₄ a 0 ≡ getD s₂ a 0 = λ a h. o .below a (omega (arith, behind)) ∙ before-marks a h in
+          record {
+            few = few-entries;
+            gave = record {
+              list = all .list;
+              size = all .size;
+              stand = entries-stay s₂ s₄ (item x y) at 0 (all .list) (λ a l h. low a (omega (arith, all .size, few-entries))) (all .stand);
+              held = all-entries-stay marks (3 * figures .pairs) s₁ s₄ still behind x y (m .at .number) (m .at .held .laid .few-compounds)
+                  (all .low) (all .high) (all .list) (all .held);
+              unit-values = all .unit-values;
+              clause-values = λ a h. low (trial-region + a) (omega (arith, few)) ∙ all .clause-values a h;
+              gifts = all .gifts;
+              given-are = all .given-are;
+              low = all .low;
+              high = all .high;
+              list-is = all .list-is;
+              gifts-held = all-given-stay marks (3 * figures .pairs) s₁ s₄ still behind x y (m .at .number) (m .at .held .laid .few-compounds) (compounds-apart t)
+                  (all .low) (all .high) (all .gifts) (all .gifts-held);
+              pairs-are = all .pairs-are;
+            };
+            body-from = body-start begun-trying begun-candidate;
+            body-behind = rw (given-then .1) (body-behind begun-trying begun-candidate);
+            body = body-numbered begun-trying begun-candidate;
           }
-
-  -- Where places wait, or one fails.
-  module _ {s₂ : List ℕ} {stamp : ℕ} (new : MarksBelow s marks (figures .pairs) stamp) where
-    frame : (r : CompareResult) → Comparison s₂ r → TrialOnly woken-part marks (figures .pairs) s s₂
-    frame r told =
-        trial-only-then (trial-only-region woken-part marks (figures .pairs) (omega arith) begun)
-        (trial-only-region woken-part marks (figures .pairs) (omega arith) (told .only))
-
-    grounds-still : (r : CompareResult) → Comparison s₂ r → NewGrounds at (unit-of j limit figures g .values) marks s s₂
-    grounds-still r told =
-        new-then at (unit-of j limit figures g .values) marks s s₁ s₂ begun-grounds
-        (grounds-stay at (unit-of j limit figures g .values) marks marks-high (told .only))
-
-    marks-still : (r : CompareResult) → Comparison s₂ r → MarksBelow s₂ marks (figures .pairs) (stamp + 256)
-    marks-still r told a l h =
-        let still =
-        marks-stay marks (figures .pairs) stamp (omega (arith, t .values-behind, t .marks-behind)) (told .only)
-        (marks-stay marks (figures .pairs) stamp (omega (arith, t .values-behind, t .marks-behind)) begun new) a l h in
-        omega (arith, still)
-
-    pub some-wait : (n : ℕ) (told : Comparison s₂ (Noted n)) → asks-in (told .told .1 .notes) ≢ []
-        → TrialIs s s₂ j limit figures at g marks stamp k c (WaitsOn n)
-    unfolding trial tested
-    some-wait n told asked =
-        let x = setting figures at (unit-of j limit figures g) in
-        let waits-is : compared c (unit-of j limit figures g) (g .goal) ≡ waits (asks-in (notes told)) =
-        compared-is t m ∙ told .told .1 .outcome ∙ outcome-waits (length (x .values)) (x .compounds) (notes told) asked
-        in
-        record {
-          only = frame (Noted n) told;
-          marks-now = marks-still (Noted n) told;
-          told = (
-            asks-in (notes told),
-            rw (waits-is, tested) refl,
-            asked,
-            few-noted told,
-            asked-noted told,
-            asks-below (notes told) s₁ x (template k c) 1 to (told .told .1 .held),
-          );
-          grounds = grounds-still (Noted n) told;
-        }
-
-    pub place-fails : Comparison s₂ Fails → TrialIs s s₂ j limit figures at g marks stamp k c FailsAll
-    unfolding trial tested
-    place-fails told =
-        let fails-is : compared c (unit-of j limit figures g) (g .goal) ≡ fails = compared-is t m ∙ told .told in
-        record {
-          only = frame Fails told;
-          marks-now = marks-still Fails told;
-          told = rw (fails-is, tested) refl;
-          grounds = grounds-still Fails told;
-        }

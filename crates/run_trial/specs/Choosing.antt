@@ -2,7 +2,7 @@
 -- text was read as: what the laws say of such states is what they lean on.
 use Prim.Native.Nat.{ℕ, _+_, _*_, _≤_, _<_, _^_}
 use mathlib.Core.Path.{_≡_}
-use mathlib.Core.Logic.{_⊎_, _≢_}
+use mathlib.Core.Logic.{_⊎_}
 use mathlib.Core.List.{List, [], _∷_, _++_, map}
 use lib.ListN.{length, getD}
 use Rattle.meaning.specs.Bytes.{Bytes}
@@ -20,8 +20,9 @@ use Rattle.term.specs.States.{setting, listed}
 use Rattle.term.specs.Layout.{trial-region, compounds-region, woken-part, ends-after, clause-record}
 use Rattle.run_chains.specs.Follow.{FollowedAt}
 use Rattle.run_compare.specs.Compare.{Template, Gave}
-use Rattle.run_circle.specs.Ground.{GroundAt, Grounds, NewGrounds}
-use Rattle.run_readers.specs.Readers.{asked-in, all-met}
+use Rattle.run_circle.specs.Ground.{GroundAt, Grounds}
+use Rattle.run_readers.specs.Readers.{Readers, all-met}
+use Rattle.run_asked.specs.Asking.{Joined, AllBelow}
 use Rattle.run_trial.specs.declared.choice.TrialResult.{TrialResult}
 use Rattle.run_trial.specs.declared.choice.TrialResult.the-variants.{Succeeds, Waits, Fails}
 use Rattle.run_trial.specs.declared.choice.ChoiceResult.{ChoiceResult}
@@ -51,6 +52,8 @@ pub record Trying (s : List ℕ) (text : Bytes) (names : List Bytes) (j : Job) (
   pub inside : marks + 3 * figures .pairs ≤ length s
   pub enough : length (unit-of j limit figures g .values) ≤ links
   pub links-are : links ≡ figures .pairs
+  pub few-links : links ≤ 65536
+  pub near : values ≤ 268435456
   pub ends-behind : marks + 3 * figures .pairs ≤ values + ends-after * figures .pairs
   pub ends : EndsStand s (setting figures places (unit-of j limit figures g)) values
   pub grounds : Grounds places (unit-of j limit figures g .values) marks s
@@ -85,23 +88,26 @@ pub record Candidate (s : List ℕ) (names : List Bytes) (j : Job) (g : Goal) (k
   pub after : List Clause
   pub in-procedure : procedure (j .clauses) (g .goal) ≡ before ++ c ∷ after
 
+-- The readers that the clauses before wait on are in the step's set, which has n.
+pub record Gathered (s : List ℕ) (places : Places) (list pairs n : ℕ) (readers : List ℕ) : Type 0 where
+  pub ok : Readers s list pairs n
+  pub words : listed s list n ≡ all-met [] (map (λ p. places .pair p) readers)
+
 -- What a trial has given stands in the trial's region: the assignments of n of the goal's pairs, and of the head's writers; the compounds of the
--- body's goals are numbered behind those of what is given.
+-- body's goals are numbered behind those of what is given, and behind the guards'.
 pub record Succeeded (s : List ℕ) (x : Setting) (k : ℕ) (c : Clause) (given : List Assignment) (n : ℕ) : Type 0 where
   pub few : n ≤ 192
   pub gave : Gave s s x (template k c) given n
-  pub body : GoalsNumbered (gave .high) (c .compounds) (c .body)
+  pub body-from : ℕ
+  pub body-behind : gave .high ≤ body-from
+  pub body : GoalsNumbered body-from (c .compounds) (c .body)
 
-abbrev pub AllBelow : ℕ → List ℕ → Type 0
-AllBelow n [] = Unit {0}
-AllBelow n (r ∷ rs) = (r < n) × AllBelow n rs
-
-abbrev pub TrialTold : List ℕ → Setting → ℕ → Clause → Result → TrialResult → Type 0
-TrialTold s x k c o (Succeeds n) = (given : List Assignment) × (o ≡ succeeds given) × Succeeded s x k c given n
-TrialTold s x k c o (Waits n) =
-    (readers : List ℕ) × (o ≡ waits readers) × (readers ≢ []) × (n ≤ 192) × (asked-in s n ≡ map (λ p. x .places .pair p) readers)
-    × AllBelow (length (x .values)) readers
-TrialTold s x k c o Fails = o ≡ fails
+-- A trial in a step that has met so many readers, in a list from a word on: those that it waits on have joined them.
+abbrev pub TrialTold : List ℕ → List ℕ → Setting → ℕ → Clause → ℕ → ℕ → Result → TrialResult → Type 0
+TrialTold s s′ x k c list met o (Succeeds n) = (given : List Assignment) × (o ≡ succeeds given) × Succeeded s′ x k c given n
+TrialTold s s′ x k c list met o (Waits n) =
+    (readers : List ℕ) × (o ≡ waits readers) × AllBelow (length (x .values)) readers × Joined s s′ list (x .pairs) met (map (λ p. x .places .pair p) readers) n
+TrialTold s s′ x k c list met o Fails = (o ≡ fails) × Joined s s′ list (x .pairs) met [] met
 
 -- The clause to try behind clause k, by its number plus one, or 0 if there is none.
 abbrev pub clause-after : List ℕ → ℕ → TrialResult → ℕ
@@ -109,12 +115,14 @@ clause-after s k (Succeeds n) = 0
 clause-after s k (Waits n) = getD s (clause-record k) 0
 clause-after s k Fails = getD s (clause-record k) 0
 
--- The answer of a trial.
-pub record TrialIs (s s′ : List ℕ) (j : Job) (limit : ℕ) (figures : Room) (places : Places) (g : Goal) (marks stamp k : ℕ) (c : Clause) (r : TrialResult) : Type 0 where
-  pub only : TrialOnly woken-part marks (figures .pairs) s s′
+-- The answer of a trial, in a step that has met so many readers, those on which the earlier clauses wait.
+pub record TrialIs (s s′ : List ℕ) (j : Job) (limit : ℕ) (figures : Room) (places : Places) (g : Goal) (marks met stamp k : ℕ) (c : Clause) (earlier : List ℕ)
+    (r : TrialResult) : Type 0 where
+  pub only : TrialOnly woken-part marks (3 * figures .pairs) s s′
   pub marks-now : MarksBelow s′ marks (figures .pairs) (stamp + 256)
-  pub told : TrialTold s′ (setting figures places (unit-of j limit figures g)) k c (trial c (unit-of j limit figures g) (g .goal)) r
-  pub grounds : NewGrounds places (unit-of j limit figures g .values) marks s s′
+  pub told : TrialTold s s′ (setting figures places (unit-of j limit figures g)) k c (marks + figures .pairs) met
+      (trial earlier c (unit-of j limit figures g) (g .goal)) r
+  pub grounds : NewMarks places (unit-of j limit figures g .values) marks (figures .pairs) s s′
 
 -- The readers that a goal waits on have their pairs' places in a list from a word on, each once.
 abbrev pub ChoiceTold : List ℕ → List Bytes → Setting → ℕ → Choice → ChoiceResult → Type 0

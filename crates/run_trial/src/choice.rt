@@ -3,6 +3,8 @@ use run_chains::arguments::follow_arguments;
 use run_circle::circle::circle;
 use run_compare::compare::CompareResult;
 use run_compare::heads::head;
+use run_guards::guards::GuardResult;
+use run_guards::guards::guards;
 use run_readers::readers::asks;
 use run_readers::readers::meet_all;
 use term::layout::CLAUSE_NEXT;
@@ -25,10 +27,11 @@ ghost use Rattle.meaning.specs.State.{Room, Goal};
 ghost use Rattle.term.specs.Cells.{Places};
 ghost use Rattle.term.specs.Frames.{Only};
 ghost use Rattle.term.specs.Layout.{clauses-region, trial-region, compounds-region, gifts-part, procedure-slot, clause-record};
-ghost use Rattle.run_trial.specs.Choosing.{Trying, ArgumentsStand, MarksBelow, Candidate, clause-after, TrialIs, ChoiceIs};
+ghost use Rattle.run_readers.specs.Readers.{Readers};
+ghost use Rattle.run_trial.specs.Choosing.{Trying, ArgumentsStand, MarksBelow, Gathered, Candidate, clause-after, TrialIs, ChoiceIs};
 
-// "Each trial of a clause gives one of three results": it succeeds, with so many of the goal's pairs given a term; it waits on readers, which are
-// among so many pairs noted; it fails.
+// "Each trial of a clause gives one of three results": it succeeds, with so many of the goal's pairs given a term; it waits on readers, and the step
+// has met so many then; it fails.
 pub enum TrialResult {
     Succeeds(usize),
     Waits(usize),
@@ -55,37 +58,45 @@ fn begin(s: &mut [u64])
     }
 }
 
-// The trial of clause k on the goal whose arguments were followed.
+// The trial of clause k on the goal whose arguments were followed, when the step has met so many readers: the places, the circle test, the guards. Of its 256
+// stamps the circle test uses one for each pair that is given a term, at most 192.
 fn trial(
     s: &mut [u64],
     values: usize,
     marks: usize,
     links: usize,
     k: usize,
+    readers: usize,
     stamp: u64,
 ) -> TrialResult
     requires { ⌜ ((text : Bytes) × (names : List Bytes) × (j : Job) × (limit : ℕ) × (figures : Room) × (at : Places) × (g : Goal) × (others : List Goal) × (goal : ℕ) × (c : Clause)
         × Trying (now s) text names j limit figures at g others values marks links goal
         × ArgumentsStand (now s) j limit figures at g links
         × Candidate (now s) names j g k c
-        × MarksBelow (now s) marks (figures .pairs) stamp × ((1 < stamp) × (stamp + 256 < 2 ^ 64))) ⌝ }
-    ensures { λ r. ⌜ ((text : Bytes) (names : List Bytes) (j : Job) (limit : ℕ) (figures : Room) (at : Places) (g : Goal) (others : List Goal) (goal : ℕ) (c : Clause)
+        × MarksBelow (now s) marks (figures .pairs) stamp
+        × Readers (now s) (marks + figures .pairs) (figures .pairs) readers × ((1 < stamp) × (stamp + 256 < 2 ^ 64))) ⌝ }
+    ensures { λ r. ⌜ ((text : Bytes) (names : List Bytes) (j : Job) (limit : ℕ) (figures : Room) (at : Places) (g : Goal) (others : List Goal) (goal : ℕ) (c : Clause) (earlier : List ℕ)
         → Trying (now (s .entry)) text names j limit figures at g others values marks links goal
         → ArgumentsStand (now (s .entry)) j limit figures at g links
         → Candidate (now (s .entry)) names j g k c
         → MarksBelow (now (s .entry)) marks (figures .pairs) stamp
-        → TrialIs (now (s .entry)) (now (s .exit)) j limit figures at g marks stamp k c r) ⌝ }
+        → Gathered (now (s .entry)) at (marks + figures .pairs) (figures .pairs) readers earlier
+        → TrialIs (now (s .entry)) (now (s .exit)) j limit figures at g marks readers stamp k c earlier r) ⌝ }
 {
     begin(s);
     match head(s, values, links, ITEMS + ITEM_WORDS * k) {
         CompareResult::Noted(n) => {
             if asks(s, n) {
-                return TrialResult::Waits(n);
+                return TrialResult::Waits(meet_all(s, marks + links, links, readers, n));
             }
             if circle(s, values, marks, n, stamp) {
                 return TrialResult::Fails;
             }
-            TrialResult::Succeeds(n)
+            match guards(s, values, marks, links, k, readers, stamp + 192) {
+                GuardResult::Succeeds => TrialResult::Succeeds(n),
+                GuardResult::Waits(m) => TrialResult::Waits(m),
+                GuardResult::Fails => TrialResult::Fails,
+            }
         }
         CompareResult::Fails => TrialResult::Fails,
     }
@@ -144,10 +155,10 @@ pub fn choice(
     let mut next = first_clause(s, goal);
     'clauses: while next != 0 {
         let k = next - 1;
-        let t = trial(s, values, marks, links, k, stamp);
+        let t = trial(s, values, marks, links, k, readers, stamp);
         let TrialResult::Succeeds(n) = t else {
             if let TrialResult::Waits(n) = t {
-                readers = meet_all(s, marks + links, links, readers, n);
+                readers = n;
             }
             stamp += 256;
             next = clause_after(s, k, t);

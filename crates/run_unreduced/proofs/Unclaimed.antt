@@ -25,7 +25,7 @@ use Rattle.term.specs.Layout.{readers-region}
 use Rattle.run_readers.specs.Readers.{all-met}
 use Rattle.run_readers.proofs.AllMet.{in-all-met}
 use Rattle.run_readers.proofs.Ranks.{listed-in}
-use Rattle.run_trial.specs.Choosing.{AllBelow}
+use Rattle.run_asked.specs.Asking.{AllBelow}
 use Rattle.run_queues.specs.Log.{Slot, gone, waits, pairs-in, slot, present}
 use Rattle.run_between.specs.Running.{slot-of}
 use Rattle.run_queues.proofs.Presents.{goal-present, in-mapped, in-split}

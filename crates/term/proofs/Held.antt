@@ -44,8 +44,8 @@ module _ (s : List ℕ) (places : Places) (place : ℕ) where
 
 -- A clause's head is the first of its compounds.
 pub head-first : (names : List Bytes) (c : Clause) → ClauseLaid names c → c .head .number ≡ 0
-unfolding GoalsNumbered Numbered as-term
-head-first names c laid = laid .numbered .1 .0
+unfolding Numbered as-term
+head-first names c laid = laid .head-numbered .0
 
 -- Two known names are the same exactly if their numbers are.
 pub numbers-tell : (f g : Bytes) (names : List Bytes) → KnownName names f → KnownName names g

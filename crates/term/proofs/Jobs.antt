@@ -16,8 +16,9 @@ use Rattle.term.specs.Jobs.{places-from, GoalsNumbered, HoldsGoals, Hold
 use Rattle.term.proofs.Cells.{numbered-order}
 use Rattle.term.proofs.Frames.{only-set}
 use Rattle.term.proofs.Holds.{holds-kept}
+use Rattle.term.proofs.KeptGuards.{guards-numbered-order, holds-guards-kept}
 use Rattle.term.proofs.Numbers.{number-below}
-use Rattle.term.specs.Layout.{trial-region, item-start, item-end, item-place, clause-record, clause-base, query-record, query-base, query-goals-from, clause-goals-from}
+use Rattle.term.specs.Layout.{trial-region, item-start, item-end, item-place, clause-record, clause-base, query-record, query-base, query-goals-from, clause-goals-from, clause-tests-from, clause-stride}
 
 -- Each of a list, one by one; a condition that follows for those below a bound.
 pub each-at : {A : Type 0} (P : ℕ → A → Type 0) (k i : ℕ) (l : List A) (d : A) → i < length l → EachFrom P k l → P (k + i) (getD l i d)
@@ -71,28 +72,34 @@ module _ (places : Places) (base : ℕ) (at : (n : ℕ) → places .compound n �
 
 -- A clause stays held where the words of its record behind the first stay, and those of its compounds.
 module _ (s s′ : List ℕ) (names : List Bytes) (k : ℕ) (size : length s ≤ length s′) where
-  pub holds-clause-kept : (c : Clause) → ((i : ℕ) → 1 ≤ i → i < 16 → getD s′ (clause-record k + i) 0 ≡ getD s (clause-record k + i) 0)
+  pub holds-clause-kept : (c : Clause) → ((i : ℕ) → 1 ≤ i → i < clause-stride → getD s′ (clause-record k + i) 0 ≡ getD s (clause-record k + i) 0)
       → ((i : ℕ) → item-start (clause-base k) ≤ i → i < item-end (clause-base k) → getD s′ i 0 ≡ getD s i 0)
       → HoldsClause s names k c → HoldsClause s′ names k c
   unfolding GoalsNumbered
   holds-clause-kept c own cells h =
-      let numbered = h .laid .numbered in
-      let mid = numbered .0 in
+      let places = places-from names (clause-base k) in
+      let mid = h .laid .behind-head in
+      let guarded = h .laid .behind-guards in
       let hi = c .compounds in
-      let low : 0 ≤ mid = omega arith in
-      let high : mid ≤ hi = goals-numbered-order mid hi (c .body) (numbered .2) in
+      let low : mid ≤ guarded = guards-numbered-order mid guarded (c .guards) (h .laid .guards-numbered) in
+      let high : guarded ≤ hi = goals-numbered-order guarded hi (c .body) (h .laid .body-numbered) in
       let few : hi ≤ 32 = h .laid .few-compounds in
       let goals : length (c .body) ≤ 8 = h .laid .few-goals in
+      let guards : length (c .guards) ≤ 8 = h .laid .few-guards in
       record {
         laid = h .laid;
         pairs = own 1 (omega arith) (omega arith) ∙ h .pairs;
         compounds = own 2 (omega arith) (omega arith) ∙ h .compounds;
         goals = own 3 (omega arith) (omega arith) ∙ h .goals;
-        head = holds-kept (places-from names (clause-base k)) (clause-base k) (λ n. refl) (λ n. refl) s s′ size 0 mid (as-term (c .head))
-            (λ j l m. cells j (omega arith) (omega arith)) (numbered .1) (h .head);
-        body = holds-goals-kept (places-from names (clause-base k)) (clause-base k) (λ n. refl) (λ n. refl) s s′ size (clause-goals-from k) 0 mid hi (c .body)
+        head = holds-kept places (clause-base k) (λ n. refl) (λ n. refl) s s′ size 0 mid (as-term (c .head))
+            (λ j l m. cells j (omega arith) (omega arith)) (h .laid .head-numbered) (h .head);
+        body = holds-goals-kept places (clause-base k) (λ n. refl) (λ n. refl) s s′ size (clause-goals-from k) 0 guarded hi (c .body)
             (λ j l m. let e : clause-goals-from k + j ≡ clause-record k + (4 + j) = omega arith in rw e (own (4 + j) (omega arith) (omega arith)))
-            (λ j l m. cells j (omega arith) (omega arith)) (numbered .2) (h .body);
+            (λ j l m. cells j (omega arith) (omega arith)) (h .laid .body-numbered) (h .body);
+        guards = own 12 (omega arith) (omega arith) ∙ h .guards;
+        tests = holds-guards-kept places (clause-base k) (λ n. refl) (λ n. refl) s s′ size (clause-tests-from k) 0 mid guarded names (c .guards)
+            (λ j l m. let e : clause-tests-from k + j ≡ clause-record k + (16 + j) = omega arith in rw e (own (16 + j) (omega arith) (omega arith)))
+            (λ j l m. cells j (omega arith) (omega arith)) (h .laid .guards-numbered) (h .laid .guards-known) (h .tests);
       }
 
   -- A query, where the words of its record but 3 and 4 stay.

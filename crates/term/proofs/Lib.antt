@@ -1,14 +1,17 @@
+pub mod Compared
 pub mod Ceiling
 pub mod Cells
 pub mod Chains
 pub mod Frames
 pub mod Held
 pub mod Holds
+pub mod KeptGuards
 pub mod Jobs
 pub mod Lists
 pub mod Names
 pub mod Numbers
 pub mod Regions
 pub mod Spellings
+pub mod TableOfGuards
 pub mod Units
 pub mod Words

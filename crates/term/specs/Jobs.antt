@@ -11,7 +11,8 @@ use Rattle.meaning.specs.Terms.{Named, named, Clause, Query, Job, count, as-ter
 use Rattle.meaning.specs.Trial.{procedure}
 use Rattle.term.specs.Cells.{Places, term-word, functor-word, Numbered, KnownName, Known}
 use Rattle.term.specs.Holds.{Holds}
-use Rattle.term.specs.Layout.{queries-region, items-region, trial-region, compounds-region, item-place, procedure-slot, clause-record, clause-base, query-record, query-base, query-pairs-word, query-compounds-word, query-goals-from, clause-pairs-word, clause-compounds-word, clause-goals-word, clause-goals-from}
+use Rattle.term.specs.Guards.{GuardsNumbered, GuardsKnown, HoldsGuards}
+use Rattle.term.specs.Layout.{queries-region, items-region, trial-region, compounds-region, item-place, procedure-slot, clause-record, clause-base, query-record, query-base, query-pairs-word, query-compounds-word, query-goals-from, clause-pairs-word, clause-compounds-word, clause-goals-word, clause-goals-from, clause-guards-word, clause-tests-from}
 
 -- An item's own places: pairs by their numbers, compounds from the item's first place on.
 abbrev pub places-from : List Bytes → ℕ → Places
@@ -27,13 +28,20 @@ unfoldable pub GoalsKnown : List Bytes → List Named → Type 0
 GoalsKnown names [] = Unit {0}
 GoalsKnown names (g ∷ gs) = Known names (as-term g) × GoalsKnown names gs
 
--- "Per item 16 variable pairs, 32 compounds (head, goals and list cells counted) and 8 body or query goals", the compounds numbered in order.
+-- "Per item 16 variable pairs, 32 compounds (head, goals and list cells counted) and 8 body or query goals", "1 to 8 guards" before them, the compounds
+-- numbered in order: the head's, the guards', the body's.
 pub record ClauseLaid (names : List Bytes) (c : Clause) : Type 0 where
   pub few-pairs : c .pairs ≤ 16
   pub few-compounds : c .compounds ≤ 32
   pub few-goals : length (c .body) ≤ 8
-  pub numbered : GoalsNumbered 0 (c .compounds) (c .head ∷ c .body)
+  pub few-guards : length (c .guards) ≤ 8
+  pub behind-head : ℕ
+  pub behind-guards : ℕ
+  pub head-numbered : Numbered 0 behind-head (as-term (c .head))
+  pub guards-numbered : GuardsNumbered behind-head behind-guards (c .guards)
+  pub body-numbered : GoalsNumbered behind-guards (c .compounds) (c .body)
   pub known : GoalsKnown names (c .head ∷ c .body)
+  pub guards-known : GuardsKnown names (c .guards)
 
 pub record QueryLaid (names : List Bytes) (q : Query) : Type 0 where
   pub few-pairs : length (q .variables) ≤ 16
@@ -48,7 +56,7 @@ HoldsGoals s places place i [] = Unit {0}
 HoldsGoals s places place i (g ∷ gs) =
     (getD s (place + i) 0 ≡ term-word places (as-term g)) × Holds s places (as-term g) × HoldsGoals s places place (i + 1) gs
 
--- The clause k: how many pairs, compounds and body goals it has, then its body goals. The record's first word is the link.
+-- The clause k: how many pairs, compounds, body goals and guards it has, then its body goals and its guards. The record's first word is the link.
 pub record HoldsClause (s : List ℕ) (names : List Bytes) (k : ℕ) (c : Clause) : Type 0 where
   pub laid : ClauseLaid names c
   pub pairs : getD s (clause-pairs-word k) 0 ≡ c .pairs
@@ -56,6 +64,8 @@ pub record HoldsClause (s : List ℕ) (names : List Bytes) (k : ℕ) (c : Clause
   pub goals : getD s (clause-goals-word k) 0 ≡ length (c .body)
   pub head : Holds s (places-from names (clause-base k)) (as-term (c .head))
   pub body : HoldsGoals s (places-from names (clause-base k)) (clause-goals-from k) 0 (c .body)
+  pub guards : getD s (clause-guards-word k) 0 ≡ length (c .guards)
+  pub tests : HoldsGuards s (places-from names (clause-base k)) (clause-tests-from k) 0 (c .guards)
 
 -- The query k: how many goals, pairs and compounds it has, and its goals. The record's words 3 and 4 are no part of it.
 pub record HoldsQuery (s : List ℕ) (names : List Bytes) (k : ℕ) (q : Query) : Type 0 where

@@ -6,7 +6,7 @@ use Rattle.term.specs.declared.layout.Room.{Room as Figures}
 
 -- Strides: a clause's record, a query's record; the compounds of an item, and the words of a compound there and in the room.
 abbrev pub clause-stride : ℕ
-clause-stride = 16
+clause-stride = 32
 
 abbrev pub query-stride : ℕ
 query-stride = 64
@@ -52,7 +52,8 @@ compounds-region = trial-region + 640
 abbrev pub procedure-slot : ℕ → ℕ
 procedure-slot w = procedures-region - 8 + w
 
--- The record of the clause k: the next clause of its procedure, plus one; its pairs, compounds and body goals counted; the body goals' words.
+-- The record of the clause k: the next clause of its procedure, plus one; its pairs, compounds, body goals and guards counted; the body goals' words,
+-- and the guards'.
 abbrev pub clause-record : ℕ → ℕ
 clause-record k = clauses-region + clause-stride * k
 
@@ -67,6 +68,12 @@ clause-goals-word k = clause-record k + 3
 
 abbrev pub clause-goals-from : ℕ → ℕ
 clause-goals-from k = clause-record k + 4
+
+abbrev pub clause-guards-word : ℕ → ℕ
+clause-guards-word k = clause-record k + 12
+
+abbrev pub clause-tests-from : ℕ → ℕ
+clause-tests-from k = clause-record k + 16
 
 abbrev pub clause-end : ℕ → ℕ
 clause-end k = clause-record k + clause-stride

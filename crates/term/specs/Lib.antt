@@ -3,6 +3,7 @@ pub mod Chains
 pub mod Every
 pub mod Frames
 pub mod Holds
+pub mod Guards
 pub mod Jobs
 pub mod Layout
 pub mod Setting

@@ -4,20 +4,21 @@
 //
 //      0  NAMES       2 a name, 256 names: where it first stands in the text, and its length
 //    512  PROCEDURES  at 8 * name + arguments: the first clause of that procedure, plus one
-//   2560  CLAUSES     CLAUSE_STRIDE = 16 a clause, 128 clauses: at CLAUSE_NEXT the next clause of its procedure, plus one; at CLAUSE_PAIRS,
-//                     CLAUSE_COMPOUNDS and CLAUSE_GOALS how many it has; at CLAUSE_BODY the body goals' words
-//   4608  QUERIES     QUERY_STRIDE = 64 a query, 8 queries: at QUERY_GOALS, QUERY_PAIRS and QUERY_COMPOUNDS how many it has; at QUERY_FIRST_PAIR and
+//   2560  CLAUSES     CLAUSE_STRIDE = 32 a clause, 128 clauses: at CLAUSE_NEXT the next clause of its procedure, plus one; at CLAUSE_PAIRS,
+//                     CLAUSE_COMPOUNDS, CLAUSE_GOALS and CLAUSE_GUARDS how many it has; at CLAUSE_BODY the body goals' words; at CLAUSE_TESTS the
+//                     guards' words
+//   6656  QUERIES     QUERY_STRIDE = 64 a query, 8 queries: at QUERY_GOALS, QUERY_PAIRS and QUERY_COMPOUNDS how many it has; at QUERY_FIRST_PAIR and
 //                     QUERY_TRIES what the run counts; at QUERY_BODY the goals' words; at QUERY_VARIABLES the variables' first bytes and lengths,
 //                     2 a variable
-//   5120  ITEMS       COMPOUND_WORDS = 8 a compound, ITEM_COMPOUNDS = 32 compounds an item, 128 clauses and 8 queries
-//  39936  TRIAL       what a step works with, in four parts:
-//  39936                the head's writers: 16 words, what each is given, or 0
-//  39952  GIFTS         2 words for each of the goal's pairs that a trial notes, 192 of them: the pair, and the term of the head that it is given, or 0
+//   7168  ITEMS       COMPOUND_WORDS = 8 a compound, ITEM_COMPOUNDS = 32 compounds an item, 128 clauses and 8 queries
+//  41984  TRIAL       what a step works with, in four parts:
+//  41984                the head's writers: 16 words, what each is given, or 0
+//  42000  GIFTS         2 words for each of the goal's pairs that a trial notes, 192 of them: the pair, and the term of the head that it is given, or 0
 //                       where the trial waits on its reader
-//  40336  WOKEN         192 words: the places in the waiting log of the goals woken
-//  40528  FOLLOWED      at 1 to 6 the goal's arguments, followed; 48 words in all
+//  42384  WOKEN         192 words: the places in the waiting log of the goals woken
+//  42576  FOLLOWED      at 1 to 6 the goal's arguments, followed; 48 words in all
 //                     When the run has ended, the report keeps the pairs numbered so far in the first word, and P in the second.
-//  40576  COMPOUNDS   8 C: one behind the other, each with as many words as it has arguments and one
+//  42624  COMPOUNDS   8 C: one behind the other, each with as many words as it has arguments and one
 //         values      1 a pair: what it was assigned, or 0
 //         waiters     1 a pair: the place in the waiting log of the goal that waits on it, plus one
 //         sets        1 a pair: the next pair that the same goal waits on, plus one
@@ -40,7 +41,7 @@ pub const PROCEDURES: usize = NAMES + 512;
 
 pub const CLAUSES: usize = PROCEDURES + 2048;
 
-pub const CLAUSE_STRIDE: usize = 16;
+pub const CLAUSE_STRIDE: usize = 32;
 
 pub const CLAUSE_NEXT: usize = 0;
 
@@ -51,6 +52,10 @@ pub const CLAUSE_COMPOUNDS: usize = 2;
 pub const CLAUSE_GOALS: usize = 3;
 
 pub const CLAUSE_BODY: usize = 4;
+
+pub const CLAUSE_GUARDS: usize = 12;
+
+pub const CLAUSE_TESTS: usize = 16;
 
 pub const QUERIES: usize = CLAUSES + 128 * CLAUSE_STRIDE;
 

@@ -75,6 +75,7 @@ fn show(answer: Loaded) {
         Loaded::Job(_, _) => told(0, 0, 0),
         Loaded::Refused(why) => match why {
             Refusal::NoItems(line, offset) => told(4, line, offset),
+            Refusal::GuardRefused(line) => told(11, line, 0),
             Refusal::OccurrenceBroken(rule, line, offset) => told(
                 rule_number(rule) as u64,
                 line,

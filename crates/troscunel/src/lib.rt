@@ -23,6 +23,7 @@ fn number_of(a: Answer) -> u32
         Answer::TextLong => 3,
         Answer::Refused(why) => match why {
             Refusal::NoItems(_, _) => 4,
+            Refusal::GuardRefused(_) => 11,
             Refusal::OccurrenceBroken(rule, _, _) => rule_number(rule),
             Refusal::FigurePassed(_) => 6,
         },
@@ -37,6 +38,7 @@ fn line_of(a: Answer) -> usize
     match a {
         Answer::Refused(why) => match why {
             Refusal::NoItems(at, _) => at,
+            Refusal::GuardRefused(at) => at,
             Refusal::OccurrenceBroken(_, at, _) => at,
             Refusal::FigurePassed(at) => at,
         },
@@ -56,6 +58,7 @@ fn offset_of(a: Answer) -> usize
     match a {
         Answer::Refused(why) => match why {
             Refusal::NoItems(_, offset) => offset,
+            Refusal::GuardRefused(_) => 0,
             Refusal::OccurrenceBroken(_, _, offset) => offset,
             Refusal::FigurePassed(_) => 0,
         },

@@ -1,7 +1,7 @@
 " Vim syntax file. Language: job texts of GLP (*.glp).
-" One match for each kind of token of document 01; of two that begin at one place Vim takes the later, so that they stand in the reverse order of
+" One match for each kind of token of documents 01 and 02; of two that begin at one place Vim takes the later, so that they stand in the reverse order of
 " editors/textmate/glp.tmLanguage.json. tests/editors holds both to the reference's reader and to each other.
-" Guards (document 02, T-02: == and the guards' names before |) get their matches behind glpName when they are in the language; until then = is a bad token.
+" Guards have no matches of their own but ==: their names are names as others are, a list's bar is a clause's, and only the bar tells a guard from a goal.
 if exists("b:current_syntax") | finish | endif
 syntax case match
 
@@ -17,6 +17,7 @@ syntax match glpInteger /\v%(0|-?%([1-9][0-9]{0,8}|1[0-9]{9}|20[0-9]{8}|21[0-3][
 syntax match glpName /\v[a-z][0-9A-Z_a-z]{0,30}%([0-9A-Z_a-z])@!/
 syntax match glpWriter /\v[A-Z][0-9A-Z_a-z]{0,30}%([0-9?A-Z_a-z])@!/
 syntax match glpReader /\v[A-Z][0-9A-Z_a-z]{0,30}\?/
+syntax match glpEqual /\v\=\=/
 syntax match glpIf /\v:-/
 syntax match glpAsk /\v\?-/
 syntax match glpRemark /\v\%.*/
@@ -24,6 +25,7 @@ syntax match glpRemark /\v\%.*/
 highlight default link glpRemark Comment
 highlight default link glpAsk Statement
 highlight default link glpIf Statement
+highlight default link glpEqual Operator
 highlight default link glpReader Type
 highlight default link glpWriter Identifier
 highlight default link glpName Function

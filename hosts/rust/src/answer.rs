@@ -95,10 +95,15 @@ pub enum Refusal {
     WriterAlone(Place),
     /// 10: the reader that is spelled here has no writer in its clause.
     ReaderAlone(Place),
+    /// 11: a guard is not in the table, or has a variable that is no reader of a writer in the head of its clause.
+    GuardRefused {
+        /// Where the clause begins.
+        line: usize,
+    },
 }
 
 impl Refusal {
-    /// The documents' number, 1 to 10.
+    /// The documents' number, 1 to 11.
     pub fn number(&self) -> u32 {
         match self {
             Refusal::OutOfRange => 1,
@@ -111,6 +116,7 @@ impl Refusal {
             Refusal::ReportLong { .. } => 8,
             Refusal::WriterAlone(_) => 9,
             Refusal::ReaderAlone(_) => 10,
+            Refusal::GuardRefused { .. } => 11,
         }
     }
 
@@ -128,7 +134,7 @@ impl Refusal {
     /// Document 01's line: counted from 1, and 0 where there is none.
     pub fn line(&self) -> usize {
         match self {
-            Refusal::Figure { line } => *line,
+            Refusal::Figure { line } | Refusal::GuardRefused { line } => *line,
             _ => self.place().map_or(0, |place| place.line),
         }
     }
@@ -164,6 +170,7 @@ impl Refusal {
             (8, _) => Refusal::ReportLong { length },
             (9, _) => Refusal::WriterAlone(place()),
             (10, _) => Refusal::ReaderAlone(place()),
+            (11, line) => Refusal::GuardRefused { line },
             _ => return None,
         })
     }
@@ -189,6 +196,9 @@ impl Refusal {
             Refusal::ReportLong { length } => format!("the report has {length} bytes, more than were asked for"),
             Refusal::WriterAlone(Place { variable, .. }) => format!("the writer {variable} has no reader"),
             Refusal::ReaderAlone(Place { variable, .. }) => format!("the reader {variable} has no writer"),
+            Refusal::GuardRefused { .. } => "in the clause that begins here a guard is not in the table, or has a \
+                                             variable that is no reader of a writer in the head"
+                .into(),
         }
     }
 }

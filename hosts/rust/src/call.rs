@@ -26,7 +26,7 @@ extern "C" {
 /// What the call gives: document 01's number, line and length, and document 02's offset.
 #[derive(Clone, Copy, Debug, PartialEq, Eq)]
 pub struct Given {
-    /// 0: the job ran and its report stands at the front of the buffer. 1 to 10: it was refused.
+    /// 0: the job ran and its report stands at the front of the buffer. 1 to 11: it was refused.
     pub number: u32,
     /// The line of a refusal 4, 5, 6, 9 or 10, else 0.
     pub line: usize,
@@ -38,7 +38,7 @@ pub struct Given {
 
 /// The call itself. Any text, figures and lengths get an answer.
 ///
-/// On 1 to 10 the report buffer is as it was. On 1, 2 and 3 the scratch is too; otherwise its first [`Room::need`] words
+/// On 1 to 11 the report buffer is as it was. On 1, 2 and 3 the scratch is too; otherwise its first [`Room::need`] words
 /// are zero afterwards and the others as they were.
 ///
 /// # Safety

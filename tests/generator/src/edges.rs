@@ -31,6 +31,11 @@ const EDGES: &[Edge] = &[
     Edge { name: "brackets-empty", figure: 16, build: brackets_empty },
     Edge { name: "goals-body", figure: 8, build: goals_body },
     Edge { name: "goals-query", figure: 8, build: goals_query },
+    Edge { name: "goals-behind-bar", figure: 8, build: goals_behind_bar },
+    Edge { name: "guards", figure: 8, build: guards },
+    Edge { name: "guards-pairs", figure: 16, build: guards_pairs },
+    Edge { name: "guards-compounds", figure: 32, build: guards_compounds },
+    Edge { name: "guards-brackets", figure: 16, build: guards_brackets },
     Edge { name: "queries", figure: 8, build: queries },
     Edge { name: "clauses", figure: 128, build: clauses },
     Edge { name: "names", figure: 256, build: names },
@@ -247,6 +252,51 @@ fn goals_query(random: &mut Random, n: usize) -> String {
     format!("q(a).\n?- {goals}.")
 }
 
+fn goals_behind_bar(random: &mut Random, n: usize) -> String {
+    let goals = marked((0..n).map(|_| random.pick(&["q(a)", "q(X?)"]).to_string()));
+    let guards = random.pick(&["ground(X?)", "integer(X?)", "otherwise, constant(X?)", "X? == a, ground(X?)"]);
+    format!("p(X,X?) :- {guards} | {goals}.\nq(a).\n?- p(1,A).")
+}
+
+fn guards(random: &mut Random, n: usize) -> String {
+    let some = ["known(X?)", "otherwise", "X? == a", "[] == X?", "ground([a|X?])", "3 == 3", "compound(f(X?))"];
+    let guards = marked((0..n).map(|_| random.pick(&some).to_string()));
+    let body = random.pick(&["", " q(a)", " q(a), q(b), q(c), q(d), q(a), q(b), q(c), q(d)"]);
+    format!("p(X,X?) :- {guards} |{body}.\nq(a).\n?- p(a,A).")
+}
+
+/// Sixteen pairs in the head. A seventeenth is one too many before it is a variable that no guard may have.
+fn guards_pairs(random: &mut Random, n: usize) -> String {
+    let pairs: Vec<String> = (0..16).map(|pair| format!("V{pair},V{pair}?")).collect();
+    let head: Vec<String> = pairs.chunks(3).map(|some| format!("f({})", some.join(","))).collect();
+    let reader = format!("{MARK}V{}?", n - 1);
+    let guard = random.pick(&["known(R)", "R == a", "[a|R] == b", "otherwise, ground(f(V3?,R))"]);
+    format!("h({}) :- {} | q(a).\n?- h(a).", head.join(","), guard.replace('R', &reader))
+}
+
+/// The head, and compounds in guards up to the mark: a parenthesis, an element or the `==` itself.
+fn guards_compounds(random: &mut Random, n: usize) -> String {
+    let list = |elements: usize| vec!["a"; elements].join(",");
+    let guards = match random.below(4) {
+        0 => format!("known([{},{MARK}a])", list(n - 3)),
+        1 => format!("X? == [{},{MARK}b]", list(n - 3)),
+        2 => format!("[{}] {MARK}== X?", list(n - 2)),
+        _ => format!("otherwise, ground([{}]), known{MARK}(X?)", list(n - 3)),
+    };
+    format!("p(X,X?) :- {guards} | .\n?- p(a,A).")
+}
+
+/// In a guard's parenthesis, and on either side of `==`, where none is open.
+fn guards_brackets(random: &mut Random, n: usize) -> String {
+    let deep = |open: usize| format!("{}{MARK}[a{}", "[".repeat(open - 1), "]".repeat(open));
+    let guards = match random.below(3) {
+        0 => format!("ground({})", deep(n - 1)),
+        1 => format!("X? == {}", deep(n)),
+        _ => format!("{} == X?", deep(n)),
+    };
+    format!("p(X,X?) :- {guards} | .\n?- p(a,A).")
+}
+
 fn queries(random: &mut Random, n: usize) -> String {
     let clause = if random.chance(50) { "q(a).\n" } else { "" };
     let last = random.pick(&["?- q(a).", "?- q(A?).", "?- q(b"]);
@@ -273,8 +323,13 @@ fn names(random: &mut Random, n: usize) -> String {
     spelled[n - 2].insert(0, MARK);
     let last = spelled.pop().unwrap();
     let items: Vec<String> = spelled.chunks(30).map(|chunk| format!("l([0,{}]).\n", chunk.join(","))).collect();
-    let shape =
-        random.pick(&["?- l(3,NEW).", "?- NEW(1).", "?- l([1,[],l,NEW]).", "l(X,X?) :- l(NEW(aa),-7).?- l([aa])."]);
+    let shape = random.pick(&[
+        "?- l(3,NEW).",
+        "?- NEW(1).",
+        "?- l([1,[],l,NEW]).",
+        "l(X,X?) :- l(NEW(aa),-7).?- l([aa]).",
+        "l(X,X?) :- X? == NEW, [] == aa(3) | .?- l([aa]).",
+    ]);
     format!("{}{}", items.join(""), shape.replace("NEW", &last))
 }
 

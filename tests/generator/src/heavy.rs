@@ -66,6 +66,15 @@ fn runs() -> Vec<Heavy> {
         run("a circle found deep", ALL, circle(15, |inner| format!("f({inner})"), 30)),
         run("found in first arguments", ALL, circle(15, |inner| format!("f({inner},a)"), 30)),
         run("found beside pairs", ALL, circle_through(&paired(), 30)),
+        run("a stream passed on", ALL, guarded_stream("a", "pass([X|Xs],[X?|Ys?]) :- pass(Xs?,Ys).")),
+        run("a stream by integer", ALL, stream_by("integer(X?)", "7")),
+        run("a stream by constant", ALL, stream_by("constant(X?)", "a")),
+        run("a stream by compound", ALL, stream_by("compound(X?)", "f(a)")),
+        run("a stream by ground", ALL, stream_by("ground(X?)", "f(a,[b,1|c])")),
+        run("a stream by known", ALL, stream_by("known(X?)", "a")),
+        run("a stream by ==", ALL, stream_by("X? == f(a,[b,1|c])", "f(a,[b,1|c])")),
+        run("a stream by otherwise", ALL, guarded_stream("a", BY_OTHERWISE)),
+        run("a stream fanned out by ground", ALL, fan_out("f(a,[b,1|c])")),
     ]
 }
 
@@ -92,6 +101,25 @@ fn reports() -> Vec<Heavy> {
     ]
 }
 
+const BY_OTHERWISE: &str = "pass([b|Xs],[b|Ys?]) :- pass(Xs?,Ys).\npass([X|Xs],[X?|Ys?]) :- otherwise | pass(Xs?,Ys).";
+
+/// A producer, a clause that passes its elements on by a guard, and a consumer: three steps an element.
+fn stream_by(guard: &str, element: &str) -> String {
+    guarded_stream(element, &format!("pass([X|Xs],[X?|Ys?]) :- {guard} | pass(Xs?,Ys)."))
+}
+
+fn guarded_stream(element: &str, pass: &str) -> String {
+    let ends = format!("make([{element}|Xs?]) :- make(Xs).\neat([{element}|Xs]) :- eat(Xs?).\n");
+    format!("{pass}\n{ends}net(a) :- make(A), pass(A?,B), eat(B?).\n?- net(a).\n")
+}
+
+/// A stream of ground terms to two consumers.
+fn fan_out(element: &str) -> String {
+    let fan = "fan([X|Xs],[X?|As?],Bs?) :- ground(X?) | put(X?,Cs?,Bs), fan(Xs?,As,Cs).\nput(X,Xs,[X?|Xs?]).\n";
+    let ends = format!("make([{element}|Xs?]) :- make(Xs).\neat([{element}|Xs]) :- eat(Xs?).\n");
+    format!("{fan}{ends}net(a) :- make(A), fan(A?,B,C), eat(B?), eat(C?).\n?- net(a).\n")
+}
+
 fn deepest() -> Vec<Heavy> {
     let deepest = |label, text| Heavy { label, kind: Kind::Deepest, budget: ALL, text };
     let run = |label, text| Heavy { label, kind: Kind::DeepestRun, budget: ALL, text };
@@ -101,6 +129,12 @@ fn deepest() -> Vec<Heavy> {
         run("circle, constants behind", once(|inner| format!("f({inner},a)"))),
         run("circle, lists", once(|inner| format!("[{inner}]"))),
         run("circle, pairs", pairs_circle()),
+        run("ground", deep_ground(|inner| format!("f({inner},a)"), 1)),
+        run("ground, one argument", deep_ground(|inner| format!("f({inner})"), 1)),
+        run("ground, lists", deep_ground(|inner| format!("[{inner}]"), 1)),
+        run("equality", deep_equal(|inner| format!("f({inner},a)"), "a", 1)),
+        run("equality, one argument", deep_equal(|inner| format!("f({inner})"), "a", 1)),
+        run("equality, lists", deep_equal(|inner| format!("[{inner}]"), "b", 1)),
         deepest("report", deep(|inner| format!("f({inner},a)"))),
         deepest("report, one argument", deep(|inner| format!("f({inner})"))),
         deepest("report, lists", deep(|inner| format!("[{inner}]"))),
@@ -229,6 +263,29 @@ fn circle_through(value: &str, clauses: usize) -> String {
     let tests = "l0(X,X?).\n".repeat(clauses);
     let parts = "all(L,A?), all(M,L?), all(N,M?), all(O,N?), all(P,O?), all(Q,P?), all(R,Q?)";
     format!("{part}{}{later}{tests}?- {parts}, l11(R?,A).\n", spread())
+}
+
+/// A value of 53,760 levels around a reader that nobody gives a value: so many clauses ask whether it is ground.
+pub(crate) fn deep_ground(wrap: fn(String) -> String, clauses: usize) -> String {
+    let rules = asked_late(wrap, "X", "l0(X) :- ground(X?) | no(X?).\n", clauses);
+    let parts = "all(L,A?), all(M,L?), all(N,M?), all(O,N?), all(P,O?), all(Q,P?), all(R,Q?)";
+    format!("{rules}net(a) :- {parts}, go(R?,A).\ngo(X,A?) :- l11(X?), no(A).\n?- net(a).\n")
+}
+
+/// Two values of 23,040 levels, built apart, that so many clauses compare, and then fail. The innermost constant of the
+/// first is `a`, that of the second is given.
+pub(crate) fn deep_equal(wrap: fn(String) -> String, innermost: &str, clauses: usize) -> String {
+    let rules = asked_late(wrap, "X,Y", "l0(X,Y) :- X? == Y?, integer(X?) | no(X?,Y?).\n", clauses);
+    let parts = format!("all(L,a), all(M,L?), all(N,M?), all(P,{innermost}), all(Q,P?), all(R,Q?)");
+    format!("{rules}net(a) :- {parts}, l11(N?,R?).\n?- net(a).\n")
+}
+
+/// Values made of parts of 15 levels, and a goal that is passed on until they are built; then so many clauses ask.
+fn asked_late(wrap: fn(String) -> String, arguments: &str, ask: &str, clauses: usize) -> String {
+    let part = format!("part({},X).\n", nested(15, "X?", wrap));
+    let readers = arguments.replace(',', "?,") + "?";
+    let later: String = (1..12).map(|k| format!("l{k}({arguments}) :- l{}({readers}).\n", k - 1)).collect();
+    format!("{part}{}{later}{}", spread(), ask.repeat(clauses))
 }
 
 /// Compounds one in the other's first argument, with one half of a pair behind each: the circle test goes on to the last argument that leads on,

@@ -70,7 +70,7 @@ fn between(random: &mut Random, layout: Layout, left: &str, right: &str) -> Vec<
     if matches!(layout, Layout::Scattered) && random.chance(25) {
         return random.pick(&BLANKS).to_vec();
     }
-    let spaced = left == ":-" || right == ":-" || left == "?-";
+    let spaced = left == ":-" || right == ":-" || left == "?-" || left == "==" || right == "==";
     if spaced || runs_together(left, right) {
         b" ".to_vec()
     } else {
@@ -87,6 +87,7 @@ fn runs_together(left: &str, right: &str) -> bool {
         || (last == Some(&b'-') && run(first))
         || left == "?"
         || left == ":"
+        || (last == Some(&b'=') && first == Some(&b'='))
 }
 
 fn behind_item(random: &mut Random, layout: Layout) -> Vec<u8> {

@@ -1,7 +1,9 @@
 //! Seeded jobs for the runtime of document 01: the same jobs for the same seed on every machine.
 //!
 //! `jobs` mixes kinds in a fixed round, so that each comes often: random programs, streams and other kits, goals that
-//! wait on several readers or fail behind them, texts near every figure, corners of the token rules, changed, cut and broken texts, texts refused at every kind of byte, and figures out of range. The jobs are
+//! wait on several readers or fail behind them, most of them with guards, texts near every figure, corners of the token
+//! rules, changed, cut and broken texts, texts refused at every kind of byte or for their guards, and figures out of
+//! range. The jobs are
 //! computed by a proof checker as well as by the reference, so nearly all of them are small by construction.
 
 #![forbid(unsafe_code)]
@@ -11,6 +13,7 @@ pub mod corners;
 mod edges;
 mod figures;
 pub mod frame;
+mod guards;
 pub mod heavy;
 mod layout;
 pub mod lengths;
@@ -49,16 +52,18 @@ enum Kind {
     Cut,
     Broken,
     Occurrences,
+    Guards,
     Misplaced,
     Ended,
     Spoilt,
 }
 
 /// The round in which the kinds come.
-const ROUND: [Kind; 53] = [
+const ROUND: [Kind; 58] = [
     Kind::Program,
     Kind::Edge,
     Kind::Places,
+    Kind::Guards,
     Kind::Spoilt,
     Kind::Occurrences,
     Kind::Corner,
@@ -74,6 +79,7 @@ const ROUND: [Kind; 53] = [
     Kind::Corner,
     Kind::Program,
     Kind::Places,
+    Kind::Guards,
     Kind::Kit,
     Kind::Ended,
     Kind::Edge,
@@ -83,6 +89,7 @@ const ROUND: [Kind; 53] = [
     Kind::Occurrences,
     Kind::Kit,
     Kind::Spoilt,
+    Kind::Guards,
     Kind::Places,
     Kind::Program,
     Kind::Misplaced,
@@ -98,6 +105,8 @@ const ROUND: [Kind; 53] = [
     Kind::Ended,
     Kind::Program,
     Kind::Cut,
+    Kind::Guards,
+    Kind::Kit,
     Kind::Places,
     Kind::Kit,
     Kind::Occurrences,
@@ -116,6 +125,7 @@ struct Turns {
     edge: usize,
     corner: usize,
     occurrences: usize,
+    guards: usize,
     chosen: usize,
     spoilt: usize,
 }
@@ -126,6 +136,7 @@ impl Turns {
             edge: random.below(1_000),
             corner: random.below(1_000),
             occurrences: random.below(1_000),
+            guards: random.below(1_000),
             chosen: random.below(10),
             spoilt: random.below(7),
         }
@@ -168,6 +179,7 @@ fn job(random: &mut Random, turns: &mut Turns, kind: Kind) -> (String, Vec<u8>, 
         }
         Kind::Broken => ("broken".to_string(), corners::broken(random)),
         Kind::Occurrences => ("occurrences".to_string(), refused::occurrences(random, take(&mut turns.occurrences))),
+        Kind::Guards => ("guards".to_string(), refused::guards(random, take(&mut turns.guards))),
         Kind::Misplaced => {
             let items = some_items(random);
             ("misplaced".to_string(), refused::misplaced(random, &items))

@@ -1,10 +1,12 @@
-//! Programs whose heads have several constants and compounds, and goals with several unassigned readers (T-03).
+//! Programs whose heads have several constants and compounds, and goals with several unassigned readers (T-03); in half
+//! of the clauses guards look at what writers were given there (T-02).
 //!
 //! The clauses of a procedure and the goals for it are changed copies of one row of ground terms: of most places a
 //! goal agrees with several clauses, and where it has a reader, at any depth, all of them need it. Changed constants
 //! make places fail, before waiting ones and behind them, above and below. Further goals give the pairs values, one by
 //! one or two in a step, at once or by way of another pair, often what stood in the row and often not.
 
+use crate::guards::guarded;
 use crate::random::Random;
 use crate::term::{split, Item, Term, Token};
 
@@ -82,19 +84,21 @@ fn ground(random: &mut Random, depth: usize) -> Term {
 }
 
 /// A copy of the row: places as they are, with a part changed, or variables. What a writer is given is used by another
-/// place or by the body.
+/// place or by the body. A guarded clause has more of them, and compares what they were given with what stood there.
 fn clause(random: &mut Random, row: &Row) -> Item {
     let mut places = row.places.clone();
     let mut goals = Vec::new();
     let mut pairs = 0;
+    let guards = random.chance(50);
+    let (as_it_is, changed) = if guards { (35, 40) } else { (70, 80) };
     if let Some((from, to)) = row.link.filter(|_| random.chance(70)) {
         (places[from], places[to], pairs) = (Term::Writer(0), Term::Reader(0), 1);
     }
     for place in &mut places {
         match random.below(100) {
             _ if matches!(place, Term::Writer(_) | Term::Reader(_)) => {}
-            0..=69 => {}
-            70..=79 => *place = with_part(random, place, other),
+            chance if chance < as_it_is => {}
+            chance if chance < changed => *place = with_part(random, place, other),
             80..=82 => *place = ground(random, 1),
             _ => {
                 *place = Term::Writer(pairs);
@@ -106,7 +110,12 @@ fn clause(random: &mut Random, row: &Row) -> Item {
     if random.chance(15) {
         goals.push(Term::Compound("one", vec![Term::Constant("1")]));
     }
-    Item { head: Some(Term::Compound(row.name, places)), goals }
+    let clause = Item { head: Some(Term::Compound(row.name, places)), guards: Vec::new(), goals };
+    if guards {
+        guarded(random, clause, &row.places)
+    } else {
+        clause
+    }
 }
 
 fn other(random: &mut Random, _: &Term) -> Term {
@@ -182,7 +191,7 @@ impl Query {
             _ => random.shuffle(&mut goals),
         }
         goals.truncate(8);
-        Item { head: None, goals }
+        Item { head: None, guards: Vec::new(), goals }
     }
 
     /// A copy of the row with readers in it, now and then with a wrong constant or a writer. Where clauses give a place

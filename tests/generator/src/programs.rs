@@ -1,9 +1,10 @@
-//! Random programs that run: a few procedures with overlapping clauses, and queries over them.
+//! Random programs that run: a few procedures with overlapping clauses, many of them guarded, and queries over them.
 //!
 //! Each argument of a procedure mostly takes a value or mostly gives one; halves are placed to match, and sometimes
 //! against it, so that goals succeed, wait and fail. A clause is closed in the end: a pair with its writer alone and
 //! a pair with its reader alone become one pair, and what is left becomes a constant. Queries may stay open.
 
+use crate::guards::guarded;
 use crate::random::Random;
 use crate::term::{Item, Term, Token};
 
@@ -87,7 +88,12 @@ fn clause(random: &mut Random, procedure: &Procedure, procedures: &[Procedure]) 
     let head = weaver.head(procedure);
     let count = weaver.random.pick(&[0, 0, 0, 0, 1, 1, 1, 2, 2, 3]);
     let goals = weaver.goals(procedures, count);
-    weaver.closed(Item { head: Some(head), goals })
+    let closed = weaver.closed(Item { head: Some(head), guards: Vec::new(), goals });
+    if random.chance(45) {
+        guarded(random, closed, &[])
+    } else {
+        closed
+    }
 }
 
 fn query(random: &mut Random, procedures: &[Procedure]) -> Item {
@@ -95,7 +101,7 @@ fn query(random: &mut Random, procedures: &[Procedure]) -> Item {
     let count = if weaver.random.chance(5) { weaver.random.between(5, 8) } else { weaver.random.between(1, 4) };
     let mut goals = weaver.goals(procedures, count);
     weaver.random.shuffle(&mut goals);
-    let item = Item { head: None, goals };
+    let item = Item { head: None, guards: Vec::new(), goals };
     if weaver.random.chance(50) {
         weaver.joined(item)
     } else {
@@ -230,6 +236,7 @@ impl Weaver<'_> {
 fn replaced(item: &Item, by: &impl Fn(&Term) -> Term) -> Item {
     Item {
         head: item.head.as_ref().map(|head| head.replaced(by)),
+        guards: item.guards.iter().map(|guard| guard.replaced(by)).collect(),
         goals: item.goals.iter().map(|goal| goal.replaced(by)).collect(),
     }
 }

@@ -1,4 +1,4 @@
-//! Programs written by hand, and random queries over them: streams, channels, circles, waking and doubling.
+//! Programs written by hand, and random queries over them: streams, channels, circles, waking, doubling and guards.
 //!
 //! A kit is its clauses and the goals that a query may hold, with the pairs as `$0`, `$1`, .. . A network of goals is
 //! put in a random order, so that consumers come before their producers, wait and are woken. Further queries of a
@@ -23,6 +23,19 @@ const STREAMS: &[&str] = &[
     "eat([X|Xs]) :- eat(Xs?), keep(X?).",
     "eat([]).",
     "copy(X,X?).",
+    "fan([X|Xs],[X?|As?],Bs?) :- ground(X?) | put(X?,Cs?,Bs), fan(Xs?,As,Cs).",
+    "fan([],[],[]).",
+    "put(X,Xs,[X?|Xs?]).",
+    "sort([X|Xs],[X?|As?],Bs?) :- integer(X?) | sort(Xs?,As,Bs).",
+    "sort([X|Xs],As?,[X?|Bs?]) :- otherwise | sort(Xs?,As,Bs).",
+    "sort([],[],[]).",
+    "runs([X,Y|Xs],[X?|Zs?]) :- X? == Y? | runs([Y?|Xs?],Zs).",
+    "runs([X,Y|Xs],[X?,new|Zs?]) :- otherwise | runs([Y?|Xs?],Zs).",
+    "runs([X],[X?]).",
+    "runs([],[]).",
+    "all([X|Xs],[c(X?)|Ys?]) :- constant(X?) | all(Xs?,Ys).",
+    "all([X|Xs],[X?|Ys?]) :- compound(X?), known(Xs?) | all(Xs?,Ys).",
+    "all([],[]).",
 ];
 const CHANNELS: &[&str] = &[
     "new(ch(X,Y?),ch(Y,X?)).",
@@ -60,6 +73,55 @@ const WAKING: &[&str] = &[
     "late(1) :- one(1), two(2), one(1).",
 ];
 const DOUBLING: &[&str] = &["mk(f(C,C?)).", "p(f(R?,S)) :- mk(R), p(S?)."];
+/// Each guard alone and with others, before and behind clauses that wait.
+const GUARDS: &[&str] = &[
+    "set(X,X?).",
+    "kind(X,int,X?) :- integer(X?) | .",
+    "kind(X,con,X?) :- constant(X?) | .",
+    "kind(X,cmp,X?) :- compound(X?) | .",
+    "gr(X,X?) :- ground(X?) | .",
+    "kn(X,X?) :- known(X?) | .",
+    "kn(X,no(X?)) :- otherwise | .",
+    "mk(f(X),X?) :- known(X?) | .",
+    "mk([X],X?) :- ground(X?) | .",
+    "mk(f(X),g(X?)) :- compound(f(X?)), otherwise | .",
+    "nk(f(X,Y),Z,g(X?,Y?,Z?)) :- known(f(X?)), Z? == a | .",
+    "nk([X|Y],Z,[X?,Y?|Z?]) :- known(Z?), a == Y? | .",
+    "nk(Y,Z,f(Y?,Z?)) :- constant(f(Y?)) | .",
+    "nk(Y,Z,f(Z?,Y?)) :- known([Y?|Z?]), otherwise | .",
+    "h(1,Y,Y?) :- ground(Y?) | .",
+    "h(Y,Z,f(Y?,Z?)) :- otherwise, known(Z?) | .",
+    "eq(X,Y,X?,Y?) :- X? == Y? | .",
+    "eq(X,Y,X?,no(Y?)) :- otherwise | .",
+    "in(X,Y,yes(Y?)) :- X? == f(a,[Y?|b]) | put(X?).",
+    "in(X,Y,no(Y?)) :- [X?] == [Y?], otherwise | put(X?).",
+    "put(X) :- constant(X?) | put(X?,X?), put([X?|X?],a).",
+    "put(f(X)) :- ground(X?) | put(X?), put(X?).",
+    "c(a,yes).",
+    "c(X,other(X?)) :- otherwise | .",
+    "ci(a,B) :- put(B?).",
+    "ci(X,B) :- integer(B?), otherwise | put(X?), put(B?).",
+    "ci(X,B) :- otherwise, integer(B?) | put(f(X?)), put(B?).",
+    "m(X,Y,R?) :- known(X?) | kn(X?,Q), eq(Q?,Y?,P,R), put(P?).",
+    "m(X,Y,R?) :- known(Y?) | eq(X?,Y?,R,Q), put(Q?).",
+    "s(X,X?) :- known(X?) | .",
+    "s(X,Y?) :- otherwise | kind(X?,K,Y), put(K?).",
+    "two(X,Y) :- integer(X?), integer(Y?) | put(X?), put(Y?).",
+    "two(X,Y) :- integer(Y?), integer(X?) | put(Y?), put(X?).",
+    "late(1) :- put(1), put(2).",
+    "give(1,f(a,[b|b]),[2]).",
+];
+/// Ground values that stand several times, and grow so.
+const SHARED: &[&str] = &[
+    "d(s(N),X,Z?) :- ground(X?) | d(N?,f(X?,X?),Z).",
+    "d(0,X,X?) :- ground(X?) | .",
+    "e(X,Y,yes) :- X? == Y? | put(X?,Y?).",
+    "e(X,Y,no) :- otherwise | put(X?,Y?).",
+    "set(X,X?).",
+    "sh(X,[X?|Y?]) :- ground(X?) | sh(X?,X?,Y).",
+    "sh(X,Y,f(X?,Y?)) :- constant(X?) | e(X?,Y?,Z), put(X?,Z?).",
+    "sh(X,Y,[Z?]) :- otherwise | e(X?,Y?,Z).",
+];
 const SESSION: &[&str] =
     &["tag([H|T],[hit(H?)|R?]) :- tag(T?,R).", "tag([],[]).", "end([]).", "same(X,X?).", "two(1,1).", "w(1,2)."];
 
@@ -92,9 +154,60 @@ const WAKING_GOALS: &[&str] = &[
     "fan($1,$2?,$3)",
 ];
 
+const GUARD_GOALS: &[&str] = &[
+    "kind($0?,$1,$2)",
+    "kind(f($0?),$1,$2)",
+    "gr(f($0?,$1?),$2)",
+    "gr([$0?,1|$1?],$2)",
+    "gr(f($0?,$1),$2)",
+    "gr([$1|$0?],$2)",
+    "nk($0,$1?,$2)",
+    "nk($0?,$1?,$2)",
+    "nk(f($1?),$0?,$2)",
+    "kn($0?,$1)",
+    "kn($1?,$3)",
+    "mk($0,$1)",
+    "mk($0?,$1)",
+    "h($0,$0?,$1)",
+    "h($0?,$1?,$2)",
+    "eq($0?,$1?,$2,$3)",
+    "eq(f(a,$0?),f($1?,[b]),$2,$3)",
+    "eq([$0?|$1],$2?,$3,$4)",
+    "eq(f($1),f($0?),$2,$3)",
+    "in($0?,$1?,$2)",
+    "in(f(a,[$0?|b]),$1?,$2)",
+    "c($0?,$1)",
+    "c($1?,$2)",
+    "ci($0?,$1?)",
+    "ci($1?,$0?)",
+    "m($0?,$1?,$2)",
+    "m($0?,f($1?),$2)",
+    "s($0?,$0)",
+    "s($0?,$1)",
+    "two($0?,$1?)",
+    "two($1?,b)",
+    "put(f($0?))",
+];
+const GUARD_VALUES: &[&str] = &[
+    "set(1,$0)",
+    "set(-7,$1)",
+    "set(a,$0)",
+    "set([],$1)",
+    "set(f(a,[b|b]),$0)",
+    "set(f($2?),$0)",
+    "set([$2?],$1)",
+    "set($1?,$0)",
+    "set(b,$2)",
+    "set([b],$1)",
+    "late($0)",
+    "late($2)",
+    "give($0,$1,$2)",
+    "give($1,$0,$3)",
+];
+
 /// The items of a job over one of the kits.
 pub fn program(random: &mut Random) -> Vec<Vec<Token>> {
-    match random.below(14) {
+    match random.below(24) {
         0..=3 => job(random, STREAMS, &network),
         4 => job(random, STREAMS, &two_inputs),
         5 => job(random, CHANNELS, &dialogue),
@@ -103,6 +216,8 @@ pub fn program(random: &mut Random) -> Vec<Vec<Token>> {
         9 | 10 => job(random, WAKING, &fan),
         11 => job(random, WAKING, &either_input),
         12 => job(random, DOUBLING, &|_| vec!["mk($0)".into(), "p($0?)".into()]),
+        13..=19 => job(random, GUARDS, &guards),
+        20..=22 => job(random, SHARED, &shared),
         _ => job(random, SESSION, &session),
     }
 }
@@ -177,7 +292,14 @@ fn network(random: &mut Random) -> Vec<String> {
     let mut open: Vec<String> = (0..random.between(1, 2)).map(|_| source(random, &mut next, &mut goals)).collect();
     for _ in 0..random.between(1, 3) {
         let taken = open.remove(random.below(open.len()));
-        let goal = match random.below(6) {
+        let goal = match random.below(10) {
+            6 | 7 => {
+                next += 1;
+                open.push(format!("${}?", next - 1));
+                format!("{}({taken},${},${next})", random.pick(&["fan", "fan", "sort"]), next - 1)
+            }
+            8 => format!("runs({taken},${next})"),
+            9 => format!("all({taken},${next})"),
             0 => format!("tag({taken},${next})"),
             1 => format!("rev({taken},${next})"),
             2 => format!("copy({taken},${next})"),
@@ -325,6 +447,55 @@ fn two_inputs(random: &mut Random) -> Vec<String> {
     goals.push(random.pick(&["abc($0)", "abc($1)", "end($0)", "end($1)", "copy([1,2|$4?],$1)"]).to_string());
     if random.chance(40) {
         goals.push(random.pick(&["abc($1)", "end($0)", "one($1)", "end($4)"]).to_string());
+    }
+    goals
+}
+
+/// Goals with guarded clauses, and others that give their pairs values, mostly behind them.
+fn guards(random: &mut Random) -> Vec<String> {
+    if random.chance(40) {
+        return needed(random);
+    }
+    let mut goals = some_goals(random, GUARD_GOALS, 3);
+    let main = goals.len();
+    goals.extend(some_goals(random, GUARD_VALUES, 4));
+    match random.below(10) {
+        0..=5 => {}
+        6 | 7 => random.shuffle(&mut goals[main..]),
+        _ => random.shuffle(&mut goals),
+    }
+    goals
+}
+
+/// A guard that needs several readers, and goals that give some of them values, one by one.
+fn needed(random: &mut Random) -> Vec<String> {
+    let shapes = ["f($0?,$1?)", "[$0?,f($1?)|$4?]", "[[$0?]|$1?]", "f(f($0?,a),$1?,$4?)", "f($0?,$5,$1?)"];
+    let asked = ["gr(S,$2)", "eq(S,$3?,$2,$6)", "eq($3?,S,$2,$6)", "in($3?,S,$2)", "m($3?,S,$2)", "s(S,$2)"];
+    let asked = if random.chance(50) { asked[0] } else { random.pick(&asked) };
+    let mut goals = vec![asked.replace('S', random.pick(&shapes))];
+    let mut values = ["set(1,$0)", "set(f(2),$1)", "set($7?,$4)", "set(a,$3)", "set([],$7)", "set(f(1,f(2)),$3)"];
+    random.shuffle(&mut values);
+    goals.extend(values[..random.between(1, 4)].iter().map(|goal| goal.to_string()));
+    goals
+}
+
+/// Values that double, built apart or shared, compared and shared again.
+fn shared(random: &mut Random) -> Vec<String> {
+    let numerals = ["0", "s(0)", "s(s(0))", "s(s(s(0)))", "s($5?)"];
+    let leaves = ["a", "a", "b", "f(a,a)", "f(1)", "$4?", "[$4?|$6?]"];
+    let mut goals = vec![
+        format!("d({},{},$0)", random.pick(&numerals), random.pick(&leaves)),
+        format!("d({},{},$1)", random.pick(&numerals), random.pick(&leaves)),
+        random.pick(&["e($0?,$1?,$2)", "e($0?,$1?,$2)", "sh($0?,$1?,$2)", "sh([$0?,$1?],$2)"]).to_string(),
+    ];
+    if random.chance(60) {
+        goals.push(random.pick(&["set(a,$4)", "set(f(a,a),$4)", "set(1,$4)", "set(f(1),$4)"]).to_string());
+    }
+    if random.chance(40) {
+        goals.push(random.pick(&["set(s(0),$5)", "set(0,$5)", "set([],$6)", "sh($2?,$3)"]).to_string());
+    }
+    if random.chance(40) {
+        random.shuffle(&mut goals);
     }
     goals
 }

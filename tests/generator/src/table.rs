@@ -15,7 +15,7 @@ const READERS: [&str; 2] = ["waiting, several", "failed, a reader"];
 /// The counts of some answers.
 #[derive(Clone, Debug, Default)]
 pub struct Table {
-    numbers: [usize; 11],
+    numbers: [usize; 12],
     verdicts: [usize; 3],
     goals: [usize; 3],
     readers: [usize; 2],

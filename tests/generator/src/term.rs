@@ -19,10 +19,12 @@ pub enum Term {
     List(Vec<Term>, Option<Box<Term>>),
 }
 
-/// A clause has a head; a query has none.
+/// A clause has a head and perhaps guards; a query has neither.
 #[derive(Clone, Debug)]
 pub struct Item {
     pub head: Option<Term>,
+    /// The compound `==` is written between its two arguments, `otherwise` is a constant.
+    pub guards: Vec<Term>,
     pub goals: Vec<Term>,
 }
 
@@ -49,6 +51,11 @@ impl Term {
             Term::Reader(pair) => tokens.push(format!("{}?", spellings[*pair])),
             Term::Constant("[]") => tokens.extend(["[".to_string(), "]".to_string()]),
             Term::Constant(constant) => tokens.push(constant.to_string()),
+            Term::Compound("==", sides) => {
+                sides[0].write(spellings, tokens);
+                tokens.push("==".to_string());
+                sides[1].write(spellings, tokens);
+            }
             Term::Compound(name, arguments) => {
                 tokens.push(name.to_string());
                 tokens.push("(".to_string());
@@ -88,16 +95,20 @@ impl Item {
         if let Some(head) = &self.head {
             head.write(&spellings, &mut tokens);
         }
-        if !self.goals.is_empty() {
+        if !self.goals.is_empty() || !self.guards.is_empty() {
             tokens.push(if self.head.is_some() { ":-" } else { "?-" }.to_string());
-            write_all(&self.goals, &spellings, &mut tokens);
         }
+        if !self.guards.is_empty() {
+            write_all(&self.guards, &spellings, &mut tokens);
+            tokens.push("|".to_string());
+        }
+        write_all(&self.goals, &spellings, &mut tokens);
         tokens.push(".".to_string());
         tokens
     }
 }
 
-/// The tokens of a written text: runs with their `-` and `?`, the two signs of two bytes, and single bytes.
+/// The tokens of a written text: runs with their `-` and `?`, the three signs of two bytes, and single bytes.
 pub fn split(text: &str) -> Vec<Token> {
     let bytes = text.as_bytes();
     let mut tokens = Vec::new();
@@ -122,7 +133,7 @@ pub fn token_end(bytes: &[u8], at: usize) -> usize {
     let first = bytes[at];
     let negative = first == b'-' && next.is_some_and(|byte| byte.is_ascii_digit());
     if !negative && !in_run(first) {
-        let double = (first == b':' || first == b'?') && next == Some(b'-');
+        let double = (first == b':' || first == b'?') && next == Some(b'-') || first == b'=' && next == Some(b'=');
         return if double { at + 2 } else { at + 1 };
     }
     let mut end = at + 1;

@@ -1,5 +1,5 @@
 //! Jobs made to hurt: the largest texts and rooms, the deepest values, the longest chains, the most waits, values that
-//! double, and clauses that all but match.
+//! double, clauses that all but match, and guards that look at all of these.
 //!
 //! Each reduction charges a compound at least, and a goal that waits is woken by a pair that is assigned, so no run
 //! takes 1,000,000 steps: what costs is what one step can cost, times the steps that the room allows. The products are
@@ -63,7 +63,12 @@ pub fn jobs() -> Vec<Worst> {
         job("doubling: 2,097,152 leaves behind a chain", "bytes written", 30_000, leaves()),
         job("127 heads of 15 levels that all but match", "steps × clauses", ALL, heads(127, 15, 1)),
         job("127 heads of 43 places that all but match", "steps × places", ALL, heads(127, 15, 3)),
-        job("125 heads of 43 places that all but match, 28 of which wait", "steps × places", ALL, waiting_heads(125, 15)),
+        job(
+            "125 heads of 43 places that all but match, 28 of which wait",
+            "steps × places",
+            ALL,
+            waiting_heads(125, 15),
+        ),
         job("60,000 goals that fail on 120 clauses", "steps × clauses", ALL, failing()),
         job("a chain read at each second link", "steps × links", ALL, chain(1)),
         job("a chain read by 100 clauses", "steps × links × clauses", 1_000, chain(100)),
@@ -77,7 +82,85 @@ pub fn jobs() -> Vec<Worst> {
         job("circles of 28,000 levels by 100 clauses, 1 time", "steps × clauses × levels", ALL, circles(1)),
         job("circles of 28,000 levels by 100 clauses, 8 times", "steps × clauses × levels", ALL, circles(8)),
     ]);
+    jobs.extend(guards());
     jobs
+}
+
+/// What guards look at: `ground` and `==` go over values that are deep, open or, written out, larger than any room.
+fn guards() -> Vec<Worst> {
+    let job = |label: &str, product, budget, text| Worst { label: label.to_string(), product, budget, text };
+    let one = |inner: String| format!("f({inner})");
+    let growing = |guards: &str, value: &str| format!("l(X) :- {guards} | l({value}).\n?- l(a).\n");
+    let open = nested(15, "X?", one);
+    let grown = format!("d({open}) :- d(X).\ng(X) :- ground(X?) | no(X?).\n?- d(A), g(A?).\n");
+    let deeper = nested(14, "X?", one);
+    let sides = [nested(7, "X?", one), nested(7, "Y?", one)].join(",");
+    let both = |sides: &str| format!("l(X,Y) :- X? == Y?, ground(X?), ground(Y?) | l({sides}).\n?- l(a,a).\n");
+    let shared = format!("l(X) :- ground(X?) | {}l(X?).\nn(f(a)).\n?- l(f(a)).\n", "n(X?), ".repeat(7));
+    let levels = "clauses × levels";
+    vec![
+        job("ground: an open list of 8,932 readers, given one by one", "readers × readers", ALL, open_list(29, 1)),
+        job(
+            "ground: 1,540 readers, given one by one, by 20 clauses",
+            "readers × readers × clauses",
+            ALL,
+            open_list(5, 20),
+        ),
+        job("ground: a value that grows by 15 levels at its open end", "steps × levels", 3_000, grown),
+        job("ground: 53,760 levels by 100 clauses", levels, ALL, heavy::deep_ground(one, 100)),
+        job("ground: a value that doubles at each step", "steps", ALL, growing("ground(X?)", "f(X?,X?)")),
+        job("ground: a value that is 14 levels deeper at each step", "steps", ALL, growing("ground(X?)", &deeper)),
+        job("==: 23,040 levels by 100 clauses", levels, ALL, heavy::deep_equal(one, "a", 100)),
+        job("==: 23,040 levels, innermost unequal, by 100 clauses", levels, ALL, heavy::deep_equal(one, "b", 100)),
+        job("==: two values 7 levels deeper at each step", "steps × levels", ALL, both(&sides)),
+        job("==: two values that double at each step", "steps × doublings", ALL, both("f(X?,X?),f(Y?,Y?)")),
+        job("==: 60 doublings built apart, by 100 clauses", "clauses", ALL, doublings("a")),
+        job("==: 60 doublings, innermost unequal, by 100 clauses", "clauses × doublings", ALL, doublings("b")),
+        job("==: a chain behind a list of 23,040 that grows", "steps × elements", 6_000, behind_a_list()),
+        job("guards: 8 of each of 120 clauses, the last fails", "steps × clauses × guards", 10_000, eight(120)),
+        job("otherwise: behind 120 clauses that fail", "steps × clauses", ALL, behind(120)),
+        job("sharing: a value in 8 goals at each step", "steps", ALL, shared),
+    ]
+}
+
+/// A list of readers, 11 from each of 28 times so many calls, that so many clauses ask of; its writers are given one by
+/// one.
+fn open_list(calls: usize, clauses: usize) -> String {
+    let of = |half: &str| (0..11).map(|k| format!("V{k}{half}")).collect::<Vec<_>>().join(",");
+    let ones = |count: usize| vec!["1"; count].join(",");
+    let call = format!("a([1|N],L?,M?) :- b([{}],L,L1?,M,M1?), a(N?,L1,M1).\na([],[],[]).\n", ones(28));
+    let some = format!("b([1|N],[{}|L?],R,[{}|M?],S) :- b(N?,L,R?,M,S?).\nb([],L?,L,M?,M).\n", of("?"), of(""));
+    let asks = "g(X) :- ground(X?) | no(X?).\n".repeat(clauses);
+    format!("{call}{some}{asks}s([1|T]) :- s(T?).\ns([]).\n?- a([{}],L,K), g(L?), s(K?).\n", ones(calls))
+}
+
+/// Two values of 60 doublings, from these leaves, that 100 clauses compare before they fail.
+fn doublings(leaf: &str) -> String {
+    let build = "d([],X,X?) :- ground(X?) | .\nd([1|N],X,Z?) :- ground(X?) | d(N?,f(f(X?,X?),f(X?,X?)),Z).\n";
+    let asks = "e(X,Y) :- X? == Y?, integer(X?) | no(X?,Y?).\n".repeat(100);
+    let numeral = vec!["1"; 30].join(",");
+    format!("n([{numeral}]).\n{build}{asks}?- n(N), n(M), d(N?,a,A), d(M?,{leaf},B), e(A?,B?).\n")
+}
+
+/// A list that is ground but for its end, at which a chain grows: each second link wakes a goal that compares it.
+fn behind_a_list() -> String {
+    let elements = vec!["a"; 15].join(",");
+    let lists = format!("part([{elements}|X?],X).\n{}", heavy::spread());
+    let rules = "c(X?) :- c(X).\ne(X,Y) :- X? == Y? | no(X?,Y?).\n";
+    format!("{lists}{rules}?- all(L,M?), all(M,N?), all(N,A?), c(A), e(L?,[a|B?]).\n")
+}
+
+/// Clauses with eight guards each, of which the last one fails, and one that calls again.
+fn eight(clauses: usize) -> String {
+    let guards = ["known(X?)", "ground(X?)", "compound(X?)", "X? == Y?", "known(Y?)", "f(X?) == f(Y?)", "ground(Y?)"];
+    let clause = format!("p(X,Y) :- {}, integer(X?) | no(X?,Y?).\n", guards.join(","));
+    format!("{}p(X,Y) :- otherwise | p(X?,Y?).\n?- p(f(a,[b]),f(a,[b])).\n", clause.repeat(clauses))
+}
+
+/// Clauses with another constant, and one for the rest that calls again.
+fn behind(clauses: usize) -> String {
+    let facts: String = (0..clauses).map(|k| format!("p(k{k}).\n")).collect();
+    format!("{facts}p(X) :- otherwise | p(X?).\n?- p(a).\n")
 }
 
 /// 16,384 bytes of clauses, and a last one without its full stop.
@@ -140,7 +223,8 @@ fn tree() -> String {
     let six = |inside: &str| format!("f({})", [inside; 6].join(","));
     let branch = six(&six("a"));
     let names = ["A", "B", "C", "D", "E", "F"];
-    let others = |k: usize, mark: &str| (0..6).filter(|n| *n != k).map(|n| format!("{}{mark}", names[n])).collect::<Vec<_>>();
+    let others =
+        |k: usize, mark: &str| (0..6).filter(|n| *n != k).map(|n| format!("{}{mark}", names[n])).collect::<Vec<_>>();
     let mut heads = String::new();
     for outer in 0..6 {
         for inner in 0..6 {

@@ -1,7 +1,8 @@
 //! The generator's own promises: the same jobs for a seed, frames that can be read back, strings as antt writes them,
 //! and everything that document 01 can answer occurring among few jobs.
 
-use generator::{antt, call, frame, jobs, lengths, table::Table, Job};
+use generator::{antt, call, frame, heavy, jobs, lengths, table::Table, worst, Job};
+use reference::read;
 
 fn frames(jobs: &[Job]) -> Vec<u8> {
     jobs.iter().flat_map(|job| frame::framed(&job.text, &job.figures)).collect()
@@ -100,5 +101,16 @@ fn texts_of_a_reports_length() {
     for length in lengths {
         let text = lengths::of_length(length).expect("there is one");
         assert_eq!(call(text.as_bytes(), &lengths::figures()).length, length);
+    }
+}
+
+/// The jobs for measuring are read; the one that is not says so.
+#[test]
+fn jobs_for_measuring_are_accepted() {
+    let heavy = heavy::jobs().into_iter().map(|job| (job.label.to_string(), job.text));
+    let worst = worst::jobs().into_iter().map(|job| (job.label, job.text));
+    for (label, text) in heavy.chain(worst).filter(|(label, _)| !label.contains("refused at its end")) {
+        let refusal = read(text.as_bytes()).err();
+        assert!(refusal.is_none(), "{label}, {} bytes: {refusal:?}", text.len());
     }
 }

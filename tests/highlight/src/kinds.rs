@@ -9,10 +9,11 @@ pub enum Kind {
 }
 
 /// Every kind, with its scope in the TextMate grammar. Its group in the Vim file is `glp` with the kind's name.
-pub const KINDS: [(Kind, &str); 15] = [
+pub const KINDS: [(Kind, &str); 16] = [
     (Kind::Remark, "comment.line.percentage.glp"),
     (Kind::Token(Sort::Ask), "keyword.operator.ask.glp"),
     (Kind::Token(Sort::If), "keyword.operator.if.glp"),
+    (Kind::Token(Sort::Equal), "keyword.operator.equal.glp"),
     (Kind::Token(Sort::Reader), "variable.parameter.reader.glp"),
     (Kind::Token(Sort::Writer), "variable.other.writer.glp"),
     (Kind::Token(Sort::Name), "entity.name.function.glp"),

@@ -57,8 +57,8 @@ pub fn same(grammar: &Grammar, items: &Items) -> Result<(), String> {
     Ok(())
 }
 
-/// A pattern of `pattern`'s subset in Vim's notation behind `\v`: `%(..)` for `(?:..)`, `%(..)@!` for `(?!..)`, `\%` for `%`, and no `\n`, since Vim's lines
-/// have none. The rest is written alike.
+/// A pattern of `pattern`'s subset in Vim's notation behind `\v`: `%(..)` for `(?:..)`, `%(..)@!` for `(?!..)`, `\%` for `%`, `\=` for `=`, and no `\n`, since
+/// Vim's lines have none. The rest is written alike.
 fn notation(source: &str) -> String {
     let mut vim = String::new();
     let mut closings = Vec::new();
@@ -73,6 +73,7 @@ fn notation(source: &str) -> String {
             None if rest.starts_with("\\n") => ("", 2),
             None if first == '\\' => (&rest[..2], 2),
             None if first == '%' => ("\\%", 1),
+            None if first == '=' => ("\\=", 1),
             None if first == ')' => (closings.pop().unwrap_or(")"), 1),
             None => (&rest[..first.len_utf8()], first.len_utf8()),
         };

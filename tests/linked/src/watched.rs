@@ -3,8 +3,8 @@
 //! Text, scratch and buffer each stand between guards, at an offset that changes; all of it is filled with a mark that
 //! changes, too. After the call the answer is the reference's, and every byte lent is what document 01 says: 'On 0 the
 //! report stands at the front of its buffer and the bytes behind it keep their values. On 1 to 8 (and on 9 and 10, which
-//! take 5's place) the whole report buffer keeps its values. Scratch is untouched on 1, 2, 3; otherwise the needed part is zero afterwards and any part
-//! beyond it is untouched.'
+//! take 5's place, and on 11) the whole report buffer keeps its values. Scratch is untouched on 1, 2, 3; otherwise the
+//! needed part is zero afterwards and any part beyond it is untouched.'
 
 use reference::Answer;
 use troscunel::Given;

@@ -1,7 +1,7 @@
-//! The call: reading, running and writing composed, and the numbers 0 to 10 in their order.
+//! The call: reading, running and writing composed, and the numbers 0 to 11 in their order.
 //!
 //! 'Order: 1, 2, 3; then the text item by item, where the first refused item decides; then no query; then 7; then 8.'
-//! '9 and 10 take 5's place in the order' (document 02, T-01).
+//! '9 and 10 take 5's place in the order' (document 02, T-01), and 11 is judged right before it (T-02).
 //! The scratch need is a figure here: the call uses no scratch of its caller's.
 
 use crate::{items, machine, report};
@@ -53,7 +53,7 @@ const fn outside_the_text(number: u8) -> items::Refusal {
     items::Refusal { number, line: 0, offset: 0 }
 }
 
-/// 'The length is 0 for 1 to 7', and for 9 and 10.
+/// 'The length is 0 for 1 to 7', and for 9, 10 and 11.
 fn refused(refusal: items::Refusal) -> Answer {
     let items::Refusal { number, line, offset } = refusal;
     Answer { number, line, length: 0, offset, report: None }

@@ -100,13 +100,14 @@ impl Machine<'_> {
         }
     }
 
-    fn enter_compound(&mut self, place: usize) {
+    /// Its arguments are visited from the left, and then it is left.
+    pub fn enter_compound(&mut self, place: usize) {
         let functor = self.cells[place];
         if functor.is_closed() {
             return;
         }
         self.visits.push(Visit::LeaveCompound(place));
-        for argument in 1..=functor.arity() {
+        for argument in (1..=functor.arity()).rev() {
             let term = self.followed(place + argument);
             if !self.is_closed(term) {
                 self.visits.push(Visit::Term(term));
@@ -114,7 +115,7 @@ impl Machine<'_> {
         }
     }
 
-    fn leave_compound(&mut self, place: usize) {
+    pub fn leave_compound(&mut self, place: usize) {
         let functor = self.cells[place];
         if (1..=functor.arity()).all(|argument| self.is_closed(self.cells[place + argument])) {
             self.cells[place] = functor.closed();

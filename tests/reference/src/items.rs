@@ -1,16 +1,17 @@
-//! Reading: a job text becomes a checked job, or is refused with 3, 4, 5, 6, 9 or 10, a line and an offset.
+//! Reading: a job text becomes a checked job, or is refused with 3, 4, 5, 6, 9, 10 or 11, a line and an offset.
 //!
 //! 'The first refused item decides.' Inside an item the reading stops at the first token that cannot stand where it
-//! stands (4) or that passes a figure (6); the former is asked first, so one token that does both is 4. The occurrence
-//! rules (5, 9 and 10) are judged at the item's full stop. Functions recurse only over brackets, of which 16 are open at
-//! most.
+//! stands (4) or that passes a figure (6); the former is asked first, so one token that does both is 4. The guards (11)
+//! and then the occurrence rules (5, 9 and 10) are judged at the item's full stop, see `rules`. Functions recurse only
+//! over brackets, of which 16 are open at most.
 
 use crate::job::{Clause, Goals, Job, Query};
+use crate::rules::Occurrence;
 use crate::text::{line, token, Sort, Token};
 use crate::words::{Kind, Word, EMPTY_LIST, LIST_CELL};
 
 // 'Figures: text 16,384 bytes; 128 clauses; 1 to 8 queries; 256 distinct names; per item 16 variable pairs, 32
-// compounds and 8 body or query goals; 16 brackets open at once', and compounds with 1 to 6 arguments.
+// compounds and 8 body or query goals; 16 brackets open at once', and compounds with 1 to 6 arguments; '1 to 8 guards'.
 const TEXT_BYTES: usize = 16_384;
 const CLAUSES: usize = 128;
 const QUERIES: usize = 8;
@@ -18,11 +19,12 @@ const NAMES: usize = 256;
 const PAIRS: usize = 16;
 const COMPOUNDS: usize = 32;
 const GOALS: usize = 8;
+const MOST_GUARDS: usize = 8;
 const BRACKETS: usize = 16;
 const ARGUMENTS: usize = 6;
 
-/// Why a text is no job: number 3, 4, 5, 6, 9 or 10, and its line; '4, 5, 9 and 10 also return a byte offset, 0 with
-/// every other number' (document 02, T-01).
+/// Why a text is no job: number 3, 4, 5, 6, 9, 10 or 11, and its line; '4, 5, 9 and 10 also return a byte offset, 0
+/// with every other number' (document 02, T-01).
 #[derive(Clone, Copy, Debug, PartialEq, Eq)]
 pub struct Refusal {
     pub number: u8,
@@ -47,39 +49,41 @@ pub fn read(text: &[u8]) -> Result<Job, Refusal> {
 }
 
 /// The reading of a text: the token in front, the job so far and the counts of the item at hand.
-struct Items<'t> {
+pub(crate) struct Items<'t> {
     text: &'t [u8],
     token: Token,
-    job: Job,
+    pub job: Job,
     names: usize,
     /// Arguments and elements read, but not yet put into their compound; with each, where its block begins.
     parts: Vec<(Word, usize)>,
-    item: Item<'t>,
+    pub item: Item<'t>,
 }
 
 /// What is counted per item.
 #[derive(Default)]
-struct Item<'t> {
+pub(crate) struct Item<'t> {
     begin: usize,
     variables: Vec<&'t [u8]>,
-    /// Each occurrence of a half, in text order, with the offset at which it begins.
-    occurrences: Vec<(Half, usize)>,
-    /// One bit for each variable: whether its writer, its reader has occurred.
-    writers: u32,
-    readers: u32,
+    /// Each occurrence of a half in head and body, in text order, and how many of them are in the head.
+    pub occurrences: Vec<Occurrence>,
+    pub in_head: usize,
+    /// Those in the guards, and the pairs (a bit for each) whose readers a guard lets stand several times in the body.
+    pub in_guards: Vec<Occurrence>,
+    pub licensed: u32,
     compounds: usize,
     brackets: usize,
     goals: usize,
 }
 
-/// A pair's writer or its reader; the pair is one bit.
-#[derive(Clone, Copy, PartialEq, Eq)]
-struct Half {
-    kind: Kind,
-    pair: u32,
+/// What stands between commas behind `:-`. It is a guard or a goal, and only the bar or the full stop tells which.
+#[derive(Clone, Copy)]
+pub(crate) enum Conjunct {
+    Name(Word),
+    Compound(Word),
+    Equal(Word, Word),
 }
 
-type Reading<T> = Result<T, Refusal>;
+pub(crate) type Reading<T> = Result<T, Refusal>;
 
 impl<'t> Items<'t> {
     fn new(text: &'t [u8]) -> Self {
@@ -107,8 +111,8 @@ impl<'t> Items<'t> {
         Err(Refusal { number: 4, line: line(self.text, place), offset: self.token.begin as u32 })
     }
 
-    /// 5, 6, 9 or 10, its line 'where the item begins'.
-    fn refuse_item(&self, number: u8, offset: usize) -> Reading<()> {
+    /// 5, 6, 9, 10 or 11, its line 'where the item begins'.
+    pub fn refuse_item<T>(&self, number: u8, offset: usize) -> Reading<T> {
         Err(Refusal { number, line: line(self.text, self.item.begin), offset: offset as u32 })
     }
 
@@ -120,7 +124,8 @@ impl<'t> Items<'t> {
         Ok(())
     }
 
-    /// 'An item is `head.`, `head :- goal,..,goal.` or `?- goal,..,goal.`.'
+    /// 'An item is `head.`, `head :- goal,..,goal.` or `?- goal,..,goal.`', and 'a clause may read
+    /// `head :- guard,..,guard | goal,..,goal.`' (document 02, T-02).
     fn item(&mut self) -> Reading<()> {
         self.begin_item();
         match self.token.sort {
@@ -153,40 +158,78 @@ impl<'t> Items<'t> {
     fn clause(&mut self) -> Reading<()> {
         self.within(self.job.clauses.len(), CLAUSES)?;
         let head = self.named_compound()?.index();
-        let body = match self.token.sort {
-            Sort::Stop => self.whole_item(self.job.code.len()),
+        self.item.in_head = self.item.occurrences.len();
+        let (guards, body) = match self.token.sort {
+            Sort::Stop => (Vec::new(), self.whole_item(self.job.code.len())),
             Sort::If => {
                 self.advance();
-                self.goals()?
+                self.guards_and_goals()?
             }
             _ => return self.cannot_continue(),
         };
+        let guards = self.judge_guards(guards)?;
         self.judge_occurrences(true)?;
         self.advance();
-        self.job.clauses.push(Clause { head, body });
+        self.job.clauses.push(Clause { head, guards, body });
         Ok(())
     }
 
-    /// 'In a clause no writer and no reader occurs twice, and a writer occurs exactly if its reader does. In a query
-    /// nothing occurs twice; either half may be missing.' The offset is 'for 5 the second occurrence, for 9 and 10 the
-    /// first occurrence of the lone half; where several apply to an item, the smallest offset decides': so the first
-    /// occurrence in text order that breaks a rule.
-    fn judge_occurrences(&self, clause: bool) -> Reading<()> {
-        let (mut writers, mut readers) = (0, 0);
-        for &(Half { kind, pair }, offset) in &self.item.occurrences {
-            let (seen, others, lone) = match kind {
-                Kind::Reader => (&mut readers, self.item.writers, 10),
-                _ => (&mut writers, self.item.readers, 9),
-            };
-            if *seen & pair != 0 {
-                return self.refuse_item(5, offset);
+    /// What follows `:-`, up to the item's full stop, which is left in front. The full stop can stand behind goals
+    /// alone, the bar behind any conjuncts: so each is read as what it can still be.
+    fn guards_and_goals(&mut self) -> Reading<(Vec<Conjunct>, Goals)> {
+        let begin = self.job.code.len();
+        let mut conjuncts = Vec::new();
+        loop {
+            if !self.token.sort.begins_term() {
+                return self.cannot_continue();
             }
-            if clause && others & pair == 0 {
-                return self.refuse_item(lone, offset);
+            self.within(conjuncts.len(), MOST_GUARDS)?;
+            conjuncts.push(self.conjunct()?);
+            match self.token.sort {
+                Sort::Comma => self.advance(),
+                Sort::Bar => break,
+                Sort::Stop => return self.all_goals(&conjuncts, begin).map(|goals| (Vec::new(), goals)),
+                _ => return self.cannot_continue(),
             }
-            *seen |= pair;
         }
-        Ok(())
+        self.advance();
+        // 'Occurrences in guards don't count for the pairing.'
+        self.item.in_guards = self.item.occurrences.split_off(self.item.in_head);
+        let goals = match self.token.sort {
+            Sort::Stop => self.whole_item(self.job.code.len()),
+            _ => self.goals()?,
+        };
+        Ok((conjuncts, goals))
+    }
+
+    /// A bare name, a compound with a name, or `T == T`; a variable, an integer or a list needs its `==`.
+    fn conjunct(&mut self) -> Reading<Conjunct> {
+        let named = self.token.sort == Sort::Name;
+        let left = self.term()?;
+        if self.token.sort == Sort::Equal {
+            // '`==`' stands in the table with two arguments, and is a compound as `known(X?)` is.
+            self.within(self.item.compounds, COMPOUNDS)?;
+            self.item.compounds += 1;
+            self.advance();
+            return Ok(Conjunct::Equal(left, self.term()?));
+        }
+        match left.kind() {
+            Kind::Compound if named => Ok(Conjunct::Compound(left)),
+            Kind::Constant if named => Ok(Conjunct::Name(left)),
+            _ => self.cannot_continue(),
+        }
+    }
+
+    /// The conjuncts are body goals: 'goals are compounds with a name'. The full stop in front cannot stand otherwise.
+    fn all_goals(&mut self, conjuncts: &[Conjunct], begin: usize) -> Reading<Goals> {
+        for conjunct in conjuncts {
+            let Conjunct::Compound(goal) = conjunct else {
+                return self.cannot_continue();
+            };
+            self.job.goals.push(goal.index() as u32);
+        }
+        self.item.goals = conjuncts.len();
+        Ok(self.whole_item(begin))
     }
 
     /// Goals up to the item's full stop, which is left in front.
@@ -273,13 +316,8 @@ impl<'t> Items<'t> {
                 self.item.variables.len() - 1
             }
         };
-        let (kind, seen) = match self.token.sort {
-            Sort::Reader => (Kind::Reader, &mut self.item.readers),
-            _ => (Kind::Writer, &mut self.item.writers),
-        };
-        let pair = 1 << index;
-        *seen |= pair;
-        self.item.occurrences.push((Half { kind, pair }, self.token.begin));
+        let kind = if self.token.sort == Sort::Reader { Kind::Reader } else { Kind::Writer };
+        self.item.occurrences.push(Occurrence { kind, pair: 1 << index, offset: self.token.begin });
         self.advance();
         Ok(Word::new(kind, index as u32))
     }

@@ -32,8 +32,40 @@ pub(crate) struct Functor {
 pub(crate) struct Clause {
     /// The head's functor word in the code.
     pub head: usize,
+    pub guards: Vec<Guard>,
     pub body: Goals,
 }
+
+/// A guard of a clause: what it asks of its arguments, terms of the code.
+#[derive(Debug)]
+pub(crate) struct Guard {
+    pub test: Test,
+    pub arguments: Vec<Word>,
+}
+
+#[derive(Clone, Copy, PartialEq, Eq, Debug)]
+pub(crate) enum Test {
+    Integer,
+    Constant,
+    Compound,
+    Ground,
+    Known,
+    Equal,
+    Otherwise,
+}
+
+/// 'A fixed table of names and argument counts' (document 02, T-02), and whether the argument's reader 'may stand
+/// several times in that clause's body': this is said of ground, integer and constant alone, not of `==`, though two
+/// terms that it finds equal are ground.
+pub(crate) const GUARDS: [(&str, usize, Test, bool); 7] = [
+    ("integer", 1, Test::Integer, true),
+    ("constant", 1, Test::Constant, true),
+    ("compound", 1, Test::Compound, false),
+    ("ground", 1, Test::Ground, true),
+    ("known", 1, Test::Known, false),
+    ("==", 2, Test::Equal, false),
+    ("otherwise", 0, Test::Otherwise, false),
+];
 
 #[derive(Debug)]
 pub(crate) struct Query {
@@ -116,6 +148,11 @@ impl Constants {
     pub fn spelling(&self, constant: Word) -> &[u8] {
         let entry = &self.entries[constant.index()];
         &self.spellings[entry.begin as usize..entry.end as usize]
+    }
+
+    /// Whether the constant is an integer: no name and not `[]` begins as one.
+    pub fn is_integer(&self, constant: Word) -> bool {
+        matches!(self.spelling(constant)[0], b'-' | b'0'..=b'9')
     }
 
     /// The constant of this spelling, and whether it is new.

@@ -1,17 +1,20 @@
-//! A reference implementation of document 01, with T-03 of document 02: a job text is read and checked, run under a
-//! budget and a room, and its report written.
+//! A reference implementation of document 01, with T-01, T-02 and T-03 of document 02: a job text is read and checked,
+//! run under a budget and a room, and its report written.
 //!
 //! `read`, `run` and `write` are the three phases; `call` composes them and gives the numbers in their order.
-//! Read the modules as `text`, `job`, `items`, `machine` with `trial` and `circle`, `report`, `call`.
+//! Read the modules as `text`, `job`, `items` with `rules`, `machine` with `trial`, `circle` and `guards`, `report`,
+//! `call`.
 
 #![forbid(unsafe_code)]
 
 mod call;
 mod circle;
+mod guards;
 mod items;
 mod job;
 mod machine;
 mod report;
+mod rules;
 mod text;
 mod trial;
 mod words;

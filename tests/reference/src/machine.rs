@@ -2,8 +2,8 @@
 //! at the front, until the queue is empty, the steps equal the budget, or a reduction does not fit.
 //!
 //! Compounds stand one behind the other in `cells` and are never given back. A variable that the head has bound takes
-//! no pair: its reader is replaced by its value wherever the clause uses it, which no report can show. What a reduction
-//! charges is counted apart, 'the whole item'.
+//! no pair: its reader is replaced by its value wherever the clause uses it, which no report can show; where it does so
+//! several times, the value is ground, and shared. What a reduction charges is counted apart, 'the whole item'.
 
 use std::collections::VecDeque;
 
@@ -100,6 +100,8 @@ pub(crate) struct Machine<'j> {
     pub assignments: Vec<Assignment>,
     pub visits: Vec<crate::circle::Visit>,
     pub turn: u32,
+    /// The equality of compounds, see `guards`.
+    pub equality: crate::guards::Equality,
     // The step at hand: the pairs whose readers its trials wait on, a pair perhaps more than once, and the waits that
     // are over.
     pub awaited: Vec<usize>,
@@ -141,6 +143,7 @@ impl<'j> Machine<'j> {
             assignments: Vec::new(),
             visits: Vec::new(),
             turn: 1,
+            equality: crate::guards::Equality::default(),
             awaited: Vec::new(),
             woken: Vec::new(),
         }

@@ -2,7 +2,8 @@
 //!
 //! 'A token is the longest run of letters, digits and `_` (with a `-` right before a first digit, or a `?` right after
 //! a run led by an uppercase letter), `:-`, `?-`, or one of the signs; a run led by `_` and any other byte are bad
-//! tokens.' A malformed or out-of-range integer and an overlong name or variable are one bad token too.
+//! tokens.' A malformed or out-of-range integer and an overlong name or variable are one bad token too. `==` is one
+//! token, as `:-` is (document 02, T-02); `=` alone is a bad one.
 
 #[derive(Clone, Copy, PartialEq, Eq, Debug)]
 pub enum Sort {
@@ -18,6 +19,7 @@ pub enum Sort {
     CloseSquare,
     Comma,
     Bar,
+    Equal,
     Stop,
     Bad,
     End,
@@ -63,6 +65,7 @@ pub fn token(text: &[u8], from: usize) -> Token {
         b'-' if next.is_some_and(|b| b.is_ascii_digit()) => integer(text, begin, begin + 1),
         b':' if next == Some(b'-') => sign(Sort::If, 2),
         b'?' if next == Some(b'-') => sign(Sort::Ask, 2),
+        b'=' if next == Some(b'=') => sign(Sort::Equal, 2),
         b'(' => sign(Sort::OpenRound, 1),
         b')' => sign(Sort::CloseRound, 1),
         b'[' => sign(Sort::OpenSquare, 1),

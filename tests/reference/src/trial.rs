@@ -1,4 +1,5 @@
-//! A trial: the clause's head is compared with the goal, and succeeds, waits on one or more readers, or fails.
+//! A trial: the clause's head is compared with the goal, then its guards are asked; it succeeds, waits on one or more
+//! readers, or fails.
 //!
 //! Nothing is built and no pair is assigned during a trial, so it reads 'the values as they were before the step'. The
 //! clause is renamed apart by its indexes alone: what its variables get stands in `bound`, what the goal's pairs get
@@ -12,7 +13,7 @@ use crate::words::{Kind, Word, UNASSIGNED};
 #[derive(Clone, Copy, PartialEq, Eq, Debug)]
 pub enum Trial {
     Succeeds,
-    /// On the readers of the pairs that the trial has added to the step's `awaited`.
+    /// On the readers of the pairs that the trial has added to the step's `awaited`, or with those of earlier clauses.
     Waits,
     Fails,
 }
@@ -40,7 +41,7 @@ fn follow(pairs: &[Pair], mut term: Word) -> Word {
 
 impl Machine<'_> {
     /// 'Any failing place fails the trial, and otherwise the trial waits on every reader needed' (document 02, T-03).
-    /// 'The circle test follows', where all places agree.
+    /// 'The circle test follows', where all places agree, and the guards come 'after the circle test' (T-02).
     pub fn trial(&mut self, clause: &Clause, goal: usize) -> Trial {
         self.bound_bits = 0;
         self.assignments.clear();
@@ -55,7 +56,7 @@ impl Machine<'_> {
         if self.circle() {
             Trial::Fails
         } else {
-            Trial::Succeeds
+            self.ask(&clause.guards)
         }
     }
 

@@ -8,7 +8,7 @@
 //! ```
 
 /// A term, or a functor word in front of a compound's arguments.
-#[derive(Clone, Copy, PartialEq, Eq, Debug)]
+#[derive(Clone, Copy, PartialEq, Eq, Hash, Debug)]
 pub struct Word(u32);
 
 /// The four kinds of term.
@@ -27,7 +27,7 @@ pub const EMPTY_LIST: Word = Word::new(Kind::Constant, 0);
 /// The list cell's functor, 'a compound of two arguments with a functor of its own': always the first of a job.
 pub const LIST_CELL: Word = Word::functor(0, 2);
 
-/// Set in the functor word of a compound from which no unassigned pair can be reached any more.
+/// Set in the functor word of a compound from which no unassigned pair can be reached any more: it is ground.
 const CLOSED: u32 = 1 << 31;
 
 impl Word {

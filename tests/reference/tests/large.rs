@@ -4,15 +4,6 @@ mod common;
 
 use common::*;
 use reference::{call, Answer, Figures};
-use std::time::{Duration, Instant};
-
-fn timed<T>(work: impl FnOnce() -> T) -> T {
-    let begin = Instant::now();
-    let result = work();
-    let limit = Duration::from_secs(if cfg!(debug_assertions) { 30 } else { 2 });
-    assert!(begin.elapsed() < limit, "took {:?}", begin.elapsed());
-    result
-}
 
 fn nested(levels: usize, open: &str, inside: &str, close: &str) -> String {
     format!("{}{inside}{}", open.repeat(levels), close.repeat(levels))

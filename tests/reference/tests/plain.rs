@@ -64,6 +64,38 @@ impl Jobs {
         out
     }
 
+    /// Guards before a clause's body: their variables are readers of the head's writers, and those that are the
+    /// argument of ground, integer or constant may come again in the body.
+    fn guarded(&mut self, clause: String) -> String {
+        let (head, body) = clause.split_once(":-").unwrap_or((&clause, ""));
+        let variables = head.split(|c: char| !c.is_alphanumeric() && c != '?');
+        let writers: Vec<&str> =
+            variables.filter(|v| v.starts_with(|c: char| c.is_uppercase()) && !v.ends_with('?')).collect();
+        let (mut guards, mut goals): (Vec<String>, Vec<String>) = (Vec::new(), Vec::new());
+        goals.extend((!body.is_empty()).then(|| body.into()));
+        for _ in 0..1 + self.roll(3) {
+            let mut reader = || match writers.len() as u64 {
+                0 => "a".to_string(),
+                writers_in_all => format!("{}?", writers[self.roll(writers_in_all) as usize]),
+            };
+            let (one, other) = (reader(), reader());
+            let test = ["ground", "integer", "constant", "compound", "known"][self.roll(5) as usize];
+            guards.push(match self.roll(12) {
+                0 | 1 => "otherwise".into(),
+                2 => format!("{one}=={other}"),
+                3 => format!("{one}==f({other})"),
+                4 => format!("[a|{one}]==[{other}|{one}]"),
+                5 => format!("{test}(g({one},{other}))"),
+                _ => {
+                    let again = ["ground", "integer", "constant"].contains(&test) && one != "a" && self.roll(2) == 0;
+                    goals.extend(again.then(|| format!("q({one},g({one},{one}))")));
+                    format!("{test}({one})")
+                }
+            });
+        }
+        format!("{head}:-{}|{}", guards.join(","), goals.join(","))
+    }
+
     fn job(&mut self) -> String {
         let mut text = String::new();
         for _ in 0..3 + self.roll(10) {
@@ -73,7 +105,11 @@ impl Jobs {
                 clause += if number == 0 { ":-" } else { "," };
                 clause += &self.goal(1);
             }
-            text += &(self.variables(clause, true) + ".\n");
+            clause = self.variables(clause, true);
+            if self.roll(2) == 0 {
+                clause = self.guarded(clause);
+            }
+            text += &(clause + ".\n");
         }
         for _ in 0..1 + self.roll(3) {
             let goals: Vec<String> = (0..1 + self.roll(4)).map(|_| self.goal(2)).collect();
@@ -99,7 +135,7 @@ fn random_jobs_run_as_the_plain_model_says() {
         };
         let answer = call(text.as_bytes(), &figures);
         let Some(report) = answer.report else {
-            assert!([5, 6, 7, 8].contains(&answer.number), "{} for\n{text}", answer.number);
+            assert!([6, 7, 8].contains(&answer.number), "{} for\n{text}", answer.number);
             continue;
         };
         let (plain, own) = plain_report(&text, &figures);
@@ -142,6 +178,11 @@ dup([X|Xs],[A?|As?],[B?|Bs?]) :- both(X?,A,B), dup(Xs?,As,Bs). dup([],[],[]).
 both(1,1,1). both(2,2,2). both(hit(X),hit(A?),hit(B?)) :- both(X?,A,B).
 rev([X|Xs],A,R?) :- rev(Xs?,[X?|A?],R). rev([],A,A?).
 wrap(X,g(X?)). loop(V) :- wrap(V?,U), loop(U?). reply([ask(X,Y?)|T]) :- same(X?,Y), reply(T?). reply([]).
+fan([X|Xs],[X?|As?],Bs?) :- ground(X?) | put(X?,Cs?,Bs), fan(Xs?,As,Cs). fan([],[],[]). put(X,Xs,[X?|Xs?]).
+sort([X|Xs],[X?|I?],C?,O?) :- integer(X?) | sort(Xs?,I,C,O). sort([],[],[],[]).
+sort([X|Xs],I?,[X?|C?],O?) :- constant(X?) | sort(Xs?,I,C,O). sort([X|Xs],I?,C?,[X?|O?]) :- otherwise | sort(Xs?,I,C,O).
+runs([X,Y|Xs],[X?|R?]) :- X? == Y? | runs([Y?|Xs?],R). runs([X,Y|Xs],[X?,new|R?]) :- otherwise | runs([Y?|Xs?],R).
+runs([X],[X?]). runs([],[]). deep(s(N),X,Z?) :- ground(X?) | deep(N?,f(X?,X?),Z). deep(0,X,X?) :- ground(X?) | .
 ";
     for queries in [
         "?- ones(A), twos(B), merge(A?,B?,C).",
@@ -151,6 +192,10 @@ wrap(X,g(X?)). loop(V) :- wrap(V?,U), loop(U?). reply([ask(X,Y?)|T]) :- same(X?,
         "?- loop(A?), link(A). ?- loop(a). ?- loop(B?), same(f(C?),B), same(1,C).",
         "?- reply(A?), same([ask(1,B),ask(C?,D),ask(D?,E)],A), same(7,C). ?- reply([ask(X?,X)]).",
         "?- tag(A?,B), tag(B?,A). ?- merge(A?,B?,A). ?- tag([A|B?],B).",
+        "?- fan(A?,B,C), list(A), fan(C?,D,E), merge(B?,E?,F). ?- fan([1,X?,f(Y?)|T?],A,B), same(2,Y), list(T).",
+        "?- sort([1,a,f(b),X?,[],-7,[c]|T?],I,C,O), same(Y?,X), same(9,Y), list(T). ?- ones(A), fan(A?,B,C).",
+        "?- runs([1,1,a,[b],[b],X?,f(Y?),f(c)|T?],R), same(c,Y), same(f(c),X), list(T).",
+        "?- deep(s(s(s(A?))),a,Z), same(s(0),A). ?- ones(A), fan(A?,B,C), sort(B?,D,E,F).",
     ] {
         let text = format!("{streams}{queries}");
         for budget in (0..40).chain([60, 100, 200, 300]) {

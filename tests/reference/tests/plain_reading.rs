@@ -1,5 +1,5 @@
 //! Random and damaged texts, read twice: by the reference and by a plain model, a machine that takes one token after
-//! the other, keeps a stack of open brackets and counts every figure where document 01 says.
+//! the other, keeps a stack of open brackets and counts every figure where documents 01 and 02 say.
 
 mod common;
 
@@ -8,7 +8,8 @@ use std::collections::{BTreeMap, BTreeSet};
 use common::Dice;
 use reference::read;
 
-/// Sort (`n` name, `W` writer, `R` reader, `i` integer, `x` bad, `e` end, else its first byte), spelling, line, offset.
+/// Sort (`n` name, `W` writer, `R` reader, `i` integer, `x` bad, `e` end, else its first byte, `=` being `==`),
+/// spelling, line, offset.
 type Token = (char, String, u32, usize);
 
 fn tokens(text: &[u8]) -> Vec<Token> {
@@ -49,7 +50,7 @@ fn tokens(text: &[u8]) -> Vec<Token> {
                 _ => 'x',
             };
             out.push((sort, spelling, line, begin));
-        } else if ":?".contains(c) && byte(at) == '-' {
+        } else if (":?".contains(c) && byte(at) == '-') || (c == '=' && byte(at) == '=') {
             at += 1;
             out.push((c, String::new(), line, begin));
         } else {
@@ -74,20 +75,38 @@ enum Expect {
     AfterTerm,
     AfterHead,
     AfterGoal,
+    /// Behind `:-` or a comma before the bar, where guards and goals are not yet told apart.
+    Conjunct,
+    /// Behind `==`.
+    RightSide,
+    AfterBar,
+}
+
+#[derive(Clone, Copy, Default, PartialEq)]
+enum Part {
+    #[default]
+    Head,
+    /// From `:-` to the bar, if there is one.
+    Conjuncts,
+    /// A query's goals, or those behind the bar.
+    Goals,
 }
 
 #[derive(Default)]
 struct Counts {
     line: u32,
     query: bool,
-    in_head: bool,
+    part: Part,
     pairs: BTreeSet<String>,
     /// Where each half of each name stands, in text order.
-    occurrences: BTreeMap<(String, char), Vec<usize>>,
+    occurrences: BTreeMap<(String, char), Vec<(usize, Part)>>,
     compounds: usize,
     goals: usize,
     /// `(` with its arguments so far, `[`, or `|` for a list behind its bar.
     open: Vec<(char, usize)>,
+    /// The tokens of each conjunct, and whether a bar made them guards.
+    conjuncts: Vec<Vec<(char, String)>>,
+    bar: bool,
 }
 
 enum Refused {
@@ -115,7 +134,7 @@ fn plain_read(text: &[u8]) -> (u8, u32, usize) {
             if token.0 == 'e' {
                 break;
             }
-            item = Counts { line: token.2, query: token.0 == '?', in_head: true, ..Counts::default() };
+            item = Counts { line: token.2, query: token.0 == '?', ..Counts::default() };
         }
         match take(&token, expect, &mut item, &mut names, &mut clauses, &mut queries) {
             Err(Refused::Four) => return (4, token.2, token.3),
@@ -133,17 +152,64 @@ fn plain_read(text: &[u8]) -> (u8, u32, usize) {
     }
 }
 
-/// Every broken rule of the item with its offset and number; the least of them.
+/// A bad guard, or every broken rule of the item with its offset and number and the least of them.
 fn broken(item: &Counts) -> Option<(usize, u8)> {
+    let counted = |name: &str, half: char| -> Vec<(usize, Part)> {
+        let own = item.occurrences.get(&(name.to_string(), half)).cloned().unwrap_or_default();
+        own.into_iter().filter(|(_, part)| !item.bar || *part != Part::Conjuncts).collect()
+    };
+    let in_head = |name: &str, half: char| counted(name, half).into_iter().filter(|(_, part)| *part == Part::Head);
+    let guards = if item.bar { item.conjuncts.as_slice() } else { &[] };
+    for guard in guards {
+        let other = |(sort, name): &(char, String)| *sort == 'W' || *sort == 'R' && in_head(name, 'W').count() == 0;
+        if !in_table(guard) || guard.iter().any(other) {
+            return Some((0, 11));
+        }
+    }
+    let licensed = |name: &str| {
+        guards.iter().any(|guard| match guard.as_slice() {
+            [(_, test), ('(', _), ('R', reader), (')', _)] => {
+                reader == name && ["ground", "integer", "constant"].contains(&test.as_str())
+            }
+            _ => false,
+        })
+    };
     let mut rules = Vec::new();
-    for ((name, half), offsets) in &item.occurrences {
+    for (name, half) in item.occurrences.keys() {
         let (other, lone) = if *half == 'W' { ('R', 9) } else { ('W', 10) };
-        rules.extend(offsets.get(1).map(|second| (*second, 5)));
-        if !item.query && !item.occurrences.contains_key(&(name.clone(), other)) {
-            rules.push((offsets[0], lone));
+        let second = match *half == 'R' && licensed(name) {
+            true => in_head(name, *half).nth(1),
+            false => counted(name, *half).get(1).copied(),
+        };
+        rules.extend(second.map(|(offset, _)| (offset, 5)));
+        if let (false, Some((offset, _)), true) =
+            (item.query, counted(name, *half).first(), counted(name, other).is_empty())
+        {
+            rules.push((*offset, lone));
         }
     }
     rules.into_iter().min()
+}
+
+/// By the tokens: `==` outside brackets, or a name and its commas inside one bracket.
+fn in_table(guard: &[(char, String)]) -> bool {
+    let (mut depth, mut commas, mut equal) = (0, 0, false);
+    for (sort, _) in guard {
+        match sort {
+            '(' | '[' => depth += 1,
+            ')' | ']' => depth -= 1,
+            ',' if depth == 1 => commas += 1,
+            '=' => equal = true,
+            _ => {}
+        }
+    }
+    let count = if guard.len() == 1 { 0 } else { commas + 1 };
+    equal
+        || match guard[0].1.as_str() {
+            "integer" | "constant" | "compound" | "ground" | "known" => count == 1,
+            "otherwise" => count == 0,
+            _ => false,
+        }
 }
 
 fn take(
@@ -159,10 +225,42 @@ fn take(
         names.insert(spelling.clone());
         above(names.len(), 256)
     };
+    if expect == Expect::Conjunct {
+        item.conjuncts.push(Vec::new());
+    }
+    let outside = item.open.is_empty();
+    // Behind a whole term of a conjunct: what it can still be tells what can follow.
+    if item.part == Part::Conjuncts && outside && matches!(expect, Expect::AfterName | Expect::AfterTerm) {
+        let right = item.conjuncts.last().unwrap().iter().any(|(sort, _)| *sort == '=');
+        let named = |conjunct: &Vec<(char, String)>| conjunct[0].0 == 'n';
+        let goal = |conjunct: &Vec<(char, String)>| {
+            named(conjunct) && conjunct.len() > 1 && conjunct.iter().all(|(sort, _)| *sort != '=')
+        };
+        let whole = right || named(item.conjuncts.last().unwrap());
+        match sort {
+            '(' if expect == Expect::AfterName => {}
+            '=' if !right => {
+                item.conjuncts.last_mut().unwrap().push(('=', String::new()));
+                item.compounds += 1;
+                return above(item.compounds, 32).map(|_| Expect::RightSide);
+            }
+            ',' if whole => return Ok(Expect::Conjunct),
+            '|' if whole => {
+                item.bar = true;
+                item.part = Part::Goals;
+                return Ok(Expect::AfterBar);
+            }
+            '.' if item.conjuncts.iter().all(goal) => return Ok(Expect::Item),
+            _ => return Err(Refused::Four),
+        }
+    }
+    if let (Part::Conjuncts, Some(last)) = (item.part, item.conjuncts.last_mut()) {
+        last.push((*sort, spelling.clone()));
+    }
     match (expect, sort) {
         (Expect::Item, '?') => {
             *queries += 1;
-            item.in_head = false;
+            item.part = Part::Goals;
             above(*queries, 8).map(|_| Expect::Goal)
         }
         (Expect::Item, 'n') => {
@@ -170,7 +268,7 @@ fn take(
             above(*clauses, 128)?;
             new_name().map(|_| Expect::Parenthesis)
         }
-        (Expect::Goal, 'n') => {
+        (Expect::Goal | Expect::AfterBar, 'n') => {
             item.goals += 1;
             above(item.goals, 8)?;
             new_name().map(|_| Expect::Parenthesis)
@@ -185,7 +283,10 @@ fn take(
             item.open.pop();
             Ok(Expect::AfterTerm)
         }
-        (Expect::Term | Expect::FirstElement, 'n' | 'W' | 'R' | 'i' | '[') => {
+        (Expect::Term | Expect::FirstElement | Expect::Conjunct | Expect::RightSide, 'n' | 'W' | 'R' | 'i' | '[') => {
+            if expect == Expect::Conjunct {
+                above(item.conjuncts.len(), 8)?;
+            }
             match item.open.last_mut() {
                 Some(('(', arguments)) => {
                     *arguments += 1;
@@ -206,7 +307,7 @@ fn take(
                 }
                 _ => {
                     item.pairs.insert(spelling.clone());
-                    item.occurrences.entry((spelling.clone(), *sort)).or_default().push(*offset);
+                    item.occurrences.entry((spelling.clone(), *sort)).or_default().push((*offset, item.part));
                     above(item.pairs.len(), 16)?;
                 }
             }
@@ -225,18 +326,18 @@ fn take(
                 }
                 _ => return Err(Refused::Four),
             }
-            match (item.open.is_empty(), item.in_head) {
-                (false, _) => Ok(Expect::AfterTerm),
-                (true, true) => Ok(Expect::AfterHead),
-                (true, false) => Ok(Expect::AfterGoal),
+            match (item.open.is_empty(), item.part) {
+                (false, _) | (true, Part::Conjuncts) => Ok(Expect::AfterTerm),
+                (true, Part::Head) => Ok(Expect::AfterHead),
+                (true, Part::Goals) => Ok(Expect::AfterGoal),
             }
         }
         (Expect::AfterHead, ':') => {
-            item.in_head = false;
-            Ok(Expect::Goal)
+            item.part = Part::Conjuncts;
+            Ok(Expect::Conjunct)
         }
         (Expect::AfterGoal, ',') => Ok(Expect::Goal),
-        (Expect::AfterHead | Expect::AfterGoal, '.') => Ok(Expect::Item),
+        (Expect::AfterHead | Expect::AfterGoal | Expect::AfterBar, '.') => Ok(Expect::Item),
         _ => Err(Refused::Four),
     }
 }
@@ -289,8 +390,81 @@ impl Texts {
         out.push(")".into());
     }
 
+    /// A guard of the table, one nearly so, or a body goal in its place.
+    fn guard(&mut self, variables: u64, out: &mut Vec<String>) {
+        let mut say = |words: &[&str]| out.extend(words.iter().map(|word| word.to_string()));
+        let reader = format!("V{}?", self.dice.roll(variables));
+        match self.dice.roll(24) {
+            0 | 1 => say(&["otherwise"]),
+            2..=4 => say(&[&reader, "=="]),
+            5 => say(&["n0", "(", &reader, ")", "=="]),
+            6 => say(&["n1", "=="]),
+            7 => say(&["[", "n2", ",", "7", "|", &reader, "]", "=="]),
+            8 => say(&["0", "==", "[", "]"]),
+            9 => return say(&[["ground", "foo", "otherwise"][self.dice.roll(3) as usize]]),
+            10 => return say(&["otherwise", "(", &reader, ")"]),
+            11 => return say(&["known", "(", &reader, ",", "n0", ")"]),
+            12 => return self.compound(1, out),
+            kind => {
+                let name = ["ground", "integer", "constant", "compound", "known"][kind as usize % 5];
+                say(&[name, "("]);
+                match self.dice.roll(4) {
+                    0 => self.term(1, out),
+                    1 => say(&["n0", "(", &reader, ")"]),
+                    _ => say(&[&reader]),
+                }
+                return out.push(")".into());
+            }
+        }
+        if out.last().is_some_and(|last| last == "==") {
+            match self.dice.roll(3) {
+                0 => self.term(2, out),
+                _ => out.push(format!("V{}?", self.dice.roll(variables))),
+            }
+        }
+    }
+
+    /// A clause that often keeps every rule: its head holds writers alone, its body and now and then its head their
+    /// readers, the licensed ones and by mistake others several times.
+    fn guarded(&mut self, out: &mut Vec<String>) {
+        let variables = 1 + self.dice.roll(4);
+        let mut head: Vec<String> = (0..variables).map(|v| format!("V{v}")).collect();
+        let mut guards = Vec::new();
+        for number in 0..[1, 1, 2, 2, 3, 8, 9][self.dice.roll(7) as usize] {
+            if number > 0 {
+                guards.push(",".into());
+            }
+            let one_more = (self.dice.roll(20) == 0) as u64;
+            self.guard(variables + one_more, &mut guards);
+        }
+        let mut body: Vec<String> = Vec::new();
+        for variable in 0..variables {
+            let reader = format!("V{variable}?");
+            let licensed = guards.windows(4).any(|four| {
+                ["ground", "integer", "constant"].contains(&four[0].as_str()) && four[2] == reader && four[3] == ")"
+            });
+            let several = if licensed { self.dice.roll(4) } else { (self.dice.roll(20) == 0) as u64 };
+            body.extend(vec![reader.clone(); several as usize]);
+            match self.dice.roll(3) {
+                0 => head.push(reader),
+                _ => body.push(reader),
+            }
+        }
+        head.truncate(6 + self.dice.roll(2) as usize);
+        out.extend(["n0".into(), "(".into(), head.join(","), ")".into(), ":-".into()]);
+        out.append(&mut guards);
+        out.push("|".into());
+        for (number, reader) in body.into_iter().enumerate() {
+            out.extend([if number > 0 { "," } else { "" }, "n1", "(", &reader, ")"].map(String::from));
+        }
+        out.push(".".into());
+    }
+
     fn item(&mut self, out: &mut Vec<String>) {
         let clause = self.dice.roll(3) > 0;
+        if clause && self.dice.roll(2) == 0 {
+            return self.guarded(out);
+        }
         if clause {
             self.compound(self.depth, out);
         }
@@ -317,6 +491,9 @@ impl Texts {
             "]",
             ",",
             "|",
+            "==",
+            "=",
+            "otherwise",
             ".",
             ":-",
             "?-",
@@ -378,13 +555,13 @@ impl Texts {
 #[test]
 fn random_texts_are_answered_as_the_plain_model_says() {
     let mut texts = Texts { dice: Dice(88172645463325252), names: 0, variables: 0, arguments: 0, depth: 0 };
-    let mut seen = [0; 11];
-    for _ in 0..common::random_jobs(40_000) {
+    let mut seen = [0; 12];
+    for _ in 0..common::random_jobs(30_000) {
         let text = texts.text();
         let own = read(&text).map_or_else(|r| (r.number, r.line, r.offset as usize), |_| (0, 0, 0));
         assert_eq!(own, plain_read(&text), "{}", String::from_utf8_lossy(&text));
         seen[own.0 as usize] += 1;
     }
     println!("answers by number: {seen:?}");
-    assert!([0, 4, 5, 6, 9, 10].iter().all(|number| seen[*number] > 0));
+    assert!([0, 4, 5, 6, 9, 10, 11].iter().all(|number| seen[*number] > 0));
 }

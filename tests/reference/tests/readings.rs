@@ -104,7 +104,9 @@ fn r09_heads_and_goals_are_compounds() {
     assert_eq!(refused("?- p\n"), (4, 1));
     for bad in ["[a]", "[]", "1", "X", "X?", ".", ",", "(", ")"] {
         assert_eq!(refused(format!("?-\n{bad}\n.")), (4, 2), "{bad}");
-        assert_eq!(refused(format!("p(a) :- p(a),\n{bad}\n.")), (4, 2), "{bad}");
+        // Since T-02 a guard `T == T` may begin so, and what cannot continue is behind it.
+        let line = if bad.len() == 1 && !"1X".contains(bad) { 2 } else { 3 };
+        assert_eq!(refused(format!("p(a) :- p(a),\n{bad}\n.")), (4, line), "{bad}");
         assert_eq!(refused(format!("\n{bad}\n.")), (4, 2), "{bad}");
     }
     assert_eq!(refused(":- p(a)."), (4, 1));

@@ -44,32 +44,38 @@ refused-requires-4 c κs = search needs
 enum-known-why-2 : tie.Need-enum-known-why-2
 enum-known-why-2 c = search needs
 
-rule-number-requires : tie.Need-rule-number-requires
-rule-number-requires c κs = search needs
-
-cast-refused : tie.Need-cast-refused
-cast-refused c = search needs
-
 refused-requires-5 : tie.Need-refused-requires-5
 refused-requires-5 c κs = search needs
 
 enum-known-why-3 : tie.Need-enum-known-why-3
 enum-known-why-3 c = search needs
 
+rule-number-requires : tie.Need-rule-number-requires
+rule-number-requires c κs = search needs
+
+cast-refused : tie.Need-cast-refused
+cast-refused c = search needs
+
 refused-requires-6 : tie.Need-refused-requires-6
 refused-requires-6 c κs = search needs
 
-enum-told-4 : tie.Need-enum-told-4
-enum-told-4 c = search needs
+enum-known-why-4 : tie.Need-enum-known-why-4
+enum-known-why-4 c = search needs
 
 refused-requires-7 : tie.Need-refused-requires-7
 refused-requires-7 c κs = search needs
 
-enum-told-5 : tie.Need-enum-told-5
-enum-told-5 c = search needs
+enum-told-4 : tie.Need-enum-told-4
+enum-told-4 c = search needs
 
 refused-requires-8 : tie.Need-refused-requires-8
 refused-requires-8 c κs = search needs
+
+enum-told-5 : tie.Need-enum-told-5
+enum-told-5 c = search needs
+
+refused-requires-9 : tie.Need-refused-requires-9
+refused-requires-9 c κs = search needs
 
 returns : tie.Need-returns
 returns c = search needs
@@ -98,6 +104,9 @@ returns-8 c = search needs
 returns-9 : tie.Need-returns-9
 returns-9 c = search needs
 
+returns-10 : tie.Need-returns-10
+returns-10 c = search needs
+
 pub show-spec : {M : Type 1} → statement M
 show-spec =
     tie.close
@@ -115,15 +124,17 @@ show-spec =
     enum-known-why
     refused-requires-4
     enum-known-why-2
-    rule-number-requires
-    cast-refused
     refused-requires-5
     enum-known-why-3
+    rule-number-requires
+    cast-refused
     refused-requires-6
-    enum-told-4
+    enum-known-why-4
     refused-requires-7
-    enum-told-5
+    enum-told-4
     refused-requires-8
+    enum-told-5
+    refused-requires-9
     returns
     returns-2
     returns-3
@@ -132,4 +143,5 @@ show-spec =
     returns-6
     returns-7
     returns-8
-    returns-9)
+    returns-9
+    returns-10)

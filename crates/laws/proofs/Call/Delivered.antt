@@ -9,7 +9,7 @@ use lib.ListN.{length, take, drop}
 use lib.Seq.{take-at}
 use Rattle.meaning.specs.Bytes.{Bytes, if_then_else_, joined}
 use Rattle.meaning.specs.Terms.{Job}
-use Rattle.meaning.specs.Items.{Refusal, no-item, occurrence-rule, figure, no-query, Reading, job, refused, reading}
+use Rattle.meaning.specs.Items.{Refusal, no-item, guard-rule, occurrence-rule, figure, no-query, Reading, job, refused, reading}
 use Rattle.meaning.specs.State.{Room}
 use Rattle.meaning.specs.Run.{run, queries-fit}
 use Rattle.meaning.specs.Report.{sections, run-line, report}
@@ -35,6 +35,7 @@ module _ (n : ℕ) (given : Given) where
   refusal-never-ran : (r : Refusal) → refusal (given .text) r ≡ ran n → ⊥
   unfolding refusal
   refusal-never-ran (no-item place) e = differ (cc)
+  refusal-never-ran (guard-rule place) e = differ (cc)
   refusal-never-ran (occurrence-rule place fault) e = differ (cc)
   refusal-never-ran (figure place) e = differ (cc)
   refusal-never-ran no-query e = differ (cc)

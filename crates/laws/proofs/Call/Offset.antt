@@ -12,15 +12,42 @@ use Rattle.meaning.specs.Bytes.{Bytes}
 use Rattle.meaning.specs.Terms.{Half, Job}
 use Rattle.meaning.specs.Tokens.{Token, variable, tokens}
 use Rattle.meaning.specs.Faults.{Broken, twice, writer-alone, reader-alone, Fault}
-use Rattle.meaning.specs.Items.{Refusal, no-item, occurrence-rule, figure, no-query, Reading, job, refused, reading, pieces, line}
+use Rattle.meaning.specs.Items.{Refusal, no-item, guard-rule, occurrence-rule, figure, no-query, Reading, job, refused, reading, pieces, line}
 use Rattle.meaning.specs.State.{Room}
 use Rattle.meaning.specs.Run.{queries-fit}
 use Rattle.meaning.specs.Report.{report}
-use Rattle.meaning.specs.Call.{Given, Answer, ran, out-of-range, scratch-short, text-long, no-items, occurrence-broken, figure-passed, queries-pass-room, report-long, Outcome, rule-number, number, offset-of, in-range, refusal, untouched, refuses, reports, delivered, runs, taken, call}
+use Rattle.meaning.specs.Call.{
+  Given,
+  Answer,
+  ran,
+  out-of-range,
+  scratch-short,
+  text-long,
+  no-items,
+  occurrence-broken,
+  figure-passed,
+  queries-pass-room,
+  report-long,
+  guard-refused,
+  Outcome,
+  rule-number,
+  number,
+  offset-of,
+  in-range,
+  refusal,
+  untouched,
+  refuses,
+  reports,
+  delivered,
+  runs,
+  taken,
+  call,
+}
 use Rattle.laws.proofs.Lists.{In, here, there, if-holds}
 use Rattle.laws.proofs.Reading.Rising.{StandsAt}
 use Rattle.laws.proofs.Reading.Items.{behind-first}
 use Rattle.laws.proofs.Reading.BrokenText.{ClauseBroken, QueryBroken, OneBroken, refused-is-broken}
+use Rattle.laws.proofs.Reading.GuardText.{OneGuarded, refused-has-other-guards}
 use Rattle.laws.proofs.Reading.StoppedText.{stopped-at-a-token}
 use Rattle.laws.proofs.Reading.Spelling.{SpelledAt, spelled-at, stands-in-all}
 
@@ -42,6 +69,7 @@ offset-with-four-numbers (occurrence-broken rule at offset) = inl (rule-numbers 
 offset-with-four-numbers (figure-passed at) = inr refl
 offset-with-four-numbers queries-pass-room = inr refl
 offset-with-four-numbers (report-long report) = inr refl
+offset-with-four-numbers (guard-refused at) = inr refl
 
 -- A call that answered 5, 9 or 10 read a text in which an item breaks that rule; the line is that item's first token's.
 pub record BrokenAnswer (text : Bytes) (rule : Broken) (at offset : ℕ) : Type 0 where
@@ -55,6 +83,13 @@ pub record StoppedAnswer (text : Bytes) (at offset : ℕ) : Type 0 where
   pub text-refused : reading text ≡ refused (no-item offset)
   pub start-or-end : (offset ≡ length text) ⊎ ((t : Token) × StandsAt offset t (tokens text))
 
+-- A call that answered 11 read a text in which a clause has a guard not in the table or with another variable; the line is that clause's first token's.
+pub record GuardAnswer (text : Bytes) (at : ℕ) : Type 0 where
+  pub begins : ℕ
+  pub line-is : at ≡ line text begins
+  pub text-refused : reading text ≡ refused (guard-rule begins)
+  pub clause : OneGuarded (pieces (tokens text)) begins
+
 abbrev Tells : Bytes → Answer → Type 0
 Tells text (occurrence-broken rule at offset) = BrokenAnswer text rule at offset
 Tells text (ran report) = Unit {0}
@@ -65,6 +100,7 @@ Tells text (no-items at offset) = StoppedAnswer text at offset
 Tells text (figure-passed at) = Unit {0}
 Tells text queries-pass-room = Unit {0}
 Tells text (report-long report) = Unit {0}
+Tells text (guard-refused at) = GuardAnswer text at
 
 module _ (need : ℕ) (given : Given) where
   Told : Outcome → Type 0
@@ -78,6 +114,7 @@ module _ (need : ℕ) (given : Given) where
   refusal-told : (r : Refusal) → reading (given .text) ≡ refused r → Tells (given .text) (refusal (given .text) r)
   unfolding refusal
   refusal-told (no-item place) e = record { line-is = refl; text-refused = e; start-or-end = stopped-at-a-token (given .text) place e }
+  refusal-told (guard-rule place) e = record { begins = place; line-is = refl; text-refused = e; clause = refused-has-other-guards (given .text) place e }
   refusal-told (occurrence-rule place fault) e = record { begins = place; line-is = refl; text-refused = e }
   refusal-told (figure place) e = tt
   refusal-told no-query e = tt
@@ -101,6 +138,9 @@ broken-answer need given rule at offset e = rw e at (call-tells need given)
 
 pub stopped-answer : (need : Room → ℕ) (given : Given) (at offset : ℕ) → call need given .answer ≡ no-items at offset → StoppedAnswer (given .text) at offset
 stopped-answer need given at offset e = rw e at (call-tells need given)
+
+pub guard-answer : (need : Room → ℕ) (given : Given) (at : ℕ) → call need given .answer ≡ guard-refused at → GuardAnswer (given .text) at
+guard-answer need given at e = rw e at (call-tells need given)
 
 -- At the offset the text spells a variable, and an item's fault is at that variable.
 pub record OffsetSpelled (text : Bytes) (f : Fault) : Type 0 where

@@ -3,6 +3,7 @@
 use Prim.Native.Nat.{ℕ, zero, suc, _≤_}
 use mathlib.Core.Path.{_≡_, refl, sym, ap, subst, _∙_}
 use mathlib.Core.Bool.{false}
+use mathlib.Core.List.{List}
 use mathlib.Core.Option.{Option, none, some}
 use native.Mathlib.Omega.{arith}
 use lib.ListN.{length}
@@ -26,7 +27,7 @@ use Rattle.meaning.specs.Terms.{
 use Rattle.meaning.specs.State.{Values, value, QueryUnit}
 use Rattle.meaning.specs.Compare.{fails, followed}
 use Rattle.meaning.specs.Circle.{circle}
-use Rattle.meaning.specs.Trial.{compared, tested, trial}
+use Rattle.meaning.specs.Trial.{compared, tested, guarded, trial}
 use Rattle.laws.proofs.Lists.{differ}
 use Rattle.laws.proofs.Terms.{occurs-itself}
 use Rattle.laws.proofs.Trial.{EachArgument, FoundLater, places-fail-later}
@@ -38,10 +39,16 @@ pub data HoldsWriter (values : Values) (z : ℕ) : Terms → Type 0 where
   through : {ts : Terms} (k : Half) (q : ℕ) (u : Term) → 1 ≤ all-occurrences k q ts → value values q ≡ some u → HoldsWriter values z (more u end)
       → HoldsWriter values z ts
 
-holds-more : {values : Values} {z : ℕ} {ts : Terms} (us : Terms) → ((h : Half) (n : ℕ) → all-occurrences h n ts ≤ all-occurrences h n us)
+pub holds-more : {values : Values} {z : ℕ} {ts : Terms} (us : Terms) → ((h : Half) (n : ℕ) → all-occurrences h n ts ≤ all-occurrences h n us)
     → HoldsWriter values z ts → HoldsWriter values z us
 holds-more {z = z} us less (itself m) = itself {ts = us} (omega (arith, less writer z))
 holds-more us less (through k q u m e further) = through {ts = us} k q u (omega (arith, less k q)) e further
+
+-- It holds them with more values too.
+pub holds-kept : {values : Values} (after : Values) {z : ℕ} {ts : Terms} → ((p : ℕ) (t : Term) → value values p ≡ some t → value after p ≡ some t)
+    → HoldsWriter values z ts → HoldsWriter after z ts
+holds-kept after stays (itself m) = itself m
+holds-kept after stays (through k q u m e further) = through k q u m (stays q u e) (holds-kept after stays further)
 
 -- What became of values: they stayed, no circle closed, and none of them is a writer.
 pub record ValuesGrew (values after : Values) : Type 0 where
@@ -65,7 +72,7 @@ module _ (values after : Values) (grew : ValuesGrew values after) where
       sym (followed-within after (grew .no-circle-after) (suc (length after)) (omega arith) (variable h q)) ∙ further
 
   -- To follow a term now and the rest later is to follow it later.
-  follows-on : (links : ℕ) (t : Term) → look-later (followed links values t) ≡ look-later t
+  pub follows-on : (links : ℕ) (t : Term) → look-later (followed links values t) ≡ look-later t
   unfolding followed
   follows-on zero t = refl
   follows-on (suc links) (constant k) = refl
@@ -77,7 +84,7 @@ module _ (values after : Values) (grew : ValuesGrew values after) where
       go none e further = rw (followed, e)
       go (some t) e further = rw (followed, e) (further t ∙ sym (passes-on h q t (grew .stays q t e)))
 
-  unassigned-itself : (links : ℕ) (h : Half) (p : ℕ) → value after p ≡ none → followed links after (variable h p) ≡ variable h p
+  pub unassigned-itself : (links : ℕ) (h : Half) (p : ℕ) → value after p ≡ none → followed links after (variable h p) ≡ variable h p
   unfolding followed
   unassigned-itself zero h p e = refl
   unassigned-itself (suc links) h p e = rw (followed, e)
@@ -103,10 +110,10 @@ module _ (values after : Values) (grew : ValuesGrew values after) where
       go (some t) f further = further t (λ r i. grew .no-writer p r (f ∙ ap some i)) q (rw (followed, f) at e)
 
   -- What the goal holds.
-  abbrev Own : Term → Type 0
+  abbrev pub Own : Term → Type 0
   Own t = StillOpen values after (more t end)
 
-  own-found : (links : ℕ) (t : Term) → Own t → Own (followed links values t)
+  pub own-found : (links : ℕ) (t : Term) → Own t → Own (followed links values t)
   unfolding followed all-occurrences
   own-found zero t own = own
   own-found (suc links) (constant k) own = own
@@ -131,7 +138,7 @@ module _ (values after : Values) (grew : ValuesGrew values after) where
   unfolding occurrences all-occurrences
   own-inside n f ts own = each-own ts (λ z held. own z (holds-more (more (compound n f ts) end) (λ h n. omega arith) held))
 
-  found-again : (t : Term) → ((h : Half) (p : ℕ) → t ≡ variable h p → value values p ≡ none) → Own t → FoundLater t (look-later t)
+  pub found-again : (t : Term) → ((h : Half) (p : ℕ) → t ≡ variable h p → value values p ≡ none) → Own t → FoundLater t (look-later t)
   unfolding FoundLater all-occurrences
   found-again (variable writer z) unassigned own =
       unassigned-itself (length after) writer z
@@ -158,6 +165,6 @@ module _ (clause : Clause) (unit later : QueryUnit) (goal : Named) (grew : Value
       (found-later (unit .values) (later .values) grew)
       _ _ _ _ (clause .head .arguments) (goal .arguments) (each-own (unit .values) (later .values) grew (goal .arguments) own)
 
-  pub trial-fails-later : compared clause unit goal ≡ fails → trial clause later goal ≡ fails
-  unfolding trial tested
-  trial-fails-later e = ap (tested clause later) (compared-fails-later e)
+  pub trial-fails-later-by-a-place : compared clause unit goal ≡ fails → (earlier : List ℕ) → trial earlier clause later goal ≡ fails
+  unfolding trial tested guarded
+  trial-fails-later-by-a-place e earlier = ap (λ r. guarded earlier clause later (tested clause later r)) (compared-fails-later e)

@@ -15,7 +15,7 @@ use Rattle.meaning.specs.Call.{everything}
 use Rattle.laws.proofs.Lists.{differ}
 use Rattle.laws.proofs.Trial.{value-replicate}
 use Rattle.laws.proofs.Trial.Example.{rule, five-pairs}
-use Rattle.laws.proofs.Circle.FailsLater.{itself, through, ValuesGrew, StillOpen, trial-fails-later}
+use Rattle.laws.proofs.Circle.FailsLater.{itself, through, ValuesGrew, StillOpen, trial-fails-later-by-a-place}
 
 unfoldable pub goal-with-writer : Named
 goal-with-writer =
@@ -54,8 +54,8 @@ example-open z (through k q u m e further) f = absurd (let n = value-replicate 5
 example-open zero (itself m) f = absurd (omega arith)
 example-open (suc z) (itself m) f = value-replicate 4 z
 
-pub example-fails-later : trial rule once-assigned goal-with-writer ≡ fails
-example-fails-later = trial-fails-later rule five-pairs once-assigned goal-with-writer example-grew example-open example-fails-now
+pub example-fails-later : trial [] rule once-assigned goal-with-writer ≡ fails
+example-fails-later = trial-fails-later-by-a-place rule five-pairs once-assigned goal-with-writer example-grew example-open example-fails-now []
 
 -- What a writer of the goal that got a value would change.
 pub example-writer-assigned : (places (followed 1 (none ∷ [])) (more (variable writer 1) end) (more (variable writer 0) end) ≡ fails)

@@ -43,18 +43,18 @@ first-value (q ∷ queries) (suc place) p = first-value queries place p
 abbrev pub NoCircle : State → Type 0
 NoCircle state = (place : ℕ) → circle (unit-at place (state .units) .values) ≡ false
 
-start-no-circle : (queries : List Query) → NoCircle (start queries)
+pub start-no-circle : (queries : List Query) → NoCircle (start queries)
 unfolding start
 start-no-circle queries place = unassigned-no-circle (unit-at place (map first-unit queries) .values) (first-value queries place)
 
 -- What becomes of the goal leaves its unit without a circle.
-unit-after-no-circle : (clauses : List Clause) (unit : QueryUnit) (goal : Named) → circle (unit .values) ≡ false
+pub unit-after-no-circle : (clauses : List Clause) (unit : QueryUnit) (goal : Named) → circle (unit .values) ≡ false
     → circle (unit-after (choice clauses unit goal) unit .values) ≡ false
 unfolding unit-after
 unit-after-no-circle clauses unit goal before = go (choice clauses unit goal) refl
   where
     go : (c : Choice) → choice clauses unit goal ≡ c → circle (unit-after c unit .values) ≡ false
-    go (reduces clause given) e = trial-succeeds unit goal clause given (reduces-by-trial unit goal clause given clauses e .1) .1
+    go (reduces clause given) e = (let its = reduces-by-trial unit goal clause given clauses e .1 in trial-succeeds unit goal clause given (its .0) (its .1) .1)
     go (joins-waiting readers) e = before
     go joins-failed e = before
 

@@ -71,7 +71,7 @@ module _ (clause : Clause) (unit : QueryUnit) (goal : Named) (given : List Assig
           let unassigned : value (unit .values) (a .pair) ≡ none = given-unassigned a q in
           differ (cc)
 
-unit-after-values-stay : (clauses : List Clause) (unit : QueryUnit) (goal : Named) → circle (unit .values) ≡ false
+pub unit-after-values-stay : (clauses : List Clause) (unit : QueryUnit) (goal : Named) → circle (unit .values) ≡ false
     → (p : ℕ) (t : Term) → value (unit .values) p ≡ some t → value (unit-after (choice clauses unit goal) unit .values) p ≡ some t
 unfolding unit-after
 unit-after-values-stay clauses unit goal no-circle p t e = go (choice clauses unit goal) refl
@@ -79,7 +79,7 @@ unit-after-values-stay clauses unit goal no-circle p t e = go (choice clauses un
     go : (c : Choice) → choice clauses unit goal ≡ c → value (unit-after c unit .values) p ≡ some t
     go (reduces clause given) f =
         let succeeded = reduces-by-trial unit goal clause given clauses f .1 in
-        values-after-stay clause unit goal given no-circle (trial-succeeds unit goal clause given succeeded .0) p t e
+        values-after-stay clause unit goal given no-circle (trial-succeeds unit goal clause given (succeeded .0) (succeeded .1) .0) p t e
     go (joins-waiting readers) f = e
     go joins-failed f = e
 

@@ -61,13 +61,13 @@ mutual
 
 module _ (values : Values) where
   -- What a variable is written out as.
-  abbrev written-as : ℕ → Half → ℕ → Term
+  abbrev pub written-as : ℕ → Half → ℕ → Term
   written-as links h p = elim (value values p) [ none ↦ variable h p | some u ↦ applied links values u ]
 
-  written-unassigned : (links : ℕ) (h : Half) (p : ℕ) → value values p ≡ none → written-as links h p ≡ variable h p
+  pub written-unassigned : (links : ℕ) (h : Half) (p : ℕ) → value values p ≡ none → written-as links h p ≡ variable h p
   written-unassigned links h p e = rw (e, written-as)
 
-  written-assigned : (links : ℕ) (h : Half) (p : ℕ) (u : Term) → value values p ≡ some u → written-as links h p ≡ applied links values u
+  pub written-assigned : (links : ℕ) (h : Half) (p : ℕ) (u : Term) → value values p ≡ some u → written-as links h p ≡ applied links values u
   written-assigned links h p u e = rw (e, written-as)
 
   applied-more-links : (links larger : ℕ) → links ≤ larger → (t : Term) → AllEndWithin links values t

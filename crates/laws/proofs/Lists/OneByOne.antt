@@ -2,9 +2,11 @@
 -- Where what belongs together is settled by what stands on the one side, equal sides give equal other sides.
 use Prim.Native.Nat.{ℕ, zero, suc}
 use mathlib.Core.Path.{_≡_, refl, ap}
-use mathlib.Core.List.{List, [], _∷_, map}
+use mathlib.Core.List.{List, [], _∷_, _++_, map}
+use mathlib.Core.Logic.{⊎-elim}
 use lib.ListN.{length, getElem?}
 use Rattle.laws.proofs.Lists.Tests.{differ}
+use Rattle.laws.proofs.Lists.Among.{In, here, there, in-none, in-cons-cases}
 use Rattle.laws.proofs.Lists.EachOf.{Each}
 
 -- The elements of two lists belong together one by one, in order.
@@ -44,3 +46,16 @@ module _ {A B C : Type 0} (f : A → C) {R₁ R₂ : A → B → Type 0}
 pub paired-length : {A B : Type 0} {R : A → B → Type 0} {l : List A} {r : List B} → Paired R l r → length r ≡ length l
 paired-length done = refl
 paired-length (pair h t) = ap suc (paired-length t)
+
+pub paired-append : {A B : Type 0} {R : A → B → Type 0} {l₁ l₂ : List A} {r₁ r₂ : List B} → Paired R l₁ r₁ → Paired R l₂ r₂
+    → Paired R (l₁ ++ l₂) (r₁ ++ r₂)
+paired-append done q = q
+paired-append (pair h t) q = pair h (paired-append t q)
+
+-- What stands on the one side has something beside it on the other.
+pub paired-in : {A B : Type 0} {R : A → B → Type 0} {l : List A} {r : List B} → Paired R l r → {a : A} → In a l → (b : B) × In b r × R a b
+paired-in done m = absurd (in-none m)
+paired-in {B = B} {R = R} (pair {a = a} {b = b} {l = l} {r = r} h t) {a = c} m = ⊎-elim first (λ k. let (d, n, i) = paired-in t k in (d, there n, i)) (in-cons-cases m)
+  where
+    first : c ≡ a → (d : B) × In d (b ∷ r) × R c d
+    first e = (b, here refl, rw e h)

@@ -9,11 +9,13 @@ use mathlib.Core.Option.{Option, none, some}
 use native.Mathlib.Omega.{arith}
 use lib.Dec.{leb, ltb}
 use lib.ListN.{length}
-use Rattle.meaning.specs.Bytes.{Bytes, if_then_else_}
-use Rattle.meaning.specs.Terms.{Named, Clause, Query}
+use Rattle.meaning.specs.Bytes.{Bytes, if_then_else_, all}
+use Rattle.meaning.specs.Terms.{Named, Guard, Clause, Query}
 use Rattle.meaning.specs.Tokens.{Token, variable, Tokens, ends, token, tokens}
-use Rattle.meaning.specs.Faults.{Fault, clause-faults, query-faults, least}
+use Rattle.meaning.specs.Faults.{Fault, pairing, clause-faults, query-faults, least}
+use Rattle.meaning.specs.Table.{as-guards, of-the-head}
 use Rattle.meaning.specs.Items.{
+  Counted,
   Read,
   read,
   malformed,
@@ -24,6 +26,7 @@ use Rattle.meaning.specs.Items.{
   Rule,
   rule,
   Refusal,
+  guard-rule,
   occurrence-rule,
   figure,
   no-item,
@@ -35,6 +38,9 @@ use Rattle.meaning.specs.Items.{
   query,
   refused,
   unless-broken,
+  free,
+  with-guards,
+  unless-unknown,
   clause-piece,
   query-piece,
   fresh,
@@ -58,19 +64,23 @@ use Rattle.laws.proofs.Reading.TokensFit.{TokenFits, tokens-fit}
 use Rattle.laws.proofs.Reading.Passed.{Cut, cut-behind}
 use Rattle.laws.proofs.Reading.Faultless.{pieces-cut}
 use Rattle.laws.proofs.Reading.Rising.{Rising, rising-from, StandsAt, pieces-rising}
-use Rattle.laws.proofs.Reading.Broken.{FaultOf, clause-fault-is, fault-in-clause, query-fault-is, fault-in-query, fault-stands, least-is}
+use Rattle.laws.proofs.Reading.Broken.{none-free, FaultOf, clause-fault-is, fault-in-clause, query-fault-is, fault-in-query, fault-stands, least-is}
+use Rattle.laws.proofs.Reading.RuleTokens.{paired-stands}
 use Rattle.laws.proofs.Reading.Walk.{first-fault}
-use Rattle.laws.proofs.Reading.Items.{ItemRead, behind-first, Says, item-says}
+use Rattle.laws.proofs.Reading.Items.{ItemRead, paired, rule-over, behind-first, Says, item-says}
 use Rattle.laws.proofs.Reading.WhichByte.{Judged, clause-rules, clause-judged, clause-by-walk, query-rules, query-judged, query-by-walk}
 
--- A clause that is read and breaks a rule of document 01, over the tokens of its piece.
+-- A clause that is read, whose guards keep 11, and that breaks a rule of document 01, over the tokens of its piece that count for the pairing.
 pub record ClauseBroken (piece : Tokens) (f : Fault) : Type 0 where
   pub item : ItemRead rule piece
-  pub rules-broken : clause-rules item ≡ false
-  pub decides : least (clause-faults piece (item .counted .variables)) ≡ some f
-  pub first : first-fault true piece ≡ some f
-  pub fault : FaultOf true piece (item .counted .variables) f
-  pub smallest : (g : Fault) → FaultOf true piece (item .counted .variables) g → f .offset ≤ g .offset
+  pub guards : List Guard
+  pub in-table : as-guards (item .value .body .guards) ≡ some guards
+  pub of-head : all (of-the-head (length (item .counted .variables)) (item .value .head)) guards ≡ true
+  pub rules-broken : clause-rules item guards ≡ false
+  pub decides : least (clause-faults (free guards (item .counted .variables)) (paired item) (item .counted .variables)) ≡ some f
+  pub first : first-fault true (free guards (item .counted .variables)) (paired item) ≡ some f
+  pub fault : FaultOf true (free guards (item .counted .variables)) (paired item) (item .counted .variables) f
+  pub smallest : (g : Fault) → FaultOf true (free guards (item .counted .variables)) (paired item) (item .counted .variables) g → f .offset ≤ g .offset
   pub stands : StandsAt (f .offset) (variable (fault .half) (fault .spelling)) piece
 
 -- A query likewise, over the tokens behind its `?-`.
@@ -78,9 +88,9 @@ pub record QueryBroken (behind : Tokens) (f : Fault) : Type 0 where
   pub item : ItemRead (goals 8) behind
   pub rules-broken : query-rules item ≡ false
   pub decides : least (query-faults behind (item .counted .variables)) ≡ some f
-  pub first : first-fault false behind ≡ some f
-  pub fault : FaultOf false behind (item .counted .variables) f
-  pub smallest : (g : Fault) → FaultOf false behind (item .counted .variables) g → f .offset ≤ g .offset
+  pub first : first-fault false none-free behind ≡ some f
+  pub fault : FaultOf false none-free behind (item .counted .variables) f
+  pub smallest : (g : Fault) → FaultOf false none-free behind (item .counted .variables) g → f .offset ≤ g .offset
   pub stands : StandsAt (f .offset) (variable (fault .half) (fault .spelling)) behind
 
 -- An item that begins at this place breaks a rule, and this fault decides.
@@ -92,20 +102,25 @@ not-kept : (kept : Bool) (o : Option Fault) (f : Fault) → Judged kept o → o 
 not-kept kept o f (inl (k, e)) q = absurd (differ (cc))
 not-kept kept o f (inr (k, g)) q = k
 
-pub clause-is-broken : {piece : Tokens} (x : ItemRead rule piece) → Cut piece → Rising 0 piece → (f : Fault)
-    → least (clause-faults piece (x .counted .variables)) ≡ some f → ClauseBroken piece f
-clause-is-broken {piece} x cut rising f e =
+pub clause-is-broken : {piece : Tokens} (x : ItemRead rule piece) → Cut piece → Rising 0 piece → (guards : List Guard) → as-guards (x .value .body .guards) ≡ some guards
+    → all (of-the-head (length (x .counted .variables)) (x .value .head)) guards ≡ true → (f : Fault)
+    → least (clause-faults (free guards (x .counted .variables)) (paired x) (x .counted .variables)) ≡ some f → ClauseBroken piece f
+clause-is-broken {piece} x cut rising guards in-table of-head f e =
     let xs = x .counted .variables in
-    let (member, smallest) = least-is (clause-faults piece xs) f e in
-    let fault = clause-fault-is piece f xs member in
+    let freed = free guards xs in
+    let (member, smallest) = least-is (clause-faults freed (paired x) xs) f e in
+    let fault = clause-fault-is freed (paired x) f xs member in
     record {
       item = x;
-      rules-broken = not-kept (clause-rules x) (least (clause-faults piece xs)) f (clause-judged x cut) e;
+      guards = guards;
+      in-table = in-table;
+      of-head = of-head;
+      rules-broken = not-kept (clause-rules x guards) (least (clause-faults freed (paired x) xs)) f (clause-judged x cut guards) e;
       decides = e;
-      first = sym (clause-by-walk x cut rising) ∙ e;
+      first = sym (clause-by-walk x cut guards rising) ∙ e;
       fault = fault;
-      smallest = λ g o. smallest g (fault-in-clause piece g xs o);
-      stands = fault-stands true piece xs f fault;
+      smallest = λ g o. smallest g (fault-in-clause freed (paired x) g xs o);
+      stands = paired-stands (rule-over x) cut (f .offset) _ (fault-stands true freed (paired x) xs f fault);
     }
 
 pub query-is-broken : {behind : Tokens} (x : ItemRead (goals 8) behind) → Cut behind → Rising 0 behind → (f : Fault)
@@ -121,28 +136,42 @@ query-is-broken {behind} x cut rising f e =
       first = sym (query-by-walk x cut rising) ∙ e;
       fault = fault;
       smallest = λ g o. smallest g (fault-in-query behind g xs o);
-      stands = fault-stands false behind xs f fault;
+      stands = fault-stands false none-free behind xs f fault;
     }
 
 -- One piece refused.
 module _ (so-far : SoFar) (names-fit : SpellingsFit 256 (so-far .names)) (at : ℕ) (t : Token) (rest : Tokens)
     (fit : EachToken TokenFits (token at t rest)) (cut : Cut (token at t rest)) (rising : Rising 0 (token at t rest)) (begins : ℕ) (f : Fault) where
+  module _ (r : Rule) (counted : Counted) (behind : Tokens) (e : rule (fresh (so-far .names)) (token at t rest) ≡ read r counted behind) where
+    read-so : ItemRead rule (token at t rest)
+    read-so = record { names = so-far .names; names-fit = names-fit; fit = fit; value = r; counted = counted; rest = behind; is-read = e }
+
+    as-guarded : (o : Option (List Guard)) → as-guards (r .body .guards) ≡ o → unless-unknown at (token at t rest) r counted o ≡ refused (occurrence-rule begins f)
+        → ItemBroken (token at t rest) begins f
+    unfolding unless-unknown with-guards unless-broken if_then_else_ read-so
+    as-guarded none known q = absurd (differ (cc))
+    as-guarded (some guards) known q = go (all (of-the-head (length (counted .variables)) (r .head)) guards) refl (least faults) refl
+      where
+        faults : List Fault
+        faults = clause-faults (free guards (counted .variables)) (pairing (r .body .behind) (token at t rest)) (counted .variables)
+
+        go : (of-head : Bool) → all (of-the-head (length (counted .variables)) (r .head)) guards ≡ of-head → (o : Option Fault) → least faults ≡ o
+            → ItemBroken (token at t rest) begins f
+        go false p o p′ = let q′ : Piece.refused (guard-rule at) ≡ refused (occurrence-rule begins f) = rw p at q in absurd (differ (cc))
+        go true p none p′ = let q′ : clause _ _ ≡ refused (occurrence-rule begins f) = rw (p, p′) at q in absurd (differ (cc))
+        go true p (some g) p′ =
+            let q′ : Piece.refused (occurrence-rule at g) ≡ refused (occurrence-rule begins f) = rw (p, p′) at q in
+            let at-is : at ≡ begins = cc in
+            let g-is : g ≡ f = cc in
+            record {
+              begins-there = (t, rest, rw at-is refl);
+              broken = inl (clause-is-broken read-so cut rising guards known p f (rw g-is at p′));
+            }
+
   as-clause : (x : Read Rule) → rule (fresh (so-far .names)) (token at t rest) ≡ x
       → clause-piece at (token at t rest) x ≡ refused (occurrence-rule begins f) → ItemBroken (token at t rest) begins f
-  unfolding clause-piece unless-broken
-  as-clause (read r counted behind) e q = go (least (clause-faults (token at t rest) (counted .variables))) refl
-    where
-      go : (o : Option Fault) → least (clause-faults (token at t rest) (counted .variables)) ≡ o → ItemBroken (token at t rest) begins f
-      go none p = let q′ : clause _ _ ≡ refused (occurrence-rule begins f) = rw p at q in absurd (differ (cc))
-      go (some g) p =
-          let q′ : Piece.refused (occurrence-rule at g) ≡ refused (occurrence-rule begins f) = rw p at q in
-          let at-is : at ≡ begins = cc in
-          let g-is : g ≡ f = cc in
-          record {
-            begins-there = (t, rest, rw at-is refl);
-            broken = inl (clause-is-broken (record { names = so-far .names; names-fit = names-fit; fit = fit; value = r; counted = counted; rest = behind; is-read = e })
-                cut rising f (rw g-is at p));
-          }
+  unfolding clause-piece
+  as-clause (read r counted behind) e q = as-guarded r counted behind e (as-guards (r .body .guards)) refl q
   as-clause (malformed place) e q = absurd (differ (cc))
   as-clause passed e q = absurd (differ (cc))
 
@@ -187,12 +216,12 @@ item-refused so-far (ends place) names-fit fit cut rising begins f q = absurd (d
 item-refused so-far (token at t rest) names-fit fit cut rising begins f q = token-refused so-far names-fit at t rest fit cut rising begins f q
 
 -- The text item by item.
-with-clause-refused : (c : Clause) (x : Reading) (r : Refusal) → with-clause c x ≡ Reading.refused r → x ≡ Reading.refused r
+pub with-clause-refused : (c : Clause) (x : Reading) (r : Refusal) → with-clause c x ≡ Reading.refused r → x ≡ Reading.refused r
 unfolding with-clause
 with-clause-refused c (job j) r e = absurd (differ (cc))
 with-clause-refused c (Reading.refused s) r e = e
 
-with-query-refused : (q : Query) (x : Reading) (r : Refusal) → with-query q x ≡ Reading.refused r → x ≡ Reading.refused r
+pub with-query-refused : (q : Query) (x : Reading) (r : Refusal) → with-query q x ≡ Reading.refused r → x ≡ Reading.refused r
 unfolding with-query
 with-query-refused q (job j) r e = absurd (differ (cc))
 with-query-refused q (Reading.refused s) r e = e

@@ -45,6 +45,7 @@ use Rattle.laws.proofs.Reading.Alike.{
   Figures,
   Beside,
   Agree,
+  AgreeBy,
   ReadAlike,
   first-tokens,
   give-alike,
@@ -60,7 +61,7 @@ Unmoved low c a = low ≡ c .compounds
 module _ (c : Counted) where
   standing-agrees : (can : Token → Bool) (c₂ : Counted) (s₁ s₂ : Tokens) → Beside c c₂ s₁ s₂
       → Agree c (Unmoved (c .compounds)) (standing can c s₁) (standing can c₂ s₂)
-  unfolding standing Agree if_then_else_
+  unfolding standing AgreeBy if_then_else_
   standing-agrees can c₂ (ends place₁) (ends place₂) b = tt
   standing-agrees can c₂ (ends place₁) (token place₂ t₂ s₂) b = tt
   standing-agrees can c₂ (token place₁ t₁ s₁) (ends place₂) b = go (can t₁)
@@ -135,7 +136,7 @@ NameKnown f low c u = Known (bounds c) f × (low ≡ c .compounds)
 module _ (f : Bytes) (spelled : SpellingFits f) (c : Counted) where
   count-name-agrees : (c₂ : Counted) (s₁ s₂ : Tokens) → Beside c c₂ s₁ s₂
       → Agree c (NameKnown f (c .compounds)) (count-name f c s₁) (count-name f c₂ s₂)
-  unfolding Agree
+  unfolding AgreeBy
   count-name-agrees c₂ s₁ s₂ b = go (count-name-reads f c s₁) (count-name-reads f c₂ s₂)
     where
       go : (count-name f c s₁ ≡ passed) ⊎ ((d : Counted) × (count-name f c s₁ ≡ read tt d s₁) × NameCounted f c d)
@@ -188,7 +189,7 @@ PairBelow low c n = (n < length (c .variables)) × (low ≡ c .compounds)
 
 module _ (x : Bytes) (spelled : SpellingFits x) (c c₂ : Counted) (s₁ s₂ : Tokens) (b : Beside c c₂ s₁ s₂) where
   new-variable-agrees : (o : Option ℕ) → place-of x (c .variables) ≡ o → Agree c (PairBelow (c .compounds)) (new-variable x o c s₁) (new-variable x o c₂ s₂)
-  unfolding new-variable Agree if_then_else_
+  unfolding new-variable AgreeBy if_then_else_
   new-variable-agrees (some n) e =
       record { value = refl; onward = b; widens = widens-refl (bounds c); holds = (place-below x (c .variables) n e, refl) }
   new-variable-agrees none e = rw (← (b .variables)) (go (ltb (length (c .variables)) 16) refl)
@@ -233,7 +234,7 @@ CompoundNext low c n = (n ≡ low) × (c .compounds ≡ low + 1)
 
 module _ (c c₂ : Counted) (s₁ s₂ : Tokens) (b : Beside c c₂ s₁ s₂) where
   count-compound-agrees : Agree c (CompoundNext (c .compounds)) (count-compound c s₁) (count-compound c₂ s₂)
-  unfolding count-compound Agree if_then_else_
+  unfolding count-compound AgreeBy if_then_else_
   count-compound-agrees = rw (← (b .compounds)) (go (ltb (c .compounds) 32) refl)
     where
       go : (room : Bool) → ltb (c .compounds) 32 ≡ room

@@ -1,5 +1,6 @@
 -- What holds of every token that can stand in front of some bytes holds of each token of a text, and of each token of its pieces.
 -- By induction over the text, and then over its tokens, cut behind each full stop.
+use Prim.Native.Char.{Char}
 use Prim.Native.Nat.{ℕ, zero, suc, _+_, _≤_}
 use mathlib.Core.Path.{_≡_, refl}
 use mathlib.Core.Bool.{Bool, true, false, _||_}
@@ -80,9 +81,9 @@ module _ (P : Token → Type 0) (every : OfEveryToken P) where
       (λ e. unless-overlong-holds (c ∷ run cs) (variable reader (c ∷ run cs)) (every .variables reader c cs up))
       (λ e. unless-overlong-holds (c ∷ run cs) (variable writer (c ∷ run cs)) (every .variables writer c cs up))
 
-  double-front-holds : (c : ℕ) (cs : Bytes) → FrontHolds (double-front c cs)
+  double-front-holds : (second : Char) (c : ℕ) (cs : Bytes) → FrontHolds (double-front second c cs)
   unfolding double-front
-  double-front-holds c cs = if-holds FrontHolds _ _ _ (λ e. every .signs c) (λ e. every .bad-one)
+  double-front-holds second c cs = if-holds FrontHolds _ _ _ (λ e. every .signs c) (λ e. every .bad-one)
 
   minus-front-holds : (cs : Bytes) → FrontHolds (minus-front cs)
   unfolding minus-front next-is
@@ -102,8 +103,9 @@ module _ (P : Token → Type 0) (every : OfEveryToken P) where
       (λ e. if-holds FrontHolds (digit c) _ _ (λ e. every .unsigned-ones (c ∷ run cs))
       (λ e. if-holds FrontHolds (underscore c) _ _ (λ e. every .bad-one)
       (λ e. if-holds FrontHolds (eqb c (byte "-")) _ _ (λ e. minus-front-holds cs)
-      (λ e. if-holds FrontHolds (eqb c (byte ":") || eqb c (byte "?")) _ _ (λ e. double-front-holds c cs)
-      (λ e. if-holds FrontHolds (single-sign c) _ _ (λ e. every .signs c) (λ e. every .bad-one)))))))))
+      (λ e. if-holds FrontHolds (eqb c (byte ":") || eqb c (byte "?")) _ _ (λ e. double-front-holds "-" c cs)
+      (λ e. if-holds FrontHolds (eqb c (byte "=")) _ _ (λ e. double-front-holds "=" c cs)
+      (λ e. if-holds FrontHolds (single-sign c) _ _ (λ e. every .signs c) (λ e. every .bad-one))))))))))
 
   placed-holds : (at : ℕ) (f : Front) (behind : ℕ → Tokens) → FrontHolds f → ((n : ℕ) → EachToken P (behind n)) → EachToken P (placed at f behind)
   unfolding placed

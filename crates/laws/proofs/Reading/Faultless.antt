@@ -1,9 +1,9 @@
 -- An item has no fault exactly if document 01's rules hold of the terms read from it.
 -- For each variable the places where a half occurs are as many as its occurrences in the terms, by the readers' laws.
-use Prim.Native.Nat.{ℕ, zero, suc, _+_, _≤_, _<_}
+use Prim.Native.Nat.{ℕ, zero, suc, _+_, _≤_, _<_, min}
 use mathlib.Core.Path.{_≡_, refl, sym, _∙_}
 use mathlib.Core.Logic.{_⊎_, inl, inr}
-use mathlib.Core.Bool.{Bool, true, false, _&&_}
+use mathlib.Core.Bool.{Bool, true, false, _&&_, _||_}
 use mathlib.Core.List.{List, [], _∷_, _++_}
 use mathlib.Core.Option.{Option, none, some}
 use native.Mathlib.Omega.{arith}
@@ -11,12 +11,45 @@ use lib.Dec.{leb, eqb}
 use lib.ListN.{length}
 use borrow.Author.Tests.{leb-true, le-leb, eqb-true, eq-eqb}
 use Rattle.meaning.specs.Bytes.{Bytes, if_then_else_, same, all, up-to}
-use Rattle.meaning.specs.Terms.{Half, writer, reader, Named, goals-occurrences}
+use Rattle.meaning.specs.Terms.{Half, writer, reader, Named, all-occurrences, goals-occurrences}
 use Rattle.meaning.specs.Tokens.{Token, Tokens, ends, token}
-use Rattle.meaning.specs.Faults.{Broken, writer-alone, reader-alone, Fault, occurs-at, twice-faults, alone-faults, twice-of, alone-of, clause-faults, query-faults, least}
+use Rattle.meaning.specs.Faults.{
+  Broken,
+  writer-alone,
+  reader-alone,
+  Fault,
+  occurs-at,
+  twice-faults,
+  alone-faults,
+  twice-of,
+  alone-of,
+  head-tokens,
+  twice-in-clause,
+  clause-faults,
+  query-faults,
+  least,
+}
 use Rattle.meaning.specs.Items.{Counted, is, place-of, onto, pieces}
-use Rattle.laws.proofs.Lists.{In, in-none, in-cons-cases, here, there, Each, all-up-to, and-left, and-right, differ, if-holds, same-refl, same-true, Distinct}
-use Rattle.laws.proofs.Reading.Rules.{nothing-twice, both-halves}
+use Rattle.laws.proofs.Lists.{
+  In,
+  in-none,
+  in-cons-cases,
+  here,
+  there,
+  Each,
+  all-up-to,
+  and-left,
+  and-right,
+  or-true,
+  or-true-right,
+  false-not-true,
+  differ,
+  if-holds,
+  same-refl,
+  same-true,
+  Distinct,
+}
+use Rattle.laws.proofs.Reading.Rules.{nothing-twice, nothing-twice-but, both-halves}
 use Rattle.laws.proofs.Reading.Counting.{place-below, placeless}
 use Rattle.laws.proofs.Reading.Passed.{extends-refl, Cut, before-stop, behind-stop, never, by-number, by-number-never, Over}
 
@@ -119,30 +152,46 @@ module _ (piece : Tokens) (x : Bytes) where
       let (w, r) = empty-both (alone-faults writer-alone (occurs-at writer x piece) (occurs-at reader x piece)) (alone-faults reader-alone (occurs-at reader x piece) (occurs-at writer x piece)) e in
       (alone-none writer-alone (occurs-at writer x piece) (occurs-at reader x piece) w, alone-none reader-alone (occurs-at reader x piece) (occurs-at writer x piece) r)
 
-  pub alone-of-both : writers ≡ readers → alone-of piece x ≡ []
+  pub alone-of-both : (1 ≤ writers → 1 ≤ readers) → (1 ≤ readers → 1 ≤ writers) → alone-of piece x ≡ []
   unfolding alone-of
-  alone-of-both e =
+  alone-of-both to from =
       rw (
-        alone-both writer-alone (occurs-at writer x piece) (occurs-at reader x piece) (λ h. omega arith),
-        alone-both reader-alone (occurs-at reader x piece) (occurs-at writer x piece) (λ h. omega arith),
+        alone-both writer-alone (occurs-at writer x piece) (occurs-at reader x piece) to,
+        alone-both reader-alone (occurs-at reader x piece) (occurs-at writer x piece) from,
       )
 
-module _ (piece : Tokens) where
-  clause-each : (xs : List Bytes) → clause-faults piece xs ≡ [] → (x : Bytes) → In x xs → (twice-of piece x ≡ []) × (alone-of piece x ≡ [])
+  -- In a clause, where its reader may be free.
+  pub twice-in-clause-none : (free : Bool) → twice-in-clause free piece x ≡ []
+      → (writers ≤ 1) × (length (occurs-at reader x (if free then head-tokens piece else piece)) ≤ 1)
+  unfolding twice-in-clause
+  twice-in-clause-none free e =
+      let (w, r) = empty-both (twice-faults (occurs-at writer x piece)) (twice-faults (occurs-at reader x (if free then head-tokens piece else piece))) e in
+      (twice-none (occurs-at writer x piece) w, twice-none (occurs-at reader x (if free then head-tokens piece else piece)) r)
+
+  pub twice-in-clause-few : (free : Bool) → writers ≤ 1 → length (occurs-at reader x (if free then head-tokens piece else piece)) ≤ 1 → twice-in-clause free piece x ≡ []
+  unfolding twice-in-clause
+  twice-in-clause-few free w r = rw (twice-few (occurs-at writer x piece) w, twice-few (occurs-at reader x (if free then head-tokens piece else piece)) r)
+
+module _ (free : Bytes → Bool) (piece : Tokens) where
+  clause-each : (xs : List Bytes) → clause-faults free piece xs ≡ [] → (x : Bytes) → In x xs → (twice-in-clause (free x) piece x ≡ []) × (alone-of piece x ≡ [])
   unfolding clause-faults
   clause-each [] e x m = absurd (in-none m)
-  clause-each (y ∷ xs) e x m = go (in-cons-cases m) (clause-each xs (empty-both (twice-of piece y ++ alone-of piece y) (clause-faults piece xs) e .1) x)
+  clause-each (y ∷ xs) e x m =
+      go (in-cons-cases m) (clause-each xs (empty-both (twice-in-clause (free y) piece y ++ alone-of piece y) (clause-faults free piece xs) e .1) x)
     where
-      go : (x ≡ y) ⊎ In x xs → (In x xs → (twice-of piece x ≡ []) × (alone-of piece x ≡ [])) → (twice-of piece x ≡ []) × (alone-of piece x ≡ [])
+      go : (x ≡ y) ⊎ In x xs → (In x xs → (twice-in-clause (free x) piece x ≡ []) × (alone-of piece x ≡ []))
+          → (twice-in-clause (free x) piece x ≡ []) × (alone-of piece x ≡ [])
       go (inl q) further =
-          rw q (empty-both (twice-of piece y) (alone-of piece y) (empty-both (twice-of piece y ++ alone-of piece y) (clause-faults piece xs) e .0))
+          rw q (empty-both (twice-in-clause (free y) piece y) (alone-of piece y)
+          (empty-both (twice-in-clause (free y) piece y ++ alone-of piece y) (clause-faults free piece xs) e .0))
       go (inr q) further = further q
 
-  clause-of-each : (xs : List Bytes) → ((x : Bytes) → In x xs → (twice-of piece x ≡ []) × (alone-of piece x ≡ [])) → clause-faults piece xs ≡ []
+  clause-of-each : (xs : List Bytes) → ((x : Bytes) → In x xs → (twice-in-clause (free x) piece x ≡ []) × (alone-of piece x ≡ [])) → clause-faults free piece xs ≡ []
   unfolding clause-faults
   clause-of-each [] h = refl
   clause-of-each (y ∷ xs) h = rw (h y (here refl) .0, h y (here refl) .1, clause-of-each xs (λ x m. h x (there m)))
 
+module _ (piece : Tokens) where
   query-each : (xs : List Bytes) → query-faults piece xs ≡ [] → (x : Bytes) → In x xs → twice-of piece x ≡ []
   unfolding query-faults
   query-each [] e x m = absurd (in-none m)
@@ -206,34 +255,126 @@ module _ (piece : Tokens) (xs : List Bytes) (gs : List Named) (distinct : Distin
   pub query-clear : nothing-twice (length xs) gs ≡ true → query-faults piece xs ≡ []
   query-clear test = query-of-each piece xs (below-few test)
 
-  -- A clause has no fault exactly if, moreover, a writer occurs exactly if its reader does.
-  pub clause-kept : clause-faults piece xs ≡ [] → (nothing-twice (length xs) gs ≡ true) × (both-halves (length xs) gs ≡ true)
-  unfolding both-halves
-  clause-kept e = (
-    few-below (λ x m. clause-each piece xs e x m .0),
-    all-below (λ n. eqb (goals-occurrences writer n gs) (goals-occurrences reader n gs)) (length xs) (λ n below.
-        let (x, m, p) = spelling-at xs distinct n below in
-        let (w, r) = twice-of-none piece x (clause-each piece xs e x m .0) in
-        let (wr, rw′) = alone-of-none piece x (clause-each piece xs e x m .1) in
-        let alike : length (occurs-at writer x piece) ≡ length (occurs-at reader x piece) = even (length (occurs-at writer x piece)) (length (occurs-at reader x piece)) w r wr rw′ in
-        eq-eqb (goals-occurrences writer n gs) (goals-occurrences reader n gs) (sym (at-number writer x n p) ∙ alike ∙ at-number reader x n p)),
+-- A clause, with what its head's tokens hold, and the readers that are free by their numbers.
+module _ (free : Bytes → Bool) (piece : Tokens) (xs : List Bytes) (head : Named) (gs : List Named) (distinct : Distinct xs)
+    (counts : (h : Half) (x : Bytes) → length (occurs-at h x piece) ≡ by-number (place-of x xs) (λ n. goals-occurrences h n (head ∷ gs)))
+    (in-head : (h : Half) (x : Bytes) → length (occurs-at h x (head-tokens piece)) ≡ by-number (place-of x xs) (λ n. all-occurrences h n (head .arguments)))
+    (licence : ℕ → Bool) (licences : (x : Bytes) (n : ℕ) → place-of x xs ≡ some n → free x ≡ licence n) where
+  abbrev total : Half → ℕ → ℕ
+  total h n = goals-occurrences h n (head ∷ gs)
+
+  reads-so : (h : Half) (x : Bytes) (n : ℕ) → place-of x xs ≡ some n → length (occurs-at h x piece) ≡ total h n
+  reads-so = at-number piece xs (head ∷ gs) distinct counts
+
+  at-head : (h : Half) (x : Bytes) (n : ℕ) → place-of x xs ≡ some n → length (occurs-at h x (head-tokens piece)) ≡ all-occurrences h n (head .arguments)
+  unfolding by-number
+  at-head h x n e = rw e at (in-head h x)
+
+  -- What the rule of 5 says of one pair.
+  record OncePair (n : ℕ) : Type 0 where
+    writers-once : total writer n ≤ 1
+    head-once : all-occurrences reader n (head .arguments) ≤ 1
+    readers-once : (licence n ≡ true) ⊎ (total reader n ≤ 1)
+
+  once-pair : (x : Bytes) (n : ℕ) → place-of x xs ≡ some n → twice-in-clause (free x) piece x ≡ [] → OncePair n
+  unfolding if_then_else_ goals-occurrences
+  once-pair x n e none-twice =
+      let (w, r) = twice-in-clause-none piece x (free x) none-twice in go (free x) refl (rw (reads-so writer x n e) at w) r
+    where
+      go : (b : Bool) → free x ≡ b → total writer n ≤ 1 → length (occurs-at reader x (if free x then head-tokens piece else piece)) ≤ 1 → OncePair n
+      go true q w r =
+          record {
+            writers-once = w;
+            head-once = rw (q, at-head reader x n e) at r;
+            readers-once = inl (sym (licences x n e) ∙ q);
+          }
+      go false q w r =
+          let all : total reader n ≤ 1 = rw (q, reads-so reader x n e) at r in
+          record { writers-once = w; head-once = omega arith; readers-once = inr all }
+
+  pair-once : (x : Bytes) (n : ℕ) → place-of x xs ≡ some n → OncePair n → twice-in-clause (free x) piece x ≡ []
+  unfolding if_then_else_
+  pair-once x n e once =
+      twice-in-clause-few piece x (free x) (rw (reads-so writer x n e) (once .writers-once)) (go (free x) refl (once .readers-once))
+    where
+      go : (b : Bool) → free x ≡ b → (licence n ≡ true) ⊎ (total reader n ≤ 1) → length (occurs-at reader x (if free x then head-tokens piece else piece)) ≤ 1
+      go true q r = rw (q, at-head reader x n e) (once .head-once)
+      go false q (inl r) = absurd (false-not-true (licence n) (sym (licences x n e) ∙ q) r)
+      go false q (inr r) = rw (q, reads-so reader x n e) r
+
+  -- The same as the tests say it, of all pairs.
+  head-test : ℕ → Bool
+  head-test n = leb (goals-occurrences writer n (head ∷ [])) 1 && leb (goals-occurrences reader n (head ∷ [])) 1
+
+  all-test : ℕ → Bool
+  all-test n = leb (total writer n) 1 && (licence n || leb (total reader n) 1)
+
+  tests-hold : (n : ℕ) → OncePair n → (head-test n ≡ true) × (all-test n ≡ true)
+  unfolding head-test all-test goals-occurrences
+  tests-hold n once = (
+    both-true (leb (goals-occurrences writer n (head ∷ [])) 1) (leb (goals-occurrences reader n (head ∷ [])) 1)
+        (le-leb (goals-occurrences writer n (head ∷ [])) 1 (omega (arith, once .writers-once))) (le-leb (goals-occurrences reader n (head ∷ [])) 1 (omega (arith, once .head-once))),
+    both-true (leb (total writer n) 1) (licence n || leb (total reader n) 1) (le-leb (total writer n) 1 (once .writers-once)) (either-true (once .readers-once)),
   )
     where
-      even : (m n : ℕ) → m ≤ 1 → n ≤ 1 → (1 ≤ m → 1 ≤ n) → (1 ≤ n → 1 ≤ m) → m ≡ n
-      even zero zero a b f g = refl
-      even zero (suc n) a b f g = let p : 1 ≤ zero = g (omega arith) in absurd (omega arith)
-      even (suc m) zero a b f g = let p : 1 ≤ zero = f (omega arith) in absurd (omega arith)
-      even (suc m) (suc n) a b f g = omega arith
+      either-true : (licence n ≡ true) ⊎ (total reader n ≤ 1) → (licence n || leb (total reader n) 1) ≡ true
+      either-true (inl e) = rw e refl
+      either-true (inr few) = or-true-right (licence n) (leb (total reader n) 1) (le-leb (total reader n) 1 few)
 
-  pub clause-clear : nothing-twice (length xs) gs ≡ true → both-halves (length xs) gs ≡ true → clause-faults piece xs ≡ []
-  unfolding both-halves
+  hold-tests : (n : ℕ) → head-test n ≡ true → all-test n ≡ true → OncePair n
+  unfolding head-test all-test goals-occurrences
+  hold-tests n p q =
+      record {
+        writers-once = leb-true (total writer n) 1 (and-left (leb (total writer n) 1) (licence n || leb (total reader n) 1) q);
+        head-once = omega (arith, leb-true (goals-occurrences reader n (head ∷ [])) 1 (and-right (leb (goals-occurrences writer n (head ∷ [])) 1) (leb (goals-occurrences reader n (head ∷ [])) 1) p));
+        readers-once = one (or-true (licence n) (leb (total reader n) 1) (and-right (leb (total writer n) 1) (licence n || leb (total reader n) 1) q));
+      }
+    where
+      one : (licence n ≡ true) ⊎ (leb (total reader n) 1 ≡ true) → (licence n ≡ true) ⊎ (total reader n ≤ 1)
+      one (inl e) = inl e
+      one (inr e) = inr (leb-true (total reader n) 1 e)
+
+  -- A clause has no fault exactly if nothing occurs twice but the readers that are free, and a writer occurs exactly if its reader does.
+  pub clause-kept : clause-faults free piece xs ≡ [] → (nothing-twice-but licence (length xs) head gs ≡ true) × (both-halves (length xs) (head ∷ gs) ≡ true)
+  unfolding nothing-twice-but nothing-twice both-halves head-test all-test
+  clause-kept e = (
+    both-true (nothing-twice (length xs) (head ∷ [])) _ (all-below head-test (length xs) (λ n below. tests-hold n (once n below) .0))
+        (all-below all-test (length xs) (λ n below. tests-hold n (once n below) .1)),
+    all-below (λ n. eqb (min 1 (total writer n)) (min 1 (total reader n))) (length xs) (λ n below.
+        let (x, m, p) = spelling-at xs distinct n below in
+        let (wr, rw′) = alone-of-none piece x (clause-each free piece xs e x m .1) in
+        eq-eqb (min 1 (total writer n)) (min 1 (total reader n))
+        (even (total writer n) (total reader n)
+        (λ w. rw (reads-so reader x n p) at (wr (rw (reads-so writer x n p) w)))
+        (λ r. rw (reads-so writer x n p) at (rw′ (rw (reads-so reader x n p) r))))),
+  )
+    where
+      once : (n : ℕ) → n < length xs → OncePair n
+      once n below = let (x, m, p) = spelling-at xs distinct n below in once-pair x n p (clause-each free piece xs e x m .0)
+
+      even : (m n : ℕ) → (1 ≤ m → 1 ≤ n) → (1 ≤ n → 1 ≤ m) → min 1 m ≡ min 1 n
+      even zero zero f g = refl
+      even zero (suc n) f g = let p : 1 ≤ zero = g (omega arith) in absurd (omega arith)
+      even (suc m) zero f g = let p : 1 ≤ zero = f (omega arith) in absurd (omega arith)
+      even (suc m) (suc n) f g = omega arith
+
+  pub clause-clear : nothing-twice-but licence (length xs) head gs ≡ true → both-halves (length xs) (head ∷ gs) ≡ true → clause-faults free piece xs ≡ []
+  unfolding nothing-twice-but nothing-twice both-halves head-test all-test
   clause-clear test halves =
-      clause-of-each piece xs (λ x m.
+      clause-of-each free piece xs (λ x m.
       let (n, e) = place-there x xs m in
-      let alike : goals-occurrences writer n gs ≡ goals-occurrences reader n gs =
-      eqb-true (goals-occurrences writer n gs) (goals-occurrences reader n gs)
-      (all-up-to (λ n. eqb (goals-occurrences writer n gs) (goals-occurrences reader n gs)) (length xs) halves n (place-below x xs n e)) in
-      (below-few test x m, alone-of-both piece x (at-number writer x n e ∙ alike ∙ sym (at-number reader x n e))))
+      let below = place-below x xs n e in
+      let alike : min 1 (total writer n) ≡ min 1 (total reader n) =
+      eqb-true (min 1 (total writer n)) (min 1 (total reader n)) (all-up-to (λ n. eqb (min 1 (total writer n)) (min 1 (total reader n))) (length xs) halves n below) in (
+        pair-once x n e (hold-tests n (all-up-to head-test (length xs) (and-left (nothing-twice (length xs) (head ∷ [])) _ test) n below)
+            (all-up-to all-test (length xs) (and-right (nothing-twice (length xs) (head ∷ [])) _ test) n below)),
+        alone-of-both piece x
+            (λ w. rw (reads-so reader x n e) (some-there (total writer n) (total reader n) alike (rw (reads-so writer x n e) at w)))
+            (λ r. rw (reads-so writer x n e) (some-there (total reader n) (total writer n) (sym alike) (rw (reads-so reader x n e) at r))),
+      ))
+    where
+      some-there : (m n : ℕ) → min 1 m ≡ min 1 n → 1 ≤ m → 1 ≤ n
+      some-there m n e few = omega (arith, e)
 
 -- There is a least fault exactly if there is one.
 pub least-none : (l : List Fault) → least l ≡ none → l ≡ []

@@ -2,7 +2,7 @@
 -- What fits within some bounds fits within wider ones; what fits holds no pair that the item does not have.
 use Prim.Native.Nat.{ℕ, _≤_, _<_}
 use mathlib.Core.Path.{_≡_, refl}
-use mathlib.Core.Bool.{Bool, true, false, _&&_}
+use mathlib.Core.Bool.{Bool, true, false, _&&_, _||_}
 use mathlib.Core.List.{List, [], _∷_, _++_}
 use native.Mathlib.Omega.{arith}
 use lib.ListN.{length, length-append}
@@ -28,6 +28,7 @@ use Rattle.meaning.specs.Terms.{
   end,
   more,
   Named,
+  Guard,
   Clause,
   Query,
   Job,
@@ -38,9 +39,11 @@ use Rattle.meaning.specs.Terms.{
   goals-occurrences,
   as-term,
 }
+use Rattle.meaning.specs.Tokens.{lowercase, uppercase, next-is}
+use Rattle.meaning.specs.Table.{guard-table}
 use Rattle.laws.proofs.Lists.{In, any-in, in-same, Each, each-append, Distinct, distinct-last, same-true}
-use Rattle.laws.proofs.Reading.Numbering.{GoalsNumbered}
-use Rattle.laws.proofs.Reading.Brackets.{GoalNested}
+use Rattle.laws.proofs.Reading.Numbering.{NamedNumbered, GoalsNumbered, GuardsNumbered}
+use Rattle.laws.proofs.Reading.Brackets.{GoalNested, GuardNested}
 
 -- So many pairs and compounds, and these names.
 pub record Bounds : Type 0 where
@@ -56,10 +59,14 @@ Known b f = any (same f) (b .names) ≡ true
 pub known-in : (b : Bounds) (f : Bytes) → Known b f → In f (b .names)
 known-in b f e = let (g, m, is-same) = any-in (same f) (b .names) e in in-same (same-true f g is-same) m
 
--- "1 to 31 bytes."
+-- "1 to 31 bytes", led by a letter.
+unfoldable pub letter : ℕ → Bool
+letter c = lowercase c || uppercase c
+
 pub record SpellingFits (f : Bytes) : Type 0 where
   pub some : 1 ≤ length f
   pub few : length f ≤ 31
+  pub led : next-is letter f ≡ true
 
 -- At most so many spellings, told apart.
 pub record SpellingsFit (most : ℕ) (l : List Bytes) : Type 0 where
@@ -114,12 +121,27 @@ pub record NamedFits (b : Bounds) (g : Named) : Type 0 where
   pub few-arguments : count (g .arguments) ≤ 6
   pub arguments : TermsFit b (g .arguments)
 
--- "Per item 16 variable pairs, 32 compounds (head, goals and list cells counted) and 8 body or query goals."
+-- A guard: "from a fixed table of names and argument counts". Its own compound has a number too; otherwise is none, and has 0.
+pub record GuardFits (b : Bounds) (g : Guard) : Type 0 where
+  pub in-table : In (g .row) guard-table
+  pub counted : count (g .arguments) ≡ g .row .count
+  pub number : g .number < b .compounds
+  pub arguments : TermsFit b (g .arguments)
+  pub nested : GuardNested g
+
+-- "Per item 16 variable pairs, 32 compounds (head, goals and list cells counted) and 8 body or query goals", and 8 guards (02, T-02).
+-- The compounds of the head come first, then the guards', then the body's.
 pub record ClauseFits (names : List Bytes) (c : Clause) : Type 0 where
   pub few-pairs : c .pairs ≤ 16
   pub few-compounds : c .compounds ≤ 32
+  pub few-guards : length (c .guards) ≤ 8
   pub few-goals : length (c .body) ≤ 8
-  pub numbered : GoalsNumbered 0 (c .compounds) (c .head ∷ c .body)
+  pub behind-head : ℕ
+  pub behind-guards : ℕ
+  pub head-numbered : NamedNumbered 0 behind-head (c .head)
+  pub guards-numbered : GuardsNumbered behind-head behind-guards (c .guards)
+  pub body-numbered : GoalsNumbered behind-guards (c .compounds) (c .body)
+  pub guards : Each (GuardFits (record { pairs = c .pairs; compounds = c .compounds; names = names })) (c .guards)
   pub nested : Each GoalNested (c .head ∷ c .body)
   pub head : NamedFits (record { pairs = c .pairs; compounds = c .compounds; names = names }) (c .head)
   pub body : Each (NamedFits (record { pairs = c .pairs; compounds = c .compounds; names = names })) (c .body)
@@ -178,6 +200,10 @@ module _ {b c : Bounds} (w : Widens b c) where
     pub terms-widen : (ts : Terms) → TermsFit b ts → TermsFit c ts
     terms-widen end h = tt
     terms-widen (more t ts) h = (term-widens t (h .0), terms-widen ts (h .1))
+
+  pub guard-widens : (g : Guard) → GuardFits b g → GuardFits c g
+  guard-widens g h =
+      record { in-table = h .in-table; counted = h .counted; number = omega arith; arguments = terms-widen (g .arguments) (h .arguments); nested = h .nested }
 
   pub named-widens : (g : Named) → NamedFits b g → NamedFits c g
   named-widens g h =

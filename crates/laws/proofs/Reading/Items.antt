@@ -3,26 +3,64 @@
 use Prim.Native.Nat.{ℕ, _<_}
 use mathlib.Core.Path.{_≡_, refl}
 use mathlib.Core.Bool.{Bool, true, false}
-use mathlib.Core.List.{List, _∷_}
+use mathlib.Core.List.{List, [], _∷_}
 use mathlib.Core.Option.{Option, none, some}
 use native.Mathlib.Omega.{arith}
 use lib.Dec.{ltb}
 use lib.ListN.{length}
 use borrow.Author.Tests.{ltb-true}
-use Rattle.meaning.specs.Bytes.{Bytes, if_then_else_, same, any, those}
-use Rattle.meaning.specs.Terms.{Half, Named, Clause, Query, goals-occurrences}
+use Rattle.meaning.specs.Bytes.{Bytes, if_then_else_, same, all, any, those}
+use Rattle.meaning.specs.Terms.{Half, Named, Guard, Clause, Query, all-occurrences, goals-occurrences}
 use Rattle.meaning.specs.Tokens.{Token, name, variable, integer, sign, bad, Tokens, ends, token, tokens}
-use Rattle.meaning.specs.Faults.{Fault, occurs-at, clause-faults, query-faults, least}
-use Rattle.meaning.specs.Items.{Counted, Read, read, malformed, passed, Reader, is, is-name, place-of, goals, Rule, rule, no-item, figure, SoFar, Piece, nothing, clause, query, refused, unless-broken, clause-piece, query-piece, fresh, clause-from, query-from, item-from, item, pieces}
+use Rattle.meaning.specs.Faults.{Fault, occurs-at, pairing, head-tokens, clause-faults, query-faults, least}
+use Rattle.meaning.specs.Table.{as-guards, of-the-head, licensed}
+use Rattle.meaning.specs.Items.{
+  Counted,
+  Read,
+  read,
+  malformed,
+  passed,
+  Reader,
+  is,
+  is-name,
+  place-of,
+  goals,
+  Rule,
+  rule,
+  no-item,
+  guard-rule,
+  figure,
+  SoFar,
+  Piece,
+  nothing,
+  clause,
+  query,
+  refused,
+  unless-broken,
+  free,
+  with-guards,
+  unless-unknown,
+  clause-piece,
+  query-piece,
+  fresh,
+  clause-from,
+  query-from,
+  item-from,
+  item,
+  pieces,
+}
 use Rattle.laws.proofs.Reading.Figures.{SpellingsFit, no-spellings-fit}
 use Rattle.laws.proofs.Reading.EachToken.{EachToken}
 use Rattle.laws.proofs.Reading.TokensFit.{TokenFits}
-use Rattle.laws.proofs.Reading.Rules.{nothing-twice, both-halves}
-use Rattle.laws.proofs.Reading.Alike.{bare, Same, both-read}
+use Rattle.laws.proofs.Reading.Rules.{nothing-twice, nothing-twice-but, both-halves}
+use Rattle.laws.proofs.Reading.Alike.{bare, Same, SameBy, both-read}
 use Rattle.laws.proofs.Reading.Passed.{Cut, cut-behind, by-number}
-use Rattle.laws.proofs.Reading.Occurring.{goals-counts, rule-counts}
-use Rattle.laws.proofs.Reading.Faultless.{item-counts, query-kept, clause-kept, least-none}
-use Rattle.laws.proofs.Reading.Readers.{Steady, GoalsFit, goals-steady, RuleFits, rule-steady}
+use Rattle.laws.proofs.Reading.Occurring.{goals-counts}
+use Rattle.laws.proofs.Reading.Bodies.{OverRule, rule-counts}
+use Rattle.laws.proofs.Reading.Faultless.{item-counts, query-kept, clause-kept, clause-clear, least-none}
+use Rattle.laws.proofs.Reading.RuleTokens.{head-of-pairing, head-counts, paired-counts}
+use Rattle.laws.proofs.Reading.Readers.{SteadyBy, GoalsFit, goals-steady}
+use Rattle.laws.proofs.Reading.BodyReaders.{RuleFits, RuleAlike, rule-steady}
 
 -- A piece's first token passes a test; what stands behind it.
 unfoldable pub begins-with : (Token → Bool) → Tokens → Bool
@@ -54,10 +92,10 @@ pub record ItemRead {A : Type 0} (r : Reader A) (s : Tokens) : Type 0 where
   pub rest : Tokens
   pub is-read : r (fresh names) s ≡ read value counted rest
 
--- The same tokens are read as the same, whatever the names before them; and what is read fits.
-pub same-tokens-same-item : {A : Type 0} (P : ℕ → Counted → A → Type 0) {r : Reader A} {s₁ s₂ : Tokens} → Steady P r → bare s₁ ≡ bare s₂
+-- The same tokens are read alike, whatever the names before them; and what is read fits.
+pub same-tokens-same-item : {A : Type 0} {R : A → A → Type 0} (P : ℕ → Counted → A → Type 0) {r : Reader A} {s₁ s₂ : Tokens} → SteadyBy R P r → bare s₁ ≡ bare s₂
     → (x₁ : ItemRead r s₁) (x₂ : ItemRead r s₂)
-    → Same (fresh (x₁ .names)) (P 0) (x₁ .value) (x₂ .value) (x₁ .counted) (x₂ .counted) (x₁ .rest) (x₂ .rest)
+    → SameBy (fresh (x₁ .names)) R (P 0) (x₁ .value) (x₂ .value) (x₁ .counted) (x₂ .counted) (x₁ .rest) (x₂ .rest)
 unfolding fresh
 same-tokens-same-item P steady e x₁ x₂ =
     both-read (steady (fresh (x₁ .names)))
@@ -73,10 +111,13 @@ same-tokens-same-item P steady e x₁ x₂ =
 -- A piece reads as a clause.
 pub record ClauseRead (piece : Tokens) (c : Clause) : Type 0 where
   pub item : ItemRead rule piece
-  pub not-twice : nothing-twice (length (item .counted .variables)) (item .value .head ∷ item .value .body) ≡ true
-  pub halves : both-halves (length (item .counted .variables)) (item .value .head ∷ item .value .body) ≡ true
+  pub guards : List Guard
+  pub in-table : as-guards (item .value .body .guards) ≡ some guards
+  pub of-head : all (of-the-head (length (item .counted .variables)) (item .value .head)) guards ≡ true
+  pub not-twice : nothing-twice-but (licensed guards) (length (item .counted .variables)) (item .value .head) (item .value .body .goals) ≡ true
+  pub halves : both-halves (length (item .counted .variables)) (item .value .head ∷ item .value .body .goals) ≡ true
   pub made : c
-      ≡ record { head = item .value .head; body = item .value .body; pairs = length (item .counted .variables); compounds = item .counted .compounds }
+      ≡ record { head = item .value .head; guards = guards; body = item .value .body .goals; pairs = length (item .counted .variables); compounds = item .counted .compounds }
 
 -- A piece reads as a query: its goals stand behind its `?-`.
 pub record QueryRead (piece : Tokens) (q : Query) : Type 0 where
@@ -85,25 +126,58 @@ pub record QueryRead (piece : Tokens) (q : Query) : Type 0 where
   pub made : q ≡ record { goals = item .value; variables = item .counted .variables; compounds = item .counted .compounds }
 
 pub rule-fits : {piece : Tokens} (x : ItemRead rule piece)
-    → Same (fresh (x .names)) (RuleFits 0) (x .value) (x .value) (x .counted) (x .counted) (x .rest) (x .rest)
+    → SameBy (fresh (x .names)) RuleAlike (RuleFits 0) (x .value) (x .value) (x .counted) (x .counted) (x .rest) (x .rest)
 rule-fits x = same-tokens-same-item RuleFits rule-steady refl x x
 
 pub goals-fit : {behind : Tokens} (x : ItemRead (goals 8) behind)
     → Same (fresh (x .names)) (GoalsFit 8 0) (x .value) (x .value) (x .counted) (x .counted) (x .rest) (x .rest)
 goals-fit x = same-tokens-same-item (GoalsFit 8) (goals-steady 8) refl x x
 
--- Each half of each variable stands among an item's tokens as often as in what is read.
+-- The tokens of a clause that count for the pairing.
+abbrev pub paired : {piece : Tokens} → ItemRead rule piece → Tokens
+paired {piece} x = pairing (x .value .body .behind) piece
+
+-- How its tokens were passed over: its head's, and then those behind its `:-`.
+pub rule-over : {piece : Tokens} (x : ItemRead rule piece) → OverRule (fresh (x .names)) piece (x .value) (x .counted) (x .rest)
+rule-over {piece} x = rule-counts (fresh (x .names)) piece (x .value) (x .counted) (x .rest) (x .is-read)
+
+-- Each half of each variable stands among an item's tokens that count as often as in what is read, and in a clause's head as often as in the head.
 pub rule-tokens : {piece : Tokens} (x : ItemRead rule piece) → Cut piece → (h : Half) (y : Bytes)
-    → length (occurs-at h y piece) ≡ by-number (place-of y (x .counted .variables)) (λ n. goals-occurrences h n (x .value .head ∷ x .value .body))
-rule-tokens {piece} x cut =
-    item-counts (λ h n. goals-occurrences h n (x .value .head ∷ x .value .body)) (fresh (x .names)) (x .counted) piece (x .rest)
-    (rule-counts .over (fresh (x .names)) piece (x .value) (x .counted) (x .rest) (x .is-read)) cut
+    → length (occurs-at h y (paired x)) ≡ by-number (place-of y (x .counted .variables)) (λ n. goals-occurrences h n (x .value .head ∷ x .value .body .goals))
+rule-tokens x cut h y = paired-counts (rule-over x) cut h y
+
+pub rule-head-tokens : {piece : Tokens} (x : ItemRead rule piece) → Cut piece → (h : Half) (y : Bytes)
+    → length (occurs-at h y (head-tokens (paired x))) ≡ by-number (place-of y (x .counted .variables)) (λ n. all-occurrences h n (x .value .head .arguments))
+rule-head-tokens {piece} x cut h y = rw (head-of-pairing (x .value .body .behind) piece) (head-counts (rule-over x) cut h y)
 
 pub goals-tokens : {behind : Tokens} (x : ItemRead (goals 8) behind) → Cut behind → (h : Half) (y : Bytes)
     → length (occurs-at h y behind) ≡ by-number (place-of y (x .counted .variables)) (λ n. goals-occurrences h n (x .value))
 goals-tokens {behind} x cut =
     item-counts (λ h n. goals-occurrences h n (x .value)) (fresh (x .names)) (x .counted) behind (x .rest)
     (goals-counts 8 .over (fresh (x .names)) behind (x .value) (x .counted) (x .rest) (x .is-read)) cut
+
+-- A reader is free exactly if a guard licenses its number.
+pub free-licensed : (guards : List Guard) (xs : List Bytes) (y : Bytes) (n : ℕ) → place-of y xs ≡ some n → free guards xs y ≡ licensed guards n
+unfolding free
+free-licensed guards xs y n e = rw (e, free) refl
+
+-- A clause that is read has no fault exactly if the rules hold of its terms.
+module _ {piece : Tokens} (x : ItemRead rule piece) (cut : Cut piece) (guards : List Guard) where
+  abbrev pub faults-of : List Fault
+  faults-of = clause-faults (free guards (x .counted .variables)) (paired x) (x .counted .variables)
+
+  pub rule-kept : faults-of ≡ []
+      → (nothing-twice-but (licensed guards) (length (x .counted .variables)) (x .value .head) (x .value .body .goals) ≡ true)
+      × (both-halves (length (x .counted .variables)) (x .value .head ∷ x .value .body .goals) ≡ true)
+  rule-kept =
+      clause-kept (free guards (x .counted .variables)) (paired x) (x .counted .variables) (x .value .head) (x .value .body .goals)
+      (rule-fits x .onward .figures .variables .distinct) (rule-tokens x cut) (rule-head-tokens x cut) (licensed guards) (free-licensed guards (x .counted .variables))
+
+  pub rule-clear : nothing-twice-but (licensed guards) (length (x .counted .variables)) (x .value .head) (x .value .body .goals) ≡ true
+      → both-halves (length (x .counted .variables)) (x .value .head ∷ x .value .body .goals) ≡ true → faults-of ≡ []
+  rule-clear =
+      clause-clear (free guards (x .counted .variables)) (paired x) (x .counted .variables) (x .value .head) (x .value .body .goals)
+      (rule-fits x .onward .figures .variables .distinct) (rule-tokens x cut) (rule-head-tokens x cut) (licensed guards) (free-licensed guards (x .counted .variables))
 
 -- A clause or a query is read, and with it the text's names become these.
 pub record ClauseNext (so-far : SoFar) (piece : Tokens) (c : Clause) (names : List Bytes) : Type 0 where
@@ -145,29 +219,45 @@ module _ (so-far : SoFar) (names-fit : SpellingsFit 256 (so-far .names)) (begins
   whole = token begins t behind
 
   module _ (named : is-name t ≡ true) (room : so-far .clauses < 128) where
-    clause-piece-says : (x : Read Rule) → rule (fresh (so-far .names)) whole ≡ x → Says so-far whole (clause-piece begins whole x)
-    unfolding Says clause-piece unless-broken begins-with whole fresh
-    clause-piece-says (read r counted rest) e = go (least (clause-faults whole (counted .variables))) refl
-      where
-        read-so : ItemRead rule whole
-        read-so = record { names = so-far .names; names-fit = names-fit; fit = fit; value = r; counted = counted; rest = rest; is-read = e }
+    module _ (r : Rule) (counted : Counted) (rest : Tokens) (e : rule (fresh (so-far .names)) whole ≡ read r counted rest) where
+      read-so : ItemRead rule whole
+      unfolding whole
+      read-so = record { names = so-far .names; names-fit = names-fit; fit = fit; value = r; counted = counted; rest = rest; is-read = e }
 
-        go : (broken : Option Fault) → least (clause-faults whole (counted .variables)) ≡ broken
-            → Says so-far whole (unless-broken begins broken
-            (clause (record { head = r .head; body = r .body; pairs = length (counted .variables); compounds = counted .compounds }) (counted .names)))
-        go none e₁ =
-            let kept = clause-kept whole (counted .variables) (r .head ∷ r .body) (rule-fits read-so .onward .figures .variables .distinct)
-            (rule-tokens read-so cut) (least-none (clause-faults whole (counted .variables)) e₁) in
-            record {
-              named = named;
-              unasked = name-no-sign t named;
-              room = room;
-              clause-read = record { item = read-so; not-twice = kept .0; halves = kept .1; made = refl };
-              counted = refl;
-              among = rule-fits read-so .widens .names;
-              names-fit = rule-fits read-so .onward .figures .names;
-            }
-        go (some fault) e₁ = tt
+      judged-says : (guards : List Guard) → as-guards (r .body .guards) ≡ some guards → Says so-far whole (with-guards begins whole r counted guards)
+      unfolding Says with-guards unless-broken begins-with whole fresh if_then_else_ read-so
+      judged-says guards known = go (all (of-the-head (length (counted .variables)) (r .head)) guards) refl (least faults) refl
+        where
+          faults : List Fault
+          faults = clause-faults (free guards (counted .variables)) (pairing (r .body .behind) whole) (counted .variables)
+
+          go : (of-head : Bool) → all (of-the-head (length (counted .variables)) (r .head)) guards ≡ of-head
+              → (broken : Option Fault) → least faults ≡ broken
+              → Says so-far whole (if of-head then unless-broken begins broken
+              (clause (record { head = r .head; guards = guards; body = r .body .goals; pairs = length (counted .variables); compounds = counted .compounds }) (counted .names))
+              else refused (guard-rule begins))
+          go true e₁ none e₂ =
+              let kept = rule-kept read-so cut guards (least-none faults e₂) in
+              record {
+                named = named;
+                unasked = name-no-sign t named;
+                room = room;
+                clause-read = record { item = read-so; guards = guards; in-table = known; of-head = e₁; not-twice = kept .0; halves = kept .1; made = refl };
+                counted = refl;
+                among = rule-fits read-so .widens .names;
+                names-fit = rule-fits read-so .onward .figures .names;
+              }
+          go true e₁ (some fault) e₂ = tt
+          go false e₁ broken e₂ = tt
+
+      guarded-says : (o : Option (List Guard)) → as-guards (r .body .guards) ≡ o → Says so-far whole (unless-unknown begins whole r counted o)
+      unfolding Says unless-unknown
+      guarded-says none e = tt
+      guarded-says (some guards) e = judged-says guards e
+
+    clause-piece-says : (x : Read Rule) → rule (fresh (so-far .names)) whole ≡ x → Says so-far whole (clause-piece begins whole x)
+    unfolding Says clause-piece
+    clause-piece-says (read r counted rest) e = guarded-says r counted rest e (as-guards (r .body .guards)) refl
     clause-piece-says (malformed place) e = tt
     clause-piece-says passed e = tt
 

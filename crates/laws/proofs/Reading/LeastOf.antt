@@ -10,7 +10,7 @@ use lib.Dec.{leb}
 use borrow.Author.Tests.{leb-true, leb-false, le-leb, lt-leb}
 use Rattle.meaning.specs.Bytes.{Bytes, if_then_else_}
 use Rattle.meaning.specs.Tokens.{Tokens}
-use Rattle.meaning.specs.Faults.{Fault, twice-of, alone-of, clause-faults, query-faults, smaller, least}
+use Rattle.meaning.specs.Faults.{Fault, twice-of, alone-of, twice-in-clause, clause-faults, query-faults, smaller, least}
 
 -- The smaller of two, where there are two; the first if they are equal.
 unfoldable pub lesser : Option Fault → Option Fault → Option Fault
@@ -38,12 +38,13 @@ least-append [] m = refl
 least-append (f ∷ l) m = ap some (ap (smaller f) (least-append l m) ∙ smaller-joins f (least l) (least m))
 
 -- One variable more.
-pub clause-faults-append : (piece : Tokens) (xs ys : List Bytes) → clause-faults piece (xs ++ ys) ≡ clause-faults piece xs ++ clause-faults piece ys
+pub clause-faults-append : (free : Bytes → Bool) (piece : Tokens) (xs ys : List Bytes)
+    → clause-faults free piece (xs ++ ys) ≡ clause-faults free piece xs ++ clause-faults free piece ys
 unfolding clause-faults
-clause-faults-append piece [] ys = refl
-clause-faults-append piece (x ∷ xs) ys =
-    ap (λ l. (twice-of piece x ++ alone-of piece x) ++ l) (clause-faults-append piece xs ys)
-    ∙ sym (append-assoc (twice-of piece x ++ alone-of piece x) (clause-faults piece xs) (clause-faults piece ys))
+clause-faults-append free piece [] ys = refl
+clause-faults-append free piece (x ∷ xs) ys =
+    ap (λ l. (twice-in-clause (free x) piece x ++ alone-of piece x) ++ l) (clause-faults-append free piece xs ys)
+    ∙ sym (append-assoc (twice-in-clause (free x) piece x ++ alone-of piece x) (clause-faults free piece xs) (clause-faults free piece ys))
 
 pub query-faults-append : (piece : Tokens) (xs ys : List Bytes) → query-faults piece (xs ++ ys) ≡ query-faults piece xs ++ query-faults piece ys
 unfolding query-faults

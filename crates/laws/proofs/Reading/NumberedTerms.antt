@@ -13,11 +13,20 @@ use Rattle.meaning.specs.Terms.{
   end,
   more,
   Named,
+  Test,
+  an-integer,
+  a-constant,
+  a-compound,
+  ground,
+  known,
+  equal,
+  otherwise,
+  Guard,
   renamed,
   all-renamed,
   renamed-goal,
 }
-use Rattle.laws.proofs.Reading.Numbering.{Numbered, AllNumbered, GoalsNumbered}
+use Rattle.laws.proofs.Reading.Numbering.{Numbered, AllNumbered, GoalsNumbered, SidesNumbered, TestNumbered, GuardsNumbered}
 
 -- The numbers go up.
 mutual
@@ -38,6 +47,29 @@ unfolding GoalsNumbered
 goals-numbered-grow low high [] e = omega arith
 goals-numbered-grow low high (g ∷ gs) (middle, first, all) =
     omega (arith, all-numbered-grow (low + 1) middle (g .arguments) (first .arguments), goals-numbered-grow middle high gs all)
+
+pub sides-numbered-grow : (low n high : ℕ) (ts : Terms) → SidesNumbered low n high ts → low ≤ high
+unfolding SidesNumbered
+sides-numbered-grow low n high end h = absurd h
+sides-numbered-grow low n high (more t end) h = absurd h
+sides-numbered-grow low n high (more t (more u end)) (first, second) = omega (arith, numbered-grows low n t first, numbered-grows (n + 1) high u second)
+sides-numbered-grow low n high (more t (more u (more v ts))) h = absurd h
+
+pub test-numbered-grows : (test : Test) (low n high : ℕ) (ts : Terms) → TestNumbered test low n high ts → low ≤ high
+unfolding TestNumbered
+test-numbered-grows an-integer low n high ts (first, all) = omega (arith, all-numbered-grow (low + 1) high ts all)
+test-numbered-grows a-constant low n high ts (first, all) = omega (arith, all-numbered-grow (low + 1) high ts all)
+test-numbered-grows a-compound low n high ts (first, all) = omega (arith, all-numbered-grow (low + 1) high ts all)
+test-numbered-grows ground low n high ts (first, all) = omega (arith, all-numbered-grow (low + 1) high ts all)
+test-numbered-grows known low n high ts (first, all) = omega (arith, all-numbered-grow (low + 1) high ts all)
+test-numbered-grows equal low n high ts h = sides-numbered-grow low n high ts h
+test-numbered-grows otherwise low n high ts h = omega arith
+
+pub guards-numbered-grow : (low high : ℕ) (gs : List Guard) → GuardsNumbered low high gs → low ≤ high
+unfolding GuardsNumbered
+guards-numbered-grow low high [] e = omega arith
+guards-numbered-grow low high (g ∷ gs) (middle, first, all) =
+    omega (arith, test-numbered-grows (g .row .test) low (g .number) middle (g .arguments) first, guards-numbered-grow middle high gs all)
 
 -- From one number on, a term's numbers end in one place alone.
 mutual

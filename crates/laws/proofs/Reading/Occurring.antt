@@ -1,4 +1,4 @@
--- The law of each reader of an item: each half of each variable occurs among the tokens passed as often as in the term, goals or rule read.
+-- The law of each reader of an item: each half of each variable occurs among the tokens passed as often as in the term or goals read.
 -- Each law is put together like the reader itself; a term is read by induction on how many more brackets may open inside it.
 use Prim.Native.Nat.{ℕ, zero, suc}
 use mathlib.Core.Path.{_≡_, refl}
@@ -43,8 +43,6 @@ use Rattle.meaning.specs.Items.{
   goal-from,
   goal,
   goals,
-  Rule,
-  rule,
 }
 use Rattle.laws.proofs.Reading.Passed.{
   cut-behind,
@@ -52,11 +50,9 @@ use Rattle.laws.proofs.Reading.Passed.{
   before-stop,
   behind-stop,
   never,
-  plus,
   Counts,
   CountsBehind,
   give-counts,
-  cannot-stand-counts,
   passes-counts,
   if-counts,
   then-counts,
@@ -90,9 +86,6 @@ goal-often g = before-stop (λ h n. all-occurrences h n (g .arguments))
 abbrev pub goals-often : List Named → Mark
 goals-often gs = behind-stop (λ h n. goals-occurrences h n gs)
 
-abbrev pub rule-often : Rule → Mark
-rule-often r = behind-stop (λ h n. goals-occurrences h n (r .head ∷ r .body))
-
 -- A reader of terms counts from nothing.
 abbrev pub OfTerms : Reader Term → Type 0
 OfTerms r = Counts (before-stop never) term-often r
@@ -103,11 +96,11 @@ constant-counts k = give-counts (Term.constant k) (λ s h. h) (λ h n. refl)
 
 module _ (argument : Reader Term) (counts : OfTerms argument) where
   pub arguments-counts : (left : ℕ) → Counts (before-stop never) terms-often (arguments argument left)
-  unfolding arguments all-occurrences
+  unfolding arguments all-occurrences byte
   arguments-counts zero = behind-counts (standing-counts begins-term) (λ u. passes-counts)
   arguments-counts (suc left) =
       then-counts counts (λ t.
-      then-counts (either-counts "," ")") (λ another.
+      then-counts (either-counts "," ")" refl refl) (λ another.
       if-counts another
       (λ e. then-counts (after (λ h n. occurrences h n t) (arguments-counts left)) (λ ts. give-counts (more t ts) (λ s h. h) (λ h n. refl)))
       (λ e. give-counts (more t end) (λ s h. h) (λ h n. omega arith))))
@@ -121,12 +114,12 @@ module _ (argument : Reader Term) (counts : OfTerms argument) where
 
   tail-of-counts : (elements : Reader Term) → OfTerms elements → (place : ℕ) (t : Token)
       → CountsBehind (before-stop never) term-often t (tail-of argument elements place t)
-  unfolding tail-of
+  unfolding tail-of byte
   tail-of-counts elements others place t =
-      if-behind (is "," t) t (λ e. taken "," t e others)
+      if-behind (is "," t) t (λ e. taken "," t refl e others)
       (λ e. if-behind (is "|" t) t
-      (λ e. taken "|" t e (then-counts counts (λ tail. behind-counts (expect-counts "]") (λ u. give-counts tail (λ s h. h) (λ h n. refl)))))
-      (λ e. if-behind (is "]" t) t (λ e. taken "]" t e (constant-counts empty)) (λ e. cannot-stand-behind place t)))
+      (λ e. taken "|" t refl e (then-counts counts (λ tail. behind-counts (expect-counts "]" refl) (λ u. give-counts tail (λ s h. h) (λ h n. refl)))))
+      (λ e. if-behind (is "]" t) t (λ e. taken "]" t refl e (constant-counts empty)) (λ e. cannot-stand-behind place t)))
 
   elements-counts : (left : ℕ) → OfTerms (elements argument left)
   unfolding elements occurrences all-occurrences
@@ -139,25 +132,25 @@ module _ (argument : Reader Term) (counts : OfTerms argument) where
       give-counts (compound n cell (more t (more tail end))) (λ s h. h) (λ h n. omega arith)))))
 
   list-of-counts : OfTerms (list-of argument)
-  unfolding list-of
-  list-of-counts = if-next-counts "]" (λ t e. taken "]" t e (constant-counts empty)) (elements-counts 32)
+  unfolding list-of byte
+  list-of-counts = if-next-counts "]" (λ t e. taken "]" t refl e (constant-counts empty)) (elements-counts 32)
 
 -- A first token that is no variable.
 behind-other : {A : Type 0} {f : Half → ℕ → ℕ} {to : A → Mark} {r : Reader A} (t : Token) → ((h : Half) (x : Bytes) → is-half h x t ≡ false)
-    → Counts (before-stop f) to r → CountsBehind (before-stop f) to t r
-behind-other t none-here counts = over-token false t none-here (λ place s h. cut-behind place t s h) counts
+    → is ":" t ≡ false → Counts (before-stop f) to r → CountsBehind (before-stop f) to t r
+behind-other t none-here unimplied counts = over-token false t none-here unimplied (λ place s h. cut-behind place t s h) counts
 
 module _ (round : Bytes → Reader Term) (square : Reader Term) (rounds : (f : Bytes) → OfTerms (round f)) (squares : OfTerms square) where
   term-from-counts : (place : ℕ) (t : Token) → CountsBehind (before-stop never) term-often t (term-from round square place t)
-  unfolding term-from is-half
+  unfolding term-from is-half is byte
   term-from-counts place (name f) =
-      behind-other (name f) (λ h x. refl) (behind-counts (count-name-counts f) (λ u.
-      if-next-counts "(" (λ t e. taken "(" t e (rounds f)) (constant-counts (Constant.name f))))
+      behind-other (name f) (λ h x. refl) refl (behind-counts (count-name-counts f) (λ u.
+      if-next-counts "(" (λ t e. taken "(" t refl e (rounds f)) (constant-counts (Constant.name f))))
   term-from-counts place (variable h x) = variable-counts h x
-  term-from-counts place (integer i) = behind-other (integer i) (λ h x. refl) (constant-counts (Constant.integer i))
+  term-from-counts place (integer i) = behind-other (integer i) (λ h x. refl) refl (constant-counts (Constant.integer i))
   term-from-counts place (sign b) =
-      behind-other (sign b) (λ h x. refl) (if-counts (eqb b (byte "[")) (λ e. squares) (λ e. cannot-stand-counts place))
-  term-from-counts place bad = behind-other bad (λ h x. refl) (cannot-stand-counts place)
+      if-behind (eqb b (byte "[")) (sign b) (λ e. taken "[" (sign b) refl e squares) (λ e. cannot-stand-behind place (sign b))
+  term-from-counts place bad = cannot-stand-behind place bad
 
 -- A term's variables, one by one.
 pub term-counts : (left : ℕ) → OfTerms (term left)
@@ -170,10 +163,10 @@ term-counts (suc left) =
     (list-of-counts (term left) (term-counts left)) place t)
 
 goal-from-counts : (place : ℕ) (t : Token) → CountsBehind (before-stop never) goal-often t (goal-from place t)
-unfolding goal-from is-half
+unfolding goal-from is-half is byte
 goal-from-counts place (name f) =
-    behind-other (name f) (λ h x. refl) (behind-counts (count-name-counts f) (λ u.
-    behind-counts (expect-counts "(") (λ u. compound-of-counts (term 15) (term-counts 15) f)))
+    behind-other (name f) (λ h x. refl) refl (behind-counts (count-name-counts f) (λ u.
+    behind-counts (expect-counts "(" refl) (λ u. compound-of-counts (term 15) (term-counts 15) f)))
 goal-from-counts place (variable h x) = cannot-stand-behind place (variable h x)
 goal-from-counts place (integer i) = cannot-stand-behind place (integer i)
 goal-from-counts place (sign b) = cannot-stand-behind place (sign b)
@@ -183,11 +176,11 @@ pub goal-counts : Counts (before-stop never) goal-often goal
 unfolding goal
 goal-counts = next-counts goal-from-counts
 
--- Goals up to their full stop, and a rule.
+-- Goals up to their full stop.
 pub goals-counts : (left : ℕ) → Counts (before-stop never) goals-often (goals left)
-unfolding goals goals-occurrences if_then_else_
+unfolding goals goals-occurrences if_then_else_ byte
 goals-counts zero = behind-counts (standing-counts is-name) (λ u. passes-counts)
-goals-counts (suc left) = then-counts goal-counts (λ g. then-counts (either-stop-counts ",") (λ another. go g another (goals-counts left)))
+goals-counts (suc left) = then-counts goal-counts (λ g. then-counts (either-stop-counts "," refl) (λ another. go g another (goals-counts left)))
   where
     go : (g : Named) (another : Bool) → Counts (before-stop never) goals-often (goals left)
         → Counts (stop-unless (λ h n. all-occurrences h n (g .arguments)) another) goals-often
@@ -195,17 +188,3 @@ goals-counts (suc left) = then-counts goal-counts (λ g. then-counts (either-sto
     go g true others =
         then-counts (after (λ h n. all-occurrences h n (g .arguments)) others) (λ gs. give-counts (g ∷ gs) (λ s h. h) (λ h n. refl))
     go g false others = give-counts (g ∷ []) (λ s h. h) (λ h n. omega arith)
-
-pub rule-counts : Counts (before-stop never) rule-often rule
-unfolding rule goals-occurrences if_then_else_
-rule-counts =
-    then-counts goal-counts (λ head.
-    then-counts (either-stop-counts ":") (λ implied.
-    then-counts (body head implied) (λ gs.
-    give-counts (record { head = head; body = gs }) (λ s h. h) (λ h n. refl))))
-  where
-    body : (head : Named) (implied : Bool)
-        → Counts (stop-unless (λ h n. all-occurrences h n (head .arguments)) implied)
-        (λ gs. plus (λ h n. all-occurrences h n (head .arguments)) (goals-often gs)) (if implied then goals 8 else give [])
-    body head true = after (λ h n. all-occurrences h n (head .arguments)) (goals-counts 8)
-    body head false = give-counts [] (λ s h. h) (λ h n. omega arith)

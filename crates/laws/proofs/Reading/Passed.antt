@@ -1,4 +1,4 @@
--- What a reader passes over: each half of each variable stands there as often as in what is read, and the variables counted only grow.
+-- What a reader passes over: each half of each variable stands there as often as in what is read, no `:-`, and the variables counted only grow.
 -- A mark says how often each half has occurred so far, and whether the full stop was taken; one law for each combinator, as in Alike.
 use Prim.Native.Char.{Char}
 use Prim.Native.Nat.{ℕ, _+_}
@@ -14,6 +14,7 @@ use Rattle.meaning.specs.Tokens.{Token, Tokens, ends, token}
 use Rattle.meaning.specs.Faults.{is-half, occurs-at}
 use Rattle.meaning.specs.Items.{Counted, Read, read, malformed, passed, Reader, read-on, _>>=_, _>>_, give, cannot-stand, passes, next, is, if-next, place-of}
 use Rattle.laws.proofs.Lists.{differ}
+use Rattle.laws.proofs.Reading.Pairing.{Past, at-once, over, past-trans}
 
 -- One list of spellings begins another.
 abbrev pub Extends : List Bytes → List Bytes → Type 0
@@ -75,6 +76,7 @@ by-number (some n) f = f n
 -- From c and these tokens a reader went on to d and the rest; what it passed over makes the one mark the other, whatever is counted later.
 pub record Over (from to : Mark) (c : Counted) (s : Tokens) (d : Counted) (rest : Tokens) : Type 0 where
   pub grows : Extends (c .variables) (d .variables)
+  pub past : Past s rest
   pub shape : Shape (from .stopped) s → Shape (to .stopped) rest
   pub counts : (w : List Bytes) → Extends (d .variables) w → (h : Half) (x : Bytes)
       → by-number (place-of x w) (from .often h) + length (occurs-at h x s) ≡ by-number (place-of x w) (to .often h) + length (occurs-at h x rest)
@@ -88,7 +90,7 @@ pub record CountsBehind {A : Type 0} (from : Mark) (to : A → Mark) (t : Token)
   pub over : (place : ℕ) (c : Counted) (s : Tokens) (a : A) (d : Counted) (rest : Tokens) → r c s ≡ read a d rest
       → Over from (to a) c (token place t s) d rest
 
-by-number-both : (o : Option ℕ) (f g : ℕ → ℕ) → by-number o (λ n. f n + g n) ≡ by-number o f + by-number o g
+pub by-number-both : (o : Option ℕ) (f g : ℕ → ℕ) → by-number o (λ n. f n + g n) ≡ by-number o f + by-number o g
 unfolding by-number
 by-number-both none f g = refl
 by-number-both (some n) f g = refl
@@ -98,10 +100,11 @@ unfolding by-number
 by-number-same none f g e = refl
 by-number-same (some n) f g e = e n
 
-over-then : (from mid to : Mark) (c d e : Counted) (s middle rest : Tokens) → Over from mid c s d middle → Over mid to d middle e rest → Over from to c s e rest
+pub over-then : (from mid to : Mark) (c d e : Counted) (s middle rest : Tokens) → Over from mid c s d middle → Over mid to d middle e rest → Over from to c s e rest
 over-then from mid to c d e s middle rest o p =
     record {
       grows = extends-trans (c .variables) (d .variables) (e .variables) (o .grows) (p .grows);
+      past = past-trans (o .past) (p .past);
       shape = λ h. p .shape (o .shape h);
       counts = λ w later h x.
           o .counts w (extends-trans (d .variables) (e .variables) w (p .grows) later) h x ∙ p .counts w later h x;
@@ -113,6 +116,7 @@ pub over-nothing : (from to : Mark) (c : Counted) (s : Tokens) → (Shape (from 
 over-nothing from to c s shape often =
     record {
       grows = extends-refl (c .variables);
+      past = at-once;
       shape = shape;
       counts = λ w later h x. omega (arith, by-number-same (place-of x w) (from .often h) (to .often h) (often h));
     }
@@ -164,22 +168,30 @@ module _ {A B : Type 0} {from : Mark} {mid : A → Mark} {to : B → Mark} where
   behind-counts {r} {q} first on =
       record { over = λ c s b e rest p. read-on-over (λ a. q) on c s (r c s) (λ a d middle p. first .over c s a d middle p) b e rest p }
 
+-- One token is passed over, which is no variable and no `:-`.
+pub one-token : (from : Mark) (stopped : Bool) (c : Counted) (place : ℕ) (t : Token) (s : Tokens) → ((h : Half) (x : Bytes) → is-half h x t ≡ false)
+    → is ":" t ≡ false → (Shape (from .stopped) (token place t s) → Shape stopped s)
+    → Over from (record { stopped = stopped; often = from .often }) c (token place t s) c s
+unfolding occurs-at if_then_else_
+one-token from stopped c place t s none-here unimplied shape =
+    record {
+      grows = extends-refl (c .variables);
+      past = over unimplied at-once;
+      shape = shape;
+      counts = λ w later h x. rw (none-here h x) refl;
+    }
+
 -- Behind a token that is no variable; one of those that may come next.
 module _ {A : Type 0} {from : Mark} {to : A → Mark} where
   pub over-token : (stopped : Bool) (t : Token) {r : Reader A}
-      → ((h : Half) (x : Bytes) → is-half h x t ≡ false)
+      → ((h : Half) (x : Bytes) → is-half h x t ≡ false) → is ":" t ≡ false
       → ((place : ℕ) (s : Tokens) → Shape (from .stopped) (token place t s) → Shape stopped s)
       → Counts (record { stopped = stopped; often = from .often }) to r → CountsBehind from to t r
-  unfolding occurs-at if_then_else_
-  over-token stopped t {r} none-here shape rest-counts =
+  over-token stopped t {r} none-here unimplied shape rest-counts =
       record {
         over = λ place c s a d rest e.
-            let o = rest-counts .over c s a d rest e in
-            record {
-              grows = o .grows;
-              shape = λ h. o .shape (shape place s h);
-              counts = λ w later h x. rw (none-here h x) (o .counts w later h x);
-            };
+            over-then from (record { stopped = stopped; often = from .often }) (to a) c c d (token place t s) s rest
+            (one-token from stopped c place t s none-here unimplied (shape place s)) (rest-counts .over c s a d rest e);
       }
 
   pub cannot-stand-behind : (place : ℕ) (t : Token) → CountsBehind from to t (cannot-stand place)
@@ -228,6 +240,7 @@ after {to = to} f counts =
           let o = counts .over c s a d rest e in
           record {
             grows = o .grows;
+            past = o .past;
             shape = o .shape;
             counts = λ w later h x. omega (
               arith,

@@ -1,17 +1,23 @@
 -- What an item's tokens are decides what is read: neither the other items nor the places of the tokens have any part in it.
 -- Two pieces with the same tokens read as the same clause, or as the same query.
-use mathlib.Core.Path.{_≡_, refl}
+use mathlib.Core.Path.{_≡_, refl, sym, ap, _∙_}
+use mathlib.Core.Option.{some}
 use Rattle.meaning.specs.Terms.{Clause, Query}
+use Rattle.meaning.specs.Table.{as-guards}
 use Rattle.meaning.specs.Tokens.{Tokens, ends, token}
 use Rattle.laws.proofs.Reading.Alike.{bare}
-use Rattle.laws.proofs.Reading.Readers.{GoalsFit, goals-steady, RuleFits, rule-steady}
+use Rattle.laws.proofs.Reading.Readers.{GoalsFit, goals-steady}
+use Rattle.laws.proofs.Reading.BodyReaders.{RuleFits, rule-steady}
 use Rattle.laws.proofs.Reading.Items.{ClauseRead, QueryRead, behind-first, same-tokens-same-item}
 
 -- Two pieces with the same tokens read as the same clause, or as the same query.
 pub same-tokens-same-clause : (p₁ p₂ : Tokens) (c₁ c₂ : Clause) → bare p₁ ≡ bare p₂ → ClauseRead p₁ c₁ → ClauseRead p₂ c₂ → c₁ ≡ c₂
 same-tokens-same-clause p₁ p₂ c₁ c₂ e r₁ r₂ =
     let both = same-tokens-same-item RuleFits rule-steady e (r₁ .item) (r₂ .item) in
-    rw (r₁ .made, r₂ .made, both .value, both .onward .variables, both .onward .compounds)
+    let its : some (r₁ .guards) ≡ some (r₂ .guards) =
+    sym (r₁ .in-table) ∙ ap as-guards (both .value .guards) ∙ r₂ .in-table in
+    let same : r₁ .guards ≡ r₂ .guards = cc in
+    rw (r₁ .made, r₂ .made, both .value .head, both .value .goals, both .onward .variables, both .onward .compounds, same)
 
 behind-first-bare : (p₁ p₂ : Tokens) → bare p₁ ≡ bare p₂ → bare (behind-first p₁) ≡ bare (behind-first p₂)
 unfolding bare behind-first

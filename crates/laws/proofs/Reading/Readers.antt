@@ -1,13 +1,12 @@
--- The law of each reader of an item, from arguments up to a rule and a query's goals: read alike; what is read fits, its compounds
+-- The law of each reader of an item, from arguments up to a query's goals: read alike; what is read fits, its compounds
 -- numbered from the count before it up to the count behind it. A term is read by induction on how many more brackets may open inside it.
 use Prim.Native.Nat.{ℕ, zero, suc, _≤_}
 use mathlib.Core.Path.{refl}
-use mathlib.Core.Bool.{Bool}
 use mathlib.Core.List.{List, [], _∷_}
 use native.Mathlib.Omega.{arith}
 use lib.Dec.{eqb}
 use lib.ListN.{length}
-use Rattle.meaning.specs.Bytes.{Bytes, byte, if_then_else_}
+use Rattle.meaning.specs.Bytes.{Bytes, byte}
 use Rattle.meaning.specs.Terms.{Constant, empty, cell, Term, Terms, compound, end, more, Named, count, as-term}
 use Rattle.meaning.specs.Tokens.{Token, name, variable, integer, sign, bad}
 use Rattle.meaning.specs.Items.{
@@ -29,8 +28,6 @@ use Rattle.meaning.specs.Items.{
   goal-from,
   goal,
   goals,
-  Rule,
-  rule,
 }
 use Rattle.laws.proofs.Lists.{Each}
 use Rattle.laws.proofs.Reading.Numbering.{
@@ -57,6 +54,7 @@ use Rattle.laws.proofs.Reading.Figures.{
 use Rattle.laws.proofs.Reading.Alike.{
   bounds,
   ReadAlike,
+  ReadAlikeBy,
   give-alike,
   cannot-stand-alike,
   passes-alike,
@@ -65,7 +63,6 @@ use Rattle.laws.proofs.Reading.Alike.{
   if-next-alike,
   then-alike,
   behind-alike,
-  less-alike,
 }
 use Rattle.laws.proofs.Reading.Counting.{
   standing-alike,
@@ -102,6 +99,9 @@ pub record GoalsFit (left low : ℕ) (c : Counted) (gs : List Named) : Type 0 wh
   pub numbered : GoalsNumbered low (c .compounds) gs
 
 -- A reader is like itself, from wherever it begins.
+abbrev pub SteadyBy : {A : Type 0} → (A → A → Type 0) → (ℕ → Counted → A → Type 0) → Reader A → Type 0
+SteadyBy R P r = (c : Counted) → ReadAlikeBy c R (P (c .compounds)) r r
+
 abbrev pub Steady : {A : Type 0} → (ℕ → Counted → A → Type 0) → Reader A → Type 0
 Steady P r = (c : Counted) → ReadAlike c (P (c .compounds)) r r
 
@@ -251,38 +251,3 @@ goals-steady (suc left) c =
       few-goals = omega arith;
       numbered = (d .compounds, first .numbered, same);
     }))))
-
-pub record BodyFits (low : ℕ) (c : Counted) (gs : List Named) : Type 0 where
-  pub fit : Each (NamedFits (bounds c)) gs
-  pub nested : Each GoalNested gs
-  pub few-goals : length gs ≤ 8
-  pub numbered : GoalsNumbered low (c .compounds) gs
-
-pub record RuleFits (low : ℕ) (c : Counted) (r : Rule) : Type 0 where
-  pub head : NamedFits (bounds c) (r .head)
-  pub body : Each (NamedFits (bounds c)) (r .body)
-  pub nested : Each GoalNested (r .head ∷ r .body)
-  pub few-goals : length (r .body) ≤ 8
-  pub numbered : GoalsNumbered low (c .compounds) (r .head ∷ r .body)
-
-pub rule-steady : Steady RuleFits rule
-unfolding rule GoalsNumbered
-rule-steady c =
-    then-alike (goal-steady c) (λ d head w first.
-    then-alike (either-alike d ":" ".") (λ e implied v same.
-    then-alike (body-alike implied e) (λ f body u all.
-    give-alike (record { head = head; body = body }) (record {
-      head = named-widens (widens-trans v u) head (first .fits);
-      body = all .fit;
-      nested = (first .nested, all .nested);
-      few-goals = all .few-goals;
-      numbered = (e .compounds, rw same at (first .numbered), all .numbered);
-    }))))
-  where
-    body-alike : (implied : Bool) (e : Counted)
-        → ReadAlike e (BodyFits (e .compounds)) (if implied then goals 8 else give []) (if implied then goals 8 else give [])
-    body-alike implied e =
-        if-alike implied
-        (λ test. less-alike e (GoalsFit 8 (e .compounds)) (BodyFits (e .compounds))
-        (λ f gs h. record { fit = h .fit; nested = h .nested; few-goals = h .few-goals; numbered = h .numbered }) (goals-steady 8 e))
-        (λ test. give-alike [] (record { fit = tt; nested = tt; few-goals = omega arith; numbered = refl }))

@@ -10,7 +10,37 @@ use lib.Dec.{leb, eqb}
 use lib.ListN.{length}
 use Rattle.meaning.specs.Bytes.{Bytes, byte, if_then_else_}
 use Rattle.meaning.specs.Terms.{Half, reader, writer}
-use Rattle.meaning.specs.Tokens.{Token, name, variable, sign, bad, Tokens, ends, token, Front, blank, lowercase, uppercase, digit, underscore, separates, single-sign, in-run, run, unless-overlong, unsigned, negative, name-front, variable-front, double-front, minus-front, front, placed, tokens-from, tokens}
+use Rattle.meaning.specs.Tokens.{
+  Token,
+  name,
+  variable,
+  sign,
+  bad,
+  Tokens,
+  ends,
+  token,
+  Front,
+  blank,
+  lowercase,
+  uppercase,
+  digit,
+  underscore,
+  separates,
+  single-sign,
+  in-run,
+  run,
+  unless-overlong,
+  unsigned,
+  negative,
+  name-front,
+  variable-front,
+  double-front,
+  minus-front,
+  front,
+  placed,
+  tokens-from,
+  tokens,
+}
 use Rattle.meaning.specs.Items.{is, onto, pieces}
 use Rattle.laws.proofs.Lists.{In, here, there, in-none, in-single, in-cons-cases, if-holds, differ}
 use Rattle.laws.proofs.Reading.Rising.{StandsAt}
@@ -59,7 +89,8 @@ front-so c cs =
     (λ e. if-holds (FrontSo s) (underscore c) _ _ (λ e. bad-so s)
     (λ e. if-holds (FrontSo s) (eqb c (byte "-")) _ _ (λ e. if-holds (FrontSo s) _ _ _ (λ e. negative-so s (run cs)) (λ e. bad-so s))
     (λ e. if-holds (FrontSo s) (eqb c (byte ":") || eqb c (byte "?")) _ _ (λ e. if-holds (FrontSo s) _ _ _ (λ e. sign-so s c) (λ e. bad-so s))
-    (λ e. if-holds (FrontSo s) (single-sign c) _ _ (λ e. sign-so s c) (λ e. bad-so s)))))))))
+    (λ e. if-holds (FrontSo s) (eqb c (byte "=")) _ _ (λ e. if-holds (FrontSo s) _ _ _ (λ e. sign-so s c) (λ e. bad-so s))
+    (λ e. if-holds (FrontSo s) (single-sign c) _ _ (λ e. sign-so s c) (λ e. bad-so s))))))))))
 
 run-in-front : (cs : Bytes) → (behind : Bytes) × (cs ≡ run cs ++ behind)
 unfolding run

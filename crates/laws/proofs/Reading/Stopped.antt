@@ -5,14 +5,60 @@ use Prim.Native.Nat.{ℕ, zero, suc, _+_}
 use mathlib.Core.Path.{_≡_, refl}
 use mathlib.Core.Logic.{_⊎_, inl, inr}
 use mathlib.Core.Bool.{Bool, true, false}
-use mathlib.Core.List.{[], _∷_, _++_}
+use mathlib.Core.List.{List, [], _∷_, _++_}
 use mathlib.Core.Option.{Option, none, some}
 use lib.Dec.{ltb, eqb}
 use lib.ListN.{length}
 use Rattle.meaning.specs.Bytes.{Bytes, byte, if_then_else_, same, any}
-use Rattle.meaning.specs.Terms.{Constant, empty, cell, Term, compound, end, more, as-term}
+use Rattle.meaning.specs.Terms.{Constant, empty, cell, named, Term, compound, end, more, Named, as-term}
 use Rattle.meaning.specs.Tokens.{Token, name, variable, integer, sign, bad, Tokens, ends, token}
-use Rattle.meaning.specs.Items.{Counted, Read, read, malformed, passed, Reader, read-on, _>>=_, _>>_, give, cannot-stand, passes, next, is, is-name, begins-term, standing, expect, either, if-next, count-name, place-of, new-variable, count-variable, count-compound, arguments, compound-of, tail-of, elements, list-of, term-from, term, goal-from, goal, goals, rule}
+use Rattle.meaning.specs.Table.{Element, whole, bare, equals, as-goals}
+use Rattle.meaning.specs.Items.{
+  Counted,
+  Read,
+  read,
+  malformed,
+  passed,
+  Reader,
+  read-on,
+  _>>=_,
+  _>>_,
+  give,
+  cannot-stand,
+  passes,
+  next,
+  is,
+  is-name,
+  begins-term,
+  standing,
+  expect,
+  either,
+  if-next,
+  count-name,
+  place-of,
+  new-variable,
+  count-variable,
+  count-compound,
+  arguments,
+  compound-of,
+  tail-of,
+  elements,
+  list-of,
+  term-from,
+  term,
+  goal-from,
+  goal,
+  goals,
+  by-itself,
+  equals-behind,
+  element-behind,
+  unguarded,
+  here,
+  guarded,
+  behind-element,
+  body,
+  rule,
+}
 
 -- A place of some tokens, or of their end.
 unfoldable pub At : ℕ → Tokens → Type 0
@@ -223,8 +269,47 @@ goals-stop (suc left) =
     then-stops goal-stops (λ g. then-stops (either-stops "," ".") (λ another.
     if-stops another (then-stops (goals-stop left) (λ gs. give-stops (g ∷ gs))) (give-stops (g ∷ []))))
 
+-- What stands behind a clause's `:-`.
+nothing-stands-stops : {A : Type 0} → Stops {A = A} (next (λ place t. cannot-stand place))
+nothing-stands-stops = next-stops (λ place t. cannot-stand-stops place)
+
+by-itself-stops : (t : Term) → Stops (by-itself t)
+unfolding by-itself
+by-itself-stops (compound n (named f) ts) = give-stops (whole (record { number = n; name = f; arguments = ts }))
+by-itself-stops (compound n cell ts) = nothing-stands-stops
+by-itself-stops (Term.constant (Constant.name f)) = give-stops (bare f)
+by-itself-stops (Term.constant (Constant.integer i)) = nothing-stands-stops
+by-itself-stops (Term.constant empty) = nothing-stands-stops
+by-itself-stops (Term.variable h n) = nothing-stands-stops
+
+element-behind-stops : Stops element-behind
+unfolding element-behind equals-behind
+element-behind-stops =
+    then-stops (term-stops 16) (λ t.
+    if-next-stops "=" (then-stops count-compound-stops (λ n. then-stops (term-stops 16) (λ right. give-stops (equals n t right)))) (by-itself-stops t))
+
+guarded-stops : (es : List Element) → Stops (guarded es)
+unfolding guarded here
+guarded-stops es =
+    then-stops (record { from = λ c s p m. m }) (λ behind.
+    then-stops (if-next-stops "." (give-stops []) (goals-stop 8)) (λ gs. give-stops (record { guards = es; goals = gs; behind = some behind })))
+
+unguarded-stops : (place : ℕ) (o : Option (List Named)) → StopsBehind place (unguarded place o)
+unfolding unguarded
+unguarded-stops place none = cannot-stand-stops place
+unguarded-stops place (some gs) = behind-token place (give-stops (record { guards = []; goals = gs; behind = none }))
+
+body-stops : (left : ℕ) (before : List Element) → Stops (body left before)
+unfolding body behind-element
+body-stops zero before = behind-stops (standing-stops begins-term) passes-stops
+body-stops (suc left) before =
+    then-stops element-behind-stops (λ e. next-stops (λ place t.
+    if-stops-behind place (is "," t) (behind-token place (body-stops left (before ++ (e ∷ []))))
+    (if-stops-behind place (is "|" t) (behind-token place (guarded-stops (before ++ (e ∷ []))))
+    (if-stops-behind place (is "." t) (unguarded-stops place (as-goals (before ++ (e ∷ [])))) (cannot-stand-stops place)))))
+
 pub rule-stops : Stops rule
 unfolding rule
 rule-stops =
     then-stops goal-stops (λ head. then-stops (either-stops ":" ".") (λ implied.
-    then-stops (if-stops implied (goals-stop 8) (give-stops [])) (λ body. give-stops (record { head = head; body = body }))))
+    then-stops (if-stops implied (body-stops 8 []) (give-stops (record { guards = []; goals = []; behind = none }))) (λ b. give-stops (record { head = head; body = b }))))

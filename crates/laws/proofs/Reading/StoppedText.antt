@@ -9,11 +9,53 @@ use mathlib.Core.Option.{Option, none, some}
 use native.Mathlib.Omega.{arith}
 use lib.Dec.{leb, ltb}
 use lib.ListN.{length}
-use Rattle.meaning.specs.Bytes.{Bytes, if_then_else_}
-use Rattle.meaning.specs.Terms.{Named, Clause, Query}
+use Rattle.meaning.specs.Bytes.{Bytes, if_then_else_, all}
+use Rattle.meaning.specs.Terms.{Named, Guard, Clause, Query}
 use Rattle.meaning.specs.Tokens.{Token, Tokens, ends, token, Front, blank, front, placed, tokens-from, tokens}
-use Rattle.meaning.specs.Faults.{Fault}
-use Rattle.meaning.specs.Items.{Read, read, malformed, passed, is, is-name, goals, Rule, rule, no-item, figure, no-query, SoFar, Piece, nothing, clause, query, refused, unless-broken, clause-piece, query-piece, fresh, clause-from, query-from, item-from, item, onto, pieces, Reading, job, with-clause, with-query, items, asked, reading}
+use Rattle.meaning.specs.Faults.{Fault, pairing, clause-faults, least}
+use Rattle.meaning.specs.Table.{as-guards, of-the-head}
+use Rattle.meaning.specs.Items.{
+  Counted,
+  Read,
+  read,
+  malformed,
+  passed,
+  is,
+  is-name,
+  goals,
+  Rule,
+  rule,
+  no-item,
+  guard-rule,
+  figure,
+  no-query,
+  SoFar,
+  Piece,
+  nothing,
+  clause,
+  query,
+  refused,
+  unless-broken,
+  free,
+  with-guards,
+  unless-unknown,
+  clause-piece,
+  query-piece,
+  fresh,
+  clause-from,
+  query-from,
+  item-from,
+  item,
+  onto,
+  pieces,
+  Reading,
+  job,
+  with-clause,
+  with-query,
+  items,
+  asked,
+  reading,
+}
 use Rattle.laws.proofs.Lists.{In, here, there, in-none, in-single, in-cons-cases, differ}
 use Rattle.laws.proofs.Reading.Rising.{StandsAt}
 use Rattle.laws.proofs.Reading.Stopped.{At, goals-stop, rule-stops}
@@ -25,9 +67,21 @@ module _ (so-far : SoFar) (at : ℕ) (t : Token) (rest : Tokens) (p : ℕ) where
   not-four none accepted h e = h e
   not-four (some fault) accepted h e = differ (cc)
 
+  guarded-not-four : (r : Rule) (counted : Counted) (o : Option (List Guard)) → unless-unknown at (token at t rest) r counted o ≡ refused (no-item p) → ⊥
+  unfolding unless-unknown with-guards if_then_else_
+  guarded-not-four r counted none e = differ (cc)
+  guarded-not-four r counted (some guards) e = go (all (of-the-head (length (counted .variables)) (r .head)) guards) refl
+    where
+      go : (b : Bool) → all (of-the-head (length (counted .variables)) (r .head)) guards ≡ b → ⊥
+      go true q =
+          not-four (least (clause-faults (free guards (counted .variables)) (pairing (r .body .behind) (token at t rest)) (counted .variables)))
+          (clause (record { head = r .head; guards = guards; body = r .body .goals; pairs = length (counted .variables); compounds = counted .compounds }) (counted .names))
+          (λ d. differ (cc)) (rw q at e)
+      go false q = let e′ : Piece.refused (guard-rule at) ≡ refused (no-item p) = rw q at e in differ (cc)
+
   as-clause : (x : Read Rule) → rule (fresh (so-far .names)) (token at t rest) ≡ x → clause-piece at (token at t rest) x ≡ refused (no-item p) → At p (token at t rest)
   unfolding clause-piece
-  as-clause (read r counted behind) e q = absurd (not-four _ _ (λ d. differ (cc)) q)
+  as-clause (read r counted behind) e q = absurd (guarded-not-four r counted (as-guards (r .body .guards)) q)
   as-clause (malformed place) e q =
       let place-is : place ≡ p = cc in
       rw (← place-is) (rw e at (rule-stops .from (fresh (so-far .names)) (token at t rest)))

@@ -10,13 +10,34 @@ use native.Mathlib.Omega.{arith}
 use lib.Dec.{ltb, eqb}
 use lib.ListN.{length}
 use borrow.Author.Tests.{eqb-true, eq-eqb}
-use Rattle.meaning.specs.Bytes.{Bytes, if_then_else_, same, any}
+use Rattle.meaning.specs.Bytes.{Bytes, byte, if_then_else_, same, any}
 use Rattle.meaning.specs.Terms.{Half, Term, same-half, occurrences}
 use Rattle.meaning.specs.Tokens.{Token, name, variable, integer, sign, bad, Tokens, ends, token}
 use Rattle.meaning.specs.Faults.{is-half, occurs-at}
 use Rattle.meaning.specs.Items.{Counted, read, malformed, passed, Reader, read-on, _>>=_, give, is, standing, expect, either, count-name, place-of, new-variable, count-variable, count-compound}
 use Rattle.laws.proofs.Lists.{differ, false-not-true, same-refl, same-true}
-use Rattle.laws.proofs.Reading.Passed.{Extends, extends-refl, cut-behind, stop-ends, Mark, before-stop, behind-stop, never, by-number, by-number-never, Over, over-nothing, Counts, CountsBehind, give-counts, over-token, cannot-stand-behind, if-behind, next-counts}
+use Rattle.laws.proofs.Reading.Pairing.{at-once, over}
+use Rattle.laws.proofs.Reading.Passed.{
+  Extends,
+  extends-refl,
+  cut-behind,
+  stop-ends,
+  Mark,
+  before-stop,
+  behind-stop,
+  never,
+  by-number,
+  by-number-never,
+  Over,
+  over-nothing,
+  Counts,
+  CountsBehind,
+  give-counts,
+  over-token,
+  cannot-stand-behind,
+  if-behind,
+  next-counts,
+}
 
 -- A spelling keeps its place when others are counted; a new one has the next place; and a place has one spelling.
 pub place-stays : (x : Bytes) (l m : List Bytes) (n : ℕ) → place-of x l ≡ some n → place-of x (l ++ m) ≡ some n
@@ -113,7 +134,7 @@ standing-counts {from} can = record { over = go }
 -- Nothing is passed over and no variable counted.
 same-variables : (from : Mark) (c d : Counted) (s rest : Tokens) → rest ≡ s → d .variables ≡ c .variables → Over from from c s d rest
 same-variables from c d s rest e v =
-    rw e (record { grows = rw v (extends-refl (c .variables)); shape = λ h. h; counts = λ w later h x. refl })
+    rw e (record { grows = rw v (extends-refl (c .variables)); past = at-once; shape = λ h. h; counts = λ w later h x. refl })
 
 abbrev with-name : Bytes → Counted → Counted
 with-name f c = record { names = c .names ++ (f ∷ []); variables = c .variables; compounds = c .compounds }
@@ -162,39 +183,52 @@ sign-no-half c (integer i) e h x = refl
 sign-no-half c (sign b) e h x = refl
 sign-no-half c bad e h x = refl
 
-pub taken : {A : Type 0} {f : Half → ℕ → ℕ} {to : A → Mark} {r : Reader A} (c : Char) (t : Token) → is c t ≡ true → Counts (before-stop f) to r
+-- A sign other than `:-`.
+abbrev pub NotImplied : Char → Type 0
+NotImplied c = eqb (byte c) (byte ":") ≡ false
+
+pub sign-not-implied : (c : Char) (t : Token) → NotImplied c → is c t ≡ true → is ":" t ≡ false
+unfolding is
+sign-not-implied c (name f) n e = refl
+sign-not-implied c (variable h x) n e = refl
+sign-not-implied c (integer i) n e = refl
+sign-not-implied c (sign b) n e = rw (eqb-true b (byte c) e) n
+sign-not-implied c bad n e = refl
+
+pub taken : {A : Type 0} {f : Half → ℕ → ℕ} {to : A → Mark} {r : Reader A} (c : Char) (t : Token) → NotImplied c → is c t ≡ true → Counts (before-stop f) to r
     → CountsBehind (before-stop f) to t r
-taken c t e counts = over-token false t (sign-no-half c t e) (λ place s h. cut-behind place t s h) counts
+taken c t n e counts = over-token false t (sign-no-half c t e) (sign-not-implied c t n e) (λ place s h. cut-behind place t s h) counts
 
 pub stop-taken : {A : Type 0} {f : Half → ℕ → ℕ} {to : A → Mark} {r : Reader A} (t : Token) → is "." t ≡ true → Counts (behind-stop f) to r
     → CountsBehind (before-stop f) to t r
-stop-taken t e counts = over-token true t (sign-no-half "." t e) (λ place s h. stop-ends place t s e h) counts
+unfolding byte
+stop-taken t e counts = over-token true t (sign-no-half "." t e) (sign-not-implied "." t refl e) (λ place s h. stop-ends place t s e h) counts
 
-pub expect-counts : {f : Half → ℕ → ℕ} (c : Char) → Counts (before-stop f) (λ u. before-stop f) (expect c)
+pub expect-counts : {f : Half → ℕ → ℕ} (c : Char) → NotImplied c → Counts (before-stop f) (λ u. before-stop f) (expect c)
 unfolding expect
-expect-counts c =
+expect-counts c n =
     next-counts (λ place t. if-behind (is c t) t
-    (λ e. taken c t e (give-counts tt (λ s h. h) (λ h n. refl)))
+    (λ e. taken c t n e (give-counts tt (λ s h. h) (λ h n. refl)))
     (λ e. cannot-stand-behind place t))
 
-pub either-counts : {f : Half → ℕ → ℕ} (c d : Char) → Counts (before-stop f) (λ b. before-stop f) (either c d)
+pub either-counts : {f : Half → ℕ → ℕ} (c d : Char) → NotImplied c → NotImplied d → Counts (before-stop f) (λ b. before-stop f) (either c d)
 unfolding either
-either-counts c d =
+either-counts c d n m =
     next-counts (λ place t. if-behind (is c t) t
-    (λ e. taken c t e (give-counts true (λ s h. h) (λ h n. refl)))
+    (λ e. taken c t n e (give-counts true (λ s h. h) (λ h n. refl)))
     (λ e. if-behind (is d t) t
-    (λ e. taken d t e (give-counts false (λ s h. h) (λ h n. refl)))
+    (λ e. taken d t m e (give-counts false (λ s h. h) (λ h n. refl)))
     (λ e. cannot-stand-behind place t)))
 
 -- The full stop is one of the two.
 abbrev pub stop-unless : (Half → ℕ → ℕ) → Bool → Mark
 stop-unless f b = record { stopped = not b; often = f }
 
-pub either-stop-counts : {f : Half → ℕ → ℕ} (c : Char) → Counts (before-stop f) (stop-unless f) (either c ".")
+pub either-stop-counts : {f : Half → ℕ → ℕ} (c : Char) → NotImplied c → Counts (before-stop f) (stop-unless f) (either c ".")
 unfolding either
-either-stop-counts c =
+either-stop-counts c n =
     next-counts (λ place t. if-behind (is c t) t
-    (λ e. taken c t e (give-counts true (λ s h. h) (λ h n. refl)))
+    (λ e. taken c t n e (give-counts true (λ s h. h) (λ h n. refl)))
     (λ e. if-behind (is "." t) t
     (λ e. stop-taken t e (give-counts false (λ s h. h) (λ h n. refl)))
     (λ e. cannot-stand-behind place t)))
@@ -209,9 +243,11 @@ term-often t = before-stop (λ h n. occurrences h n t)
 module _ (k : Half) (x : Bytes) where
   variable-over : (place : ℕ) (c : Counted) (s : Tokens) (d : Counted) (n : ℕ) → Extends (c .variables) (d .variables) → place-of x (d .variables) ≡ some n
       → Over (before-stop never) (term-often (Term.variable k n)) c (token place (variable k x) s) d s
+  unfolding is
   variable-over place c s d n grows here =
       record {
         grows = grows;
+        past = over refl at-once;
         shape = λ h. cut-behind place (variable k x) s h;
         counts = λ w later h y.
             let there : place-of x w ≡ some n = rw (later .1) (place-stays x (d .variables) (later .0) n here) in

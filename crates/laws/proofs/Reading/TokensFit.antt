@@ -1,7 +1,7 @@
--- The tokens of a text: an integer is in range, and a spelling has 1 to 31 bytes.
+-- The tokens of a text: an integer is in range, and a spelling has 1 to 31 bytes, led by a letter.
 -- An integer's digits have no leading zero, so that of a negative one the value is at least 1.
 use Prim.Native.Nat.{ℕ, _≤_, _+_, _*_, _-_}
-use mathlib.Core.Path.{_≡_}
+use mathlib.Core.Path.{_≡_, refl}
 use mathlib.Core.Logic.{_⊎_, inl, inr}
 use mathlib.Core.Bool.{true, not, _&&_, _||_}
 use mathlib.Core.List.{[], _∷_}
@@ -17,6 +17,8 @@ use Rattle.meaning.specs.Tokens.{
   sign,
   bad,
   between,
+  lowercase,
+  uppercase,
   digit,
   next-is,
   value,
@@ -26,8 +28,8 @@ use Rattle.meaning.specs.Tokens.{
   tokens,
 }
 use Rattle.meaning.specs.Items.{pieces}
-use Rattle.laws.proofs.Lists.{Each, if-holds, and-left, and-right, or-true, same-true}
-use Rattle.laws.proofs.Reading.Figures.{IntegerFits, SpellingFits}
+use Rattle.laws.proofs.Lists.{Each, if-holds, and-left, and-right, or-true, or-true-right, same-true}
+use Rattle.laws.proofs.Reading.Figures.{IntegerFits, letter, SpellingFits}
 use Rattle.laws.proofs.Reading.EachToken.{EachToken, each-token-of-text, each-token-of-pieces}
 
 unfoldable pub TokenFits : Token → Type 0
@@ -71,12 +73,12 @@ negative-fits c cs d =
 
 -- Every token of a text fits, in each of the pieces behind its full stops.
 pub tokens-fit : (text : Bytes) → Each (EachToken TokenFits) (pieces (tokens text))
-unfolding TokenFits
+unfolding TokenFits letter next-is
 tokens-fit text =
     each-token-of-pieces TokenFits (tokens text)
     (each-token-of-text TokenFits (record {
-      names = λ c cs low few. record { some = omega arith; few = few };
-      variables = λ h c cs up few. record { some = omega arith; few = few };
+      names = λ c cs low few. record { some = omega arith; few = few; led = rw low refl };
+      variables = λ h c cs up few. record { some = omega arith; few = few; led = or-true-right (lowercase c) (uppercase c) up };
       unsigned-ones = unsigned-fits;
       negative-ones = negative-fits;
       signs = λ c. tt;

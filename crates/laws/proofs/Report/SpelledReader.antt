@@ -2,14 +2,16 @@
 -- One law for each reader: from good tokens and good counts it reads something good and leaves them good.
 use Prim.Native.Char.{Char}
 use Prim.Native.Nat.{ℕ, zero, suc, _+_}
+use mathlib.Core.Path.{_≡_, refl}
 use mathlib.Core.Bool.{Bool, true, false}
 use mathlib.Core.List.{List, [], _∷_, _++_}
 use mathlib.Core.Option.{Option, none, some}
 use lib.Dec.{ltb, eqb}
 use lib.ListN.{length}
 use Rattle.meaning.specs.Bytes.{Bytes, byte, same, if_then_else_, any}
-use Rattle.meaning.specs.Terms.{Constant, empty, cell, Term, Terms, compound, end, more, Named, as-term}
+use Rattle.meaning.specs.Terms.{Constant, empty, cell, named, Term, Terms, compound, end, more, Named, as-term}
 use Rattle.meaning.specs.Tokens.{Token, name, variable, integer, sign, bad, Tokens, ends, token}
+use Rattle.meaning.specs.Table.{Element, whole, bare, equals, as-goals}
 use Rattle.meaning.specs.Items.{
   Counted,
   Read,
@@ -46,6 +48,15 @@ use Rattle.meaning.specs.Items.{
   goal-from,
   goal,
   goals,
+  by-itself,
+  equals-behind,
+  element-behind,
+  Body,
+  unguarded,
+  here,
+  guarded,
+  behind-element,
+  body,
   Rule,
   rule,
 }
@@ -286,12 +297,79 @@ module _ (N X : Bytes → Type 0) where
 
   pub record Rule-spelled (r : Rule) : Type 0 where
     pub head : Goal-spelled N (r .head)
-    pub body : Each (Goal-spelled N) (r .body)
+    pub body : Each (Goal-spelled N) (r .body .goals)
+
+  -- Behind `:-`: what can be a goal is spelled as one.
+  abbrev Element-good : Element → Type 0
+  Element-good (whole g) = Goal-spelled N g
+  Element-good (bare f) = Unit {0}
+  Element-good (equals n t u) = Unit {0}
+
+  abbrev Goals-good : Option (List Named) → Type 0
+  Goals-good none = Unit {0}
+  Goals-good (some gs) = Each (Goal-spelled N) gs
+
+  as-goals-good : (es : List Element) → Each Element-good es → Goals-good (as-goals es)
+  unfolding as-goals
+  as-goals-good [] h = tt
+  as-goals-good (whole g ∷ es) h = go (as-goals es) refl (as-goals-good es (h .1))
+    where
+      go : (o : Option (List Named)) → as-goals es ≡ o → Goals-good (as-goals es) → Goals-good (as-goals (whole g ∷ es))
+      go none e i = rw (e, as-goals) tt
+      go (some gs) e i = rw (e, as-goals) (h .0, rw e at i)
+  as-goals-good (bare f ∷ es) h = tt
+  as-goals-good (equals n t u ∷ es) h = tt
+
+  abbrev Body-good : Body → Type 0
+  Body-good b = Each (Goal-spelled N) (b .goals)
+
+  nothing-stands-reads : {A : Type 0} {P : A → Type 0} → Reads A P (next (λ place t. cannot-stand place))
+  nothing-stands-reads = next-reads (λ place t g. cannot-stand-reads place)
+
+  by-itself-reads : (t : Term) → Spelled N t → Reads Element Element-good (by-itself t)
+  unfolding by-itself Spelled Functor-spelled Goal-spelled
+  by-itself-reads (compound n (named f) ts) s = give-reads (whole (record { number = n; name = f; arguments = ts })) s
+  by-itself-reads (compound n cell ts) s = nothing-stands-reads
+  by-itself-reads (Term.constant (Constant.name f)) s = give-reads (bare f) tt
+  by-itself-reads (Term.constant (Constant.integer i)) s = nothing-stands-reads
+  by-itself-reads (Term.constant empty) s = nothing-stands-reads
+  by-itself-reads (Term.variable h n) s = nothing-stands-reads
+
+  element-behind-reads : Reads Element Element-good element-behind
+  unfolding element-behind equals-behind
+  element-behind-reads =
+      then-reads (term-reads 16) (λ t s.
+      if-next-reads "="
+      (then-reads count-compound-reads (λ n u. then-reads (term-reads 16) (λ right ss. give-reads (equals n t right) tt)))
+      (by-itself-reads t s))
+
+  guarded-reads : (es : List Element) → Reads Body Body-good (guarded es)
+  unfolding guarded here
+  guarded-reads es =
+      then-reads {P = Any} (record { from = λ counted rest c t. (tt, c, t) }) (λ behind u.
+      then-reads {P = Each (Goal-spelled N)} (if-next-reads "." (give-reads [] tt) (goals-reads 8)) (λ gs ss.
+      give-reads (record { guards = es; goals = gs; behind = some behind }) ss))
+
+  unguarded-reads : (place : ℕ) (o : Option (List Named)) → Goals-good o → Reads Body Body-good (unguarded place o)
+  unfolding unguarded
+  unguarded-reads place none h = cannot-stand-reads place
+  unguarded-reads place (some gs) h = give-reads (record { guards = []; goals = gs; behind = none }) h
+
+  body-reads : (left : ℕ) (before : List Element) → Each Element-good before → Reads Body Body-good (body left before)
+  unfolding body behind-element
+  body-reads zero before h = behind-reads (standing-reads begins-term) passes-reads
+  body-reads (suc left) before h =
+      then-reads element-behind-reads (λ e s.
+      let hs = each-append Element-good before (e ∷ []) h (s, tt) in
+      next-reads (λ place t g.
+      if-reads (is "," t) (body-reads left (before ++ (e ∷ [])) hs)
+      (if-reads (is "|" t) (guarded-reads (before ++ (e ∷ [])))
+      (if-reads (is "." t) (unguarded-reads place (as-goals (before ++ (e ∷ []))) (as-goals-good (before ++ (e ∷ [])) hs)) (cannot-stand-reads place)))))
 
   pub rule-reads : Reads Rule Rule-spelled rule
   unfolding rule
   rule-reads =
       then-reads goal-reads (λ head s.
       then-reads (either-reads ":" ".") (λ implied u.
-      then-reads {P = Each (Goal-spelled N)} (if-reads implied (goals-reads 8) (give-reads [] tt)) (λ body ss.
-      give-reads (record { head = head; body = body }) (record { head = s; body = ss }))))
+      then-reads {P = Body-good} (if-reads implied (body-reads 8 [] tt) (give-reads (record { guards = []; goals = []; behind = none }) tt)) (λ behind ss.
+      give-reads (record { head = head; body = behind }) (record { head = s; body = ss }))))

@@ -7,9 +7,10 @@ use mathlib.Core.Option.{Option, none, some}
 use lib.Dec.{leb, ltb}
 use lib.ListN.{length}
 use Rattle.meaning.specs.Bytes.{Bytes}
-use Rattle.meaning.specs.Terms.{Named, Clause, Query}
+use Rattle.meaning.specs.Terms.{Named, Guard, Clause, Query}
 use Rattle.meaning.specs.Tokens.{Tokens, ends, token, tokens}
 use Rattle.meaning.specs.Faults.{Fault}
+use Rattle.meaning.specs.Table.{as-guards}
 use Rattle.meaning.specs.Items.{
   Read,
   read,
@@ -25,6 +26,8 @@ use Rattle.meaning.specs.Items.{
   query,
   refused,
   unless-broken,
+  with-guards,
+  unless-unknown,
   clause-piece,
   query-piece,
   fresh,
@@ -68,9 +71,12 @@ module _ (N X : Bytes → Type 0) where
   unless-broken-good begins (some fault) accepted g = tt
 
   clause-piece-good : (begins : ℕ) (piece : Tokens) (r : Read Rule) → Good N X (Rule-spelled N X) r → Piece-good (clause-piece begins piece r)
-  unfolding clause-piece
-  clause-piece-good begins piece (read r counted rest) g =
-      unless-broken-good begins _ _ (record { head = g .0 .head; body = g .0 .body })
+  unfolding clause-piece unless-unknown with-guards
+  clause-piece-good begins piece (read r counted rest) g = go (as-guards (r .body .guards))
+    where
+      go : (guards : Option (List Guard)) → Piece-good (unless-unknown begins piece r counted guards)
+      go none = tt
+      go (some guards) = if-holds Piece-good _ _ _ (λ e. unless-broken-good begins _ _ (record { head = g .0 .head; body = g .0 .body })) (λ e. tt)
   clause-piece-good begins piece (malformed place) g = tt
   clause-piece-good begins piece passed g = tt
 

@@ -1,5 +1,5 @@
 -- Counting over terms together with a list of live values: an entry of the list is worth its value less one reader of its pair.
--- So to follow an assigned reader is a flow: its entry is taken out, and its value is counted instead.
+-- So to follow an assigned reader is a flow: its entry is taken out, and its value is counted instead. Closed pairs are not counted.
 use Prim.Native.Nat.{ℕ, zero, suc, _+_, _≤_}
 use mathlib.Core.Path.{_≡_, refl, ap, sym, _∙_}
 use mathlib.Core.Bool.{Bool, true, false}
@@ -14,6 +14,7 @@ use Rattle.meaning.specs.State.{Values, value}
 use Rattle.meaning.specs.Compare.{Assignment, followed}
 use Rattle.laws.proofs.Lists.{Each, sum}
 use Rattle.laws.proofs.Terms.{occurs-itself, occurs-in-other}
+use Rattle.laws.proofs.Single.Closed.{closed, closed-holds-none}
 
 -- How often each half of each pair is counted.
 abbrev pub Count : Type 0
@@ -38,16 +39,16 @@ marks k h n given = sum (λ a. occurrences h n (variable k (a .pair))) given
 abbrev pub Settled : Values → List Assignment → Type 0
 Settled values given = Each (λ a. value values (a .pair) ≡ some (a .value)) given
 
--- An assigned pair's writer is not counted, and its reader at most as often as the pair has a live value.
+-- Of a pair that is assigned and not closed the writer is not counted, and the reader at most as often as the pair has a live value.
 abbrev pub Fair : Values → Count → List Assignment → Type 0
-Fair values c live = (h : Half) (n : ℕ) (t : Term) → value values n ≡ some t → c h n + held h n live ≤ marks reader h n live
+Fair values c live = (h : Half) (n : ℕ) (t : Term) → closed values n ≡ false → value values n ≡ some t → c h n + held h n live ≤ marks reader h n live
 
 -- What is counted becomes another count, with some of the live values used up.
 pub record Flow (values : Values) (c : Count) (live : List Assignment) (c′ : Count) : Type 0 where
   pub left : List Assignment
   pub settled : Settled values left
   pub fewer : (h : Half) (n : ℕ) → marks reader h n left ≤ marks reader h n live
-  pub flow : (h : Half) (n : ℕ) → c′ h n + held h n left + marks reader h n live ≤ c h n + held h n live + marks reader h n left
+  pub flow : (h : Half) (n : ℕ) → closed values n ≡ false → c′ h n + held h n left + marks reader h n live ≤ c h n + held h n live + marks reader h n left
 
 -- Whatever is counted around it, and whatever the live values are, the first becomes the second.
 pub record Flows (values : Values) (c c′ : Count) : Type 0 where
@@ -57,7 +58,7 @@ module _ {values : Values} where
   pub flows-to-less : {c c′ : Count} → ((h : Half) (n : ℕ) → c′ h n ≤ c h n) → Flows values c c′
   flows-to-less less =
       record {
-        from = λ around live s fair. record { left = live; settled = s; fewer = λ h n. omega arith; flow = λ h n. omega (arith, less h n) };
+        from = λ around live s fair. record { left = live; settled = s; fewer = λ h n. omega arith; flow = λ h n o. omega (arith, less h n) };
       }
 
   pub flows-then : {c d e : Count} → Flows values c d → Flows values d e → Flows values c e
@@ -65,12 +66,12 @@ module _ {values : Values} where
       record {
         from = λ around live s fair.
             let f = one .from around live s fair in
-            let g = two .from around (f .left) (f .settled) (λ h n t i. omega (arith, fair h n t i, f .flow h n)) in
+            let g = two .from around (f .left) (f .settled) (λ h n t o i. omega (arith, fair h n t o i, f .flow h n o)) in
             record {
               left = g .left;
               settled = g .settled;
               fewer = λ h n. omega (arith, f .fewer h n, g .fewer h n);
-              flow = λ h n. omega (arith, f .flow h n, g .flow h n);
+              flow = λ h n o. omega (arith, f .flow h n o, g .flow h n o);
             };
       }
 
@@ -79,13 +80,13 @@ module _ {values : Values} where
   flows-both {c} {c′} {d} {d′} one two =
       record {
         from = λ around live s fair.
-            let f = one .from (λ h n. d h n + around h n) live s (λ h n t i. omega (arith, fair h n t i)) in
-            let g = two .from (λ h n. c′ h n + around h n) (f .left) (f .settled) (λ h n t i. omega (arith, fair h n t i, f .flow h n)) in
+            let f = one .from (λ h n. d h n + around h n) live s (λ h n t o i. omega (arith, fair h n t o i)) in
+            let g = two .from (λ h n. c′ h n + around h n) (f .left) (f .settled) (λ h n t o i. omega (arith, fair h n t o i, f .flow h n o)) in
             record {
               left = g .left;
               settled = g .settled;
               fewer = λ h n. omega (arith, f .fewer h n, g .fewer h n);
-              flow = λ h n. omega (arith, f .flow h n, g .flow h n);
+              flow = λ h n o. omega (arith, f .flow h n o, g .flow h n o);
             };
       }
 
@@ -136,21 +137,34 @@ module _ (values : Values) where
             readers-out = λ h n. omega (arith, o .readers-out h n);
           }
 
-  -- An assigned half that is counted is a reader; its value is counted instead of it.
+  -- An assigned half that is counted is a reader, or of a closed pair; its value is counted instead of it. A closed pair's counts nothing.
   pub link : (c : Count) (k : Half) (p : ℕ) (u : Term) → value values p ≡ some u → 1 ≤ c k p → Flows values c (in-term u)
-  link c writer p u e m =
-      record { from = λ around live s fair. absurd (omega (arith, fair writer p u e, no-writer-marks p live)) }
-  link c reader p u e m =
-      record {
-        from = λ around live s fair.
-            let o = taken-out p u live s e (omega (arith, fair reader p u e)) in
-            record {
-              left = o .left;
-              settled = o .settled;
-              fewer = λ h n. omega (arith, o .readers-out h n);
-              flow = λ h n. omega (arith, o .values-out h n, o .readers-out h n, occurs-within c reader p m h n);
-            };
-      }
+  link c k p u e m = go k m (closed values p) refl
+    where
+      go : (k : Half) → 1 ≤ c k p → (b : Bool) → closed values p ≡ b → Flows values c (in-term u)
+      go k m true shut =
+          record {
+            from = λ around live s fair.
+                record {
+                  left = live;
+                  settled = s;
+                  fewer = λ h n. omega arith;
+                  flow = λ h n o. omega (arith, closed-holds-none values p u shut e h n o);
+                };
+          }
+      go writer m false o =
+          record { from = λ around live s fair. absurd (omega (arith, fair writer p u o e, no-writer-marks p live)) }
+      go reader m false o =
+          record {
+            from = λ around live s fair.
+                let out = taken-out p u live s e (omega (arith, fair reader p u o e)) in
+                record {
+                  left = out .left;
+                  settled = out .settled;
+                  fewer = λ h n. omega (arith, out .readers-out h n);
+                  flow = λ h n o. omega (arith, out .values-out h n, out .readers-out h n, occurs-within c reader p m h n);
+                };
+          }
 
   -- So does an assigned variable become its value.
   pub value-flows : (k : Half) (p : ℕ) (u : Term) → value values p ≡ some u

@@ -14,6 +14,7 @@ use Rattle.laws.proofs.Lists.{Each, sum, sum-append, differ, TakenOut, 
 use Rattle.laws.proofs.Trial.{value-replicate}
 use Rattle.laws.proofs.Runs.{run-keeps}
 use Rattle.laws.proofs.Runs.Charges.{step-units}
+use Rattle.laws.proofs.Circle.Never.{start-no-circle}
 use Rattle.laws.proofs.Reading.{QueryOk, JobOk}
 use Rattle.laws.proofs.Single.Balance.{Balanced, balanced-less}
 use Rattle.laws.proofs.Single.Counting.{own, entered, entered-at-other, entered-later}
@@ -29,8 +30,9 @@ first-balanced q ok =
     record {
       live = [];
       settled = tt;
-      once = λ h n. omega (arith, ok .once h n);
-      fair = λ h n t e. absurd (valueless (length (q .variables)) n t e);
+      once = λ h n o. omega (arith, ok .once h n);
+      fair = λ h n t o e. absurd (valueless (length (q .variables)) n t e);
+      gone = λ n t e. absurd (valueless (length (q .variables)) n t e);
       below = λ h n e. omega (arith, ok .below h n (rw length-replicate at e));
       values-below = λ m t e. absurd (valueless (length (q .variables)) m t e);
     }
@@ -66,8 +68,10 @@ start-sound : (queries : List Query) → Each QueryOk queries → (k : ℕ) → 
 unfolding start
 start-sound queries oks k inside =
     record {
+      no-circle = start-no-circle queries k;
       balanced = balanced-less _ _ _ (λ h n. omega arith) (start-balanced queries 0 k k (omega arith) inside oks);
       chained = tt;
+      idle = tt;
     }
 
 -- As many units as queries, each sound.

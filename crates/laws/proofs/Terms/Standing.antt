@@ -1,6 +1,6 @@
 -- Which pairs stand in a term, and whether all are below a number or all at or beyond it.
 -- A pair stands in a term exactly if one of its halves occurs in it; renaming apart raises all beyond.
-use Prim.Native.Nat.{ℕ, _≤_, _<_}
+use Prim.Native.Nat.{ℕ, _+_, _≤_, _<_}
 use mathlib.Core.Path.{_≡_, refl}
 use mathlib.Core.Logic.{_↔_, _⊎_, inl, inr}
 use mathlib.Core.Bool.{Bool, true, false, _&&_}
@@ -19,6 +19,7 @@ use Rattle.meaning.specs.Terms.{
   end,
   more,
   same-half,
+  renamed,
   all-renamed,
   occurrences,
   all-occurrences,
@@ -114,3 +115,30 @@ all-renamed-beyond ts n c p s = go (decLt p n) (stands-occurs-in (all-renamed n 
     go : Dec (p < n) → (h : Half) × (1 ≤ all-occurrences h p (all-renamed n c ts)) → n ≤ p
     go (yes b) (h, o) = absurd (omega (arith, all-renamed-below n c h p ts b))
     go (no b) o = omega arith
+
+-- The pairs of a term renamed apart are its pairs, raised.
+mutual
+  unfolding Stands StandsIn renamed all-renamed
+
+  pub stands-renamed : (t : Term) (n c j : ℕ) → Stands j (renamed n c t) → (x : ℕ) × (j ≡ n + x) × Stands x t
+  stands-renamed (variable h x) n c j s = (x, s, refl)
+  stands-renamed (constant k) n c j s = absurd s
+  stands-renamed (compound m f ts) n c j s = stands-all-renamed ts n c j s
+
+  pub stands-all-renamed : (ts : Terms) (n c j : ℕ) → StandsIn j (all-renamed n c ts) → (x : ℕ) × (j ≡ n + x) × StandsIn x ts
+  stands-all-renamed end n c j s = absurd s
+  stands-all-renamed (more t ts) n c j (inl s) = let (x, e, i) = stands-renamed t n c j s in (x, e, inl i)
+  stands-all-renamed (more t ts) n c j (inr s) = let (x, e, i) = stands-all-renamed ts n c j s in (x, e, inr i)
+
+mutual
+  unfolding Stands StandsIn renamed all-renamed
+
+  pub renamed-stands : (t : Term) (n c x : ℕ) → Stands x t → Stands (n + x) (renamed n c t)
+  renamed-stands (variable h y) n c x s = rw s
+  renamed-stands (constant k) n c x s = absurd s
+  renamed-stands (compound m f ts) n c x s = all-renamed-stand ts n c x s
+
+  pub all-renamed-stand : (ts : Terms) (n c x : ℕ) → StandsIn x ts → StandsIn (n + x) (all-renamed n c ts)
+  all-renamed-stand end n c x s = absurd s
+  all-renamed-stand (more t ts) n c x (inl s) = inl (renamed-stands t n c x s)
+  all-renamed-stand (more t ts) n c x (inr s) = inr (all-renamed-stand ts n c x s)

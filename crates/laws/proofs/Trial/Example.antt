@@ -27,6 +27,7 @@ unfoldable pub rule : Clause
 rule =
     record {
       head = n-of (f-of (constant (integer (plus 1))) (constant (integer (plus 2)))) (constant (integer (plus 3)));
+      guards = [];
       body = [];
       pairs = 0;
       compounds = 2;
@@ -52,7 +53,7 @@ unfolding example-words
 example-places = (refl, refl)
 
 -- What comes of them.
-pub example-trials : (trial rule five-pairs failing-goal ≡ fails) × (trial rule five-pairs waiting-goal ≡ waits (2 ∷ 3 ∷ []))
+pub example-trials : (trial [] rule five-pairs failing-goal ≡ fails) × (trial [] rule five-pairs waiting-goal ≡ waits (2 ∷ 3 ∷ []))
 unfolding example-words
 example-trials = (refl, refl)
 
@@ -62,13 +63,13 @@ unfolding example-words
 example-choices = (refl, refl)
 
 -- The same by the laws.
-pub example-fails : trial rule five-pairs failing-goal ≡ fails
+pub example-fails : trial [] rule five-pairs failing-goal ≡ fails
 example-fails =
-    trial-fails-by-any-place rule five-pairs failing-goal (rw (example-places .0) (there {x = waits-on 0} (here {x = fails} refl)))
+    trial-fails-by-any-place [] rule five-pairs failing-goal (rw (example-places .0) (there {x = waits-on 0} (here {x = fails} refl)))
 
 pub example-waits-on-the-second : In {A = ℕ} 3 (2 ∷ 3 ∷ [])
 example-waits-on-the-second =
-    trial-waits-on-every-reader rule five-pairs waiting-goal (2 ∷ 3 ∷ []) (example-trials .1) 3
+    trial-waits-on-every-reader [] rule five-pairs waiting-goal (2 ∷ 3 ∷ []) (example-trials .1) 3
     (rw (example-places .1) (there {x = waits-on 2} (here {x = waits-on 3} refl)))
 
 -- Three places, whichever two are taken together first.

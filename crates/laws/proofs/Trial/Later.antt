@@ -34,7 +34,7 @@ FoundLater (variable reader z) t = (q : ℕ) → t ≡ variable writer q → ⊥
 FoundLater (constant k) t = t ≡ constant k
 FoundLater (compound n f ts) t = t ≡ compound n f ts
 
-count-renamed : (p c : ℕ) (ts : Terms) → count (all-renamed p c ts) ≡ count ts
+pub count-renamed : (p c : ℕ) (ts : Terms) → count (all-renamed p c ts) ≡ count ts
 unfolding count all-renamed
 count-renamed p c end = refl
 count-renamed p c (more t ts) = ap suc (count-renamed p c ts)

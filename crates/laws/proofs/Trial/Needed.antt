@@ -1,18 +1,20 @@
--- T-03 as it is asked for: any failing place fails the trial, and otherwise it waits on every reader needed, and on no other.
--- By the results at the places that the comparison reaches; so what waits has a reader, and a goal fails only if every clause does.
-use Prim.Native.Nat.{ℕ}
+-- T-03 as it is asked for: any failing place fails the trial, and otherwise it waits on every reader needed; on no other but a guard's, where all agree.
+-- By the results at the places that the comparison reaches; so what waits has a reader, or an earlier clause has.
+use Prim.Native.Nat.{ℕ, _≤_}
 use mathlib.Core.Path.{_≡_, refl, sym, ap, subst, _∙_}
 use mathlib.Core.Logic.{_⊎_, inl, inr, ⊎-elim, _≢_}
 use mathlib.Core.List.{List, [], _∷_, _++_}
 use lib.ListN.{length}
-use Rattle.meaning.specs.Terms.{Term, Terms, Named, Clause, all-renamed}
+use Rattle.meaning.specs.Terms.{reader, Term, Terms, Named, Guard, Clause, all-renamed, all-occurrences}
 use Rattle.meaning.specs.State.{QueryUnit}
-use Rattle.meaning.specs.Compare.{Result, succeeds, waits, fails, waits-on, with-assignments, with-readers, and-then, followed, places}
-use Rattle.meaning.specs.Trial.{next-pair, compared, tested, trial, procedure, reduces, joins-waiting, joins-failed, none-succeeds, choice-from, choice}
-use Rattle.laws.proofs.Lists.{differ, In, here, there, in-append-cases, in-append-left, in-append-right, in-single, Each}
+use Rattle.meaning.specs.Compare.{Assignment, Result, succeeds, waits, fails, waits-on, with-assignments, with-readers, and-then, followed, places}
+use Rattle.meaning.specs.Guards.{written-out}
+use Rattle.meaning.specs.Trial.{next-pair, compared, tested, guarded, trial}
+use Rattle.laws.proofs.Lists.{differ, In, here, there, in-append-cases, in-append-left, in-append-right, in-single, Each, each-in}
 use Rattle.laws.proofs.Trial.Results.{fails-not-succeeds, fails-not-waits, succeeds-not-waits, Either, the-one, the-other, the-two, either}
-use Rattle.laws.proofs.Trial.Chosen.{none-waits, trial-waits}
+use Rattle.laws.proofs.Trial.Chosen.{Waits, by-head, by-guard, trial-waits}
 use Rattle.laws.proofs.Trial.Reached.{all-reached, taken-together, places-together, AtMostOne, all-at-most-one}
+use Rattle.laws.proofs.Trial.Guards.{OnSome, nothing-behind, guards-on-some, guards-held}
 
 -- A failing place behind others fails them all; two places fail only if one of them does.
 pub and-then-failing : (r : Result) → and-then r fails ≡ fails
@@ -103,11 +105,7 @@ together-waits-on-some (r ∷ rs) readers ones e none = go (either r (taken-toge
     go : Either r (taken-together rs) readers → ((others : List ℕ) → taken-together rs ≡ waits others → others ≢ []) → ⊥
     go (the-one f) further = not-the-one readers f none
     go (the-other f) further = further readers f none
-    go (the-two first others f g together) further = no-front first others (not-the-one first f) (sym together ∙ none)
-      where
-        no-front : (first others : List ℕ) → (first ≡ [] → ⊥) → first ++ others ≡ [] → ⊥
-        no-front [] others d h = d refl
-        no-front (a ∷ first) others d h = differ (cc)
+    go (the-two first others f g together) further = not-the-one first f (nothing-behind first others (sym together ∙ none) .0)
 
 module _ (look : Term → Term) (us ts : Terms) where
   -- "Any failing place fails the trial", whatever stands before it or behind it; and it fails for no other reason.
@@ -133,125 +131,61 @@ module _ (look : Term → Term) (us ts : Terms) where
     waits-on-some-reader =
         together-waits-on-some (all-reached look us ts) readers (all-at-most-one look us ts) (sym (places-together look us ts) ∙ e)
 
+  -- Where all places agree, none waits.
+  pub succeeds-where-none-waits : (given : List Assignment) → places look us ts ≡ succeeds given → (p : ℕ) → In (waits-on p) (all-reached look us ts) → ⊥
+  unfolding Needs waits-on
+  succeeds-where-none-waits given e p m =
+      subst (Needs p) (sym (places-together look us ts) ∙ e) (together-needs p {r = waits-on p} m (here refl))
+
 -- Of a trial: the places that it reaches.
 abbrev pub trial-places : Clause → QueryUnit → Named → List Result
 trial-places clause unit goal =
     all-reached (followed (length (unit .values)) (unit .values))
     (all-renamed (next-pair unit) (unit .compounds) (clause .head .arguments)) (goal .arguments)
 
-module _ (clause : Clause) (unit : QueryUnit) (goal : Named) where
-  pub trial-fails-by-any-place : In fails (trial-places clause unit goal) → trial clause unit goal ≡ fails
-  unfolding trial compared tested
-  trial-fails-by-any-place m = ap (tested clause unit) (fails-by-any-place _ _ (goal .arguments) m)
+-- A guard, asked once all places agree, holds this reader, written out.
+pub record HeldByGuard (clause : Clause) (unit : QueryUnit) (goal : Named) (p : ℕ) : Type 0 where
+  pub given : List Assignment
+  pub agree : compared clause unit goal ≡ succeeds given
+  pub guard : Guard
+  pub of-clause : In guard (clause .guards)
+  pub held : 1 ≤ all-occurrences reader p (written-out given (unit .values) (next-pair unit) (guard .arguments))
 
-  module _ (readers : List ℕ) (e : trial clause unit goal ≡ waits readers) where
+module _ (earlier : List ℕ) (clause : Clause) (unit : QueryUnit) (goal : Named) where
+  pub trial-fails-by-any-place : In fails (trial-places clause unit goal) → trial earlier clause unit goal ≡ fails
+  unfolding trial compared tested guarded
+  trial-fails-by-any-place m = ap (λ r. guarded earlier clause unit (tested clause unit r)) (fails-by-any-place _ _ (goal .arguments) m)
+
+  module _ (readers : List ℕ) (e : trial earlier clause unit goal ≡ waits readers) where
+    -- It waits on every reader that a place needs.
     pub trial-waits-on-every-reader : (p : ℕ) → In (waits-on p) (trial-places clause unit goal) → In p readers
     unfolding compared
-    trial-waits-on-every-reader = waits-on-every-reader _ _ (goal .arguments) readers (trial-waits unit goal clause readers e)
-
-    pub trial-waits-on-no-other : (p : ℕ) → In p readers → In (waits-on p) (trial-places clause unit goal)
-    unfolding compared
-    trial-waits-on-no-other = waits-on-no-other _ _ (goal .arguments) readers (trial-waits unit goal clause readers e)
-
-    -- A trial that waits has a reader to wait on.
-    pub trial-waits-on-some-reader : readers ≢ []
-    unfolding compared
-    trial-waits-on-some-reader = waits-on-some-reader _ _ (goal .arguments) readers (trial-waits unit goal clause readers e)
-
-module _ (unit : QueryUnit) (goal : Named) where
-  none-waits-on-some : (readers joined : List ℕ) → none-succeeds readers ≡ joins-waiting joined → joined ≢ []
-  unfolding none-succeeds
-  none-waits-on-some [] joined e none = differ (cc)
-  none-waits-on-some (r ∷ readers) joined e none = differ (cc)
-
-  none-failed : (readers : List ℕ) → none-succeeds readers ≡ joins-failed → readers ≡ []
-  unfolding none-succeeds
-  none-failed [] e = refl
-  none-failed (r ∷ readers) e = absurd (differ (cc))
-
-  nothing-behind : (l m : List ℕ) → l ++ m ≡ [] → (l ≡ []) × (m ≡ [])
-  nothing-behind [] m e = (refl, e)
-  nothing-behind (a ∷ l) m e = absurd (differ (cc))
-
-  choice-from-waits-on-some : (clauses : List Clause) (readers joined : List ℕ) → choice-from readers clauses unit goal ≡ joins-waiting joined
-      → joined ≢ []
-  unfolding choice-from
-  choice-from-waits-on-some [] readers joined e = none-waits-on-some readers joined e
-  choice-from-waits-on-some (c ∷ clauses) readers joined e = go (trial c unit goal) refl (λ rs. choice-from-waits-on-some clauses rs joined)
-    where
-      go : (r : Result) → trial c unit goal ≡ r → ((rs : List ℕ) → choice-from rs clauses unit goal ≡ joins-waiting joined → joined ≢ []) → joined ≢ []
-      go (succeeds first) i further =
-          let found : reduces c first ≡ joins-waiting joined = rw (choice-from, i) at e in
-          absurd (differ (cc))
-      go (waits others) i further = further (readers ++ others) (rw (choice-from, i) at e)
-      go fails i further = further readers (rw (choice-from, i) at e)
-
-  choice-from-failed : (clauses : List Clause) (readers : List ℕ) → choice-from readers clauses unit goal ≡ joins-failed
-      → (readers ≡ []) × Each (λ c. trial c unit goal ≡ fails) clauses
-  unfolding choice-from
-  choice-from-failed [] readers e = (none-failed readers e, tt)
-  choice-from-failed (c ∷ clauses) readers e = go (trial c unit goal) refl (choice-from-failed clauses)
-    where
-      go : (r : Result) → trial c unit goal ≡ r
-          → ((rs : List ℕ) → choice-from rs clauses unit goal ≡ joins-failed → (rs ≡ []) × Each (λ c. trial c unit goal ≡ fails) clauses)
-          → (readers ≡ []) × Each (λ c. trial c unit goal ≡ fails) (c ∷ clauses)
-      go (succeeds first) i further =
-          let found : reduces c first ≡ joins-failed = rw (choice-from, i) at e in
-          absurd (differ (cc))
-      go (waits others) i further =
-          let (nobody, rest) = further (readers ++ others) (rw (choice-from, i) at e) in
-          absurd (trial-waits-on-some-reader c unit goal others i (nothing-behind readers others nobody .1))
-      go fails i further =
-          let (nobody, rest) = further readers (rw (choice-from, i) at e) in
-          (nobody, (i, rest))
-
-  module _ (p : ℕ) (joined : List ℕ) where
-    choice-from-keeps : (clauses : List Clause) (readers : List ℕ) → choice-from readers clauses unit goal ≡ joins-waiting joined
-        → In p readers → In p joined
-    unfolding choice-from
-    choice-from-keeps [] readers e m = rw (← none-waits readers joined e) m
-    choice-from-keeps (c ∷ clauses) readers e m = go (trial c unit goal) refl (choice-from-keeps clauses)
+    trial-waits-on-every-reader p m = go (trial-waits unit goal earlier clause readers e)
       where
-        go : (r : Result) → trial c unit goal ≡ r
-            → ((rs : List ℕ) → choice-from rs clauses unit goal ≡ joins-waiting joined → In p rs → In p joined)
-            → In p joined
-        go (succeeds first) i further =
-            let found : reduces c first ≡ joins-waiting joined = rw (choice-from, i) at e in
-            absurd (differ (cc))
-        go (waits others) i further = further (readers ++ others) (rw (choice-from, i) at e) (in-append-left others m)
-        go fails i further = further readers (rw (choice-from, i) at e) m
+        go : Waits unit goal earlier clause readers → In p readers
+        go (by-head i) = waits-on-every-reader _ _ (goal .arguments) readers i p m
+        go (by-guard given agree i) = absurd (succeeds-where-none-waits _ _ (goal .arguments) given agree p m)
 
-    choice-from-needs : {clause : Clause} (others : List ℕ) → trial clause unit goal ≡ waits others → In p others
-        → {clauses : List Clause} → In clause clauses → (readers : List ℕ) → choice-from readers clauses unit goal ≡ joins-waiting joined → In p joined
-    unfolding choice-from
-    choice-from-needs others i m (here {x = c} {xs = clauses} same) readers e =
-        let its : trial c unit goal ≡ waits others = rw same at i in
-        choice-from-keeps clauses (readers ++ others) (rw (choice-from, its) at e) (in-append-right readers m)
-    choice-from-needs others i m (there {x = c} {xs = clauses} k) readers e = go (trial c unit goal) refl (choice-from-needs others i m k)
+    -- On no other but, where all places agree, those that a guard needs.
+    pub trial-waits-on-no-other : (p : ℕ) → In p readers → In (waits-on p) (trial-places clause unit goal) ⊎ HeldByGuard clause unit goal p
+    unfolding compared
+    trial-waits-on-no-other p m = go (trial-waits unit goal earlier clause readers e)
       where
-        go : (r : Result) → trial c unit goal ≡ r
-            → ((rs : List ℕ) → choice-from rs clauses unit goal ≡ joins-waiting joined → In p joined)
-            → In p joined
-        go (succeeds first) j further =
-            let found : reduces c first ≡ joins-waiting joined = rw (choice-from, j) at e in
-            absurd (differ (cc))
-        go (waits more) j further = further (readers ++ more) (rw (choice-from, j) at e)
-        go fails j further = further readers (rw (choice-from, j) at e)
+        go : Waits unit goal earlier clause readers → In (waits-on p) (trial-places clause unit goal) ⊎ HeldByGuard clause unit goal p
+        go (by-head i) = inl (waits-on-no-other _ _ (goal .arguments) readers i p m)
+        go (by-guard given agree i) =
+            let (g, of-clause, held) = each-in _ (guards-held given (unit .values) (next-pair unit) earlier (clause .guards) readers i) m in
+            inr (record { given = given; agree = agree; guard = g; of-clause = of-clause; held = held })
 
-  -- "With the set of all those readers": a goal that joins the waiting goals waits on every reader on which one of its clauses waits.
-  pub choice-waits-on-every-reader : (clauses : List Clause) (readers : List ℕ) → choice clauses unit goal ≡ joins-waiting readers
-      → {clause : Clause} → In clause (procedure clauses goal) → (others : List ℕ) → trial clause unit goal ≡ waits others
-      → (p : ℕ) → In p others → In p readers
-  unfolding choice
-  choice-waits-on-every-reader clauses readers e k others i p m = choice-from-needs p readers others i m k [] e
+    -- A trial that waits has a reader to wait on, or an earlier clause has.
+    pub trial-waits-on-some-reader : earlier ++ readers ≢ []
+    unfolding compared OnSome
+    trial-waits-on-some-reader none = go (trial-waits unit goal earlier clause readers e) (nothing-behind earlier readers none)
+      where
+        go : Waits unit goal earlier clause readers → (earlier ≡ []) × (readers ≡ []) → ⊥
+        go (by-head i) (first, own) = waits-on-some-reader _ _ (goal .arguments) readers i own
+        go (by-guard given agree i) (first, own) = guards-on-some given (unit .values) (next-pair unit) (clause .guards) readers (rw first at i) own
 
-  -- A goal that joins the waiting goals has a reader to wait on.
-  pub choice-waits-on-some-reader : (clauses : List Clause) (readers : List ℕ) → choice clauses unit goal ≡ joins-waiting readers → readers ≢ []
-  unfolding choice
-  choice-waits-on-some-reader clauses readers e = choice-from-waits-on-some (procedure clauses goal) [] readers e
-
-  -- "If all fail, or no clause exists, it joins the end of the failed goals": only then, since no clause waits on nothing.
-  pub failed-only-if-all-fail : (clauses : List Clause) → choice clauses unit goal ≡ joins-failed
-      → Each (λ c. trial c unit goal ≡ fails) (procedure clauses goal)
-  unfolding choice
-  failed-only-if-all-fail clauses e = choice-from-failed (procedure clauses goal) [] e .1
+  -- So it waits on nothing only where an earlier clause waits.
+  pub trial-waits-on-none-only-behind-others : trial earlier clause unit goal ≡ waits [] → earlier ≢ []
+  trial-waits-on-none-only-behind-others e first = trial-waits-on-some-reader [] e (rw first)

@@ -23,7 +23,7 @@ use Rattle.meaning.specs.Terms.{
   same-functor,
 }
 use Rattle.meaning.specs.Compare.{Assignment, Result, succeeds, waits, fails, gives, waits-on, with-assignments, with-readers, and-then, place, places}
-use Rattle.laws.proofs.Lists.{Each, each-append}
+use Rattle.laws.proofs.Lists.{differ, Each, each-append}
 use Rattle.laws.proofs.Terms.{Stands, StandsIn}
 
 -- Something holds of each argument.
@@ -111,3 +111,41 @@ module _ (Head Goal Found : Term → Type 0) (P : Assignment → Type 0) (look :
       → Each P given
   unfolding EachGiven
   table-gives us ts heads goals given agree = subst (EachGiven P) agree (places-give us ts heads goals)
+
+-- No value that is given is a writer: against a writer of the goal a writer of the head fails.
+abbrev pub NoWriter : Assignment → Type 0
+NoWriter a = (q : ℕ) → a .value ≡ variable writer q → ⊥
+
+module _ (look : Term → Term) where
+  mutual
+    unfolding EachGiven place places waits-on
+
+    place-gives-no-writer : (u t : Term) → EachGiven NoWriter (place look u t)
+    place-gives-no-writer (variable writer x) (variable writer z) = tt
+    place-gives-no-writer (variable writer x) (variable reader z) = each-gives NoWriter x (variable reader z) (λ q e. differ (cc))
+    place-gives-no-writer (variable writer x) (constant k) = each-gives NoWriter x (constant k) (λ q e. differ (cc))
+    place-gives-no-writer (variable writer x) (compound n f ts) = each-gives NoWriter x (compound n f ts) (λ q e. differ (cc))
+    place-gives-no-writer (variable reader x) (variable writer z) = each-gives NoWriter z (variable reader x) (λ q e. differ (cc))
+    place-gives-no-writer (variable reader x) (variable reader z) = tt
+    place-gives-no-writer (variable reader x) (constant k) = tt
+    place-gives-no-writer (variable reader x) (compound n f ts) = tt
+    place-gives-no-writer (constant c) (variable writer z) = each-gives NoWriter z (constant c) (λ q e. differ (cc))
+    place-gives-no-writer (constant c) (variable reader z) = tt
+    place-gives-no-writer (constant c) (constant k) = each-if NoWriter (same-constant c k) (succeeds []) tt
+    place-gives-no-writer (constant c) (compound n f ts) = tt
+    place-gives-no-writer (compound m g us) (variable writer z) = each-gives NoWriter z (compound m g us) (λ q e. differ (cc))
+    place-gives-no-writer (compound m g us) (variable reader z) = tt
+    place-gives-no-writer (compound m g us) (constant k) = tt
+    place-gives-no-writer (compound m g us) (compound n f ts) =
+        each-if NoWriter (same-functor g f && eqb (count us) (count ts)) (places look us ts) (places-give-no-writer us ts)
+
+    places-give-no-writer : (us ts : Terms) → EachGiven NoWriter (places look us ts)
+    places-give-no-writer end end = tt
+    places-give-no-writer end (more t ts) = tt
+    places-give-no-writer (more u us) end = tt
+    places-give-no-writer (more u us) (more t ts) =
+        each-and-then NoWriter (place look u (look t)) (places look us ts) (place-gives-no-writer u (look t)) (places-give-no-writer us ts)
+
+  pub table-gives-no-writer : (us ts : Terms) (given : List Assignment) → places look us ts ≡ succeeds given → Each NoWriter given
+  unfolding EachGiven
+  table-gives-no-writer us ts given agree = subst (EachGiven NoWriter) agree (places-give-no-writer us ts)

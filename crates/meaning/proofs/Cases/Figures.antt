@@ -66,7 +66,12 @@ figures-cases =
     ∷ of-bytes "9 body goals" (bytes "q(a) :- " ++ times 8 "p(a),\n" ++ bytes "p(a).") (refuses 6 1 0)
     ∷ of-bytes "8 queries" (bytes "p(1).\n" ++ times 8 "?- p(1).\n") (prints (bytes "run rest steps 8\n" ++ for-each 8 (λ k. bytes "query " ++ decimal (k + 1) ++ bytes " tries 1 active 0 waiting 0 failed 0\n")))
     ∷ of-bytes "9 queries, whatever follows" (times 8 "?- p(a).\n" ++ bytes "?-!") (refuses 6 9 0)
-    ∷ of-bytes "128 clauses" (times 128 "p(a).\n" ++ bytes "?- p(a).") (shows "run rest steps 1\nquery 1 tries 1 active 0 waiting 0 failed 0\n")
+    ∷ []
+
+-- Texts with as many clauses or names as there may be.
+unfoldable pub many-cases : List Case
+many-cases =
+    of-bytes "128 clauses" (times 128 "p(a).\n" ++ bytes "?- p(a).") (shows "run rest steps 1\nquery 1 tries 1 active 0 waiting 0 failed 0\n")
     ∷ of-bytes "129 clauses, whatever follows" (times 128 "p(a).\n" ++ bytes "p!") (refuses 6 129 0)
     ∷ of-bytes "behind 128 clauses a token that begins no item" (times 128 "p(a).\n" ++ bytes "X") (refuses 4 129 768)
     ∷ of-bytes "256 names, integers and lists none of them" (names-255 ++ bytes "?- last([1,2]).") (shows "run rest steps 1\nquery 1 tries 1 active 0 waiting 0 failed 1\nfailed last([1,2])\n")
@@ -76,5 +81,5 @@ figures-cases =
     ∷ []
 
 unfoldable pub figures-words : Unit {0}
-unfolding words-words fails-with query-of fine refused-behind names-255 figures-cases
+unfolding words-words fails-with query-of fine refused-behind names-255 figures-cases many-cases
 figures-words = tt

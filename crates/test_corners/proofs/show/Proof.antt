@@ -47,32 +47,38 @@ told-requires-5 c κs = search needs
 enum-known-why-2 : tie.Need-enum-known-why-2
 enum-known-why-2 c = search needs
 
-rule-number-requires : tie.Need-rule-number-requires
-rule-number-requires c κs = search needs
-
-cast-told : tie.Need-cast-told
-cast-told c = search needs
-
 told-requires-6 : tie.Need-told-requires-6
 told-requires-6 c κs = search needs
 
 enum-known-why-3 : tie.Need-enum-known-why-3
 enum-known-why-3 c = search needs
 
+rule-number-requires : tie.Need-rule-number-requires
+rule-number-requires c κs = search needs
+
+cast-told : tie.Need-cast-told
+cast-told c = search needs
+
 told-requires-7 : tie.Need-told-requires-7
 told-requires-7 c κs = search needs
 
-enum-told-4 : tie.Need-enum-told-4
-enum-told-4 c = search needs
+enum-known-why-4 : tie.Need-enum-known-why-4
+enum-known-why-4 c = search needs
 
 told-requires-8 : tie.Need-told-requires-8
 told-requires-8 c κs = search needs
 
-enum-known-answer-3 : tie.Need-enum-known-answer-3
-enum-known-answer-3 c = search needs
+enum-told-4 : tie.Need-enum-told-4
+enum-told-4 c = search needs
 
 told-requires-9 : tie.Need-told-requires-9
 told-requires-9 c κs = search needs
+
+enum-known-answer-3 : tie.Need-enum-known-answer-3
+enum-known-answer-3 c = search needs
+
+told-requires-10 : tie.Need-told-requires-10
+told-requires-10 c κs = search needs
 
 returns : tie.Need-returns
 returns c = search needs
@@ -101,6 +107,9 @@ returns-8 c = search needs
 returns-9 : tie.Need-returns-9
 returns-9 c = search needs
 
+returns-10 : tie.Need-returns-10
+returns-10 c = search needs
+
 pub show-spec : {M : Type 1} → statement M
 show-spec =
     tie.close
@@ -119,15 +128,17 @@ show-spec =
     enum-known-why
     told-requires-5
     enum-known-why-2
-    rule-number-requires
-    cast-told
     told-requires-6
     enum-known-why-3
+    rule-number-requires
+    cast-told
     told-requires-7
-    enum-told-4
+    enum-known-why-4
     told-requires-8
-    enum-known-answer-3
+    enum-told-4
     told-requires-9
+    enum-known-answer-3
+    told-requires-10
     returns
     returns-2
     returns-3
@@ -136,4 +147,5 @@ show-spec =
     returns-6
     returns-7
     returns-8
-    returns-9)
+    returns-9
+    returns-10)

@@ -3,7 +3,7 @@ use mathlib.Core.Path.{_≡_, refl}
 use Rattle.meaning.specs.Call.{length-of}
 use Rattle.loader.specs.Refusals.{refusal-answer}
 use Rattle.loader.specs.declared.refusal.Refusal.{Refusal}
-use Rattle.loader.specs.declared.refusal.Refusal.the-variants.{NoItems, OccurrenceBroken, FigurePassed}
+use Rattle.loader.specs.declared.refusal.Refusal.the-variants.{NoItems, GuardRefused, OccurrenceBroken, FigurePassed}
 use borrow.Author.Needs.{needs}
 use Rattle.troscunel.proofs.length_of.Statement.{statement}
 use Rattle.troscunel.proofs.length_of.Tie as tie
@@ -53,6 +53,7 @@ returns-5 c = search needs
 refused-length : (why : Refusal) → 0 ≡ length-of (refusal-answer why)
 unfolding length-of
 refused-length (NoItems at offset) = refl
+refused-length (GuardRefused at) = refl
 refused-length (OccurrenceBroken rule at offset) = refl
 refused-length (FigurePassed at) = refl
 

@@ -17,6 +17,9 @@ enum-known-why-2 c = search needs
 enum-known-why-3 : tie.Need-enum-known-why-3
 enum-known-why-3 c = search needs
 
+enum-known-why-4 : tie.Need-enum-known-why-4
+enum-known-why-4 c = search needs
+
 enum-told : tie.Need-enum-told
 enum-told c = search needs
 
@@ -41,11 +44,11 @@ returns c = search needs
 
 returns-2 : tie.Need-returns-2
 unfolding line-of
-returns-2 c = rw (c .before .before .before .before .a .given .1, c .before .why2 .given .1) refl
+returns-2 c = search needs
 
 returns-3 : tie.Need-returns-3
 unfolding line-of
-returns-3 c = search needs
+returns-3 c = rw (c .before .before .before .before .a .given .1, c .before .why3 .given .1) refl
 
 returns-4 : tie.Need-returns-4
 unfolding line-of
@@ -71,6 +74,10 @@ returns-9 : tie.Need-returns-9
 unfolding line-of
 returns-9 c = search needs
 
+returns-10 : tie.Need-returns-10
+unfolding line-of
+returns-10 c = search needs
+
 pub line-of-spec : {M : Type 1} → statement M
 line-of-spec =
     tie.close
@@ -79,6 +86,7 @@ line-of-spec =
     enum-known-why
     enum-known-why-2
     enum-known-why-3
+    enum-known-why-4
     enum-told
     enum-told-2
     enum-told-3
@@ -93,4 +101,5 @@ line-of-spec =
     returns-6
     returns-7
     returns-8
-    returns-9)
+    returns-9
+    returns-10)

@@ -22,20 +22,23 @@ enum-known-a c = search needs
 enum-told-5 : tie.Need-enum-told-5
 enum-told-5 c = search needs
 
+enum-told-6 : tie.Need-enum-told-6
+enum-told-6 c = search needs
+
 enum-known-why : tie.Need-enum-known-why
 enum-known-why c = search needs
 
 rule-number-requires : tie.Need-rule-number-requires
 rule-number-requires c κs = search needs
 
-enum-told-6 : tie.Need-enum-told-6
-enum-told-6 c = search needs
-
 enum-told-7 : tie.Need-enum-told-7
 enum-told-7 c = search needs
 
 enum-told-8 : tie.Need-enum-told-8
 enum-told-8 c = search needs
+
+enum-told-9 : tie.Need-enum-told-9
+enum-told-9 c = search needs
 
 returns : tie.Need-returns
 unfolding number
@@ -59,11 +62,11 @@ returns-5 c = search needs
 
 returns-6 : tie.Need-returns-6
 unfolding number
-returns-6 c = rw (c .before .before .before .before .before .a .given .1, c .before .before .why .given .1) (c .rule-number .ensures)
+returns-6 c = search needs
 
 returns-7 : tie.Need-returns-7
 unfolding number
-returns-7 c = search needs
+returns-7 c = rw (c .before .before .before .before .before .a .given .1, c .before .before .why .given .1) (c .rule-number .ensures)
 
 returns-8 : tie.Need-returns-8
 unfolding number
@@ -72,6 +75,10 @@ returns-8 c = search needs
 returns-9 : tie.Need-returns-9
 unfolding number
 returns-9 c = search needs
+
+returns-10 : tie.Need-returns-10
+unfolding number
+returns-10 c = search needs
 
 pub number-of-spec : {M : Type 1} → statement M
 number-of-spec =
@@ -83,11 +90,12 @@ number-of-spec =
     enum-told-4
     enum-known-a
     enum-told-5
+    enum-told-6
     enum-known-why
     rule-number-requires
-    enum-told-6
     enum-told-7
     enum-told-8
+    enum-told-9
     returns
     returns-2
     returns-3
@@ -96,4 +104,5 @@ number-of-spec =
     returns-6
     returns-7
     returns-8
-    returns-9)
+    returns-9
+    returns-10)

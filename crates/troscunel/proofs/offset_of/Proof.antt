@@ -11,11 +11,11 @@ enum-known-a c = search needs
 enum-known-why : tie.Need-enum-known-why
 enum-known-why c = search needs
 
-enum-known-why-2 : tie.Need-enum-known-why-2
-enum-known-why-2 c = search needs
-
 enum-told : tie.Need-enum-told
 enum-told c = search needs
+
+enum-known-why-2 : tie.Need-enum-known-why-2
+enum-known-why-2 c = search needs
 
 enum-told-2 : tie.Need-enum-told-2
 enum-told-2 c = search needs
@@ -35,17 +35,20 @@ enum-told-6 c = search needs
 enum-told-7 : tie.Need-enum-told-7
 enum-told-7 c = search needs
 
+enum-told-8 : tie.Need-enum-told-8
+enum-told-8 c = search needs
+
 returns : tie.Need-returns
 unfolding offset-of
 returns c = rw (c .before .before .before .before .a .given .1, c .before .why .given .1) refl
 
 returns-2 : tie.Need-returns-2
 unfolding offset-of
-returns-2 c = rw (c .before .before .before .before .a .given .1, c .before .why2 .given .1) refl
+returns-2 c = search needs
 
 returns-3 : tie.Need-returns-3
 unfolding offset-of
-returns-3 c = search needs
+returns-3 c = rw (c .before .before .before .before .a .given .1, c .before .why2 .given .1) refl
 
 returns-4 : tie.Need-returns-4
 unfolding offset-of
@@ -71,20 +74,25 @@ returns-9 : tie.Need-returns-9
 unfolding offset-of
 returns-9 c = search needs
 
+returns-10 : tie.Need-returns-10
+unfolding offset-of
+returns-10 c = search needs
+
 pub offset-of-spec : {M : Type 1} → statement M
 offset-of-spec =
     tie.close
     (tie.spec
     enum-known-a
     enum-known-why
-    enum-known-why-2
     enum-told
+    enum-known-why-2
     enum-told-2
     enum-told-3
     enum-told-4
     enum-told-5
     enum-told-6
     enum-told-7
+    enum-told-8
     returns
     returns-2
     returns-3
@@ -93,4 +101,5 @@ offset-of-spec =
     returns-6
     returns-7
     returns-8
-    returns-9)
+    returns-9
+    returns-10)

@@ -1,5 +1,5 @@
-//! `refused_texts FOLDER --seed S --count N`: the texts of a seed's jobs that are refused with an offset, and every
-//! tenth of the others, each as a file `PLACE-KIND.glp` of the folder.
+//! `refused_texts FOLDER --seed S --count N`: the texts of a seed's jobs that are refused with an offset or for a guard,
+//! and every tenth of the others, each as a file `PLACE-KIND.glp` of the folder.
 
 use std::path::Path;
 use std::process::ExitCode;
@@ -21,8 +21,8 @@ fn written() -> Result<(), String> {
     let folder = std::env::args().nth(1).ok_or("a folder is needed")?;
     let options = Options::read(std::env::args().skip(2))?;
     for (place, Job { label, text, .. }) in jobs(options.seed, options.count).iter().enumerate() {
-        let pointed_at = reference::read(text).is_err_and(|refusal| matches!(refusal.number, 4 | 5 | 9 | 10));
-        if pointed_at || place % 10 == 0 {
+        let chosen = reference::read(text).is_err_and(|refusal| matches!(refusal.number, 4 | 5 | 9..=11));
+        if chosen || place % 10 == 0 {
             let file = Path::new(&folder).join(format!("{label}.glp"));
             std::fs::write(&file, text).map_err(|error| format!("{}: {error}", file.display()))?;
         }

@@ -84,7 +84,7 @@ struct Fuzz<'o> {
     novelty: Novelty,
     watched: Watched,
     executions: u64,
-    numbers: [u64; 11],
+    numbers: [u64; 12],
 }
 
 fn fuzz(options: &Options) -> Result<(), String> {
@@ -97,7 +97,7 @@ fn fuzz(options: &Options) -> Result<(), String> {
         novelty: Novelty::default(),
         watched: Watched::default(),
         executions: 0,
-        numbers: [0; 11],
+        numbers: [0; 12],
     };
     let count = if options.falsified.is_some() { FEW } else { GENERATED };
     for input in beginning(options.seed, count)? {
@@ -111,7 +111,7 @@ fn fuzz(options: &Options) -> Result<(), String> {
         return Err(format!("no execution of seed {} is answered by {number}", options.seed));
     }
     println!(
-        "{} executions of seed {} in {} s, {} inputs kept, no difference; answers 0 to 10: {:?}",
+        "{} executions of seed {} in {} s, {} inputs kept, no difference; answers 0 to 11: {:?}",
         fuzz.executions,
         options.seed,
         begin.elapsed().as_secs(),

@@ -3,6 +3,7 @@
 #![allow(dead_code)]
 
 use reference::{call, Answer, Figures};
+use std::time::{Duration, Instant};
 
 pub const RULES: &str = "tag([H|T],[hit(H?)|R?]) :- tag(T?,R).
 tag([],[]).
@@ -87,4 +88,13 @@ impl Dice {
         self.0 ^= self.0 << 17;
         (self.0 >> 11) % sides
     }
+}
+
+/// The work's result, if it came at once.
+pub fn timed<T>(work: impl FnOnce() -> T) -> T {
+    let begin = Instant::now();
+    let result = work();
+    let limit = Duration::from_secs(if cfg!(debug_assertions) { 30 } else { 2 });
+    assert!(begin.elapsed() < limit, "took {:?}", begin.elapsed());
+    result
 }

@@ -1,6 +1,6 @@
-//! A plain model of a run, which follows document 01, with T-03 of document 02, word for word: it gives every clause
-//! variable a pair, goes through every place, copies every term, tests all pairs for circles and writes values by
-//! recursion.
+//! A plain model of a run, which follows document 01, with T-02 and T-03 of document 02, word for word: it gives every
+//! clause variable a pair, goes through every place, copies every term, tests all pairs for circles, writes guards'
+//! terms out in full and writes values by recursion.
 
 use std::collections::BTreeSet;
 
@@ -19,6 +19,8 @@ use Term::*;
 #[derive(Clone, Debug, Default)]
 struct Item {
     head: Option<Term>,
+    /// `X? == Y?` is a compound called `==`, `otherwise` a constant.
+    guards: Vec<Term>,
     goals: Vec<Term>,
     variables: Vec<String>,
 }
@@ -39,7 +41,7 @@ fn tokens(text: &str) -> Vec<String> {
             if c.is_uppercase() && bytes.get(end) == Some(&'?') {
                 end += 1;
             }
-        } else if c == ':' || c == '?' {
+        } else if c == ':' || c == '?' || c == '=' {
             end += 1;
         }
         if !c.is_whitespace() {
@@ -71,13 +73,29 @@ impl Plain {
             if plain.peek() != "?-" {
                 item.head = Some(plain.term(&mut item.variables));
             }
-            while plain.next() != "." {
-                let goal = plain.term(&mut item.variables);
+            loop {
+                match plain.next().as_str() {
+                    "." => break,
+                    "|" => item.guards = std::mem::take(&mut item.goals),
+                    _ => {}
+                }
+                if plain.peek() == "." {
+                    continue;
+                }
+                let goal = plain.conjunct(&mut item.variables);
                 item.goals.push(goal);
             }
             items.push(item);
         }
         items
+    }
+    fn conjunct(&mut self, variables: &mut Vec<String>) -> Term {
+        let left = self.term(variables);
+        if self.peek() != "==" {
+            return left;
+        }
+        self.next();
+        Compound("==".into(), vec![left, self.term(variables)])
     }
     fn term(&mut self, variables: &mut Vec<String>) -> Term {
         let token = self.next();
@@ -157,6 +175,13 @@ enum Trial {
     Fails,
 }
 
+/// What a guard gives.
+enum Answer {
+    Succeeds,
+    Waits(BTreeSet<usize>),
+    Fails,
+}
+
 #[derive(Default)]
 struct Machine {
     values: Vec<Option<Term>>,
@@ -222,7 +247,73 @@ impl Machine {
         }
     }
 
-    fn trial(&self, clause: &Item, goal: &Term) -> Trial {
+    /// A guard's term, written out: what the head gave its readers, and all else as before the step.
+    fn read(&self, term: &Term, given: &[(usize, Term)]) -> Term {
+        match term {
+            Reader(x) if *x >= self.values.len() => match given.iter().find(|(pair, _)| pair == x) {
+                Some((_, value)) => self.read(value, given),
+                None => Writer(*x),
+            },
+            Writer(_) | Reader(_) => match self.follow(term) {
+                variable @ (Writer(_) | Reader(_)) => variable,
+                value => self.read(&value, given),
+            },
+            Constant(_) => term.clone(),
+            Compound(name, arguments) => {
+                Compound(name.clone(), arguments.iter().map(|argument| self.read(argument, given)).collect())
+            }
+        }
+    }
+
+    /// The unassigned variables of a written-out term, from the left.
+    fn variables_of(term: &Term, out: &mut Vec<Term>) {
+        match term {
+            Writer(_) | Reader(_) => out.push(term.clone()),
+            Constant(_) => {}
+            Compound(_, arguments) => arguments.iter().for_each(|argument| Self::variables_of(argument, out)),
+        }
+    }
+
+    fn ask(&self, guard: &Term, given: &[(usize, Term)], earlier: &BTreeSet<usize>) -> Answer {
+        let (name, arguments) = match guard {
+            Compound(name, arguments) => {
+                (name.as_str(), arguments.iter().map(|a| self.read(a, given)).collect::<Vec<_>>())
+            }
+            Constant(name) => (name.as_str(), Vec::new()),
+            _ => unreachable!("no guard"),
+        };
+        let holds = |holds: bool| if holds { Answer::Succeeds } else { Answer::Fails };
+        let mut open = Vec::new();
+        arguments.iter().for_each(|argument| Self::variables_of(argument, &mut open));
+        match (name, arguments.as_slice()) {
+            ("otherwise", []) if earlier.is_empty() => Answer::Succeeds,
+            ("otherwise", []) => Answer::Waits(earlier.clone()),
+            ("ground", [_]) if open.iter().any(|half| matches!(half, Writer(_))) => Answer::Fails,
+            ("ground", [_]) if open.is_empty() => Answer::Succeeds,
+            ("ground", [_]) => Answer::Waits(open.iter().filter_map(Self::reader).collect()),
+            ("==", [left, right]) => match open.first() {
+                Some(Reader(pair)) => Answer::Waits(BTreeSet::from([*pair])),
+                Some(_) => Answer::Fails,
+                None => holds(left == right),
+            },
+            (_, [Reader(pair)]) => Answer::Waits(BTreeSet::from([*pair])),
+            (_, [Writer(_)]) => Answer::Fails,
+            ("integer", [term]) => holds(matches!(term, Constant(c) if c.parse::<i32>().is_ok())),
+            ("constant", [term]) => holds(matches!(term, Constant(_))),
+            ("compound", [term]) => holds(matches!(term, Compound(..))),
+            ("known", [_]) => Answer::Succeeds,
+            _ => unreachable!("no guard"),
+        }
+    }
+
+    fn reader(term: &Term) -> Option<usize> {
+        match term {
+            Reader(pair) => Some(*pair),
+            _ => None,
+        }
+    }
+
+    fn trial(&self, clause: &Item, goal: &Term, earlier: &BTreeSet<usize>) -> Trial {
         let first = self.values.len();
         let head = renamed(clause.head.as_ref().unwrap(), first);
         let (mut places, mut new, mut readers) = (Vec::new(), Vec::new(), BTreeSet::new());
@@ -246,12 +337,19 @@ impl Machine {
         if Self::circle(&values) {
             return Trial::Fails;
         }
+        for guard in &clause.guards {
+            match self.ask(&renamed(guard, first), &new, earlier) {
+                Answer::Succeeds => {}
+                Answer::Waits(readers) => return Trial::Waits(readers),
+                Answer::Fails => return Trial::Fails,
+            }
+        }
         Trial::Succeeds(new)
     }
 }
 
 fn charge(item: &Item) -> (u64, u64) {
-    let terms = item.head.iter().chain(&item.goals);
+    let terms = item.head.iter().chain(&item.guards).chain(&item.goals);
     (item.variables.len() as u64, terms.map(compounds).sum())
 }
 
@@ -287,7 +385,7 @@ pub fn plain_report(text: &str, figures: &Figures) -> (String, usize) {
             if !same {
                 continue;
             }
-            match m.trial(clause, &goal) {
+            match m.trial(clause, &goal, &readers) {
                 Trial::Succeeds(new) => {
                     taken = Some((clause, new));
                     break;

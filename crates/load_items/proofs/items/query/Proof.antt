@@ -7,6 +7,8 @@ use lib.ListN.{length, length-set, length-drop}
 use borrow.Author.Tests.{not-true, not-false}
 use Rattle.term.proofs.Frames.{only-same}
 use Rattle.term.specs.Layout.{trial-region}
+use mathlib.Core.Option.{none}
+use Rattle.laws.proofs.Reading.Broken.{none-free}
 use Rattle.load_names.specs.Places.{variables-over}
 use Rattle.load_items.proofs.Starts.{begin-stands}
 use Rattle.load_items.proofs.Queries.{query-passes, query-malformed, query-passed, query-broken, query-took}
@@ -72,9 +74,12 @@ nothing-twice-requires c κs =
 add-first-fault : tie.Need-add-first-fault
 add-first-fault c = omega (arith, c .before .before .before .before .before .before .before .before .before .before .before .before .before .before .before .before .before .before .before .before .before .before .before .before .before .pre .1 .1 .0)
 
+slice-aggregate-first-fault : tie.Need-slice-aggregate-first-fault
+slice-aggregate-first-fault c = search needs
+
 first-fault-requires : tie.Need-first-fault-requires
 first-fault-requires c κs =
-    let e = c .before in
+    let e = c .before .before in
     let a = e .before .before .before .before .before .before .before .before .before .before .before .before .before .before .before .before .before .before .before .before .before .before .before .before .args in
     let x = e .before .before .before .before .before .before .before .before .before .before .before .before .before .before .before .before .before .before .before .before .before .before .before .before .pre .1 .1 in
     let known = e .before .before .before .before .before .before .before .before .before .before .before .before .before .before .before .before .before .before .before .before .before .before .before .before .pre .1 .0 .0 in
@@ -83,20 +88,20 @@ first-fault-requires c κs =
     let st = begin-stands (a .text .now) (a .rest .now) (a .from) (a .names .now) (a .item .now) (a .known) known b (e .before .before .before .before .before .before .before .before .before .before .before .before .before .first .result) (omega (arith, f .0, e .before .before .before .before .before .before .before .before .before .before .before .before .before .before .before .before .before .before .before .before .before .before .before .before .pre .1 .1 .0)) (f .1) (f .2) (f .3) in
     let got = rw (e .before .before .before .before .count .given .1) at (e .before .before .before .before .before .before .before .before .before .before .before .before .goals .ensures known [] st) in
     let told = query-broken (a .text .now) (a .rest .now) (a .from) (a .names .now) (a .item .now) (a .known) known b 0 (a .k) (a .begins) (a .s .now) (a .heads .now) (x .1) (e .before .before .before .before .before .before .before .before .before .before .before .before .before .before .before .before .before .if1 .left) (e .before .before .before .before .before .before .before .before .before .before .before .before .before .first .result) (f .0) (f .3) (e .before .before .before .before .before .before .before .before .before .before .before .before .goals .last .1 .1 .1 .0) (e .before .before .before .before .before .before .before .before .before .before .before .before .goals .last .1 .1 .1 .1 .0) (e .before .before .before .before .before .before .before .before .before .before .before .before .goals .last .1 .1 .1 .1 .1 .0) (e .before .before .before .before .count .given .0 .0) (e .before .before .before .before .count .given .0 .1 .0) (got .0) (got .1) (got .2) (got .3) (sym (e .before .nothing-twice .ensures) ∙ not-true _ (e .if2 .taken)) in
-    (x .0, (a .from, variables-over (a .from) (got .1) [], told .0, told .2))
+    (x .0, (a .from, variables-over (a .from) (got .1) [], none-free, none, told .0, told .2))
 
 same-length : tie.Need-same-length
-same-length c = c .before .before .before .before .before .before .before .before .before .before .before .before .before .before .goals .kept .1 .1 .1 .0
+same-length c = c .before .before .before .before .before .before .before .before .before .before .before .before .before .before .before .goals .kept .1 .1 .1 .0
 
 same-length-2 : tie.Need-same-length-2
-same-length-2 c = c .before .before .before .before .before .before .before .before .before .before .before .before .before .before .goals .kept .1 .1 .1 .1 .0
+same-length-2 c = c .before .before .before .before .before .before .before .before .before .before .before .before .before .before .before .goals .kept .1 .1 .1 .1 .0
 
 same-length-3 : tie.Need-same-length-3
-same-length-3 c = c .before .before .before .before .before .before .before .before .before .before .before .before .before .before .goals .kept .1 .1 .1 .1 .1 .0
+same-length-3 c = c .before .before .before .before .before .before .before .before .before .before .before .before .before .before .before .goals .kept .1 .1 .1 .1 .1 .0
 
 returns-2 : tie.Need-returns-2
 returns-2 c =
-    let e = c .before .before in
+    let e = c .before .before .before in
     let a = e .before .before .before .before .before .before .before .before .before .before .before .before .before .before .before .before .before .before .before .before .before .before .before .before .args in
     let x = e .before .before .before .before .before .before .before .before .before .before .before .before .before .before .before .before .before .before .before .before .before .before .before .before .pre .1 .1 in
     λ known clauses b.
@@ -104,7 +109,7 @@ returns-2 c =
     let st = begin-stands (a .text .now) (a .rest .now) (a .from) (a .names .now) (a .item .now) (a .known) known b (e .before .before .before .before .before .before .before .before .before .before .before .before .before .first .result) (omega (arith, f .0, e .before .before .before .before .before .before .before .before .before .before .before .before .before .before .before .before .before .before .before .before .before .before .before .before .pre .1 .1 .0)) (f .1) (f .2) (f .3) in
     let got = rw (e .before .before .before .before .count .given .1) at (e .before .before .before .before .before .before .before .before .before .before .before .before .goals .ensures known [] st) in
     let told = query-broken (a .text .now) (a .rest .now) (a .from) (a .names .now) (a .item .now) (a .known) known b clauses (a .k) (a .begins) (a .s .now) (a .heads .now) (x .1) (e .before .before .before .before .before .before .before .before .before .before .before .before .before .before .before .before .before .if1 .left) (e .before .before .before .before .before .before .before .before .before .before .before .before .before .first .result) (f .0) (f .3) (e .before .before .before .before .before .before .before .before .before .before .before .before .goals .last .1 .1 .1 .0) (e .before .before .before .before .before .before .before .before .before .before .before .before .goals .last .1 .1 .1 .1 .0) (e .before .before .before .before .before .before .before .before .before .before .before .before .goals .last .1 .1 .1 .1 .1 .0) (e .before .before .before .before .count .given .0 .0) (e .before .before .before .before .count .given .0 .1 .0) (got .0) (got .1) (got .2) (got .3) (sym (e .before .nothing-twice .ensures) ∙ not-true _ (e .if2 .taken)) in
-    (told .0, told .1, c .first-fault .ensures (a .from) (variables-over (a .from) (got .1) []) (told .0) (told .2), omega (arith, x .0), got .3 .only)
+    (told .0, told .1, c .first-fault .ensures (a .from) (variables-over (a .from) (got .1) []) none-free none (told .0) (told .2), omega (arith, x .0), got .3 .only)
 
 mul-s : tie.Need-mul-s
 mul-s c = search needs
@@ -236,6 +241,7 @@ query-spec =
     enum-known-count
     nothing-twice-requires
     add-first-fault
+    slice-aggregate-first-fault
     first-fault-requires
     same-length
     same-length-2

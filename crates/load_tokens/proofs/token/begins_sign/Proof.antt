@@ -15,15 +15,23 @@ returns c = rw (sym (c .before .single-sign .ensures) ∙ c .if1 .taken)
 begins-double-requires : tie.Need-begins-double-requires
 begins-double-requires c κs = search needs
 
-dashed-requires : tie.Need-dashed-requires
-dashed-requires c κs = search needs
+second-byte-requires : tie.Need-second-byte-requires
+second-byte-requires c κs = search needs
+
+followed-requires : tie.Need-followed-requires
+followed-requires c κs = search needs
 
 returns-2 : tie.Need-returns-2
 unfolding begins-sign
 returns-2 c =
-    let d = c .before in
+    let d = c .before .before in
     let s = d .before .before in
-    rw (sym (s .before .single-sign .ensures) ∙ s .if1 .left, sym (d .before .begins-double .ensures) ∙ d .if2 .taken, c .dashed .ensures)
+    rw (
+      sym (s .before .single-sign .ensures) ∙ s .if1 .left,
+      sym (d .before .begins-double .ensures) ∙ d .if2 .taken,
+      ← c .before .second-byte .ensures,
+      c .followed .ensures,
+    )
 
 returns-3 : tie.Need-returns-3
 unfolding begins-sign
@@ -38,6 +46,7 @@ begins-sign-spec =
     single-sign-requires
     returns
     begins-double-requires
-    dashed-requires
+    second-byte-requires
+    followed-requires
     returns-2
     returns-3)

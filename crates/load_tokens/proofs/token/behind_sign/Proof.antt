@@ -1,5 +1,5 @@
 -- `load_tokens::token::behind_sign` meets its contract: the test of the code is that of `behind`.
--- Two bytes behind `:` and `?`, and one behind any other sign.
+-- Two bytes behind `:`, `?` and `=`, and one behind any other sign.
 use mathlib.Core.Path.{sym, _∙_}
 use borrow.Author.Needs.{needs}
 use Rattle.meaning.specs.Bytes.{if_then_else_}

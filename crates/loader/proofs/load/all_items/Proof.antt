@@ -4,7 +4,7 @@ use Prim.Native.Nat.{ℕ, _+_, _-_, _≤_, _<_}
 use mathlib.Core.Path.{_≡_, refl, ap, sym, _∙_}
 use mathlib.Core.List.{List, []}
 use lib.ListN.{length, length-drop}
-use Rattle.meaning.specs.Items.{no-item, occurrence-rule, figure}
+use Rattle.meaning.specs.Items.{no-item, guard-rule, occurrence-rule, figure}
 use Rattle.meaning.specs.Call.{refusal}
 use Rattle.term.proofs.Frames.{only-then}
 use Rattle.term.specs.Layout.{trial-region}
@@ -133,8 +133,8 @@ loop-again-2 c =
 enum-known-a : tie.Need-enum-known-a Inv-loop μ-loop
 enum-known-a c = search needs
 
-add-t26 : tie.Need-add-t26 Inv-loop μ-loop
-add-t26 c =
+add-t27 : tie.Need-add-t27 Inv-loop μ-loop
+add-t27 c =
     let a = c .before .before .before .before .before .before .before .before .before .before .before .before .before .before .before .before .before .before .args in
     let l = c .before .before .before .before .before .before .before .before .before .before .before .before .before .loop in
     let r = l .inv .0 .2 in
@@ -143,8 +143,8 @@ add-t26 c =
     let got = rw (c .before .a .given .1) at (c .before .before .before .before .before .before .before .before .before .item-at .ensures places (r .inside) (r .names-table) (r .count-is)) in
     omega (arith, got .1, length-drop (l .from) (a .text .now), r .inside, c .before .before .before .before .before .before .before .before .before .before .before .before .before .before .before .before .before .before .good .0 .0)
 
-add-t27 : tie.Need-add-t27 Inv-loop μ-loop
-add-t27 c =
+add-t28 : tie.Need-add-t28 Inv-loop μ-loop
+add-t28 c =
     let a = c .before .before .before .before .before .before .before .before .before .before .before .before .before .before .before .before .before .before .args in
     let l = c .before .before .before .before .before .before .before .before .before .before .before .before .before .loop in
     let r = l .inv .0 .2 in
@@ -177,6 +177,40 @@ returns c =
 enum-known-a-2 : tie.Need-enum-known-a-2 Inv-loop μ-loop
 enum-known-a-2 c = search needs
 
+add-t30 : tie.Need-add-t30 Inv-loop μ-loop
+add-t30 c =
+    let a = c .before .before .before .before .before .before .before .before .before .before .before .before .before .before .before .before .before .before .args in
+    let l = c .before .before .before .before .before .before .before .before .before .before .before .before .before .loop in
+    let r = l .inv .0 .2 in
+    let places = l .inv .0 .0 in
+    let done = l .inv .0 .1 in
+    let got = rw (c .before .a2 .given .1) at (c .before .before .before .before .before .before .before .before .before .item-at .ensures places (r .inside) (r .names-table) (r .count-is)) in
+    omega (arith, got .1, length-drop (l .from) (a .text .now), r .inside, c .before .before .before .before .before .before .before .before .before .before .before .before .before .before .before .before .before .before .good .0 .0)
+
+same-length-4 : tie.Need-same-length-4 Inv-loop μ-loop
+same-length-4 c = c .before .before .before .before .before .before .before .before .before .item-at .kept .1 .1 .0 ∙ c .before .before .before .before .before .before .before .before .before .before .before .before .before .loop .inv .1
+
+same-length-5 : tie.Need-same-length-5 Inv-loop μ-loop
+same-length-5 c = c .before .before .before .before .before .before .before .before .before .item-at .kept .1 .1 .1 .0 ∙ c .before .before .before .before .before .before .before .before .before .before .before .before .before .loop .inv .2
+
+same-length-6 : tie.Need-same-length-6 Inv-loop μ-loop
+same-length-6 c = c .before .before .before .before .before .before .before .before .before .item-at .kept .1 .1 .1 .1 .0 ∙ c .before .before .before .before .before .before .before .before .before .before .before .before .before .loop .inv .3
+
+returns-2 : tie.Need-returns-2 Inv-loop μ-loop
+unfolding refusal
+returns-2 c =
+    let a = c .before .before .before .before .before .before .before .before .before .before .before .before .before .before .before .before .before .before .args in
+    let l = c .before .before .before .before .before .before .before .before .before .before .before .before .before .loop in
+    let r = l .inv .0 .2 in
+    let places = l .inv .0 .0 in
+    let done = l .inv .0 .1 in
+    let got = rw (c .before .a2 .given .1) at (c .before .before .before .before .before .before .before .before .before .item-at .ensures places (r .inside) (r .names-table) (r .count-is)) in
+    let p = l .from + c .before .a2 .given .0 .0 in
+    (guard-rule p, stopped (a .text .now) (a .s .now) (l .s) (l .names) (l .heads) (l .from) (l .clauses) (l .queries) (l .known) places done r (guard-rule p) (got .0), refl, only-then 0 trial-region (a .s .now) (l .s) (c .before .before .before .before .before .before .before .before .before .item-at .last .1 .1 .0) (r .only) (got .2))
+
+enum-known-a-3 : tie.Need-enum-known-a-3 Inv-loop μ-loop
+enum-known-a-3 c = search needs
+
 add-offset : tie.Need-add-offset Inv-loop μ-loop
 add-offset c =
     let a = c .before .before .before .before .before .before .before .before .before .before .before .before .before .before .before .before .before .before .before .args in
@@ -184,88 +218,88 @@ add-offset c =
     let r = l .inv .0 .2 in
     let places = l .inv .0 .0 in
     let done = l .inv .0 .1 in
-    let got = rw (c .before .before .a2 .given .1) at (c .before .before .before .before .before .before .before .before .before .before .item-at .ensures places (r .inside) (r .names-table) (r .count-is)) in
+    let got = rw (c .before .before .a3 .given .1) at (c .before .before .before .before .before .before .before .before .before .before .item-at .ensures places (r .inside) (r .names-table) (r .count-is)) in
     omega (arith, got .2 .2, length-drop (l .from) (a .text .now), r .inside, c .before .before .before .before .before .before .before .before .before .before .before .before .before .before .before .before .before .before .before .good .0 .0)
 
-add-t29 : tie.Need-add-t29 Inv-loop μ-loop
-add-t29 c =
+add-t32 : tie.Need-add-t32 Inv-loop μ-loop
+add-t32 c =
     let a = c .before .before .before .before .before .before .before .before .before .before .before .before .before .before .before .before .before .before .before .args in
     let l = c .before .before .before .before .before .before .before .before .before .before .before .before .before .before .loop in
     let r = l .inv .0 .2 in
     let places = l .inv .0 .0 in
     let done = l .inv .0 .1 in
-    let got = rw (c .before .before .a2 .given .1) at (c .before .before .before .before .before .before .before .before .before .before .item-at .ensures places (r .inside) (r .names-table) (r .count-is)) in
+    let got = rw (c .before .before .a3 .given .1) at (c .before .before .before .before .before .before .before .before .before .before .item-at .ensures places (r .inside) (r .names-table) (r .count-is)) in
     omega (arith, got .3, length-drop (l .from) (a .text .now), r .inside, c .before .before .before .before .before .before .before .before .before .before .before .before .before .before .before .before .before .before .before .good .0 .0)
 
-same-length-4 : tie.Need-same-length-4 Inv-loop μ-loop
-same-length-4 c = c .before .before .before .before .before .before .before .before .before .before .item-at .kept .1 .1 .0 ∙ c .before .before .before .before .before .before .before .before .before .before .before .before .before .before .loop .inv .1
-
-same-length-5 : tie.Need-same-length-5 Inv-loop μ-loop
-same-length-5 c = c .before .before .before .before .before .before .before .before .before .before .item-at .kept .1 .1 .1 .0 ∙ c .before .before .before .before .before .before .before .before .before .before .before .before .before .before .loop .inv .2
-
-same-length-6 : tie.Need-same-length-6 Inv-loop μ-loop
-same-length-6 c = c .before .before .before .before .before .before .before .before .before .before .item-at .kept .1 .1 .1 .1 .0 ∙ c .before .before .before .before .before .before .before .before .before .before .before .before .before .before .loop .inv .3
-
-returns-2 : tie.Need-returns-2 Inv-loop μ-loop
-unfolding refusal
-returns-2 c =
-    let a = c .before .before .before .before .before .before .before .before .before .before .before .before .before .before .before .before .before .before .before .args in
-    let l = c .before .before .before .before .before .before .before .before .before .before .before .before .before .before .loop in
-    let r = l .inv .0 .2 in
-    let places = l .inv .0 .0 in
-    let done = l .inv .0 .1 in
-    let got = rw (c .before .before .a2 .given .1) at (c .before .before .before .before .before .before .before .before .before .before .item-at .ensures places (r .inside) (r .names-table) (r .count-is)) in
-    let p = l .from + c .before .before .a2 .given .0 .0 in
-    (occurrence-rule p (got .0), stopped (a .text .now) (a .s .now) (l .s) (l .names) (l .heads) (l .from) (l .clauses) (l .queries) (l .known) places done r (occurrence-rule p (got .0)) (got .1), rw (got .2 .0, got .2 .1) refl, only-then 0 trial-region (a .s .now) (l .s) (c .before .before .before .before .before .before .before .before .before .before .item-at .last .1 .1 .0) (r .only) (got .4))
-
-enum-known-a-3 : tie.Need-enum-known-a-3 Inv-loop μ-loop
-enum-known-a-3 c = search needs
-
-add-t31 : tie.Need-add-t31 Inv-loop μ-loop
-add-t31 c =
-    let a = c .before .before .before .before .before .before .before .before .before .before .before .before .before .before .before .before .before .before .args in
-    let l = c .before .before .before .before .before .before .before .before .before .before .before .before .before .loop in
-    let r = l .inv .0 .2 in
-    let places = l .inv .0 .0 in
-    let done = l .inv .0 .1 in
-    let got = rw (c .before .a3 .given .1) at (c .before .before .before .before .before .before .before .before .before .item-at .ensures places (r .inside) (r .names-table) (r .count-is)) in
-    omega (arith, got .1, length-drop (l .from) (a .text .now), r .inside, c .before .before .before .before .before .before .before .before .before .before .before .before .before .before .before .before .before .before .good .0 .0)
-
 same-length-7 : tie.Need-same-length-7 Inv-loop μ-loop
-same-length-7 c = c .before .before .before .before .before .before .before .before .before .item-at .kept .1 .1 .0 ∙ c .before .before .before .before .before .before .before .before .before .before .before .before .before .loop .inv .1
+same-length-7 c = c .before .before .before .before .before .before .before .before .before .before .item-at .kept .1 .1 .0 ∙ c .before .before .before .before .before .before .before .before .before .before .before .before .before .before .loop .inv .1
 
 same-length-8 : tie.Need-same-length-8 Inv-loop μ-loop
-same-length-8 c = c .before .before .before .before .before .before .before .before .before .item-at .kept .1 .1 .1 .0 ∙ c .before .before .before .before .before .before .before .before .before .before .before .before .before .loop .inv .2
+same-length-8 c = c .before .before .before .before .before .before .before .before .before .before .item-at .kept .1 .1 .1 .0 ∙ c .before .before .before .before .before .before .before .before .before .before .before .before .before .before .loop .inv .2
 
 same-length-9 : tie.Need-same-length-9 Inv-loop μ-loop
-same-length-9 c = c .before .before .before .before .before .before .before .before .before .item-at .kept .1 .1 .1 .1 .0 ∙ c .before .before .before .before .before .before .before .before .before .before .before .before .before .loop .inv .3
+same-length-9 c = c .before .before .before .before .before .before .before .before .before .before .item-at .kept .1 .1 .1 .1 .0 ∙ c .before .before .before .before .before .before .before .before .before .before .before .before .before .before .loop .inv .3
 
 returns-3 : tie.Need-returns-3 Inv-loop μ-loop
 unfolding refusal
 returns-3 c =
+    let a = c .before .before .before .before .before .before .before .before .before .before .before .before .before .before .before .before .before .before .before .args in
+    let l = c .before .before .before .before .before .before .before .before .before .before .before .before .before .before .loop in
+    let r = l .inv .0 .2 in
+    let places = l .inv .0 .0 in
+    let done = l .inv .0 .1 in
+    let got = rw (c .before .before .a3 .given .1) at (c .before .before .before .before .before .before .before .before .before .before .item-at .ensures places (r .inside) (r .names-table) (r .count-is)) in
+    let p = l .from + c .before .before .a3 .given .0 .0 in
+    (occurrence-rule p (got .0), stopped (a .text .now) (a .s .now) (l .s) (l .names) (l .heads) (l .from) (l .clauses) (l .queries) (l .known) places done r (occurrence-rule p (got .0)) (got .1), rw (got .2 .0, got .2 .1) refl, only-then 0 trial-region (a .s .now) (l .s) (c .before .before .before .before .before .before .before .before .before .before .item-at .last .1 .1 .0) (r .only) (got .4))
+
+enum-known-a-4 : tie.Need-enum-known-a-4 Inv-loop μ-loop
+enum-known-a-4 c = search needs
+
+add-t34 : tie.Need-add-t34 Inv-loop μ-loop
+add-t34 c =
     let a = c .before .before .before .before .before .before .before .before .before .before .before .before .before .before .before .before .before .before .args in
     let l = c .before .before .before .before .before .before .before .before .before .before .before .before .before .loop in
     let r = l .inv .0 .2 in
     let places = l .inv .0 .0 in
     let done = l .inv .0 .1 in
-    let got = rw (c .before .a3 .given .1) at (c .before .before .before .before .before .before .before .before .before .item-at .ensures places (r .inside) (r .names-table) (r .count-is)) in
-    let p = l .from + c .before .a3 .given .0 .0 in
+    let got = rw (c .before .a4 .given .1) at (c .before .before .before .before .before .before .before .before .before .item-at .ensures places (r .inside) (r .names-table) (r .count-is)) in
+    omega (arith, got .1, length-drop (l .from) (a .text .now), r .inside, c .before .before .before .before .before .before .before .before .before .before .before .before .before .before .before .before .before .before .good .0 .0)
+
+same-length-10 : tie.Need-same-length-10 Inv-loop μ-loop
+same-length-10 c = c .before .before .before .before .before .before .before .before .before .item-at .kept .1 .1 .0 ∙ c .before .before .before .before .before .before .before .before .before .before .before .before .before .loop .inv .1
+
+same-length-11 : tie.Need-same-length-11 Inv-loop μ-loop
+same-length-11 c = c .before .before .before .before .before .before .before .before .before .item-at .kept .1 .1 .1 .0 ∙ c .before .before .before .before .before .before .before .before .before .before .before .before .before .loop .inv .2
+
+same-length-12 : tie.Need-same-length-12 Inv-loop μ-loop
+same-length-12 c = c .before .before .before .before .before .before .before .before .before .item-at .kept .1 .1 .1 .1 .0 ∙ c .before .before .before .before .before .before .before .before .before .before .before .before .before .loop .inv .3
+
+returns-4 : tie.Need-returns-4 Inv-loop μ-loop
+unfolding refusal
+returns-4 c =
+    let a = c .before .before .before .before .before .before .before .before .before .before .before .before .before .before .before .before .before .before .args in
+    let l = c .before .before .before .before .before .before .before .before .before .before .before .before .before .loop in
+    let r = l .inv .0 .2 in
+    let places = l .inv .0 .0 in
+    let done = l .inv .0 .1 in
+    let got = rw (c .before .a4 .given .1) at (c .before .before .before .before .before .before .before .before .before .item-at .ensures places (r .inside) (r .names-table) (r .count-is)) in
+    let p = l .from + c .before .a4 .given .0 .0 in
     (figure p, stopped (a .text .now) (a .s .now) (l .s) (l .names) (l .heads) (l .from) (l .clauses) (l .queries) (l .known) places done r (figure p) (got .0), refl, only-then 0 trial-region (a .s .now) (l .s) (c .before .before .before .before .before .before .before .before .before .item-at .last .1 .1 .0) (r .only) (got .2))
 
 enum-told : tie.Need-enum-told Inv-loop μ-loop
 enum-told c = search needs
 
-same-length-10 : tie.Need-same-length-10 Inv-loop μ-loop
-same-length-10 c = c .before .before .before .before .before .before .before .before .item-at .kept .1 .1 .0 ∙ c .before .before .before .before .before .before .before .before .before .before .before .before .loop .inv .1
+same-length-13 : tie.Need-same-length-13 Inv-loop μ-loop
+same-length-13 c = c .before .before .before .before .before .before .before .before .item-at .kept .1 .1 .0 ∙ c .before .before .before .before .before .before .before .before .before .before .before .before .loop .inv .1
 
-same-length-11 : tie.Need-same-length-11 Inv-loop μ-loop
-same-length-11 c = c .before .before .before .before .before .before .before .before .item-at .kept .1 .1 .1 .0 ∙ c .before .before .before .before .before .before .before .before .before .before .before .before .loop .inv .2
+same-length-14 : tie.Need-same-length-14 Inv-loop μ-loop
+same-length-14 c = c .before .before .before .before .before .before .before .before .item-at .kept .1 .1 .1 .0 ∙ c .before .before .before .before .before .before .before .before .before .before .before .before .loop .inv .2
 
-same-length-12 : tie.Need-same-length-12 Inv-loop μ-loop
-same-length-12 c = c .before .before .before .before .before .before .before .before .item-at .kept .1 .1 .1 .1 .0 ∙ c .before .before .before .before .before .before .before .before .before .before .before .before .loop .inv .3
+same-length-15 : tie.Need-same-length-15 Inv-loop μ-loop
+same-length-15 c = c .before .before .before .before .before .before .before .before .item-at .kept .1 .1 .1 .1 .0 ∙ c .before .before .before .before .before .before .before .before .before .before .before .before .loop .inv .3
 
-returns-4 : tie.Need-returns-4 Inv-loop μ-loop
-returns-4 c =
+returns-5 : tie.Need-returns-5 Inv-loop μ-loop
+returns-5 c =
     let a = c .before .before .before .before .before .before .before .before .before .before .before .before .before .before .before .before .before .args in
     let l = c .before .before .before .before .before .before .before .before .before .before .before .before .loop in
     let r = l .inv .0 .2 in
@@ -293,27 +327,33 @@ all-items-spec =
     loop-less-2
     loop-again-2
     enum-known-a
-    add-t26
     add-t27
+    add-t28
     same-length
     same-length-2
     same-length-3
     returns
     enum-known-a-2
-    add-offset
-    add-t29
+    add-t30
     same-length-4
     same-length-5
     same-length-6
     returns-2
     enum-known-a-3
-    add-t31
+    add-offset
+    add-t32
     same-length-7
     same-length-8
     same-length-9
     returns-3
-    enum-told
+    enum-known-a-4
+    add-t34
     same-length-10
     same-length-11
     same-length-12
-    returns-4)
+    returns-4
+    enum-told
+    same-length-13
+    same-length-14
+    same-length-15
+    returns-5)

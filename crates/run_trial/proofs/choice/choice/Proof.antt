@@ -62,6 +62,7 @@ trial-requires c κs =
       clauses.walk-stand trying w stand,
       clauses.turn-candidate trying w left,
       w .marks-now,
+      w .gathered .ok,
       (omega (arith, w .stamp-is, fit .0), omega (arith, clauses.turn-stamp trying w left, fit .1)),
     )
 
@@ -70,30 +71,6 @@ enum-known-t c = search needs
 
 enum-known-t-2 : tie.Need-enum-known-t-2 Inv-clauses μ-clauses
 enum-known-t-2 c = search needs
-
-add-meet-all : tie.Need-add-meet-all Inv-clauses μ-clauses
-add-meet-all c =
-    let T = c .before .before .before .before .before .before .before in
-    let L = T .before .before .before in
-    let A = L .before .before .before .before .before in
-    let S = A .before .before .before in
-    let n = clauses.turning (L .clauses .inv) (following.ready (S .pre) (A .follow-arguments .ensures)) (T .before .before .clauses-test .taken) in
-    record { fits = omega (arith, n .room, n .size, A .follow-arguments .kept .0, S .good) }
-
-meet-all-requires : tie.Need-meet-all-requires Inv-clauses μ-clauses
-meet-all-requires c κs =
-    let W = c .before .before in
-    let T = W .before .before .before .before .before in
-    let L = T .before .before .before in
-    let A = L .before .before .before .before .before in
-    let S = A .before .before .before in
-    let left = T .before .before .clauses-test .taken in
-    let (text, names, j, limit, figures, at, g, others, trying, stand, new, fit) = following.ready (S .pre) (A .follow-arguments .ensures) in
-    let w = L .clauses .inv text names j limit figures at g others trying stand new in
-    clauses.turn-meets trying w left
-    (T .trial .ensures text names j limit figures at g others (S .args .goal) (clauses.turn trying w left .0) (clauses.walk-trying trying w)
-    (clauses.walk-stand trying w stand) (clauses.turn-candidate trying w left) (w .marks-now))
-    (W .t2 .given .0 .0) (W .t2 .given .1)
 
 add-stamp : tie.Need-add-stamp Inv-clauses μ-clauses
 add-stamp c =
@@ -105,25 +82,11 @@ add-stamp c =
 
 clause-after-requires : tie.Need-clause-after-requires Inv-clauses μ-clauses
 clause-after-requires c κs =
-    let J = c .before in
-    let T = J .before .before .before .before in
+    let T = c .before .before .before .before .before in
     let L = T .before .before .before in
     let A = L .before .before .before .before .before in
-    let S = A .before .before .before in
-    let n = clauses.turning (L .clauses .inv) (following.ready (S .pre) (A .follow-arguments .ensures)) (T .before .before .clauses-test .taken) in
-    let passed : clauses.Passed (T .trial .last .0) (S .args .marks) (S .args .links) (L .clauses .readers) (T .trial .result) (J .match2 .s) (J .match2 .readers) =
-    ⊎-elim
-    (λ w. inl (w .1 .given .0 .0, w .1 .given .1, rw (w .7, w .8) (w .4 .ensures)))
-    (λ w. inr (clauses.neither (T .trial .result) (J .before .match .keys2) (w .0 .keys2), w .1, w .2))
-    (J .match2 .came) in
-    omega (
-      arith,
-      n .large,
-      n .number,
-      T .trial .kept .0,
-      clauses.passed-length (T .trial .last .0) (S .args .marks) (S .args .links) (L .clauses .readers) (T .trial .result) (J .match2 .s) (J .match2 .readers)
-          passed,
-    )
+    let n = clauses.turning (L .clauses .inv) (following.ready (A .before .before .before .pre) (A .follow-arguments .ensures)) (T .before .before .clauses-test .taken) in
+    omega (arith, n .large, n .number, T .trial .kept .0)
 
 clauses-less : tie.Need-clauses-less Inv-clauses μ-clauses
 clauses-less c =
@@ -141,25 +104,26 @@ clauses-again c =
     let A = L .before .before .before .before .before in
     let S = A .before .before .before in
     let left = T .before .before .clauses-test .taken in
-    let passed : clauses.Passed (T .trial .last .0) (S .args .marks) (S .args .links) (L .clauses .readers) (T .trial .result) (J .match2 .s) (J .match2 .readers) =
+    let passed : clauses.Passed (L .clauses .readers) (T .trial .result) (J .match2 .readers) =
     ⊎-elim
-    (λ w. inl (w .1 .given .0 .0, w .1 .given .1, rw (w .7, w .8) (w .4 .ensures)))
-    (λ w. inr (clauses.neither (T .trial .result) (J .before .match .keys2) (w .0 .keys2), w .1, w .2))
+    (λ w. inl (w .1 .given .0 .0, w .1 .given .1, w .3))
+    (λ w. inr (clauses.neither (T .trial .result) (J .before .match .keys2) (w .0 .keys2), w .1))
     (J .match2 .came) in
     let k = L .clauses .next - 1 in
-    let same : J .match2 .t ≡ T .trial .result = ⊎-elim {C = J .match2 .t ≡ T .trial .result} (λ w. w .9 ∙ sym (w .1 .given .1)) (λ w. w .3) (J .match2 .came) in
-    let told : c .clause-after .result ≡ clause-after (J .match2 .s) k (J .match2 .t) = c .clause-after .ensures in
-    let later : c .clause-after .result ≡ getD (J .match2 .s) (clause-record k) 0 =
-    told ∙ ap (clause-after (J .match2 .s) k) same ∙ clauses.goes-on (J .match2 .s) k (T .trial .result) (J .before .match .keys2) in
+    let s′ = T .trial .last .0 in
+    let same : J .match2 .t ≡ T .trial .result = ⊎-elim {C = J .match2 .t ≡ T .trial .result} (λ w. w .4 ∙ sym (w .1 .given .1)) (λ w. w .2) (J .match2 .came) in
+    let told : c .clause-after .result ≡ clause-after s′ k (J .match2 .t) = c .clause-after .ensures in
+    let later : c .clause-after .result ≡ getD s′ (clause-record k) 0 =
+    told ∙ ap (clause-after s′ k) same ∙ clauses.goes-on s′ k (T .trial .result) (J .before .match .keys2) in
     λ text names j limit figures at g others trying stand new.
     let w = L .clauses .inv text names j limit figures at g others trying stand new in
-    subst (λ v. clauses.Walk (A .follow-arguments .last .0) (J .match2 .s) names j limit figures at g
+    subst (λ v. clauses.Walk (A .follow-arguments .last .0) s′ names j limit figures at g
     (S .args .marks) (S .args .first) (J .match2 .readers) (L .clauses .stamp + 256) v)
     (sym later)
     (clauses.turn-passed trying w left
-    (T .trial .ensures text names j limit figures at g others (S .args .goal) (clauses.turn trying w left .0) (clauses.walk-trying trying w)
-    (clauses.walk-stand trying w stand) (clauses.turn-candidate trying w left) (w .marks-now))
-    (J .match2 .s) (J .match2 .readers) passed)
+    (T .trial .ensures text names j limit figures at g others (S .args .goal) (clauses.turn trying w left .0) (w .waiting) (clauses.walk-trying trying w)
+    (clauses.walk-stand trying w stand) (clauses.turn-candidate trying w left) (w .marks-now) (w .gathered))
+    (J .match2 .readers) passed)
 
 same-length : tie.Need-same-length Inv-clauses μ-clauses
 same-length c =
@@ -186,8 +150,8 @@ returns c =
     let w = L .clauses .inv text names j limit figures at g others trying stand new in
     following.choice-then before told
     (clauses.turn-succeeds trying w left
-    (T .trial .ensures text names j limit figures at g others (S .args .goal) (clauses.turn trying w left .0) (clauses.walk-trying trying w)
-    (clauses.walk-stand trying w stand) (clauses.turn-candidate trying w left) (w .marks-now))
+    (T .trial .ensures text names j limit figures at g others (S .args .goal) (clauses.turn trying w left .0) (w .waiting) (clauses.walk-trying trying w)
+    (clauses.walk-stand trying w stand) (clauses.turn-candidate trying w left) (w .marks-now) (w .gathered))
     (W .t .given .0 .0) (W .t .given .1))
 
 same-length-2 : tie.Need-same-length-2 Inv-clauses μ-clauses
@@ -247,8 +211,6 @@ choice-spec =
     trial-requires
     enum-known-t
     enum-known-t-2
-    add-meet-all
-    meet-all-requires
     add-stamp
     clause-after-requires
     clauses-less

@@ -43,7 +43,7 @@ arguments-term-requires t₀ c κs =
     let r = entry .pre .1 .0 in
     let l = c .before .before .before .before .loop in
     let t = l .inv .0 (p .0) (p .1) (p .2) in
-    (omega (arith, entry .pre .0), ((r .0, omega (arith, l .inv .2, r .1), omega (arith, l .inv .2, r .2)), (t .known₁, t .vars₁, t .stands)))
+    (omega (arith, entry .pre .0), ((omega (arith, r .0), omega (arith, l .inv .2, r .1), omega (arith, l .inv .2, r .2)), (t .known₁, t .vars₁, t .stands)))
 
 pub arguments-store-argument-requires : (t₀ : ℕ) → arguments-lts.Need-store-argument-requires (arguments-calls t₀) (arguments-at t₀) arguments.Post arguments-Inv-loop arguments-μ-loop
 arguments-store-argument-requires t₀ c κs =

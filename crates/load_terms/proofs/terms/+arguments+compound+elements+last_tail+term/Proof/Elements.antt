@@ -46,7 +46,7 @@ elements-term-requires t₀ c κs =
     let l = c .before .before .before .before .before .loop in
     let test = c .before .before .before .if1 in
     let t = l .inv .0 (p .0) (p .1) (p .2) 32 (omega arith) in
-    (omega (arith, entry .pre .0), ((r .0, omega (arith, l .inv .1, r .1), omega (arith, l .inv .1, r .2)), (t .known₁, t .vars₁, stands-counted (t .stands) (test .taken))))
+    (omega (arith, entry .pre .0), ((omega (arith, r .0), omega (arith, l .inv .1, r .1), omega (arith, l .inv .1, r .2)), (t .known₁, t .vars₁, stands-counted (t .stands) (test .taken))))
 
 pub elements-next-of-requires : (t₀ : ℕ) → elements-lts.Need-next-of-requires (elements-calls t₀) (elements-at t₀) elements.Post elements-Inv-loop elements-μ-loop
 elements-next-of-requires t₀ c κs =

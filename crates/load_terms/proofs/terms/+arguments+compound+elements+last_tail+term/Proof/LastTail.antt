@@ -13,7 +13,7 @@ last-tail-term-requires t c κs =
     let entry = c .before .before .before .before .before .before .before .before in
     let p = entry .pre .1 .1 in
     let r = entry .pre .1 .0 in
-    (omega (arith, entry .pre .0), ((r .0, r .1, r .2), p))
+    (omega (arith, entry .pre .0), ((omega (arith, r .0), r .1, r .2), p))
 
 pub last-tail-next-is-requires : (t : ℕ) → last-tail-lts.Need-next-is-requires (last-tail-calls t) (last-tail-at t) last-tail.Post
 last-tail-next-is-requires t c κs =

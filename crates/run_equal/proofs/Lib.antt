@@ -1,0 +1,10 @@
+pub mod Answers
+pub mod Calls
+pub mod Cuts
+pub mod Depths
+pub mod Going
+pub mod Links
+pub mod Meanings
+pub mod Puts
+pub mod Turns
+pub mod Words

@@ -1,0 +1,14 @@
+pub mod Begins
+pub mod Calls
+pub mod Found
+pub mod Leaf
+pub mod Left
+pub mod Results
+pub mod Sets
+pub mod Settle
+pub mod Through
+pub mod Unassigned
+pub mod Visit
+pub mod Walk
+pub mod Words
+pub mod Written

@@ -1,0 +1,5 @@
+pub mod Answers
+pub mod Kept
+pub mod Loop
+pub mod Rows
+pub mod Shapes
