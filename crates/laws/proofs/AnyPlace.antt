@@ -73,14 +73,15 @@ module _ (job : Job) (figures : Room) where
           within = taken-within figures (choice-for (job .clauses) state g) g others state t fit (s .within);
         }
 
-    taken-assigns-once : (state : State) (g : Goal) (others : List Goal) → TakenOut g others (state .goals .queue) → Kept job figures state
+    pub taken-assigns-once : (state : State) (g : Goal) (others : List Goal) → TakenOut g others (state .goals .queue)
+        → SoundAll (length (job .queries)) state → Summed state → NoCircle state
         → (clause : Clause) (given : List Assignment) → choice-for (job .clauses) state g ≡ reduces clause given
         → AssignedOnce (unit-at (g .query) (state .units) .values) (clause .pairs) given
     unfolding choice-for
-    taken-assigns-once state g others t s clause given e =
+    taken-assigns-once state g others t sound summed no-circle clause given e =
         let (member, agrees) = reduces-agrees (unit-at (g .query) (state .units)) (g .goal) clause given (job .clauses) e in
-        let inside = rw (s .sound .units) at (taken-each _ t (s .summed .placed .queue) .0) in
-        sound-assigns-once state g others t (s .sound .sound (g .query) inside) (s .no-circle)
+        let inside = rw (sound .units) at (taken-each _ t (summed .placed .queue) .0) in
+        sound-assigns-once state g others t (sound .sound (g .query) inside) no-circle
         clause (each-in ClauseOk (ok .clauses-ok) member) given agrees
 
     -- What every step keeps that fits, for any goal of the queue.
@@ -92,7 +93,7 @@ module _ (job : Job) (figures : Room) where
         record {
           kept = taken-kept state g (before ++ after) t fit s;
           single = kept-single _ (taken-kept state g (before ++ after) t fit s);
-          assigns-once = taken-assigns-once state g (before ++ after) t s;
+          assigns-once = taken-assigns-once state g (before ++ after) t (s .sound) (s .summed) (s .no-circle);
           values-stay = step-values-stay (job .clauses) state g (before ++ after) (s .no-circle);
           others-stay = λ k d. step-of-other k (choice-for (job .clauses) state g) state g (before ++ after) t d;
           first-is-own = λ first.

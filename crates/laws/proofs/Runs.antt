@@ -8,7 +8,7 @@ pub mod Counts
 pub mod Charges
 pub mod Dropped
 use Prim.Native.Nat.{ℕ, _≤_, _<_, _+_}
-use mathlib.Core.Path.{_≡_, refl}
+use mathlib.Core.Path.{_≡_, refl, _∙_}
 use mathlib.Core.Logic.{_↔_}
 use mathlib.Core.Bool.{false, true}
 use mathlib.Core.List.{List, [], _∷_}
@@ -19,7 +19,7 @@ use Rattle.meaning.specs.Terms.{Job, Clause}
 use Rattle.meaning.specs.State.{Room, Goal, start, Goals, State, number-of}
 use Rattle.meaning.specs.Compare.{Assignment}
 use Rattle.meaning.specs.Trial.{Choice, reduces, joins-waiting, joins-failed}
-use Rattle.meaning.specs.Step.{without-front}
+use Rattle.meaning.specs.Step.{step, without-front}
 use Rattle.meaning.specs.Run.{fits, choice-for, rest, budget, room, run, queries-fit}
 use Rattle.laws.proofs.Lists.{differ, sum}
 use Rattle.laws.proofs.Runs.Onward.{run-induction}
@@ -38,7 +38,7 @@ use Rattle.laws.proofs.Runs.Counts.{
 }
 use Rattle.laws.proofs.Runs.Charges.{run-summed, run-units}
 use Rattle.laws.proofs.Runs.Dropped.{reductions, body-goals-of, None-dropped, onward-drops-none}
-use Rattle.laws.proofs.Runs.Further.{goes-on, Goes-on, cases-on}
+use Rattle.laws.proofs.Runs.Further.{goes-on, no-more, steps-on, Goes-on, cases-on}
 -- What the first state has and each step keeps, every state of every run has.
 pub use Invariant.{KeptByStep, run-keeps, no-steps}
 -- What each step keeps, whichever goal of the queue it takes, every state has that is reached by such steps, as those of a run are.
@@ -134,3 +134,14 @@ pub run-goes-on : (job : Job) (m n : ℕ) (figures : Room)
     → run job (m + n) figures .state ≡ goes-on (job .clauses) figures n (run job m figures .state)
 unfolding run goes-on Goes-on
 run-goes-on job m n figures = run-induction job figures (Goes-on (job .clauses) figures) (cases-on (job .clauses) figures) m n
+
+-- So runs end in every state of a run: with no budget before the first step (`no-steps`), and with one step more behind each step that is taken.
+pub run-steps-on : (job : Job) (limit : ℕ) (figures : Room) (g : Goal) (others : List Goal)
+    → run job limit figures .state .goals .queue ≡ g ∷ others
+    → fits figures (choice-for (job .clauses) (run job limit figures .state) g) (run job limit figures .state)
+    (without-front others (run job limit figures .state .goals)) ≡ true
+    → run job (limit + 1) figures .state ≡ step (choice-for (job .clauses) (run job limit figures .state) g) g others (run job limit figures .state)
+run-steps-on job limit figures g others front fit =
+    run-goes-on job limit 1 figures
+    ∙ steps-on (job .clauses) figures 0 (run job limit figures .state) g others front fit
+    ∙ no-more (job .clauses) figures _

@@ -90,5 +90,9 @@ all-up-to test k e n h = each-in (λ n. test n ≡ true) (all-each test (up-to k
 pub each-zero : {A : Type 0} (f : A → ℕ) (l : List A) → sum f l ≡ 0 → Each (λ a. f a ≡ 0) l
 each-zero f l e = each-member (λ a. f a ≡ 0) l (λ a m. omega (arith, in-sum f m))
 
+pub sum-of-none : {A : Type 0} (f : A → ℕ) (l : List A) → Each (λ a. f a ≡ 0) l → sum f l ≡ 0
+sum-of-none f [] zeros = refl
+sum-of-none f (a ∷ l) zeros = omega (arith, zeros .0, sum-of-none f l (zeros .1))
+
 pub each-among : (P : ℕ → Type 0) (n : ℕ) (l : List ℕ) → Each P l → among n l ≡ true → P n
 each-among P n l ps e = each-in P ps (among-in n l e)

@@ -41,6 +41,15 @@ module _ {A : Type 0} where
       go true e further = rw (e, those, if_then_else_) (omega arith)
       go false e further = rw (e, those, if_then_else_) (omega arith)
 
+  -- Equal counts, and counts that are no greater.
+  pub sum-same : (f g : A → ℕ) → ((a : A) → f a ≡ g a) → (l : List A) → sum f l ≡ sum g l
+  sum-same f g same [] = refl
+  sum-same f g same (a ∷ l) = omega (arith, same a, sum-same f g same l)
+
+  pub sum-no-greater : (f g : A → ℕ) → ((a : A) → f a ≤ g a) → (l : List A) → sum f l ≤ sum g l
+  sum-no-greater f g less [] = omega arith
+  sum-no-greater f g less (a ∷ l) = omega (arith, less a, sum-no-greater f g less l)
+
   -- One element replaced.
   pub sum-set : (f : A → ℕ) (l : List A) (i : ℕ) (a d : A) → i < length l → sum f (set l i a) + f (getD l i d) ≡ sum f l + f a
   sum-set f [] i a d h = absurd (not-suc-le-zero h)

@@ -192,6 +192,9 @@ module _ (job : Job) (ok : JobOk job) (figures : Room) where
   run-failed-goals-fail-again limit =
       run-keeps job figures (Steady job) (λ state g others front fit s. step-steady job ok state g others (taken-front front) s) start-steady limit .failed-fail
 
+  pub reached-steady : (state : State) → Reached (job .clauses) figures (start (job .queries)) state → Steady job state
+  reached-steady state r =
+      reached-keeps (job .clauses) figures (Steady job) (λ state g others taken fit s. step-steady job ok state g others taken s) r start-steady
+
   pub reached-failed-goals-fail-again : (state : State) → Reached (job .clauses) figures (start (job .queries)) state → FailedFail (job .clauses) state
-  reached-failed-goals-fail-again state r =
-      reached-keeps (job .clauses) figures (Steady job) (λ state g others taken fit s. step-steady job ok state g others taken s) r start-steady .failed-fail
+  reached-failed-goals-fail-again state r = reached-steady state r .failed-fail
