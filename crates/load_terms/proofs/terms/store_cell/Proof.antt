@@ -16,7 +16,10 @@ same-length : tie.Need-same-length
 same-length c = search needs
 
 returns : tie.Need-returns
-returns c = cc
+returns c =
+    let tail-stored = c .before .before .before .before .before .before in
+    let element-stored = tail-stored .before .before .before .before in
+    rw (c .before .before .store-functor .ensures, tail-stored .store-argument2 .ensures, element-stored .store-argument .ensures)
 
 pub store-cell-spec : {M : Type 1} → statement M
 store-cell-spec =

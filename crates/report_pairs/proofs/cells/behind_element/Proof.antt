@@ -19,29 +19,33 @@ enum-known-q c = search needs
 
 functor-requires : tie.Need-functor-requires
 functor-requires c κs =
-    let start = c .before .before .before .before .before in
+    let looked = c .before .before .before in
+    let start = looked .before .before in
     let q = c .before .q .given .0 .0 in
-    let at : seen (start .args .t) ≡ Compound q = cc in
+    let at : seen (start .args .t) ≡ Compound q = sym (looked .look .ensures) ∙ c .before .q .given .1 in
     omega (arith, led-inside (start .args .s .now) (start .pre .0) (start .pre .2) (start .args .t) q (start .pre .4) at)
 
 returns : tie.Need-returns
 returns c x u v a l =
-    let start = c .before .before .before .before .before .before .before in
+    let looked = c .before .before .before .before .before in
+    let start = looked .before .before in
     let q = c .before .before .before .q .given .0 .0 in
-    let at : seen (start .args .t) ≡ Compound q = cc in
+    let at : seen (start .args .t) ≡ Compound q = sym (looked .look .ensures) ∙ c .before .before .before .q .given .1 in
     element-cell (start .args .s .now) x (start .args .p) (start .args .t) u v a l q at (sym (c .before .functor .ensures) ∙ c .if1 .taken)
 
 returns-2 : tie.Need-returns-2
 returns-2 c x u v a l =
-    let start = c .before .before .before .before in
-    let at : seen (start .args .t) ≡ Empty = cc in
+    let looked = c .before .before in
+    let start = looked .before .before in
+    let at : seen (start .args .t) ≡ Empty = sym (looked .look .ensures) ∙ c .enum-told .given .1 in
     element-empty (start .args .s .now) x (start .args .p) (start .args .t) u v a l at
 
 returns-3 : tie.Need-returns-3
 returns-3 c x u v a l =
-    let start = c .before .before .before .before .before .before .before in
+    let looked = c .before .before .before .before .before in
+    let start = looked .before .before in
     let q = c .before .before .before .q .given .0 .0 in
-    let at : seen (start .args .t) ≡ Compound q = cc in
+    let at : seen (start .args .t) ≡ Compound q = sym (looked .look .ensures) ∙ c .before .before .before .q .given .1 in
     element-bar-compound (start .args .s .now) x (start .args .p) (start .args .t) u v a l q at (λ z. c .if1 .left (c .before .functor .ensures ∙ z))
 
 returns-4 : tie.Need-returns-4

@@ -1,6 +1,6 @@
 -- `report_pairs::ends::pair` meets its contract: a variable's view has the upper part of its word.
 use Prim.Native.Nat.{_/_, _%_}
-use mathlib.Core.Path.{_≡_, _∙_}
+use mathlib.Core.Path.{_≡_, _∙_, sym}
 use native.Mathlib.Omega.{arith}
 use borrow.Author.Needs.{needs}
 use Rattle.term.specs.declared.word.View.the-variants.{Writer, Reader}
@@ -16,9 +16,10 @@ enum-known-p c = search needs
 
 add-result : tie.Need-add-result
 add-result c =
-    let w = c .before .before .before .before .args .w in
+    let looked = c .before .before .before in
+    let w = looked .before .args .w in
     let p = c .before .p .given .0 .0 in
-    let at : seen w ≡ Writer p = cc in
+    let at : seen w ≡ Writer p = sym (looked .look .ensures) ∙ c .before .p .given .1 in
     omega (arith, writer-payload w p at)
 
 enum-known-p-2 : tie.Need-enum-known-p-2
@@ -26,21 +27,24 @@ enum-known-p-2 c = search needs
 
 add-result-2 : tie.Need-add-result-2
 add-result-2 c =
-    let w = c .before .before .before .before .args .w in
+    let looked = c .before .before .before in
+    let w = looked .before .args .w in
     let p = c .before .p2 .given .0 .0 in
-    let at : seen w ≡ Reader p = cc in
+    let at : seen w ≡ Reader p = sym (looked .look .ensures) ∙ c .before .p2 .given .1 in
     omega (arith, reader-payload w p at)
 
 returns : tie.Need-returns
 returns c =
-    let w = c .before .before .before .before .args .w in
-    let at : seen w ≡ Writer (c .before .p .given .0 .0) = cc in
+    let looked = c .before .before .before in
+    let w = looked .before .args .w in
+    let at : seen w ≡ Writer (c .before .p .given .0 .0) = sym (looked .look .ensures) ∙ c .before .p .given .1 in
     rw at
 
 returns-2 : tie.Need-returns-2
 returns-2 c =
-    let w = c .before .before .before .before .args .w in
-    let at : seen w ≡ Reader (c .before .p2 .given .0 .0) = cc in
+    let looked = c .before .before .before in
+    let w = looked .before .args .w in
+    let at : seen w ≡ Reader (c .before .p2 .given .0 .0) = sym (looked .look .ensures) ∙ c .before .p2 .given .1 in
     rw at
 
 returns-3 : tie.Need-returns-3

@@ -1,5 +1,5 @@
 -- `run_chains::ends::keep_end` meets its contract: only a variable has a pair.
-use mathlib.Core.Path.{_≡_}
+use mathlib.Core.Path.{_≡_, _∙_, sym}
 use Rattle.meaning.specs.Terms.{writer, reader}
 use Rattle.term.specs.declared.word.View.the-variants.{Writer, Reader}
 use Rattle.run_table.proofs.Seen.{seen}
@@ -17,9 +17,10 @@ enum-known-p c = search needs
 
 keep-requires : tie.Need-keep-requires
 keep-requires c κs =
-    let start = c .before .before .before .before .before .before in
+    let looked = c .before .before .before .before in
+    let start = looked .before .before in
     let p = c .before .before .p .given .0 .0 in
-    let at : seen (start .args .w) ≡ Writer p = cc in
+    let at : seen (start .args .w) ≡ Writer p = sym (looked .look .ensures) ∙ c .before .before .p .given .1 in
     let k = writer-pair (start .args .s .now) (start .pre .0) (start .args .values) (start .args .links) (start .pre .1) (start .args .w) p (start .pre .2 .reads) at in
     (start .pre .0, writer, k .0, rw (k .1) at (start .pre .2), k .2)
 
@@ -28,9 +29,10 @@ enum-known-p-2 c = search needs
 
 keep-requires-2 : tie.Need-keep-requires-2
 keep-requires-2 c κs =
-    let start = c .before .before .before .before .before .before in
+    let looked = c .before .before .before .before in
+    let start = looked .before .before in
     let p = c .before .before .p2 .given .0 .0 in
-    let at : seen (start .args .w) ≡ Reader p = cc in
+    let at : seen (start .args .w) ≡ Reader p = sym (looked .look .ensures) ∙ c .before .before .p2 .given .1 in
     let k = reader-pair (start .args .s .now) (start .pre .0) (start .args .values) (start .args .links) (start .pre .1) (start .args .w) p (start .pre .2 .reads) at in
     (start .pre .0, reader, k .0, rw (k .1) at (start .pre .2), k .2)
 
@@ -39,9 +41,10 @@ same-length c = search needs
 
 returns : tie.Need-returns
 returns c x t r =
-    let start = c .before .before .before .before .before .before .before .before .before in
+    let looked = c .before .before .before .before .before .before .before in
+    let start = looked .before .before in
     let p = c .before .before .before .before .before .p .given .0 .0 in
-    let at : seen (start .args .w) ≡ Writer p = cc in
+    let at : seen (start .args .w) ≡ Writer p = sym (looked .look .ensures) ∙ c .before .before .before .before .before .p .given .1 in
     let k = writer-pair (start .args .s .now) x (start .args .values) (start .args .links) t (start .args .w) p (r .reads) at in
     c .before .before .keep .ensures x writer (k .0) (rw (k .1) at r) (k .2)
 
@@ -50,9 +53,10 @@ same-length-2 c = search needs
 
 returns-2 : tie.Need-returns-2
 returns-2 c x t r =
-    let start = c .before .before .before .before .before .before .before .before .before in
+    let looked = c .before .before .before .before .before .before .before in
+    let start = looked .before .before in
     let p = c .before .before .before .before .before .p2 .given .0 .0 in
-    let at : seen (start .args .w) ≡ Reader p = cc in
+    let at : seen (start .args .w) ≡ Reader p = sym (looked .look .ensures) ∙ c .before .before .before .before .before .p2 .given .1 in
     let k = reader-pair (start .args .s .now) x (start .args .values) (start .args .links) t (start .args .w) p (r .reads) at in
     c .before .before .keep2 .ensures x reader (k .0) (rw (k .1) at r) (k .2)
 

@@ -1,5 +1,5 @@
 -- `run_table::table::against_compound` meets its contract: a row for what is seen.
-use mathlib.Core.Path.{_≡_, refl}
+use mathlib.Core.Path.{_≡_, refl, _∙_, sym}
 use Rattle.term.specs.declared.word.View.the-variants.{Writer, Reader, Compound}
 use Rattle.run_table.specs.Rows.{gives-goal, waits, fails, below, writer-row, reader-row, constant-row, compound-row, equal-row, row, answer, behind}
 use Rattle.run_table.proofs.Seen.{seen}
@@ -32,9 +32,10 @@ same-length c = search needs
 returns : tie.Need-returns
 unfolding writer-row reader-row constant-row compound-row equal-row row answer behind
 returns c =
-    let start = c .before .before .before .before .before .before .before .before .before in
+    let looked = c .before .before .before .before .before .before .before in
+    let start = looked .before .before in
     let z = c .before .before .before .before .before .z .given .0 .0 in
-    let at : seen (start .args .w) ≡ Writer z = cc in
+    let at : seen (start .args .w) ≡ Writer z = sym (looked .look .ensures) ∙ c .before .before .before .before .before .z .given .1 in
     done-by (start .args .s .now) (c .before .before .give .last .0) (start .args .n) (start .args .h) (start .args .w) _ (gives-goal z) _
     (rw at) (rw (c .before .before .give .ensures .0)) (c .before .before .give .ensures .1)
 
@@ -44,18 +45,20 @@ same-length-2 c = search needs
 returns-2 : tie.Need-returns-2
 unfolding writer-row reader-row constant-row compound-row equal-row row answer behind
 returns-2 c =
-    let start = c .before .before .before .before .before .before .before .before .before in
+    let looked = c .before .before .before .before .before .before .before in
+    let start = looked .before .before in
     let z = c .before .before .before .before .before .z2 .given .0 .0 in
-    let at : seen (start .args .w) ≡ Reader z = cc in
+    let at : seen (start .args .w) ≡ Reader z = sym (looked .look .ensures) ∙ c .before .before .before .before .before .z2 .given .1 in
     done-by (start .args .s .now) (c .before .before .ask .last .0) (start .args .n) (start .args .h) (start .args .w) _ (waits z) _
     (rw at) (rw (c .before .before .ask .ensures .0)) (c .before .before .ask .ensures .1)
 
 returns-3 : tie.Need-returns-3
 unfolding writer-row reader-row constant-row compound-row equal-row row answer behind
 returns-3 c =
-    let start = c .before .before .before .before .before in
+    let looked = c .before .before .before in
+    let start = looked .before .before in
     let z = c .before .q .given .0 .0 in
-    let at : seen (start .args .w) ≡ Compound z = cc in
+    let at : seen (start .args .w) ≡ Compound z = sym (looked .look .ensures) ∙ c .before .q .given .1 in
     done-by (start .args .s .now) (start .args .s .now) (start .args .n) (start .args .h) (start .args .w) _ (below (start .args .p) z) _ (rw at) refl refl
 
 returns-4 : tie.Need-returns-4

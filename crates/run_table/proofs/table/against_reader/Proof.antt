@@ -1,5 +1,5 @@
 -- `run_table::table::against_reader` meets its contract: a row for what is seen.
-use mathlib.Core.Path.{_≡_, refl}
+use mathlib.Core.Path.{_≡_, refl, _∙_, sym}
 use Rattle.term.specs.declared.word.View.the-variants.{Writer}
 use Rattle.run_table.specs.Rows.{gives-goal, fails, writer-row, reader-row, constant-row, compound-row, equal-row, row, answer, behind}
 use Rattle.run_table.proofs.Seen.{seen}
@@ -23,9 +23,10 @@ same-length c = search needs
 returns : tie.Need-returns
 unfolding writer-row reader-row constant-row compound-row equal-row row answer behind
 returns c =
-    let start = c .before .before .before .before .before .before .before .before .before in
+    let looked = c .before .before .before .before .before .before .before in
+    let start = looked .before .before in
     let z = c .before .before .before .before .before .z .given .0 .0 in
-    let at : seen (start .args .w) ≡ Writer z = cc in
+    let at : seen (start .args .w) ≡ Writer z = sym (looked .look .ensures) ∙ c .before .before .before .before .before .z .given .1 in
     done-by (start .args .s .now) (c .before .before .give .last .0) (start .args .n) (start .args .h) (start .args .w) _ (gives-goal z) _
     (rw at) (rw (c .before .before .give .ensures .0)) (c .before .before .give .ensures .1)
 

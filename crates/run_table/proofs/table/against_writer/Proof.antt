@@ -1,5 +1,5 @@
 -- `run_table::table::against_writer` meets its contract: a row for what is seen.
-use mathlib.Core.Path.{_≡_, refl}
+use mathlib.Core.Path.{_≡_, refl, _∙_, sym}
 use Rattle.term.specs.declared.word.View.the-variants.{Writer}
 use Rattle.run_table.specs.Rows.{gives-head, fails, writer-row, reader-row, constant-row, compound-row, equal-row, row, answer, behind}
 use Rattle.run_table.proofs.Seen.{seen}
@@ -20,8 +20,9 @@ take-requires c κs = search needs
 returns : tie.Need-returns
 unfolding writer-row reader-row constant-row compound-row equal-row row answer behind
 returns c =
-    let start = c .before .before .before .before in
-    let at : seen (start .args .w) ≡ Writer (c .enum-told .given .0 .0) = cc in
+    let looked = c .before .before in
+    let start = looked .before .before in
+    let at : seen (start .args .w) ≡ Writer (c .enum-told .given .0 .0) = sym (looked .look .ensures) ∙ c .enum-told .given .1 in
     done-by (start .args .s .now) (start .args .s .now) (start .args .n) (start .args .h) (start .args .w) _ fails _ (rw at) refl refl
 
 same-length : tie.Need-same-length

@@ -1,5 +1,5 @@
 -- `run_table::table::table` meets its contract: the row is chosen by what is seen of the head's word.
-use mathlib.Core.Path.{_≡_}
+use mathlib.Core.Path.{_≡_, _∙_, sym}
 use native.Mathlib.Omega.{arith}
 use lib.Dec.{eqb}
 use Rattle.term.specs.declared.word.View.the-variants.{Writer, Reader, Compound}
@@ -18,8 +18,9 @@ enum-known-x c = search needs
 
 against-writer-requires : tie.Need-against-writer-requires
 against-writer-requires c κs =
-    let start = c .before .before .before .before .before .before in
-    (omega arith, start .pre .2 (c .before .before .x .given .0 .0) (cc))
+    let looked = c .before .before .before .before in
+    let start = looked .before .before in
+    (omega arith, start .pre .2 (c .before .before .x .given .0 .0) (sym (looked .look .ensures) ∙ c .before .before .x .given .1))
 
 enum-told : tie.Need-enum-told
 enum-told c = search needs
@@ -42,8 +43,9 @@ same-length c = search needs
 returns : tie.Need-returns
 unfolding writer-row reader-row constant-row compound-row equal-row row answer behind
 returns c =
-    let start = c .before .before .before .before .before .before .before .before .before in
-    let at : seen (start .args .h) ≡ Writer (c .before .before .before .before .before .x .given .0 .0) = cc in
+    let looked = c .before .before .before .before .before .before .before in
+    let start = looked .before .before in
+    let at : seen (start .args .h) ≡ Writer (c .before .before .before .before .before .x .given .0 .0) = sym (looked .look .ensures) ∙ c .before .before .before .before .before .x .given .1 in
     rw at (c .before .before .against-writer .ensures)
 
 same-length-2 : tie.Need-same-length-2
@@ -52,8 +54,9 @@ same-length-2 c = search needs
 returns-2 : tie.Need-returns-2
 unfolding writer-row reader-row constant-row compound-row equal-row row answer behind
 returns-2 c =
-    let start = c .before .before .before .before .before .before .before .before in
-    let at : seen (start .args .h) ≡ Reader (c .before .before .before .before .enum-told .given .0 .0) = cc in
+    let looked = c .before .before .before .before .before .before in
+    let start = looked .before .before in
+    let at : seen (start .args .h) ≡ Reader (c .before .before .before .before .enum-told .given .0 .0) = sym (looked .look .ensures) ∙ c .before .before .before .before .enum-told .given .1 in
     rw at (c .before .before .against-reader .ensures)
 
 same-length-3 : tie.Need-same-length-3
@@ -62,8 +65,9 @@ same-length-3 c = search needs
 returns-3 : tie.Need-returns-3
 unfolding writer-row reader-row constant-row compound-row equal-row row answer behind
 returns-3 c =
-    let start = c .before .before .before .before .before .before .before .before .before in
-    let at : seen (start .args .h) ≡ Compound (c .before .before .before .before .before .p .given .0 .0) = cc in
+    let looked = c .before .before .before .before .before .before .before in
+    let start = looked .before .before in
+    let at : seen (start .args .h) ≡ Compound (c .before .before .before .before .before .p .given .0 .0) = sym (looked .look .ensures) ∙ c .before .before .before .before .before .p .given .1 in
     rw at (c .before .before .against-compound .ensures)
 
 same-length-4 : tie.Need-same-length-4
