@@ -17,12 +17,12 @@ unfolding rules rests stopped bare begins-with clause-pieces query-pieces everyt
 example-texts-alike = record { place = lit< tt; clauses = refl; query = refl }
 
 -- By the bytes alone, both calls show two tries.
-pub example-two-tries : (tries-shown 1 (section-shown 1 (left-by (λ room. 0) rests 163)) ≡ 2) × (tries-shown 1 (section-shown 1 (left-by (λ room. 0) stopped 270)) ≡ 2)
+pub example-two-tries : (tries-shown 1 (section-shown 1 (left-by (λ room. 0) rests 175)) ≡ 2) × (tries-shown 1 (section-shown 1 (left-by (λ room. 0) stopped 306)) ≡ 2)
 unfolding rules rests stopped section-shown left-by cut before-first begins-q tries-shown before-tries is-digit read-digits everything
 example-two-tries = (refl, refl)
 
-pub example-same-section : section-shown 1 (left-by (λ room. 0) rests 163) ≡ section-shown 1 (left-by (λ room. 0) stopped 270)
+pub example-same-section : section-shown 1 (left-by (λ room. 0) rests 175) ≡ section-shown 1 (left-by (λ room. 0) stopped 306)
 example-same-section =
-    same-tries-same-section 1 (λ room. 0) (λ room. 0) rests stopped 163 270
+    same-tries-same-section 1 (λ room. 0) (λ room. 0) rests stopped 175 306
     (ap (λ (o : Outcome). o .answer) example-at-rest) (ap (λ (o : Outcome). o .answer) example-stopped)
     example-texts-alike (example-two-tries .0 ∙ sym (example-two-tries .1))

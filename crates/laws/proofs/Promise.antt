@@ -2,9 +2,11 @@
 -- What the reader guarantees of every accepted text discharges what the laws of a run ask of its job.
 use Prim.Native.Nat.{ℕ, _≤_, _<_}
 use mathlib.Core.Path.{_≡_, refl, ap}
+use mathlib.Core.Logic.{⊎-elim}
 use mathlib.Core.Bool.{true}
 use mathlib.Core.List.{List, _∷_, _++_, map}
 use mathlib.Core.Option.{some}
+use native.Mathlib.Omega.{arith}
 use lib.Dec.{ltb}
 use lib.ListN.{length}
 use borrow.Author.Tests.{eq-eqb}
@@ -18,10 +20,11 @@ use Rattle.meaning.specs.Trial.{compared, values-after, reduces}
 use Rattle.meaning.specs.Step.{step}
 use Rattle.meaning.specs.Run.{choice-for, run}
 use Rattle.meaning.specs.Call.{Given, ran, call}
-use Rattle.laws.proofs.Lists.{In, here, in-append-left, in-map, in-those, each-in}
-use Rattle.laws.proofs.Runs.{run-placed}
+use Rattle.laws.proofs.Lists.{In, here, in-append-left, in-map, in-those, each-in, each-implies}
+use Rattle.laws.proofs.Runs.{run-placed, Comes, run-goals-come}
+use Rattle.laws.proofs.Runs.AllGoals.{EachGoal}
 use Rattle.laws.proofs.Circle.{run-no-circle, circle-by-assignments, circle-by-pairs, assigns}
-use Rattle.laws.proofs.Reading.{JobOk, accepted-keeps-the-occurrence-rules}
+use Rattle.laws.proofs.Reading.{JobOk, accepted-keeps-the-occurrence-rules, clause-numbered}
 use Rattle.laws.proofs.Single.{
   SingleOccurrence,
   AssignedOnce,
@@ -79,6 +82,22 @@ module _ (text : Bytes) (j : Job) (reads : reading text ≡ job j) (limit : ℕ)
   -- Each failed goal would fail again: no clause of it succeeds, and none waits; whatever was assigned since it failed, and guards too.
   pub text-failed-goals-fail-again : FailedFail (j .clauses) (run j limit figures .state)
   text-failed-goals-fail-again = run-failed-goals-fail-again j rules figures limit
+
+  -- Every goal comes from the query, at 0, or from one of the text's clauses, counted from 1, at one of its own query's tries so far.
+  pub text-goals-come : EachGoal (λ g. (g .origin .clause ≤ length (j .clauses))
+      × (g .origin .tries ≤ unit-at (g .query) (run j limit figures .state .units) .tries)) (run j limit figures .state .goals)
+  text-goals-come =
+      let all = run-goals-come j limit figures in
+      record {
+        queue = each-implies _ _ numbered (run j limit figures .state .goals .queue) (all .queue);
+        waiting = each-implies _ _ (λ w. numbered (w .goal)) (run j limit figures .state .goals .waiting) (all .waiting);
+        failed = each-implies _ _ numbered (run j limit figures .state .goals .failed) (all .failed);
+      }
+    where
+      numbered : (g : Goal) → Comes (j .clauses) (run j limit figures .state .units) g
+          → (g .origin .clause ≤ length (j .clauses)) × (g .origin .tries ≤ unit-at (g .query) (run j limit figures .state .units) .tries)
+      numbered g h =
+          (⊎-elim (λ q. omega (arith, q .0)) (λ (c, m, e, l). omega (arith, e, clause-numbered text j reads c m .1)) (h .from), h .at)
 
   -- The goal in front holds pairs of its unit only.
   front-in-range : (g : Goal) (others : List Goal) → run j limit figures .state .goals .queue ≡ g ∷ others

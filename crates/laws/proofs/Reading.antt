@@ -41,10 +41,10 @@ use lib.ListN.{length, getD, getElem?}
 use Rattle.meaning.specs.Bytes.{Bytes}
 use Rattle.meaning.specs.Terms.{Job, Query}
 use Rattle.meaning.specs.Items.{job, reading}
-use Rattle.laws.proofs.Lists.{each-paired, getD-from-getElem?, paired-equal, paired-equal-at, paired-length}
+use Rattle.laws.proofs.Lists.{each-paired, getD-from-getElem?, paired-equal-at, paired-length}
 use Rattle.laws.proofs.Reading.Figures.{ClauseFits, QueryFits}
 use Rattle.laws.proofs.Reading.Accepted.{clause-ok, clause-fits, query-ok, query-fits}
-use Rattle.laws.proofs.Reading.Pieces.{same-tokens-same-clause, same-tokens-same-query}
+use Rattle.laws.proofs.Reading.Pieces.{same-tokens-same-query, counted-equal}
 -- Which bytes make a name: the row of ranges is the former test, on every number.
 pub use NameBytes.{former-test, former-run, row-is-the-former-test, runs-are-the-former-runs}
 -- The occurrence rules, the figures, and the tokens of a text, cut behind each full stop into clause items and query items.
@@ -67,7 +67,7 @@ pub use GuardText.{GuardsBroken, OneGuarded, refused-has-other-guards}
 -- Of every text refused with 4: a token begins at its byte, or it is the text's length.
 pub use StoppedText.{stopped-at-a-token}
 -- Each clause and each query of an accepted text is read from the tokens of its own piece.
-pub use ItemByItem.{accepted-is-read}
+pub use ItemByItem.{accepted-is-read, clause-numbered}
 -- The names counted over the whole text.
 unfoldable pub use ItemByItem.{names-behind, names-of}
 
@@ -105,8 +105,8 @@ module _ (text₁ text₂ : Bytes) (j₁ j₂ : Job) (reads₁ : reading text₁
   -- Two accepted texts whose clauses have the same tokens, in order, read the same clauses, whatever their queries.
   pub same-clause-tokens-same-clauses : map bare (clause-pieces text₁) ≡ map bare (clause-pieces text₂) → j₁ .clauses ≡ j₂ .clauses
   same-clause-tokens-same-clauses e =
-      paired-equal bare (λ p₁ p₂ c₁ c₂ e r₁ r₂. same-tokens-same-clause p₁ p₂ c₁ c₂ e (r₁ .0) (r₂ .0))
-      (accepted-is-read text₁ j₁ reads₁ .clauses) (accepted-is-read text₂ j₂ reads₂ .clauses) e
+      counted-equal (names-of text₁) (names-of text₂) 1 (accepted-is-read text₁ j₁ reads₁ .clauses) (accepted-is-read text₂ j₂ reads₂ .clauses)
+      (accepted-is-read text₁ j₁ reads₁ .nth) (accepted-is-read text₂ j₂ reads₂ .nth) e
 
   -- Where the k-th queries of two accepted texts have the same tokens, the k-th queries read are the same, whatever the other items.
   pub same-query-tokens-same-query : (k : ℕ) → getElem? (map bare (query-pieces text₁)) k ≡ getElem? (map bare (query-pieces text₂)) k

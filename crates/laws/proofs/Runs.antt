@@ -7,6 +7,7 @@ pub mod AllGoals
 pub mod Counts
 pub mod Charges
 pub mod Dropped
+pub mod Origins
 use Prim.Native.Nat.{ℕ, _≤_, _<_, _+_}
 use mathlib.Core.Path.{_≡_, refl, _∙_}
 use mathlib.Core.Logic.{_↔_}
@@ -39,6 +40,8 @@ use Rattle.laws.proofs.Runs.Counts.{
 use Rattle.laws.proofs.Runs.Charges.{run-summed, run-units}
 use Rattle.laws.proofs.Runs.Dropped.{reductions, body-goals-of, None-dropped, onward-drops-none}
 use Rattle.laws.proofs.Runs.Further.{goes-on, no-more, steps-on, Goes-on, cases-on}
+-- Where every goal comes from: the query, or a clause of the text at one of the query's tries.
+pub use Origins.{Comes, run-goals-come}
 -- What the first state has and each step keeps, every state of every run has.
 pub use Invariant.{KeptByStep, run-keeps, no-steps}
 -- What each step keeps, whichever goal of the queue it takes, every state has that is reached by such steps, as those of a run are.

@@ -217,6 +217,7 @@ module _ (p : Tokens) (ps : List Tokens)
           clause-wider names (spellings (names-all ps (names-in p known))) c
               (λ f l. all-wider ps (names-in p known) f (rw spells at l)) (is-this .laid),
           tail .laid,
+          is-this .nth,
         );
         same-job = ap (λ i. record { clauses = c ∷ i .clauses; queries = i .queries }) (tail .same-job) ∙ rest .2;
       }

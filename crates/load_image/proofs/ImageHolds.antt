@@ -52,6 +52,17 @@ entries-headed names k q [] l = tt
 entries-headed names k q (a-clause c ∷ es) l = (clause-headed names c (l .1), entries-headed names (k + 1) q es (l .2))
 entries-headed names k q (a-query g vs ∷ es) l = entries-headed names k (q + 1) es (l .3)
 
+entries-counted : (names : List Bytes) (k q : ℕ) (es : List Entry) → EntriesLaid names k q es → EachFrom (λ i c. c .place ≡ i + 1) k (clauses-of es)
+unfolding EntriesLaid clauses-of EachFrom
+entries-counted names k q [] l = tt
+entries-counted names k q (a-clause c ∷ es) l = (l .3, entries-counted names (k + 1) q es (l .2))
+entries-counted names k q (a-query g vs ∷ es) l = entries-counted names k (q + 1) es (l .3)
+
+each-both : {A : Type 0} (P Q : ℕ → A → Type 0) (k : ℕ) (l : List A) → EachFrom P k l → EachFrom Q k l → EachFrom (λ i a. P i a × Q i a) k l
+unfolding EachFrom
+each-both P Q k [] p q = tt
+each-both P Q k (a ∷ l) p q = ((p .0, q .0), each-both P Q (k + 1) l (p .1) (q .1))
+
 -- The job of some entries.
 unfoldable pub job-of : List Entry → Job
 job-of es = record { clauses = clauses-of es; queries = queries-of es }
@@ -117,15 +128,17 @@ module _ (names : List Place) (es : List Entry) (s : List ℕ) (few-names : leng
   procedure-in goal known few =
       let p = procedure-place (spellings names) goal in
       let g : Headed (spellings names) goal = record { known = known; few = few } in
-      let At = HoldsClause items-in (spellings names) in
+      let Nth : ℕ → Clause → Type 0 = λ i c. c .place ≡ i + 1 in
+      let At : ℕ → Clause → Type 0 = λ i c. HoldsClause items-in (spellings names) i c × Nth i c in
       let low : 512 ≤ p = place-low (spellings names) goal g few-names in
       rw (last .above p low)
       (linked-map links-in names-too (λ i c. (0 ≤ i) × (i < 128) × At i c) (ClauseAt names-too (spellings names))
       (getD links-in p 0) (procedure (clauses-of es) goal)
-      (λ i c h. (record { number = h .1; held = clause-in i c (h .2) }, last .above (clause-record i) (omega arith)))
+      (λ i c h. (record { number = h .1; nth = h .2 .1; held = clause-in i c (h .2 .0) }, last .above (clause-record i) (omega arith)))
       (linked-leads names few-names At goal g 0 (clauses-of es) items-in few-clauses inside-items
       (λ w l h. earlier .clause-words w h ∙ zeros w l h)
-      (entries-headed (spellings names) 0 0 es laid) clauses-in))
+      (entries-headed (spellings names) 0 0 es laid)
+      (each-both (HoldsClause items-in (spellings names)) Nth 0 (clauses-of es) clauses-in (entries-counted (spellings names) 0 0 es laid))))
 
   pub stored-job : Distinct (spellings names)
       → HoldsJob (places-stored 0 names (linked 0 (head-words names (clauses-of es)) (entries-stored names 0 0 es s))) (spellings names) (job-of es)

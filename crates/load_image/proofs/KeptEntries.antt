@@ -13,10 +13,10 @@ use Rattle.load_names.specs.Places.{Place, spellings}
 use Rattle.load_image.specs.Image.{Entry, a-clause, a-query, clauses-of, queries-of, clause-stored, query-stored, entries-stored}
 use Rattle.load_image.proofs.KeptItems.{clause-two, clause-holds, query-two, query-holds}
 
--- The entries keep the figures: "128 clauses; 1 to 8 queries", each item laid out, and the variables of a query.
+-- The entries keep the figures: "128 clauses; 1 to 8 queries", each item laid out, clauses counted from 1, and the variables of a query.
 unfoldable pub EntriesLaid : List Bytes → ℕ → ℕ → List Entry → Type 0
 EntriesLaid names k q [] = (k ≤ 128) × (q ≤ 8)
-EntriesLaid names k q (a-clause c ∷ es) = (k < 128) × ClauseLaid names c × EntriesLaid names (k + 1) q es
+EntriesLaid names k q (a-clause c ∷ es) = (k < 128) × ClauseLaid names c × EntriesLaid names (k + 1) q es × (c .place ≡ k + 1)
 EntriesLaid names k q (a-query g vs ∷ es) = (q < 8) × QueryLaid names g × (length vs ≤ 16) × EntriesLaid names k (q + 1) es
 
 pub entries-few : (names : List Bytes) (k q : ℕ) (es : List Entry) → EntriesLaid names k q es → (k ≤ 128) × (q ≤ 8)

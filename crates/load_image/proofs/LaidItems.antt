@@ -270,6 +270,7 @@ rule-steps c ts =
 -- What is said of a piece of the text by what it reads as.
 pub record ClausePiece (piece : Tokens) (known : List Bytes) (k : ℕ) (c : Clause) (names : List Bytes) : Type 0 where
   pub number : k < 128
+  pub nth : c .place ≡ k + 1
   pub names-are : names ≡ names-after piece known
   pub laid : ClauseLaid names c
   pub few-names : length known ≤ 256 → length names ≤ 256
@@ -300,7 +301,7 @@ variables-at-end (token at t s) known h = absurd h
 module _ (known : List Bytes) (k q : ℕ) (begins : ℕ) (piece : Tokens) (few : k < 128) (r : Rule) (d : Counted) (s : Tokens) (gs : List Guard)
     (e : as-guards (r .body .guards) ≡ some gs) (g : Onward known [] (fresh known) piece d s × (RuleLaid 0 d r × Ends s)) where
   the-clause : Clause
-  the-clause = record { head = r .head; guards = gs; body = r .body .goals; pairs = length (d .variables); compounds = d .compounds }
+  the-clause = record { place = k + 1; head = r .head; guards = gs; body = r .body .goals; pairs = length (d .variables); compounds = d .compounds }
 
   the-clause-laid : ClauseLaid (d .names) the-clause
   unfolding the-clause GoalsKnown fresh
@@ -322,13 +323,14 @@ module _ (known : List Bytes) (k q : ℕ) (begins : ℕ) (piece : Tokens) (few :
         guards-known = spelled;
       }
 
-  clause-laid-is : PieceIs piece known k q (with-guards begins piece r d gs)
+  clause-laid-is : PieceIs piece known k q (with-guards (k + 1) begins piece r d gs)
   unfolding with-guards the-clause unless-broken PieceIs if_then_else_ fresh
   clause-laid-is = by (all (of-the-head (length (d .variables)) (r .head)) gs)
     where
       judged : (o : Option Fault) → PieceIs piece known k q (unless-broken begins o (clause the-clause (d .names)))
       judged none = record {
         number = few;
+        nth = refl;
         names-are = sym (g .0 .names ∙ names-at-end s (d .names) (g .1 .1));
         laid = the-clause-laid;
         few-names = g .0 .few-names;
@@ -343,13 +345,13 @@ module _ (known : List Bytes) (k q : ℕ) (begins : ℕ) (piece : Tokens) (few :
 
 module _ (known : List Bytes) (k q : ℕ) (begins : ℕ) where
   clause-piece-is : (piece : Tokens) → k < 128 → (x : Read Rule)
-      → Good (λ r d s. Onward known [] (fresh known) piece d s × (RuleLaid 0 d r × Ends s)) x → PieceIs piece known k q (clause-piece begins piece x)
+      → Good (λ r d s. Onward known [] (fresh known) piece d s × (RuleLaid 0 d r × Ends s)) x → PieceIs piece known k q (clause-piece (k + 1) begins piece x)
   unfolding Good clause-piece unless-unknown PieceIs
   clause-piece-is piece few (malformed place) g = tt
   clause-piece-is piece few passed g = tt
   clause-piece-is piece few (read r d s) g = by (as-guards (r .body .guards)) refl
     where
-      by : (o : Option (List Guard)) → as-guards (r .body .guards) ≡ o → PieceIs piece known k q (unless-unknown begins piece r d o)
+      by : (o : Option (List Guard)) → as-guards (r .body .guards) ≡ o → PieceIs piece known k q (unless-unknown (k + 1) begins piece r d o)
       by none e = tt
       by (some gs) e = clause-laid-is known k q begins piece few r d s gs e g
 
@@ -381,7 +383,7 @@ module _ (known : List Bytes) (k q : ℕ) (begins : ℕ) where
 -- The item that a piece holds.
 module _ (known : List Bytes) (k q : ℕ) where
   clause-from-is : (begins : ℕ) (piece : Tokens) → Cut piece → (b : Bool) → ltb k 128 ≡ b
-      → PieceIs piece known k q (if b then clause-piece begins piece (rule (fresh known) piece) else refused (figure begins))
+      → PieceIs piece known k q (if b then clause-piece (k + 1) begins piece (rule (fresh known) piece) else refused (figure begins))
   unfolding if_then_else_ PieceIs fresh
   clause-from-is begins piece cut true h =
       clause-piece-is known k q begins piece (ltb-true k 128 h) (rule (fresh known) piece) (rule-steps (fresh known) piece .go cut)

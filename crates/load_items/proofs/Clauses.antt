@@ -69,14 +69,14 @@ pub four-words : (l l′ : List ℕ) (i j k m v v′ n n′ w w′ u u′ : ℕ)
     → set (set (set (set l i v) j n) k w) m u ≡ set (set (set (set l′ i v′) j n′) k w′) m u′
 four-words l l′ i j k m v v′ n n′ w w′ u u′ a b c d e = rw (a, b, c, d, e)
 
-module _ (p : ℕ) (whole : Tokens) (r : Rule) (names vars : List Place) (compounds : ℕ) (ts : Tokens) where
-  judged-unknown : as-guards (r .body .guards) ≡ none → clause-piece p whole (read r (counted-at names vars compounds) ts) ≡ refused (guard-rule p)
+module _ (nth p : ℕ) (whole : Tokens) (r : Rule) (names vars : List Place) (compounds : ℕ) (ts : Tokens) where
+  judged-unknown : as-guards (r .body .guards) ≡ none → clause-piece nth p whole (read r (counted-at names vars compounds) ts) ≡ refused (guard-rule p)
   unfolding clause-piece unless-unknown
   judged-unknown e = rw e
 
   module _ (gs : List Guard) (known : as-guards (r .body .guards) ≡ some gs) where
     judged-strange : all (of-the-head (length vars) (r .head)) gs ≡ false
-        → clause-piece p whole (read r (counted-at names vars compounds) ts) ≡ refused (guard-rule p)
+        → clause-piece nth p whole (read r (counted-at names vars compounds) ts) ≡ refused (guard-rule p)
     unfolding clause-piece unless-unknown with-guards counted-at if_then_else_
     judged-strange h = rw (known, spellings-length vars, h)
 
@@ -84,13 +84,13 @@ module _ (p : ℕ) (whole : Tokens) (r : Rule) (names vars : List Place) (compou
     faults = clause-faults (free gs (spellings vars)) (pairing (r .body .behind) whole) (spellings vars)
 
     judged-kept : all (of-the-head (length vars) (r .head)) gs ≡ true → least faults ≡ none
-        → clause-piece p whole (read r (counted-at names vars compounds) ts)
-        ≡ clause (record { head = r .head; guards = gs; body = r .body .goals; pairs = length vars; compounds = compounds }) (spellings names)
+        → clause-piece nth p whole (read r (counted-at names vars compounds) ts)
+        ≡ clause (record { place = nth; head = r .head; guards = gs; body = r .body .goals; pairs = length vars; compounds = compounds }) (spellings names)
     unfolding clause-piece unless-unknown with-guards counted-at unless-broken if_then_else_
     judged-kept h k = rw (known, spellings-length vars, h, k)
 
     judged-broken : all (of-the-head (length vars) (r .head)) gs ≡ true → (f : Fault) → least faults ≡ some f
-        → clause-piece p whole (read r (counted-at names vars compounds) ts) ≡ refused (occurrence-rule p f)
+        → clause-piece nth p whole (read r (counted-at names vars compounds) ts) ≡ refused (occurrence-rule p f)
     unfolding clause-piece unless-unknown with-guards counted-at unless-broken if_then_else_
     judged-broken h f k = rw (known, spellings-length vars, h, k)
 
@@ -102,7 +102,7 @@ module _ (rest : Bytes) (from : ℕ) (known : List Place) (k queries begins : �
 
   module _ (few : k < 128) (c : Cursor) (at-first : c .at ≡ 0) (none-yet : c .compounds ≡ 0) where
     pub reads-rule : item (so-far known k queries) (piece (tokens-in from rest 0))
-        ≡ clause-piece (from + begins) (piece (tokens-in from rest (c .at))) (rule (counted-at known [] (c .compounds)) (piece (tokens-in from rest (c .at))))
+        ≡ clause-piece (k + 1) (from + begins) (piece (tokens-in from rest (c .at))) (rule (counted-at known [] (c .compounds)) (piece (tokens-in from rest (c .at))))
     reads-rule = rw (at-first, none-yet, tokens) (clause-reads known k queries (from + begins) ts f few)
 
     pub clause-malformed : (a : ℕ) → rule (counted-at known [] (c .compounds)) (piece (tokens-in from rest (c .at))) ≡ malformed (from + a)
@@ -227,15 +227,15 @@ module _ (rest : Bytes) (s table in-head in-guards licences : List ℕ) (k begin
     abbrev reading : Piece
     reading = item (so-far (w .known) k queries) (piece (tokens-in from rest 0))
 
-    reads-all : reading ≡ clause-piece (from + begins) whole (read r after (ends (w .stop)))
+    reads-all : reading ≡ clause-piece (k + 1) (from + begins) whole (read r after (ends (w .stop)))
     unfolding whole
     reads-all =
         reads-rule rest from (w .known) k queries begins (w .first) (w .behind) (j .tokens) few (w .start) (j .at-first .0) (j .at-first .1)
-        ∙ ap (clause-piece (from + begins) whole) (ended .reads)
+        ∙ ap (clause-piece (k + 1) (from + begins) whole) (ended .reads)
 
     pub clause-strange : (strange : Bool) → strange ≡ not (all (of-the-head (c .variables) (r .head)) gs) → strange ≡ true → reading ≡ refused (guard-rule (from + begins))
     clause-strange strange e h =
-        reads-all ∙ judged-strange (from + begins) whole r known′ vars′ (c .compounds) (ends (w .stop)) gs (j .was-read .guards-are .in-table)
+        reads-all ∙ judged-strange (k + 1) (from + begins) whole r known′ vars′ (c .compounds) (ends (w .stop)) gs (j .was-read .guards-are .in-table)
         (rw pairs-are (other-way (all (of-the-head (c .variables) (r .head)) gs) (sym e ∙ h)))
       where
         other-way : (b : Bool) → not b ≡ true → b ≡ false
@@ -259,7 +259,7 @@ module _ (rest : Bytes) (s table in-head in-guards licences : List ℕ) (k begin
           let (f, is-least, is-first) = clause-fault freed paired (spellings vars′) (r .head) (r .body .goals) distinct rising counts head-tokens-so (licensed gs)
           (free-licensed gs (spellings vars′)) (rw size (sym kept-is ∙ h)) in (
             f,
-            reads-all ∙ judged-broken (from + begins) whole r known′ vars′ (c .compounds) (ends (w .stop)) gs (j .was-read .guards-are .in-table) heads-only f is-least,
+            reads-all ∙ judged-broken (k + 1) (from + begins) whole r known′ vars′ (c .compounds) (ends (w .stop)) gs (j .was-read .guards-are .in-table) heads-only f is-least,
             searches-from rest from table licences (c .variables) true (w .start .at) 0 bar vars′ freed (r .body .behind) f (j .at-first .0)
                 (searches rest from (w .start .at) bar table licences (c .variables) vars′ (r .head ∷ r .body .goals) freed (r .body .behind) (ended .stands .variables-in)
                 (ended .stands .variables-count) (j .was-read .guards-are .bar-is) halves
@@ -277,12 +277,12 @@ module _ (rest : Bytes) (s table in-head in-guards licences : List ℕ) (k begin
               free-licensed gs (spellings vars′) x n q ∙ flag (licensed gs n) (getD licences n 0) (j .was-read .guards-are .licences .licences n below)
 
       the-clause : Clause
-      the-clause = record { head = r .head; guards = gs; body = r .body .goals; pairs = length vars′; compounds = c .compounds }
+      the-clause = record { place = k + 1; head = r .head; guards = gs; body = r .body .goals; pairs = length vars′; compounds = c .compounds }
 
       clause-accepted : clause-kept table part licences (c .variables) ≡ true → reading ≡ clause the-clause (spellings known′)
       unfolding the-clause
       clause-accepted h =
-          reads-all ∙ judged-kept (from + begins) whole r known′ vars′ (c .compounds) (ends (w .stop)) gs (j .was-read .guards-are .in-table) heads-only
+          reads-all ∙ judged-kept (k + 1) (from + begins) whole r known′ vars′ (c .compounds) (ends (w .stop)) gs (j .was-read .guards-are .in-table) heads-only
           (clause-clean freed paired (spellings vars′) (r .head) (r .body .goals) distinct rising counts head-tokens-so (licensed gs) (free-licensed gs (spellings vars′))
           (rw size (sym kept-is ∙ h)))
 

@@ -90,7 +90,7 @@ module _ (known : List Place) (clauses queries : ℕ) (p : ℕ) (ts : Tokens) wh
 
   pub clause-reads : (f : Bytes) → clauses < 128
       → item (so-far known clauses queries) (piece (token p (name f) ts))
-      ≡ clause-piece p (piece (token p (name f) ts)) (rule (counted-at known [] 0) (piece (token p (name f) ts)))
+      ≡ clause-piece (clauses + 1) p (piece (token p (name f) ts)) (rule (counted-at known [] 0) (piece (token p (name f) ts)))
   unfolding clause-from so-far if_then_else_
   clause-reads f h = rw (starts-clause f, lt-ltb clauses 128 h, fresh-is known)
 

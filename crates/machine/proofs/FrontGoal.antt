@@ -13,7 +13,9 @@ use Rattle.meaning.specs.Run.{choice-for, run}
 use Rattle.term.specs.Layout.{values-region, marks-region, readers-region, queue-region}
 use Rattle.term.specs.States.{Atlas, goal-word, setting, GoalStands, listed}
 use Rattle.term.specs.declared.state.Standing.{Standing}
-use Rattle.term.specs.Words.{tag-in, rest-in}
+use Rattle.term.specs.Words.{tag-in}
+use Rattle.term.specs.Goals.{origin-word, place-in}
+use Rattle.term.proofs.Goals.{goal-query, goal-place}
 use Rattle.run_trial.specs.Choosing.{unit-of, Trying, MarksBelow, ChoiceTold, ChoiceIs}
 use Rattle.run_queues.specs.Log.{Slot}
 use Rattle.run_between.specs.Running.{RunOnly, Running, StepIs}
@@ -22,13 +24,13 @@ use Rattle.run_between.specs.declared.stepped.Stepped.{Stepped}
 use Rattle.run_trial.specs.declared.choice.ChoiceResult.{ChoiceResult}
 use Rattle.run_trial.specs.declared.choice.ChoiceResult.the-variants.{Reduces, Waits, Fails}
 use Rattle.run_between.proofs.GroundMarks.{grounds-tried}
-use Rattle.run_between.proofs.FramesRunning.{few-units, word-query, word-place, front-word, front-stands, trying, trial-run-only, run-only-then, running-tried}
+use Rattle.run_between.proofs.FramesRunning.{few-units, front-word, front-stands, front-low, trying, trial-run-only, run-only-then, running-tried}
 
 -- What the step has read.
 pub record Fetched (s : List ℕ) (figures : Room) (t : Standing) (goal query place values marks steps : ℕ) : Type 0 where
   pub goal-is : goal ≡ getD s (queue-region figures + t .front) 0
   pub query-is : query ≡ tag-in goal
-  pub place-is : place ≡ rest-in goal
+  pub place-is : place ≡ place-in goal
   pub values-is : values ≡ values-region figures
   pub marks-is : marks ≡ marks-region figures
   pub steps-are : steps ≡ t .steps
@@ -55,11 +57,18 @@ module _ (s : List ℕ) (text : Bytes) (names : List Bytes) (j : Job) (figures :
         few-units s text names j figures limit atlas slots t (t .steps * 32768 + 2) r,
       )
 
+  low : atlas (g .query) .compound (g .goal .number) < 1048576
+  low = front-low s names figures (j .queries) atlas (run j limit figures .state) t (r .state) g others front (r .in-range)
+
   its-query : query ≡ g .query
-  its-query = f .query-is ∙ ap (λ w. tag-in w) its-word ∙ word-query (g .query) (atlas (g .query) .compound (g .goal .number)) few-queries
+  its-query =
+      f .query-is ∙ ap (λ w. tag-in w) its-word
+      ∙ goal-query (g .query) (atlas (g .query) .compound (g .goal .number)) few-queries low (origin-word (g .origin))
 
   its-place : place ≡ atlas (g .query) .compound (g .goal .number)
-  its-place = f .place-is ∙ ap (λ w. rest-in w) its-word ∙ word-place (g .query) (atlas (g .query) .compound (g .goal .number)) few-queries
+  its-place =
+      f .place-is ∙ ap (λ w. place-in w) its-word
+      ∙ goal-place (g .query) (atlas (g .query) .compound (g .goal .number)) few-queries low (origin-word (g .origin))
 
   pub choice-tries : Trying s text names j limit figures (atlas (g .query)) g others values marks (figures .pairs) place
   choice-tries =

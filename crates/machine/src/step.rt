@@ -5,6 +5,7 @@ use run_trial::choice::ChoiceResult;
 use run_trial::choice::choice;
 use run_unreduced::join::join_failed;
 use run_unreduced::join::join_waiting;
+use term::goal::place_of;
 use term::layout;
 use term::layout::Room;
 use term::scratch::word_at;
@@ -43,7 +44,7 @@ pub fn step(s: &mut [u64], room: Room, t: Standing) -> Stepped
         layout::values(room),
         layout::marks(room),
         room.pairs,
-        index(goal / TAGS),
+        place_of(goal),
         word(t.steps) * 32768 + 2,
     ) {
         ChoiceResult::Reduces(k, n) => reduce(s, room, t, query, k, n),

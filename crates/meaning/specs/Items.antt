@@ -312,24 +312,24 @@ unless-broken begins (some fault) accepted = refused (occurrence-rule begins fau
 unfoldable pub free : List Guard → List Bytes → Bytes → Bool
 free guards variables x = elim (place-of x variables) [ none ↦ false | some n ↦ licensed guards n ]
 
--- A clause whose guards the table has: "11 with another variable, judged after the item's full stop and before 5".
-unfoldable pub with-guards : ℕ → Tokens → Rule → Counted → List Guard → Piece
-with-guards begins piece r counted guards =
+-- A clause whose guards the table has: "11 with another variable, judged after the item's full stop and before 5". It is the nth of the text.
+unfoldable pub with-guards : ℕ → ℕ → Tokens → Rule → Counted → List Guard → Piece
+with-guards nth begins piece r counted guards =
     if all (of-the-head (length (counted .variables)) (r .head)) guards
     then unless-broken begins (least (clause-faults (free guards (counted .variables)) (pairing (r .body .behind) piece) (counted .variables)))
-    (clause (record { head = r .head; guards = guards; body = r .body .goals; pairs = length (counted .variables); compounds = counted .compounds }) (counted .names))
+    (clause (record { place = nth; head = r .head; guards = guards; body = r .body .goals; pairs = length (counted .variables); compounds = counted .compounds }) (counted .names))
     else refused (guard-rule begins)
 
 -- "11 for a guard not in the table, with 5's line."
-unfoldable pub unless-unknown : ℕ → Tokens → Rule → Counted → Option (List Guard) → Piece
-unless-unknown begins piece r counted none = refused (guard-rule begins)
-unless-unknown begins piece r counted (some guards) = with-guards begins piece r counted guards
+unfoldable pub unless-unknown : ℕ → ℕ → Tokens → Rule → Counted → Option (List Guard) → Piece
+unless-unknown nth begins piece r counted none = refused (guard-rule begins)
+unless-unknown nth begins piece r counted (some guards) = with-guards nth begins piece r counted guards
 
 -- A clause by its tokens and what was read from them.
-unfoldable pub clause-piece : ℕ → Tokens → Read Rule → Piece
-clause-piece begins piece (read r counted rest) = unless-unknown begins piece r counted (as-guards (r .body .guards))
-clause-piece begins piece (malformed place) = refused (no-item place)
-clause-piece begins piece passed = refused (figure begins)
+unfoldable pub clause-piece : ℕ → ℕ → Tokens → Read Rule → Piece
+clause-piece nth begins piece (read r counted rest) = unless-unknown nth begins piece r counted (as-guards (r .body .guards))
+clause-piece nth begins piece (malformed place) = refused (no-item place)
+clause-piece nth begins piece passed = refused (figure begins)
 
 -- A query likewise, by its tokens behind its `?-`.
 unfoldable pub query-piece : ℕ → Tokens → Read (List Named) → Piece
@@ -346,7 +346,7 @@ fresh names = record { names = names; variables = []; compounds = 0 }
 -- "128 clauses; 1 to 8 queries": the first token of the 129th clause or ninth query passes the figure.
 unfoldable pub clause-from : SoFar → ℕ → Tokens → Piece
 clause-from so-far begins piece =
-    if ltb (so-far .clauses) 128 then clause-piece begins piece (rule (fresh (so-far .names)) piece) else refused (figure begins)
+    if ltb (so-far .clauses) 128 then clause-piece (so-far .clauses + 1) begins piece (rule (fresh (so-far .names)) piece) else refused (figure begins)
 
 unfoldable pub query-from : SoFar → ℕ → Tokens → Piece
 query-from so-far begins behind =

@@ -32,7 +32,7 @@ use Rattle.meaning.specs.Terms.{
   pairs-of,
   as-term,
 }
-use Rattle.meaning.specs.State.{Values, Goal, Waiting, State, Part, part-of}
+use Rattle.meaning.specs.State.{Values, Origin, Goal, Waiting, State, Part, part-of}
 unfoldable pub use Rattle.meaning.specs.State.{applied}
 use Rattle.meaning.specs.Run.{Verdict, rest, budget, room, Ended, run-words}
 
@@ -96,19 +96,24 @@ unfoldable mutual
   other-arguments pairs end = []
   other-arguments pairs (more t ts) = bytes "," ++ written pairs alone t ++ other-arguments pairs ts
 
--- A line of the section: what stands before the term, and the term.
+-- A line of the section: what stands before the term, the term, and what stands behind it.
 pub record Line : Type 0 where
   pub words : Bytes
   pub shown : Term
+  pub ending : Bytes
 
 -- "`NAME = value` for each pair of the query in order of first occurrence"; "a query pair still unassigned is written as its writer".
 unfoldable pub value-lines : ℕ → List Bytes → List Line
 value-lines p [] = []
-value-lines p (x ∷ xs) = record { words = x ++ bytes " = "; shown = variable writer p } ∷ value-lines (suc p) xs
+value-lines p (x ∷ xs) = record { words = x ++ bytes " = "; shown = variable writer p; ending = [] } ∷ value-lines (suc p) xs
+
+-- "Each active, waiting or failed line ends with ` from C at T`" (02, T-09).
+unfoldable pub origin-bytes : Origin → Bytes
+origin-bytes origin = bytes " from " ++ decimal (origin .clause) ++ bytes " at " ++ decimal (origin .tries)
 
 -- "`active GOAL`, `waiting GOAL` and `failed GOAL` lines, each group in the machine's order."
 unfoldable pub goal-lines : Bytes → List Goal → List Line
-goal-lines word gs = map (λ g. record { words = word; shown = as-term (g .goal) }) gs
+goal-lines word gs = map (λ g. record { words = word; shown = as-term (g .goal); ending = origin-bytes (g .origin) }) gs
 
 unfoldable pub part-lines : Query → Part → List Line
 part-lines query part =
@@ -119,7 +124,7 @@ part-lines query part =
 
 -- The same lines with every assignment applied.
 unfoldable pub lines-applied : Values → List Line → List Line
-lines-applied values ls = map (λ l. record { words = l .words; shown = applied (length values) values (l .shown) }) ls
+lines-applied values ls = map (λ l. record { words = l .words; shown = applied (length values) values (l .shown); ending = l .ending }) ls
 
 -- The unassigned pairs in order of first appearance.
 unfoldable pub pairs-shown : List Line → List ℕ
@@ -131,7 +136,7 @@ unassigned-pairs ls = each-once [] (pairs-shown ls)
 
 -- "Each line ends in LF."
 unfoldable pub line-bytes : List ℕ → Line → Bytes
-line-bytes pairs l = l .words ++ written pairs alone (l .shown) ++ bytes "\n"
+line-bytes pairs l = l .words ++ written pairs alone (l .shown) ++ l .ending ++ bytes "\n"
 
 unfoldable pub lines-bytes : List Line → Bytes
 lines-bytes ls = joined (map (line-bytes (unassigned-pairs ls)) ls)
@@ -167,5 +172,5 @@ unfoldable pub report : List Query → Ended → Bytes
 report queries last = run-line last ++ joined (sections 0 queries (last .state))
 
 unfoldable pub report-words : Unit {0}
-unfolding run-words number-in variable-bytes integer-bytes behind-bar empty-bytes before-element constant-bytes written element-and-tail tail-bytes first-argument other-arguments value-lines goal-lines part-lines lines-applied pairs-shown unassigned-pairs line-bytes lines-bytes header section sections verdict-bytes run-line report
+unfolding run-words number-in variable-bytes integer-bytes behind-bar empty-bytes before-element constant-bytes written element-and-tail tail-bytes first-argument other-arguments value-lines origin-bytes goal-lines part-lines lines-applied pairs-shown unassigned-pairs line-bytes lines-bytes header section sections verdict-bytes run-line report
 report-words = tt

@@ -33,10 +33,16 @@ pub record QueryUnit : Type 0 where
   pub compounds : ℕ
   pub tries : ℕ
 
--- A goal, with the place of its query.
+-- "The clause that made it (0 for the query) and its own query's number of tries when it was made, the step that made it counted" (02, T-09).
+pub record Origin : Type 0 where
+  pub clause : ℕ
+  pub tries : ℕ
+
+-- A goal, with the place of its query and its origin, which it keeps.
 pub record Goal : Type 0 where
   pub query : ℕ
   pub goal : Named
+  pub origin : Origin
 
 -- A waiting goal, with the pairs of all the readers that it waits on.
 pub record Waiting : Type 0 where
@@ -71,13 +77,18 @@ number-of goals = length (goals .queue) + length (goals .waiting) + length (goal
 unfoldable pub first-unit : Query → QueryUnit
 first-unit q = record { values = replicate (length (q .variables)) none; compounds = q .compounds; tries = 0 }
 
--- "The goals of all queries, in text order, form the queue."
-unfoldable pub goals-at : ℕ → List Named → List Goal
-goals-at place gs = map (λ g. record { query = place; goal = g }) gs
+-- Goals of one query, made together.
+unfoldable pub goals-at : Origin → ℕ → List Named → List Goal
+goals-at origin place gs = map (λ g. record { query = place; goal = g; origin = origin }) gs
 
+-- No clause and no try made the goals of the text.
+unfoldable pub from-query : Origin
+from-query = record { clause = 0; tries = 0 }
+
+-- "The goals of all queries, in text order, form the queue."
 unfoldable pub all-goals : ℕ → List Query → List Goal
 all-goals place [] = []
-all-goals place (q ∷ qs) = goals-at place (q .goals) ++ all-goals (suc place) qs
+all-goals place (q ∷ qs) = goals-at from-query place (q .goals) ++ all-goals (suc place) qs
 
 -- "Queries charge their pairs and compounds."
 unfoldable pub query-pairs : List Query → ℕ
@@ -118,5 +129,5 @@ unfoldable pub part-of : ℕ → State → Part
 part-of place state = record { unit = unit-at place (state .units); goals = goals-of place (state .goals) }
 
 unfoldable pub state-words : Unit {0}
-unfolding terms-words value applied no-unit unit-at number-of first-unit goals-at all-goals query-pairs query-compounds start of goals-of part-of
+unfolding terms-words value applied no-unit unit-at number-of first-unit goals-at from-query all-goals query-pairs query-compounds start of goals-of part-of
 state-words = tt

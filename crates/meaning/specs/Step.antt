@@ -6,7 +6,7 @@ use lib.Dec.{eqb}
 use lib.ListN.{length, set}
 use Rattle.meaning.specs.Bytes.{among, any, those}
 use Rattle.meaning.specs.Terms.{Named, Clause, renamed-goal}
-use Rattle.meaning.specs.State.{QueryUnit, Goal, Waiting, Goals, State, unit-at, goals-at, of}
+use Rattle.meaning.specs.State.{QueryUnit, Origin, Goal, Waiting, Goals, State, unit-at, goals-at, of}
 use Rattle.meaning.specs.Compare.{Assignment}
 use Rattle.meaning.specs.Trial.{Choice, reduces, joins-waiting, joins-failed, next-pair, values-after, trial-words}
 
@@ -17,9 +17,14 @@ unit-after (reduces clause given) unit =
 unit-after (joins-waiting readers) unit = record { values = unit .values; compounds = unit .compounds; tries = unit .tries + 1 }
 unit-after joins-failed unit = record { values = unit .values; compounds = unit .compounds; tries = unit .tries + 1 }
 
+-- A reduction makes its body's goals: "the step that made it counted".
+unfoldable pub made-by : Clause → QueryUnit → Origin
+made-by clause unit = record { clause = clause .place; tries = unit .tries + 1 }
+
 -- The body's goals, renamed apart as the head was.
 unfoldable pub body-goals : Clause → QueryUnit → ℕ → List Goal
-body-goals clause unit query = goals-at query (map (renamed-goal (next-pair unit) (unit .compounds)) (clause .body))
+body-goals clause unit query =
+    goals-at (made-by clause unit) query (map (renamed-goal (next-pair unit) (unit .compounds)) (clause .body))
 
 -- A waiting goal "that waits on a pair assigned in this step".
 unfoldable pub wakes : ℕ → List Assignment → Waiting → Bool
@@ -64,5 +69,5 @@ step choice g rest state =
     }
 
 unfoldable pub step-words : Unit {0}
-unfolding trial-words unit-after body-goals wakes goals-after pairs-charged compounds-charged without-front step
+unfolding trial-words unit-after made-by body-goals wakes goals-after pairs-charged compounds-charged without-front step
 step-words = tt

@@ -59,8 +59,10 @@ pub record Guard : Type 0 where
   pub number : ℕ
   pub arguments : Terms
 
--- `head.`, `head :- goal,..,goal.` or `head :- guard,..,guard | goal,..,goal.`, with the number of its pairs and of its compounds, head, guards, goals and list cells counted.
+-- `head.`, `head :- goal,..,goal.` or `head :- guard,..,guard | goal,..,goal.`, with the number of its pairs and of its compounds, head, guards, goals and list cells counted;
+-- and which one it is of the clauses of the whole text, from 1.
 pub record Clause : Type 0 where
+  pub place : ℕ
   pub head : Named
   pub guards : List Guard
   pub body : List Named

@@ -169,7 +169,9 @@ module _ (figures : Room) (s s′ : List ℕ) (o : FactsOnly figures s s′) whe
           small = l .small;
           inside = record { few = l .inside .few; inside = λ i h. rw (o .size) (l .inside .inside i h) };
           behind = l .behind;
+          low = l .low;
           words = list-same g q (g .count) (omega (arith, l .behind)) ∙ l .words;
+          origins = l .origins;
           held = held-still gs (l .held);
         }
 

@@ -162,7 +162,9 @@ module _ (figures : Room) (s s′ : List ℕ) (b : Beside figures s s′) (x : S
         small = l .small;
         inside = record { few = l .inside .few; inside = λ i h. rw (b .size) (l .inside .inside i h) };
         behind = l .behind;
+        low = l .low;
         words = own-stays g q (l .behind) (g .count) 0 ∙ l .words;
+        origins = l .origins;
         held = goals-stay gs (l .held);
       }
 

@@ -32,10 +32,10 @@ use Rattle.meaning.specs.Terms.{
   as-term,
 }
 use Rattle.meaning.specs.Items.{job, reading}
-use Rattle.meaning.specs.State.{Values, value, QueryUnit, Goal, Waiting, Goals, State, Room, no-unit, unit-at, first-unit, goals-at, all-goals, start}
+use Rattle.meaning.specs.State.{Values, value, QueryUnit, Origin, Goal, Waiting, Goals, State, Room, no-unit, unit-at, first-unit, goals-at, from-query, all-goals, start}
 use Rattle.meaning.specs.Compare.{succeeds, followed, places, Assignment}
 use Rattle.meaning.specs.Trial.{Choice, reduces, joins-waiting, joins-failed, next-pair, compared, with-pairs, assigned, values-after, choice}
-use Rattle.meaning.specs.Step.{unit-after, body-goals, goals-after, without-front, step}
+use Rattle.meaning.specs.Step.{unit-after, made-by, body-goals, goals-after, without-front, step}
 use Rattle.meaning.specs.Run.{choice-for, run}
 use Rattle.laws.proofs.Lists.EachOf.{Each, each-all, each-append, each-getD, each-map, each-replicate, each-set, each-in, each-implies}
 use Rattle.laws.proofs.Trial.Table.{EachArgument, table-gives}
@@ -175,8 +175,8 @@ unit-after-sound (reduces clause given) unit c u =
 unit-after-sound (joins-waiting readers) unit c u = record { values = u .values }
 unit-after-sound joins-failed unit c u = record { values = u .values }
 
-goals-at-sound : (place : ℕ) (gs : List Named) → Each SoundGoal gs → Each (λ g. SoundGoal (g .goal)) (goals-at place gs)
-goals-at-sound place gs s = each-goal-at (λ (g : Goal). SoundGoal (g .goal)) place gs s
+goals-at-sound : (origin : Origin) (place : ℕ) (gs : List Named) → Each SoundGoal gs → Each (λ g. SoundGoal (g .goal)) (goals-at origin place gs)
+goals-at-sound origin place gs s = each-goal-at (λ (g : Goal). SoundGoal (g .goal)) origin place gs s
 
 body-sound : (p c : ℕ) (gs : List Named) → Each SoundGoal gs → Each SoundGoal (map (renamed-goal p c) gs)
 unfolding renamed-goal
@@ -190,7 +190,7 @@ unfolding body-goals SoundChoice
 goals-after-sound choice unit g others c s o =
     each-goal-after (λ g. SoundGoal (g .goal)) choice unit g others s
     (λ clause given e. let taken : SoundChoice (reduces clause given) = rw e at c in
-    goals-at-sound (g .query) _ (body-sound (next-pair unit) (unit .compounds) (clause .body) (taken .0 .body))) o
+    goals-at-sound (made-by clause unit) (g .query) _ (body-sound (next-pair unit) (unit .compounds) (clause .body) (taken .0 .body))) o
 
 unit-at-sound : (k : ℕ) (units : List QueryUnit) → Each SoundUnit units → SoundUnit (unit-at k units)
 unfolding unit-at no-unit
@@ -218,7 +218,7 @@ all-goals-sound : (place : ℕ) (qs : List Query) → Each (λ q. Each SoundGoal
 unfolding all-goals
 all-goals-sound place [] s = tt
 all-goals-sound place (q ∷ qs) s =
-    each-append _ (goals-at place (q .goals)) (all-goals (suc place) qs) (goals-at-sound place (q .goals) (s .0)) (all-goals-sound (suc place) qs (s .1))
+    each-append _ (goals-at from-query place (q .goals)) (all-goals (suc place) qs) (goals-at-sound from-query place (q .goals) (s .0)) (all-goals-sound (suc place) qs (s .1))
 
 run-sound : (j : Job) (limit : ℕ) (figures : Room) → Each SoundClause (j .clauses) → Each (λ q. Each SoundGoal (q .goals)) (j .queries)
     → SoundState (run j limit figures .state)

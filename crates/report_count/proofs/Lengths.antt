@@ -103,11 +103,11 @@ pub counts-further : (s : List ℕ) (text : Bytes) (x : Setting) (facts : ℕ) (
 counts-further s text x facts seen at n r c e =
     record { readable = c .readable; counting = c .counting; low = omega arith; few = omega (arith, c .few, c .low) }
 
--- Bytes before a piece, and one behind it.
-pub counted-line : (s s′ : List ℕ) (text : Bytes) (x : Setting) (facts : ℕ) (seen : List ℕ) (at before from size to r : ℕ) → at ≤ 16777217
-    → from ≡ capped (at + before) → Counted s s′ text x facts from size seen to → r ≡ capped (to + 1)
-    → Counted s s′ text x facts at (before + (size + 1)) seen r
-counted-line s s′ text x facts seen at before from size to r low e c f =
+-- Bytes before a piece, and behind it.
+pub counted-line : (s s′ : List ℕ) (text : Bytes) (x : Setting) (facts : ℕ) (seen : List ℕ) (at before from size to behind r : ℕ) → at ≤ 16777217
+    → from ≡ capped (at + before) → Counted s s′ text x facts from size seen to → r ≡ capped (to + behind)
+    → Counted s s′ text x facts at (before + (size + behind)) seen r
+counted-line s s′ text x facts seen at before from size to behind r low e c f =
     record {
       changed = c .changed;
       readable = c .readable;

@@ -5,7 +5,7 @@ use lib.ListN.{length}
 use Rattle.meaning.specs.Bytes.{Bytes, bytes, each-once}
 use Rattle.meaning.specs.Terms.{writer, Term, Terms, variable, constant, compound, end, more, pairs-of, pairs-of-all, as-term, Query}
 use Rattle.meaning.specs.State.{Values, Goal, Part}
-use Rattle.meaning.specs.Report.{applied, Role, alone, written, Line}
+use Rattle.meaning.specs.Report.{applied, Role, alone, written, Line, origin-bytes}
 
 -- "Values are written out with every assignment applied": a term, and each of its arguments.
 unfoldable pub full : Values → Term → Term
@@ -39,7 +39,7 @@ shown-arguments seen end = []
 shown-arguments seen (more t ts) = shown seen alone t ++ shown-others (seen-after seen t) ts
 
 unfoldable pub shown-line : List ℕ → Line → Bytes
-shown-line seen l = l .words ++ (shown seen alone (l .shown) ++ bytes "\n")
+shown-line seen l = l .words ++ (shown seen alone (l .shown) ++ (l .ending ++ bytes "\n"))
 
 unfoldable pub shown-lines : List ℕ → List Line → Bytes
 shown-lines seen [] = []
@@ -56,11 +56,11 @@ unfoldable pub seen-after-values : Values → List ℕ → ℕ → List Bytes �
 seen-after-values values seen p [] = seen
 seen-after-values values seen p (x ∷ xs) = seen-after-values values (seen-after seen (full values (variable writer p))) (suc p) xs
 
--- The lines of some goals, each behind a word: their bytes, and what was seen after them.
+-- The lines of some goals, each behind a word and with its origin behind it: their bytes, and what was seen after them.
 unfoldable pub shown-goals : Values → List ℕ → Bytes → List Goal → Bytes
 shown-goals values seen word [] = []
 shown-goals values seen word (g ∷ gs) =
-    word ++ (shown seen alone (full values (as-term (g .goal))) ++ bytes "\n")
+    word ++ (shown seen alone (full values (as-term (g .goal))) ++ (origin-bytes (g .origin) ++ bytes "\n"))
     ++ shown-goals values (seen-after seen (full values (as-term (g .goal)))) word gs
 
 unfoldable pub seen-after-goals : Values → List ℕ → List Goal → List ℕ
@@ -103,7 +103,7 @@ written-values values order p (x ∷ xs) =
 unfoldable pub written-goals : Values → List ℕ → Bytes → List Goal → Bytes
 written-goals values order word [] = []
 written-goals values order word (g ∷ gs) =
-    word ++ (written order alone (full values (as-term (g .goal))) ++ bytes "\n") ++ written-goals values order word gs
+    word ++ (written order alone (full values (as-term (g .goal))) ++ (origin-bytes (g .origin) ++ bytes "\n")) ++ written-goals values order word gs
 
 -- How many terms a term is made of.
 unfoldable mutual

@@ -1,6 +1,6 @@
 -- The goals' lines, one more behind so many: those of a query in one of the lists.
 use Prim.Native.Nat.{ℕ, suc, _+_, _*_, _-_, _/_, _≤_, _<_}
-use mathlib.Core.Path.{_≡_, refl, sym, ap, _∙_}
+use mathlib.Core.Path.{_≡_, refl, sym, ap, ap₂, _∙_}
 use mathlib.Core.Bool.{Bool, true, false}
 use mathlib.Core.List.{List, [], _∷_, _++_, map, append-assoc, append-nil}
 use native.Mathlib.Omega.{arith}
@@ -8,22 +8,26 @@ use lib.ListN.{length, getD, length-append}
 use Rattle.meaning.specs.Bytes.{Bytes, bytes}
 use Rattle.meaning.specs.Terms.{writer, Term, as-term}
 use Rattle.meaning.specs.State.{Values, Goal}
-use Rattle.meaning.specs.Report.{alone}
+use Rattle.meaning.specs.Report.{alone, origin-bytes}
+use Rattle.laws.proofs.Lists.EachOf.{Each, each-split}
 use Rattle.term.specs.States.{round}
 use Rattle.term.specs.Holds.{Holds, HoldsFrom, CellAt}
-use Rattle.term.specs.Setting.{Setting, UnitTerm}
+use Rattle.term.specs.Setting.{Setting, Within, UnitTerm}
 use Rattle.term.proofs.Holds.{holds-alike}
 use Rattle.term.proofs.Units.{within-every}
 use Rattle.term.specs.Layout.{pair-facts}
-use Rattle.term.specs.Words.{compound-word, packed, rest-in}
+use Rattle.term.specs.Words.{compound-word}
+use Rattle.term.specs.Goals.{origin-word, packed-goal, place-in, OriginFits}
+use Rattle.term.proofs.Goals.{goal-place, goal-clause, goal-tries}
 use Rattle.meaning.specs.Terms.{more}
 use Rattle.laws.proofs.Lists.Tests.{false-not-true}
 use Rattle.report_pairs.specs.Threaded.{full, seen-after, shown, shown-goals, seen-after-goals}
 use Rattle.report_pairs.specs.Sound.{Sound}
 use Rattle.report_pairs.specs.Facts.{Readable, Shows, Changed}
 use Rattle.report_count.specs.Counts.{Counts, Counted}
-use Rattle.report_tallies.specs.Groups.{goal-place, goal-in, GroupInside, own, own-from}
+use Rattle.report_tallies.specs.Groups.{goal-place as place-of-goal, goal-in, GroupInside, own, own-from}
 use Rattle.report_tallies.specs.declared.groups.Group.{Group}
+use Rattle.report_tallies.specs.Origins.{origin-of}
 use Rattle.report_sections.specs.Sections.{GoalsHeld, Listed}
 use Rattle.report_sections.proofs.Lines.{shown-goals-append, seen-after-goals-append}
 use Rattle.report_count.proofs.Lengths.{changed-below, changed-behind, counts-on, counted-none, counted-then, counted-as}
@@ -31,7 +35,25 @@ use Rattle.report_tallies.proofs.GoalPlaces.{own-in, own-out, own-end}
 
 -- A goal's word.
 abbrev pub word-of : Setting → ℕ → Goal → ℕ
-word-of x q h = packed q (x .places .compound (h .goal .number))
+word-of x q h = packed-goal q (x .places .compound (h .goal .number)) (origin-word (h .origin))
+
+-- What a goal's word says: the compound's place, and the origin.
+pub record Said (x : Setting) (h : Goal) (goal : ℕ) : Type 0 where
+  pub place : compound-word (place-in goal) ≡ compound-word (x .places .compound (h .goal .number))
+  pub origin : origin-of goal ≡ origin-bytes (h .origin)
+
+pub word-said : (s : List ℕ) (text : Bytes) (x : Setting) (facts q : ℕ) (h : Goal) (goal : ℕ) → Readable s text x facts → q < 8 → facts < 1048576
+    → UnitTerm s x (as-term (h .goal)) → OriginFits (h .origin) → goal ≡ word-of x q h → Said x h goal
+unfolding Within as-term
+word-said s text x facts q h goal r small low u fits e =
+    let place = x .places .compound (h .goal .number) in
+    let inside : place < 1048576 = omega (arith, r .compound-before (h .goal .number) (u .of .within .0)) in
+    let origin = origin-word (h .origin) in
+    record {
+      place = ap (λ (w : ℕ). compound-word (place-in w)) e ∙ ap (λ (k : ℕ). compound-word k) (goal-place q place small inside origin);
+      origin = ap (λ (w : ℕ). origin-of w) e
+          ∙ ap₂ (λ (c t : ℕ). origin-bytes (record { clause = c; tries = t })) (goal-clause q place small inside (h .origin) fits) (goal-tries q place small inside (h .origin) fits);
+    }
 
 -- A term of the unit stays held when facts change.
 pub term-kept : (s s′ : List ℕ) (text : Bytes) (x : Setting) (facts : ℕ) → Readable s text x facts → Changed s s′ x facts → (t : Term) → UnitTerm s x t → UnitTerm s′ x t
@@ -47,7 +69,7 @@ term-kept s s′ text x facts r c t u =
 -- The list's words stay, and it lies in the scratch still.
 pub goal-kept : (s s′ : List ℕ) (text : Bytes) (x : Setting) (facts : ℕ) (g : Group) (i : ℕ) → Readable s text x facts → Changed s s′ x facts
     → facts + pair-facts * x .pairs ≤ g .from → goal-in s′ g i ≡ goal-in s g i
-goal-kept s s′ text x facts g i r c b = changed-behind s s′ text x facts r c (goal-place g i) (omega arith)
+goal-kept s s′ text x facts g i r c b = changed-behind s s′ text x facts r c (place-of-goal g i) (omega arith)
 
 pub inside-kept : (s s′ : List ℕ) (x : Setting) (facts : ℕ) (g : Group) → Changed s s′ x facts → GroupInside s g → GroupInside s′ g
 inside-kept s s′ x facts g c h = record { few = h .few; inside = λ i l. rw (c .size) (h .inside i l) }
@@ -61,7 +83,10 @@ pub record Progress (s₀ s : List ℕ) (text : Bytes) (x : Setting) (facts at :
   pub counted : Counted s₀ s text x facts at (length (shown-goals (x .values) seen word done)) (seen-after-goals (x .values) seen done) to
 
 -- The goal that is left first.
-first-held : (s : List ℕ) (x : Setting) (done : List Goal) (h : Goal) (left : List Goal) → GoalsHeld s x (done ++ (h ∷ left))
+pub first-fits : (done : List Goal) (h : Goal) (left : List Goal) → Each (λ g. OriginFits (g .origin)) (done ++ (h ∷ left)) → OriginFits (h .origin)
+first-fits done h left k = each-split (λ g. OriginFits (g .origin)) done (h ∷ left) k .1 .0
+
+pub first-held : (s : List ℕ) (x : Setting) (done : List Goal) (h : Goal) (left : List Goal) → GoalsHeld s x (done ++ (h ∷ left))
     → UnitTerm s x (as-term (h .goal)) × Sound (as-term (h .goal))
 first-held s x [] h left k = (k .0, k .1)
 first-held s x (d ∷ done) h left k = first-held s x done h left (k .2)
@@ -73,7 +98,8 @@ pub record Next (s₀ s : List ℕ) (text : Bytes) (x : Setting) (facts at : ℕ
   pub split : gs ≡ done ++ (goal-is ∷ left)
   pub words : own-from s₀ g q (i + 1) (g .count - (i + 1)) ≡ map (word-of x q) left
   pub counted : Counted s₀ s text x facts at (length (shown-goals (x .values) seen word done)) (seen-after-goals (x .values) seen done) to
-  pub shows : Shows s x (as-term (goal-is .goal)) (compound-word (rest-in goal))
+  pub shows : Shows s x (as-term (goal-is .goal)) (compound-word (place-in goal))
+  pub origin : origin-of goal ≡ origin-bytes (goal-is .origin)
 
 module _ (s₀ s : List ℕ) (text : Bytes) (x : Setting) (facts at : ℕ) (seen : List ℕ) (g : Group) (q : ℕ) (gs : List Goal) (word : Bytes) where
   pub progress-start : Counts s₀ text x facts seen at → Listed s₀ x facts g q gs → Progress s₀ s₀ text x facts at seen g q gs word at 0
@@ -124,6 +150,7 @@ module _ (s₀ s : List ℕ) (text : Bytes) (x : Setting) (facts at : ℕ) (seen
           let head : goal-in s₀ g i ≡ word-of x q a = cc in
           let tail : own-from s₀ g q (i + 1) (g .count - (i + 1)) ≡ map (word-of x q) left = cc in
           let (held, sound) = first-held s₀ x (p .done) a left (rw f at (l .held)) in
+          let said = word-said s₀ text x facts q a goal r (l .small) (l .low) held (first-fits (p .done) a left (rw f at (l .origins))) (e ∙ head) in
           record {
             done = p .done;
             goal-is = a;
@@ -134,12 +161,10 @@ module _ (s₀ s : List ℕ) (text : Bytes) (x : Setting) (facts at : ℕ) (seen
             shows = record {
               term = term-kept s₀ s text x facts r (p .counted .changed) (as-term (a .goal)) held;
               sound = sound;
-              word = word-is (e ∙ head);
+              word = said .place;
             };
+            origin = said .origin;
           }
-        where
-          word-is : goal ≡ word-of x q a → compound-word (rest-in goal) ≡ compound-word (x .places .compound (a .goal .number))
-          word-is f = let small : q < 8 = l .small in omega arith
 
 -- One goal's line more.
 module _ (values : Values) (seen : List ℕ) (word : Bytes) (done : List Goal) (a : Goal) where
@@ -147,12 +172,12 @@ module _ (values : Values) (seen : List ℕ) (word : Bytes) (done : List Goal) (
   seen-done = seen-after-goals values seen done
 
   last-line : (l : List ℕ) → length (shown-goals values l word (a ∷ []))
-      ≡ length word + (length (shown l alone (full values (as-term (a .goal)))) + 1)
+      ≡ length word + (length (shown l alone (full values (as-term (a .goal)))) + (length (origin-bytes (a .origin)) + 1))
   unfolding shown-goals bytes
   last-line l = simp (length-append, append-nil) (omega arith)
 
   pub goals-size : length (shown-goals values seen word (done ++ (a ∷ [])))
-      ≡ length (shown-goals values seen word done) + (length word + (length (shown seen-done alone (full values (as-term (a .goal)))) + 1))
+      ≡ length (shown-goals values seen word done) + (length word + (length (shown seen-done alone (full values (as-term (a .goal)))) + (length (origin-bytes (a .origin)) + 1)))
   goals-size =
       ap length (shown-goals-append values word done (a ∷ []) seen)
       ∙ length-append (shown-goals values seen word done) (shown-goals values seen-done word (a ∷ []))
@@ -167,7 +192,8 @@ module _ (values : Values) (seen : List ℕ) (word : Bytes) (done : List Goal) (
 
 pub progress-taken : (s₀ s s′ : List ℕ) (text : Bytes) (x : Setting) (facts at : ℕ) (seen : List ℕ) (g : Group) (q : ℕ) (gs : List Goal) (word : Bytes) (to i goal r : ℕ)
     → (n : Next s₀ s text x facts at seen g q gs word to i goal)
-    → Counted s s′ text x facts to (length word + (length (shown (n .counted .after) alone (full (x .values) (as-term (n .goal-is .goal)))) + 1))
+    → Counted s s′ text x facts to
+    (length word + (length (shown (n .counted .after) alone (full (x .values) (as-term (n .goal-is .goal)))) + (length (origin-bytes (n .goal-is .origin)) + 1)))
     (seen-after (n .counted .after) (full (x .values) (as-term (n .goal-is .goal)))) r
     → Progress s₀ s′ text x facts at seen g q gs word r (i + 1)
 progress-taken s₀ s s′ text x facts at seen g q gs word to i goal r n d =
@@ -180,7 +206,7 @@ progress-taken s₀ s s′ text x facts at seen g q gs word to i goal r n d =
           counted-as s₀ s′ text x facts at _ _ _ _ r (sym (goals-size (x .values) seen word (n .done) (n .goal-is)))
           (sym (goals-seen-more (x .values) seen word (n .done) (n .goal-is)))
           (counted-then s₀ s s′ text x facts at _ _ to r
-          (λ l. length word + (length (shown l alone (full (x .values) (as-term (n .goal-is .goal)))) + 1))
+          (λ l. length word + (length (shown l alone (full (x .values) (as-term (n .goal-is .goal)))) + (length (origin-bytes (n .goal-is .origin)) + 1)))
           (λ l. seen-after l (full (x .values) (as-term (n .goal-is .goal)))) (n .counted) d);
     }
 
@@ -188,7 +214,7 @@ progress-taken s₀ s s′ text x facts at seen g q gs word to i goal r n d =
 pub goal-asks : (s₀ s : List ℕ) (text : Bytes) (x : Setting) (facts at : ℕ) (seen : List ℕ) (g : Group) (q : ℕ) (gs : List Goal) (word : Bytes) (to i : ℕ) → i < g .count
     → Counts s₀ text x facts seen at → Listed s₀ x facts g q gs → (p : Progress s₀ s text x facts at seen g q gs word to i)
     → (t : Term) × Counts s text x facts (p .counted .after) to × GroupInside s g
-    × (own q (goal-in s g i) ≡ true → Shows s x t (compound-word (rest-in (goal-in s g i))))
+    × (own q (goal-in s g i) ≡ true → Shows s x t (compound-word (place-in (goal-in s g i))))
 goal-asks s₀ s text x facts at seen g q gs word to i h c l p = go (own q (goal-in s g i)) refl
   where
     same : goal-in s g i ≡ goal-in s₀ g i
@@ -202,7 +228,7 @@ goal-asks s₀ s text x facts at seen g q gs word to i h c l p = go (own q (goal
 
     go : (b : Bool) → own q (goal-in s g i) ≡ b
         → (t : Term) × Counts s text x facts (p .counted .after) to × GroupInside s g
-        × (own q (goal-in s g i) ≡ true → Shows s x t (compound-word (rest-in (goal-in s g i))))
+        × (own q (goal-in s g i) ≡ true → Shows s x t (compound-word (place-in (goal-in s g i))))
     go true e =
         let n = progress-next s₀ s text x facts at seen g q gs word to i (goal-in s g i) h (c .readable) l same (ap (own q) (sym same) ∙ e) p in
         (as-term (n .goal-is .goal), ready, inside, λ f. n .shows)
@@ -212,8 +238,9 @@ goal-asks s₀ s text x facts at seen g q gs word to i h c l p = go (own q (goal
 pub goal-told : (s₀ s s′ : List ℕ) (text : Bytes) (x : Setting) (facts at : ℕ) (seen : List ℕ) (g : Group) (q : ℕ) (gs : List Goal) (word : Bytes) (label to i r : ℕ) → i < g .count
     → Counts s₀ text x facts seen at → Listed s₀ x facts g q gs → label ≡ length word → Progress s₀ s text x facts at seen g q gs word to i
     → (own q (goal-in s g i) ≡ false → (r ≡ to) × (s′ ≡ s))
-    → ((seen′ : List ℕ) (t : Term) → own q (goal-in s g i) ≡ true → Counts s text x facts seen′ to → Shows s x t (compound-word (rest-in (goal-in s g i)))
-    → Counted s s′ text x facts to (label + (length (shown seen′ alone (full (x .values) t)) + 1)) (seen-after seen′ (full (x .values) t)) r)
+    → ((seen′ : List ℕ) (t : Term) → own q (goal-in s g i) ≡ true → Counts s text x facts seen′ to → Shows s x t (compound-word (place-in (goal-in s g i)))
+    → Counted s s′ text x facts to (label + (length (shown seen′ alone (full (x .values) t)) + (length (origin-of (goal-in s g i)) + 1)))
+    (seen-after seen′ (full (x .values) t)) r)
     → Progress s₀ s′ text x facts at seen g q gs word r (i + 1)
 goal-told s₀ s s′ text x facts at seen g q gs word label to i r h c l e p out into = go (own q (goal-in s g i)) refl
   where
@@ -224,7 +251,7 @@ goal-told s₀ s s′ text x facts at seen g q gs word label to i r h c l e p ou
     go true f =
         let n = progress-next s₀ s text x facts at seen g q gs word to i (goal-in s g i) h (c .readable) l same (ap (own q) (sym same) ∙ f) p in
         let d = into (n .counted .after) (as-term (n .goal-is .goal)) f (counts-on s₀ s text x facts at _ _ to (n .counted)) (n .shows) in
-        progress-taken s₀ s s′ text x facts at seen g q gs word to i (goal-in s g i) r n (rw e at d)
+        progress-taken s₀ s s′ text x facts at seen g q gs word to i (goal-in s g i) r n (rw (e, n .origin) at d)
     go false f =
         let (a, b) = out f in
         rw (a, b) (progress-skip s₀ s text x facts at seen g q gs word to i h (ap (own q) (sym same) ∙ f) p)

@@ -12,6 +12,7 @@ use Rattle.meaning.specs.Report.{
   alone,
   written,
   Line,
+  origin-bytes,
   value-lines,
   goal-lines,
   part-lines,
@@ -43,8 +44,9 @@ use Rattle.report_pairs.proofs.Settled.{settled-in}
 line-threaded : (seen order : List ℕ) (l : Line) → (behind : List ℕ) × (order ≡ seen-after seen (l .shown) ++ behind) → line-bytes order l ≡ shown-line seen l
 unfolding line-bytes shown-line
 line-threaded seen order l begins =
-    append-assoc (l .words) (written order alone (l .shown)) (bytes "\n")
-    ∙ ap (λ (b : Bytes). l .words ++ (b ++ bytes "\n")) (settled-in seen order alone (l .shown) begins)
+    append-assoc (l .words ++ written order alone (l .shown)) (l .ending) (bytes "\n")
+    ∙ append-assoc (l .words) (written order alone (l .shown)) (l .ending ++ bytes "\n")
+    ∙ ap (λ (b : Bytes). l .words ++ (b ++ (l .ending ++ bytes "\n"))) (settled-in seen order alone (l .shown) begins)
 
 first-of : (seen order : List ℕ) (l : Line) (ls : List Line) → (behind : List ℕ) × (order ≡ seen-after-lines seen (l ∷ ls) ++ behind)
     → (behind : List ℕ) × (order ≡ seen-after seen (l .shown) ++ behind)
@@ -84,7 +86,7 @@ pub lines-applied-append : (values : Values) (ls ms : List Line) → lines-appli
 unfolding lines-applied
 lines-applied-append values [] ms = refl
 lines-applied-append values (l ∷ ls) ms =
-    ap (_∷_ (record { words = l .words; shown = applied (length values) values (l .shown) })) (lines-applied-append values ls ms)
+    ap (_∷_ (record { words = l .words; shown = applied (length values) values (l .shown); ending = l .ending })) (lines-applied-append values ls ms)
 
 -- The two kinds of lines, with every assignment applied.
 pub values-shown : (values : Values) (xs : List Bytes) (p : ℕ) (seen : List ℕ)
@@ -106,7 +108,7 @@ pub goals-shown : (values : Values) (word : Bytes) (gs : List Goal) (seen : List
 unfolding shown-lines shown-line lines-applied goal-lines shown-goals full
 goals-shown values word [] seen = refl
 goals-shown values word (g ∷ gs) seen =
-    ap (_++_ (word ++ (shown seen alone (full values (as-term (g .goal))) ++ bytes "\n")))
+    ap (_++_ (word ++ (shown seen alone (full values (as-term (g .goal))) ++ (origin-bytes (g .origin) ++ bytes "\n"))))
     (goals-shown values word gs (seen-after seen (full values (as-term (g .goal)))))
 
 pub goals-seen : (values : Values) (word : Bytes) (gs : List Goal) (seen : List ℕ)
@@ -121,7 +123,7 @@ pub shown-goals-append : (values : Values) (word : Bytes) (gs hs : List Goal) (s
 unfolding shown-goals seen-after-goals
 shown-goals-append values word [] hs seen = refl
 shown-goals-append values word (g ∷ gs) hs seen =
-    let line = word ++ (shown seen alone (full values (as-term (g .goal))) ++ bytes "\n") in
+    let line = word ++ (shown seen alone (full values (as-term (g .goal))) ++ (origin-bytes (g .origin) ++ bytes "\n")) in
     let seen′ = seen-after seen (full values (as-term (g .goal))) in
     ap (_++_ line) (shown-goals-append values word gs hs seen′)
     ∙ sym (append-assoc line (shown-goals values seen′ word gs) (shown-goals values (seen-after-goals values seen′ gs) word hs))

@@ -38,7 +38,9 @@ listed-kept s s′ text x facts g q gs r c l =
       small = l .small;
       inside = inside-kept s s′ x facts g c (l .inside);
       behind = l .behind;
+      low = l .low;
       words = own-kept s s′ g q (λ i. goal-kept s s′ text x facts g i r c (l .behind)) (g .count) 0 ∙ l .words;
+      origins = l .origins;
       held = held-kept s s′ text x facts r c gs (l .held);
     }
 

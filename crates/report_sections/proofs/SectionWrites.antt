@@ -8,7 +8,7 @@ use lib.ListN.{length, length-append}
 use Rattle.meaning.specs.Bytes.{Bytes, bytes, among}
 use Rattle.meaning.specs.Terms.{writer, Term, variable, as-term}
 use Rattle.meaning.specs.State.{Room, Values, Goal}
-use Rattle.meaning.specs.Report.{alone, written, value-lines, goal-lines, lines-applied}
+use Rattle.meaning.specs.Report.{alone, written, origin-bytes, value-lines, goal-lines, lines-applied}
 use Rattle.laws.proofs.Lists.Among.{In, in-among, in-append-left}
 use Rattle.laws.proofs.Terms.Standing.{Stands}
 use Rattle.term.specs.Layout.{waiters-region}
@@ -97,7 +97,7 @@ pub goals-threaded : (values : Values) (order : List ℕ) (word : Bytes) (gs : L
 unfolding seen-after-goals written-goals shown-goals
 goals-threaded values order word [] seen b = refl
 goals-threaded values order word (g ∷ gs) seen b =
-    ap₂ (λ (c d : Bytes). word ++ (c ++ bytes "\n") ++ d)
+    ap₂ (λ (c d : Bytes). word ++ (c ++ (origin-bytes (g .origin) ++ bytes "\n")) ++ d)
     (settled-in seen order alone (full values (as-term (g .goal))) (first-goal values order seen g gs b))
     (goals-threaded values order word gs (seen-after seen (full values (as-term (g .goal)))) b)
 

@@ -8,29 +8,30 @@ use lib.ListN.{length, length-append}
 use Rattle.meaning.specs.Bytes.{Bytes, bytes, among, if_then_else_}
 use Rattle.meaning.specs.Terms.{Term, as-term}
 use Rattle.meaning.specs.State.{Values, Goal}
-use Rattle.meaning.specs.Report.{alone, written, number-in}
+use Rattle.meaning.specs.Report.{alone, written, number-in, origin-bytes}
 use Rattle.laws.proofs.Terms.Standing.{Stands}
-use Rattle.term.specs.Setting.{Setting, UnitTerm}
-use Rattle.term.specs.Words.{compound-word, rest-in}
+use Rattle.term.specs.Setting.{Setting}
+use Rattle.term.specs.Words.{compound-word}
+use Rattle.term.specs.Goals.{place-in}
 use Rattle.report_pairs.specs.Threaded.{full, written-goals}
-use Rattle.report_pairs.specs.Sound.{Sound}
 use Rattle.report_pairs.specs.Laid.{Puts}
 use Rattle.report_pairs.specs.Facts.{Readable, Shows}
 use Rattle.report_leaves.specs.Writes.{Numbered, Writes}
 use Rattle.report_tallies.specs.Groups.{goal-in, own, own-from}
 use Rattle.report_tallies.specs.declared.groups.Group.{Group}
-use Rattle.report_sections.specs.Sections.{GoalsHeld, Listed}
+use Rattle.report_tallies.specs.Origins.{origin-of}
+use Rattle.report_sections.specs.Sections.{Listed}
 use Rattle.report_sections.specs.Whole.{Numbers, AllIn}
 use Rattle.report_pairs.proofs.Laid.{puts-none, puts-behind, puts-as}
 use Rattle.report_tallies.proofs.GoalPlaces.{own-in, own-out, own-end}
-use Rattle.report_sections.proofs.GoalLines.{word-of}
+use Rattle.report_sections.proofs.GoalLines.{word-of, word-said, first-held, first-fits}
 
 pub written-goals-append : (values : Values) (order : List ℕ) (word : Bytes) (gs hs : List Goal)
     → written-goals values order word (gs ++ hs) ≡ written-goals values order word gs ++ written-goals values order word hs
 unfolding written-goals
 written-goals-append values order word [] hs = refl
 written-goals-append values order word (g ∷ gs) hs =
-    let line = word ++ (written order alone (full values (as-term (g .goal))) ++ bytes "\n") in
+    let line = word ++ (written order alone (full values (as-term (g .goal))) ++ (origin-bytes (g .origin) ++ bytes "\n")) in
     ap (_++_ line) (written-goals-append values order word gs hs)
     ∙ sym (append-assoc line (written-goals values order word gs) (written-goals values order word hs))
 
@@ -43,10 +44,10 @@ numbered-in s x facts order t numbers all n h stands =
 
 -- The line of a goal, alone and in its list.
 abbrev pub goal-line : Values → List ℕ → Bytes → Goal → Bytes
-goal-line values order word a = word ++ (written order alone (full values (as-term (a .goal))) ++ bytes "\n")
+goal-line values order word a = word ++ (written order alone (full values (as-term (a .goal))) ++ (origin-bytes (a .origin) ++ bytes "\n"))
 
 pub goal-line-size : (values : Values) (order : List ℕ) (word : Bytes) (a : Goal)
-    → length (goal-line values order word a) ≡ length word + length (written order alone (full values (as-term (a .goal)))) + 1
+    → length (goal-line values order word a) ≡ length word + length (written order alone (full values (as-term (a .goal)))) + length (origin-bytes (a .origin)) + 1
 unfolding bytes
 goal-line-size values order word a = simp length-append (omega arith)
 
@@ -85,17 +86,12 @@ wrote-as s x order buffer₀ buffer buffer′ at g q gs word to to′ i e f p = 
 pub record NextLine (s : List ℕ) (text : Bytes) (x : Setting) (facts : ℕ) (order : List ℕ) (buffer₀ buffer : List ℕ) (at : ℕ) (g : Group) (q : ℕ) (gs : List Goal) (word : Bytes) (to i goal : ℕ) : Type 0 where
   pub term : Term
   pub writes : Writes s text x facts order term (to + length word) (length buffer)
-  pub shows : Shows s x term (compound-word (rest-in goal))
-  pub fits : to + length word + length (written order alone (full (x .values) term)) + 1 ≤ length buffer
-  pub gives : (c : List ℕ) (r : ℕ) → Puts buffer c to r (word ++ (written order alone (full (x .values) term) ++ bytes "\n"))
+  pub shows : Shows s x term (compound-word (place-in goal))
+  pub fits : to + length word + length (written order alone (full (x .values) term)) + length (origin-of goal) + 1 ≤ length buffer
+  pub gives : (c : List ℕ) (r : ℕ) → Puts buffer c to r (word ++ (written order alone (full (x .values) term) ++ (origin-of goal ++ bytes "\n")))
       → Wrote s x order buffer₀ c at g q gs word r (i + 1)
 
--- The goal that is left first.
-first-held : (s : List ℕ) (x : Setting) (done : List Goal) (h : Goal) (left : List Goal) → GoalsHeld s x (done ++ (h ∷ left))
-    → UnitTerm s x (as-term (h .goal)) × Sound (as-term (h .goal))
-first-held s x [] h left k = (k .0, k .1)
-first-held s x (d ∷ done) h left k = first-held s x done h left (k .2)
-
+-- The goal that is left first has its pairs among the order.
 first-in : (values : Values) (order : List ℕ) (done : List Goal) (h : Goal) (left : List Goal) → AllIn values order (done ++ (h ∷ left))
     → (n : ℕ) → Stands n (full values (as-term (h .goal))) → among n order ≡ true
 first-in values order [] h left k = k .0
@@ -152,6 +148,8 @@ module _ (s : List ℕ) (text : Bytes) (x : Setting) (facts : ℕ) (order : List
           let head : goal-in s g i ≡ word-of x q a = cc in
           let tail : own-from s g q (i + 1) (g .count - (i + 1)) ≡ map (word-of x q) left = cc in
           let (held, sound) = first-held s x (p .done) a left (rw f at (l .held)) in
+          let said = word-said s text x facts q a goal r (l .small) (l .low) held (first-fits (p .done) a left (rw f at (l .origins))) (e ∙ head) in
+          let behind : length (origin-of goal) ≡ length (origin-bytes (a .origin)) = ap length (said .origin) in
           let fit = goals-fit (x .values) order word gs (p .done) left a f in
           let size = goal-line-size (x .values) order word a in
           record {
@@ -161,16 +159,13 @@ module _ (s : List ℕ) (text : Bytes) (x : Setting) (facts : ℕ) (order : List
               numbered = numbered-in s x facts order (full (x .values) (as-term (a .goal))) numbers (first-in (x .values) order (p .done) a left (rw f at all));
               fits = omega (arith, fit, size, fits, same, p .puts .place);
             };
-            shows = record { term = held; sound = sound; word = word-is (e ∙ head) };
-            fits = omega (arith, fit, size, fits, same, p .puts .place);
+            shows = record { term = held; sound = sound; word = said .place };
+            fits = omega (arith, fit, size, behind, fits, same, p .puts .place);
             gives = λ c to′ more. record {
               done = p .done ++ (a ∷ []);
               left = left;
               split = f ∙ sym (append-assoc (p .done) (a ∷ []) left);
               words = tail;
-              puts = puts-as _ _ buffer₀ c at to′ (goals-more (x .values) order word (p .done) a) (puts-behind _ _ buffer₀ buffer c at to to′ (p .puts) more);
+              puts = puts-as _ _ buffer₀ c at to′ (goals-more (x .values) order word (p .done) a) (puts-behind _ _ buffer₀ buffer c at to to′ (p .puts) (rw (said .origin) at more));
             };
           }
-        where
-          word-is : goal ≡ word-of x q a → compound-word (rest-in goal) ≡ compound-word (x .places .compound (a .goal .number))
-          word-is f = let small : q < 8 = l .small in omega arith

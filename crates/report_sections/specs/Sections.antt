@@ -6,11 +6,12 @@ use lib.ListN.{length, getD}
 use Rattle.meaning.specs.Bytes.{Bytes}
 use Rattle.meaning.specs.Terms.{as-term}
 use Rattle.meaning.specs.State.{Room, Goal}
+use Rattle.laws.proofs.Lists.EachOf.{Each}
 use Rattle.term.specs.Layout.{InRange, pair-facts, query-pairs-word, query-first-pair-word, query-variables-from}
 use Rattle.term.specs.declared.state.Standing.{Standing}
 use Rattle.term.specs.Setting.{Setting, UnitTerm}
 use Rattle.term.specs.Spellings.{HoldsSpellings}
-use Rattle.term.specs.Words.{packed}
+use Rattle.term.specs.Goals.{origin-word, packed-goal, OriginFits}
 use Rattle.report_pairs.specs.Sound.{Sound}
 use Rattle.report_tallies.specs.Groups.{GroupInside, own-from, active-group, waiting-group, failed-group}
 use Rattle.report_tallies.specs.declared.groups.Group.{Group}
@@ -30,11 +31,14 @@ abbrev pub GoalsHeld : List ℕ → Setting → List Goal → Type 0
 GoalsHeld s x [] = Unit {0}
 GoalsHeld s x (g ∷ gs) = UnitTerm s x (as-term (g .goal)) × Sound (as-term (g .goal)) × GoalsHeld s x gs
 
+-- Their words, which have room for their compounds' places and their origins.
 pub record Listed (s : List ℕ) (x : Setting) (facts : ℕ) (g : Group) (q : ℕ) (gs : List Goal) : Type 0 where
   pub small : q < 8
   pub inside : GroupInside s g
   pub behind : facts + pair-facts * x .pairs ≤ g .from
-  pub words : own-from s g q 0 (g .count) ≡ map (λ h. packed q (x .places .compound (h .goal .number))) gs
+  pub low : facts < 1048576
+  pub words : own-from s g q 0 (g .count) ≡ map (λ h. packed-goal q (x .places .compound (h .goal .number)) (origin-word (h .origin))) gs
+  pub origins : Each (λ h. OriginFits (h .origin)) gs
   pub held : GoalsHeld s x gs
 
 -- A query's section: its variables, and its goals in the three lists.

@@ -21,7 +21,9 @@ ghost use Rattle.report_sections.specs.Sections.{Variables, Listed, Sect
 ghost use Rattle.report_pairs.specs.Threaded.{written-goals};
 ghost use Rattle.report_sections.specs.Whole.{SectionStands, Uncounted, Numbers, SectionCounted, section-bytes, AllIn};
 ghost use Rattle.term.specs.Layout.{waiters-region};
-ghost use Rattle.term.specs.Words.{writer-word, compound-word, rest-in};
+ghost use Rattle.term.specs.Words.{writer-word, compound-word};
+ghost use Rattle.term.specs.Goals.{place-in};
+ghost use Rattle.report_tallies.specs.Origins.{origin-of};
 ghost use mathlib.Core.Bool.{true, false};
 use report_count::counting::count_term;
 use report_pairs::length::further;
@@ -37,7 +39,10 @@ use report_tallies::groups::waiting;
 use report_tallies::header::header;
 use report_tallies::header::header_length;
 use report_tallies::header::tally;
+use report_tallies::origin::origin;
+use report_tallies::origin::origin_length;
 use report_write::terms::write_term;
+use term::goal::place_of;
 use term::layout;
 use term::layout::QUERIES;
 use term::layout::QUERY_FIRST_PAIR;
@@ -53,16 +58,16 @@ use term::word::TAGS;
 use term::word::WRITER;
 use term::word::index;
 
-// A line: so many bytes, a term and an LF.
-fn count_line(s: &mut [u64], facts: usize, at: usize, before: usize, w: u64) -> usize
+// A line: so many bytes, a term and so many bytes.
+fn count_line(s: &mut [u64], facts: usize, at: usize, before: usize, w: u64, behind: usize) -> usize
     requires { ⌜ ((text : Bytes) × (x : Setting) × (seen : List ℕ) × (t : Term) × Counts (now s) text x facts seen at × Shows (now s) x t w) ⌝ }
     ensures { λ r. ⌜ ((text : Bytes) (x : Setting) (seen : List ℕ) (t : Term) → Counts (now (s .entry)) text x facts seen at → Shows (now (s .entry)) x t w
-        → Counted (now (s .entry)) (now (s .exit)) text x facts at (before + (length (shown seen alone (full (x .values) t)) + 1))
+        → Counted (now (s .entry)) (now (s .exit)) text x facts at (before + (length (shown seen alone (full (x .values) t)) + behind))
         (seen-after seen (full (x .values) t)) r) ⌝ }
 {
     let from = further(at, before);
     let to = count_term(s, facts, from, w);
-    further(to, 1)
+    further(to, behind)
 }
 
 // A term and an LF.
@@ -113,7 +118,7 @@ fn count_value(s: &mut [u64], facts: usize, at: usize, q: usize, v: usize) -> us
 {
     let n = spelled(s, q, v, 1);
     let w = variable(s, q, v);
-    count_line(s, facts, at, n + 3, w)
+    count_line(s, facts, at, n + 3, w, 1)
 }
 
 fn count_values(s: &mut [u64], facts: usize, at: usize, q: usize) -> usize
@@ -133,9 +138,9 @@ fn count_values(s: &mut [u64], facts: usize, at: usize, q: usize) -> usize
 
 // The word of a goal's term.
 fn goal_term(goal: u64) -> u64
-    ensures { λ r. ⌜ r ≡ compound-word (rest-in goal) ⌝ }
+    ensures { λ r. ⌜ r ≡ compound-word (place-in goal) ⌝ }
 {
-    COMPOUND + TAGS * (goal / TAGS)
+    COMPOUND + TAGS * place_of(goal) as u64
 }
 
 // The line of the i-th goal of a list, if it is one of the query's.
@@ -149,17 +154,19 @@ fn count_goal(
     i: usize,
 ) -> usize
     requires { ⌜ ((text : Bytes) × (x : Setting) × (seen : List ℕ) × (t : Term) × Counts (now s) text x facts seen at × GroupInside (now s) g × (i < g .count)
-        × (own-word q (goal-in (now s) g i) ≡ true → Shows (now s) x t (compound-word (rest-in (goal-in (now s) g i))))) ⌝ }
+        × (own-word q (goal-in (now s) g i) ≡ true → Shows (now s) x t (compound-word (place-in (goal-in (now s) g i))))) ⌝ }
     ensures { λ r. ⌜ (own-word q (goal-in (now (s .entry)) g i) ≡ false → (r ≡ at) × (now (s .exit) ≡ now (s .entry)))
         × ((text : Bytes) (x : Setting) (seen : List ℕ) (t : Term) → own-word q (goal-in (now (s .entry)) g i) ≡ true → Counts (now (s .entry)) text x facts seen at
-        → Shows (now (s .entry)) x t (compound-word (rest-in (goal-in (now (s .entry)) g i)))
-        → Counted (now (s .entry)) (now (s .exit)) text x facts at (label + (length (shown seen alone (full (x .values) t)) + 1))
+        → Shows (now (s .entry)) x t (compound-word (place-in (goal-in (now (s .entry)) g i)))
+        → Counted (now (s .entry)) (now (s .exit)) text x facts at
+        (label + (length (shown seen alone (full (x .values) t)) + (length (origin-of (goal-in (now (s .entry)) g i)) + 1)))
         (seen-after seen (full (x .values) t)) r) ⌝ }
 {
     let goal = goal_at(s, g, i);
     if own(goal, q) {
         let w = goal_term(goal);
-        return count_line(s, facts, at, label, w);
+        let behind = origin_length(goal) + 1;
+        return count_line(s, facts, at, label, w, behind);
     }
     at
 }
@@ -233,7 +240,7 @@ fn write_values(
     to
 }
 
-// The line of a goal.
+// The line of a goal, with its origin behind it.
 fn write_goal(
     text: &[u8],
     s: &[u64],
@@ -244,16 +251,19 @@ fn write_goal(
     goal: u64,
 ) -> usize
     requires { ⌜ ((x : Setting) × (order : List ℕ) × (t : Term) × Writes (now s) (now text) x facts order t (at + length (now label)) (length (now buffer))
-        × Shows (now s) x t (compound-word (rest-in goal))
-        × (at + length (now label) + length (written order alone (full (x .values) t)) + 1 ≤ length (now buffer))) ⌝ }
+        × Shows (now s) x t (compound-word (place-in goal))
+        × (at + length (now label) + length (written order alone (full (x .values) t)) + length (origin-of goal) + 1 ≤ length (now buffer))) ⌝ }
     ensures { λ r. ⌜ ((x : Setting) (order : List ℕ) (t : Term)
         → Writes (now (s .entry)) (now (text .entry)) x facts order t (at + length (now (label .entry))) (length (now (buffer .entry)))
-        → Shows (now (s .entry)) x t (compound-word (rest-in goal))
-        → Puts (now (buffer .entry)) (now (buffer .exit)) at r (now (label .entry) ++ (written order alone (full (x .values) t) ++ bytes "\n"))) ⌝ }
+        → Shows (now (s .entry)) x t (compound-word (place-in goal))
+        → Puts (now (buffer .entry)) (now (buffer .exit)) at r
+        (now (label .entry) ++ (written order alone (full (x .values) t) ++ (origin-of goal ++ bytes "\n")))) ⌝ }
 {
-    let to = words(buffer, at, label);
+    let mut to = words(buffer, at, label);
     let w = goal_term(goal);
-    write_line(text, s, facts, buffer, to, w)
+    to = write_term(text, s, facts, buffer, to, w);
+    to = origin(buffer, to, goal);
+    put(buffer, to, b'\n')
 }
 
 // The length of the section behind so many bytes; every pair that it shows has its number.

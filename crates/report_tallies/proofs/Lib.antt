@@ -1,3 +1,4 @@
 pub mod FirstLines
 pub mod GoalPlaces
+pub mod Origins
 pub mod OwnGoals

@@ -30,6 +30,7 @@ use Rattle.term.specs.States.{
   HoldsState,
 }
 use Rattle.term.specs.declared.state.Standing.{Standing}
+use Rattle.term.specs.Goals.{origin-word}
 use Rattle.term.specs.Words.{packed, tag-in}
 use Rattle.report_tallies.specs.Groups.{goal-place, goal-in, GroupInside, own, goals-from, own-from, active-group, waiting-group, failed-group}
 use Rattle.report_tallies.specs.declared.groups.Group.{Group}
@@ -124,10 +125,12 @@ module _ (s : List ℕ) (names : List Bytes) (figures : Room) (atlas : Atlas) (u
   goal-positive g stands = omega (arith, lies .compound-behind (g .query) (g .goal .number) (stands .query) (stands .term .of .within .0))
 
   goal-rests : (g : Goal) → GoalStands s figures atlas units g → tag-in (goal-word atlas g) ≡ g .query
-  goal-rests g stands = let small : g .query < 8 = omega (arith, stands .query) in remainder (g .query) (atlas (g .query) .compound (g .goal .number)) small
+  goal-rests g stands =
+      let small : g .query < 8 = omega (arith, stands .query) in
+      remainder (g .query) (atlas (g .query) .compound (g .goal .number) + 1048576 * origin-word (g .origin)) small
     where
-      remainder : (q place : ℕ) → q < 8 → tag-in (packed q place) ≡ q
-      remainder q place h = omega arith
+      remainder : (q rest : ℕ) → q < 8 → tag-in (packed q rest) ≡ q
+      remainder q rest h = omega arith
 
   pub goal-words-positive : (gs : List Goal) → AllStand s figures atlas units gs → Each (λ w. 0 < w) (map (goal-word atlas) gs)
   goal-words-positive [] all = tt

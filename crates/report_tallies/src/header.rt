@@ -57,7 +57,8 @@ pub fn header_length(q: usize, c: Tallies) -> usize
         + digits(c.failed as u64)
 }
 
-fn count(buffer: &mut [u8], at: usize, label: &[u8], n: usize) -> usize
+// A word and a number behind it.
+pub fn count(buffer: &mut [u8], at: usize, label: &[u8], n: usize) -> usize
     requires { ⌜ at + (length (now label) + length (in-decimal n)) ≤ length (now buffer) ⌝ }
     ensures { λ r. ⌜ Puts (now (buffer .entry)) (now (buffer .exit)) at r (now (label .entry) ++ in-decimal n) ⌝ }
 {

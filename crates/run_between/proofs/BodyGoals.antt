@@ -7,10 +7,10 @@ use lib.ListN.{length}
 use Rattle.meaning.specs.Bytes.{Bytes}
 use Rattle.meaning.specs.Terms.{Integer, plus, minus, Constant, Functor, Term, Terms, variable, constant, compound, end, more, Named, Clause, Job, renamed, renamed-goal, as-term}
 use Rattle.meaning.specs.Items.{job, reading}
-use Rattle.meaning.specs.State.{Room, QueryUnit, Goal, unit-at, goals-at}
+use Rattle.meaning.specs.State.{Room, QueryUnit, Goal, unit-at, goals-at, Origin}
 use Rattle.meaning.specs.Compare.{Assignment}
 use Rattle.meaning.specs.Trial.{next-pair}
-use Rattle.meaning.specs.Step.{body-goals}
+use Rattle.meaning.specs.Step.{body-goals, made-by}
 use Rattle.laws.proofs.Lists.Among.{In}
 use Rattle.laws.proofs.Lists.EachOf.{Each, each-in}
 use Rattle.laws.proofs.Trial.Values.{length-values-after}
@@ -22,6 +22,8 @@ use Rattle.term.specs.Jobs.{GoalsKnown}
 use Rattle.term.specs.Setting.{Setting, Within, AllWithin, Ranged, AllRanged, UnitTerm}
 use Rattle.term.specs.States.{Atlas, setting, setting-at, goal-word, GoalStands, AllStand}
 use Rattle.term.specs.Words.{packed}
+use Rattle.term.specs.Goals.{origin-word, packed-goal, goal-mark, OriginFits}
+use Rattle.term.proofs.Goals.{goal-marked}
 use Rattle.run_between.specs.Extended.{replaced-at}
 use Rattle.run_effects.specs.Build.{Copies}
 use Rattle.run_effects.specs.Reducing.{GoalsHeld, GoalsWithin}
@@ -92,11 +94,11 @@ module _ (s s′ : List ℕ) (names : List Bytes) (figures : Room) (atlas : Atla
   abbrev places : Places
   places = enlarged (atlas q) (unit-at q units) P y
 
-  body-goal : (g : Named) → Holds s′ places (renamed p c₀ (as-term g)) → Within (c .pairs) (c .compounds) (as-term g) → Known names (as-term g)
+  body-goal : (o : Origin) → OriginFits o → (g : Named) → Holds s′ places (renamed p c₀ (as-term g)) → Within (c .pairs) (c .compounds) (as-term g) → Known names (as-term g)
       → Ranged (as-term g)
-      → GoalStands s′ figures (atlas-after atlas units q P y) (units-after c given units q) (record { query = q; goal = renamed-goal p c₀ g })
+      → GoalStands s′ figures (atlas-after atlas units q P y) (units-after c given units q) (record { query = q; goal = renamed-goal p c₀ g; origin = o })
   unfolding renamed-goal as-term renamed
-  body-goal g held within known ranged =
+  body-goal o fits g held within known ranged =
       record {
         query = omega (arith, r .inside, as-many s s′ names figures atlas units q P C cells cells′ y c given r);
         term = rw (setting-here s s′ names figures atlas units q P C cells cells′ y c given r)
@@ -108,33 +110,37 @@ module _ (s s′ : List ℕ) (names : List Bytes) (figures : Room) (atlas : Atla
                 ranged = renamed-ranged p c₀ (as-term g) ranged;
               };
             });
+        origin = fits;
       }
 
-  body-stand : (gs : List Named) → GoalsHeld s′ places p c₀ gs → GoalsWithin (c .pairs) (c .compounds) gs → GoalsKnown names gs
+  body-stand : (o : Origin) → OriginFits o → (gs : List Named) → GoalsHeld s′ places p c₀ gs → GoalsWithin (c .pairs) (c .compounds) gs → GoalsKnown names gs
       → Each (λ g. Ranged (as-term g)) gs
-      → AllStand s′ figures (atlas-after atlas units q P y) (units-after c given units q) (goals-at q (map (renamed-goal p c₀) gs))
+      → AllStand s′ figures (atlas-after atlas units q P y) (units-after c given units q) (goals-at o q (map (renamed-goal p c₀) gs))
   unfolding GoalsHeld GoalsWithin GoalsKnown goals-at
-  body-stand [] h w k i = tt
-  body-stand (g ∷ gs) h w k i = (body-goal g (h .0) (w .0) (k .0) (i .0), body-stand gs (h .1) (w .1) (k .1) (i .1))
+  body-stand o fits [] h w k i = tt
+  body-stand o fits (g ∷ gs) h w k i = (body-goal o fits g (h .0) (w .0) (k .0) (i .0), body-stand o fits gs (h .1) (w .1) (k .1) (i .1))
 
-  pub body-goals-stand : GoalsHeld s′ places p c₀ (c .body) → BodyFits c → GoalsKnown names (c .body)
+  pub body-goals-stand : OriginFits (made-by c (unit-at q units)) → GoalsHeld s′ places p c₀ (c .body) → BodyFits c → GoalsKnown names (c .body)
       → AllStand s′ figures (atlas-after atlas units q P y) (units-after c given units q) (body-goals c (unit-at q units) q)
   unfolding body-goals next-pair
-  body-goals-stand h f k = body-stand (c .body) h (f .within) k (f .ranged)
+  body-goals-stand fits h f k = body-stand (made-by c (unit-at q units)) fits (c .body) h (f .within) k (f .ranged)
 
-  body-words-of : (gs : List Named)
-      → map (goal-word (atlas-after atlas units q P y)) (goals-at q (map (renamed-goal p c₀) gs)) ≡ map (λ g. packed q (places .compound (c₀ + g .number))) gs
+  body-words-of : (o : Origin) (gs : List Named)
+      → map (goal-word (atlas-after atlas units q P y)) (goals-at o q (map (renamed-goal p c₀) gs))
+      ≡ map (λ g. packed (goal-mark q o) (places .compound (c₀ + g .number))) gs
   unfolding goals-at renamed-goal
-  body-words-of [] = refl
-  body-words-of (g ∷ gs) =
+  body-words-of o [] = refl
+  body-words-of o (g ∷ gs) =
       let e : replaced-at atlas q places q .compound (c₀ + g .number) ≡ places .compound (c₀ + g .number) =
       ap (λ (x : Places). x .compound (c₀ + g .number)) (replaced-there atlas q places)
       in
-      let first : packed q (replaced-at atlas q places q .compound (c₀ + g .number)) ≡ packed q (places .compound (c₀ + g .number)) = ap (λ n. packed q n) e in
-      let later = body-words-of gs in
+      let first : packed-goal q (replaced-at atlas q places q .compound (c₀ + g .number)) (origin-word o)
+      ≡ packed (goal-mark q o) (places .compound (c₀ + g .number)) =
+      ap (λ n. packed-goal q n (origin-word o)) e ∙ sym (goal-marked q (places .compound (c₀ + g .number)) o) in
+      let later = body-words-of o gs in
       cc
 
   pub body-words : map (goal-word (atlas-after atlas units q P y)) (body-goals c (unit-at q units) q)
-      ≡ map (λ g. packed q (places .compound (c₀ + g .number))) (c .body)
+      ≡ map (λ g. packed (goal-mark q (made-by c (unit-at q units))) (places .compound (c₀ + g .number))) (c .body)
   unfolding body-goals next-pair
-  body-words = body-words-of (c .body)
+  body-words = body-words-of (made-by c (unit-at q units)) (c .body)

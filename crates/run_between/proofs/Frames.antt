@@ -104,6 +104,7 @@ module _ (s s′ : List ℕ) (names : List Bytes) (figures : Room) (atlas : Atla
     term = rw (same-setting (g .query))
         (unit-term-alike s s′ (setting-at figures atlas units (g .query)) (omega (arith, kept .size)) (cells-at (g .query) (h .query))
         (as-term (g .goal)) (h .term));
+    origin = h .origin;
   }
 
   pub goals-kept : (gs : List Goal) → AllStand s figures atlas units gs → AllStand s′ figures atlas units′ gs

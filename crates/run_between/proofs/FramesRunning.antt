@@ -14,14 +14,13 @@ use Rattle.laws.proofs.Lists.Sums.{sum}
 use Rattle.laws.proofs.Runs.{steps-are-the-tries, charged-pairs-are-the-units}
 use Rattle.laws.proofs.Runs.Charges.{run-units}
 use Rattle.term.specs.Jobs.{JobKept}
-use Rattle.term.specs.Layout.{values-region, waiters-region, sets-region, marks-region, queue-region, waiting-region, need-of, compounds-region, query-record, query-first-pair-word, query-tries-word}
+use Rattle.term.specs.Layout.{values-region, waiters-region, sets-region, marks-region, queue-region, waiting-region, need-of, InRange, compounds-region, query-record, query-first-pair-word, query-tries-word}
 use Rattle.term.specs.Setting.{Within}
 use Rattle.term.specs.Chains.{EndsStand}
 use Rattle.term.specs.States.{Atlas, setting-at, goal-word, ring, GoalStands, AllStand, QueueStands, HoldsState}
 use Rattle.term.specs.declared.state.Standing.{Standing}
 use Rattle.term.proofs.Chains.{chains-end}
 use Rattle.term.proofs.Jobs.{holds-job-kept}
-use Rattle.term.specs.Words.{packed, tag-in, rest-in}
 use Rattle.run_trial.specs.Choosing.{Trying, MarksBelow, TrialOnly}
 use Rattle.run_queues.specs.Log.{Slot}
 use Rattle.run_between.specs.Running.{RunOnly, AllEnds, Running, GroundMarks}
@@ -212,12 +211,16 @@ module _ (s : List ℕ) (names : List Bytes) (figures : Room) (queries : List Qu
   pub front-place : compounds-region ≤ atlas (g .query) .compound (g .goal .number)
   front-place = h .lies .compound-behind (g .query) (g .goal .number) (front-stands .query) front-number
 
--- A goal's word taken apart.
-pub word-query : (q n : ℕ) → q < 8 → tag-in (packed q n) ≡ q
-word-query q n h = omega arith
-
-pub word-place : (q n : ℕ) → q < 8 → rest-in (packed q n) ≡ n
-word-place q n h = omega arith
+  -- Its place is small enough for its word.
+  pub front-low : InRange figures → atlas (g .query) .compound (g .goal .number) < 1048576
+  front-low range =
+      omega (
+        arith,
+        h .lies .compound-below (g .query) (g .goal .number) (front-stands .query) front-number,
+        h .lies .cells-fit,
+        h .lies .compounds-fit,
+        range .compounds,
+      )
 
 -- The ends of a query's own unit.
 pub unit-ends : (s : List ℕ) (text : Bytes) (names : List Bytes) (j : Job) (figures : Room) (limit : ℕ) (atlas : Atlas) (slots : List Slot) (t : Standing)

@@ -13,6 +13,7 @@ pub mod Next
 pub mod NextState
 pub mod NextUnit
 pub mod NextUnits
+pub mod Origins
 pub mod OwnPairs
 pub mod ReduceParts
 pub mod Renaming

@@ -11,7 +11,7 @@ use Rattle.meaning.specs.Terms.{Term, Clause, Job}
 use Rattle.meaning.specs.State.{Room, QueryUnit, Goal, Waiting, State, value, unit-at, number-of, goals-at}
 use Rattle.meaning.specs.Compare.{Assignment}
 use Rattle.meaning.specs.Trial.{reduces}
-use Rattle.meaning.specs.Step.{unit-after, body-goals, wakes, goals-after, pairs-charged, compounds-charged, without-front, step}
+use Rattle.meaning.specs.Step.{unit-after, body-goals, wakes, goals-after, pairs-charged, compounds-charged, without-front, step, made-by}
 use Rattle.meaning.specs.Run.{fits, choice-for, run}
 use Rattle.laws.proofs.Lists.EachOf.{each-of-those}
 use Rattle.laws.proofs.Lists.Filters.{length-those}
@@ -28,6 +28,7 @@ use Rattle.term.specs.States.{Atlas, setting, goal-word, ring, UnitsStand, Firs
 use Rattle.term.specs.declared.state.Standing.{Standing}
 use Rattle.term.proofs.Jobs.{holds-job-kept}
 use Rattle.term.specs.Words.{packed}
+use Rattle.term.specs.Goals.{goal-mark}
 use Rattle.run_compare.specs.Gifts.{Entry}
 use Rattle.run_trial.specs.Choosing.{template, MarksBelow}
 use Rattle.run_queues.specs.Log.{Slot, LogOk, present}
@@ -35,6 +36,7 @@ use Rattle.run_effects.specs.Build.{Copies}
 use Rattle.run_effects.specs.Reducing.{NoEntry, EntriesGiven, GoalsHeld, hits, woken, emptied, hit, goal-in}
 use Rattle.run_queues.specs.Ring.{Passed}
 use Rattle.run_between.specs.Running.{slot-of, RunOnly, AllEnds, Running, GroundMarks}
+use Rattle.run_between.proofs.Origins.{made-fits}
 use Rattle.run_between.proofs.Ends.{ends-grow}
 use Rattle.run_between.specs.Taking.{Taken, Reducing}
 use Rattle.run_between.proofs.BodyGoals.{body-fits, body-goals-stand, body-words}
@@ -68,7 +70,7 @@ pub record Reduced (s s′ : List ℕ) (figures : Room) (atlas : Atlas) (units :
   pub log : LogOk s′ (waiting-region figures) (waiters-region figures) (sets-region figures) (figures .pairs) (emptied zs slots)
   pub queue : ring s′ (queue-region figures) (figures .goals) front (active + length (c .body) + length (hits zs 0 slots))
       ≡ (ring s (queue-region figures) (figures .goals) front active
-      ++ map (λ g. packed q (enlarged (atlas q) (unit-at q units) P y .compound (unit-at q units .compounds + g .number))) (c .body))
+      ++ map (λ g. packed (goal-mark q (made-by c (unit-at q units))) (enlarged (atlas q) (unit-at q units) P y .compound (unit-at q units .compounds + g .number))) (c .body))
       ++ woken zs slots
   pub ends : (k : ℕ) → ends-region figures ≤ k → k < queue-region figures → getD s′ k 0 ≡ getD s k 0
 
@@ -240,7 +242,7 @@ module _ (s s′ : List ℕ) (text : Bytes) (names : List Bytes) (j : Job) (figu
   body-now : AllStand s′ figures atlas′ units′ (body-goals c unit q)
   unfolding choice-for
   body-now =
-      body-goals-stand s s′ names figures atlas (σ .units) q P C cells cells′ y c given enlarges (done .goals)
+      body-goals-stand s s′ names figures atlas (σ .units) q P C cells cells′ y c given enlarges (made-fits taken red) (done .goals)
       (body-fits text j (taken .running .reads) c (reduces-agrees unit (g .goal) c given (j .clauses) (red .chosen) .0))
       known-body
 

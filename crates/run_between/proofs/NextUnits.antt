@@ -15,7 +15,7 @@ use Rattle.term.specs.Jobs.{EachFrom}
 use Rattle.term.specs.Layout.{values-region, compounds-region, query-first-pair-word, query-tries-word}
 use Rattle.term.specs.Setting.{Within, UnitStands}
 use Rattle.term.specs.States.{Atlas, setting, setting-at, goal-word, Lies, UnitsStand, FirstPair, GoalStands, AllStand}
-use Rattle.term.specs.Words.{packed}
+use Rattle.term.specs.Goals.{origin-word, packed-goal}
 use Rattle.run_effects.specs.Build.{Copies}
 use Rattle.run_between.specs.Extended.{replaced-at}
 use Rattle.run_queues.proofs.Deciding.{if-beyond}
@@ -112,6 +112,7 @@ module _ (s s′ : List ℕ) (names : List Bytes) (figures : Room) (atlas : Atla
         query = omega (arith, h .query, as-many);
         term = term-grows s s′ (setting-at figures atlas units (g .query)) (setting-at figures atlas′ units′ (g .query)) (grown (g .query) (h .query))
             (as-term (g .goal)) (h .term);
+        origin = h .origin;
       }
 
   pub goals-grow : (gs : List Goal) → AllStand s figures atlas units gs → AllStand s′ figures atlas′ units′ gs
@@ -121,7 +122,7 @@ module _ (s s′ : List ℕ) (names : List Bytes) (figures : Room) (atlas : Atla
   pub goal-word-same : (g : Goal) → GoalStands s figures atlas units g → goal-word atlas′ g ≡ goal-word atlas g
   unfolding as-term Within
   goal-word-same g h =
-      ap (λ n. packed (g .query) n) (grown (g .query) (h .query) .agree .compound (g .goal .number) (h .term .of .within .0))
+      ap (λ n. packed-goal (g .query) n (origin-word (g .origin))) (grown (g .query) (h .query) .agree .compound (g .goal .number) (h .term .of .within .0))
 
   pub goal-words-same : (gs : List Goal) → AllStand s figures atlas units gs → map (goal-word atlas′) gs ≡ map (goal-word atlas) gs
   goal-words-same [] h = refl

@@ -12,7 +12,7 @@ use Rattle.meaning.specs.Terms.{Clause, Job}
 use Rattle.meaning.specs.State.{Room, QueryUnit, Goal, Waiting, State, unit-at, number-of}
 use Rattle.meaning.specs.Compare.{Assignment}
 use Rattle.meaning.specs.Trial.{reduces}
-use Rattle.meaning.specs.Step.{wakes, without-front}
+use Rattle.meaning.specs.Step.{wakes, without-front, made-by}
 use Rattle.meaning.specs.Run.{fits, choice-for, run}
 use Rattle.laws.proofs.Lists.EachOf.{Each}
 use Rattle.laws.proofs.Lists.Filters.{length-those}
@@ -27,6 +27,7 @@ use Rattle.term.specs.States.{Atlas, setting, goal-word, ring, Lies, AllStand, 
 use Rattle.term.specs.declared.state.Standing.{Standing}
 use Rattle.term.proofs.Jobs.{holds-clause-kept}
 use Rattle.term.specs.Words.{packed}
+use Rattle.term.specs.Goals.{goal-mark}
 use Rattle.run_compare.specs.Gifts.{Entry, entries-of, assignments}
 use Rattle.run_compare.specs.Compare.{item-places}
 use Rattle.run_trial.proofs.Once.{AllApart, once-apart, no-entry, entries-differ, entry-words, entry-held}
@@ -37,6 +38,7 @@ use Rattle.run_queues.specs.Log.{Slot, LogOk}
 use Rattle.run_effects.specs.Reducing.{Apart, HeadAssigned, EntryTerms, entry-terms, Assigning, EntriesGiven, GoalAssigned, goal-terms, Adding, GoalsHeld, Added, entry-places, hit, hits, woken, quieted, emptied, NotLogged, Wakes, Waked, AddsWoken, WokenAdded}
 use Rattle.run_between.specs.Running.{slot-of, RunOnly}
 use Rattle.run_between.specs.Taking.{Taken, Reducing}
+use Rattle.run_between.proofs.Origins.{made-fits}
 use Rattle.run_between.proofs.BodyGoals.{BodyFits, body-fits}
 use Rattle.run_between.proofs.ClauseEntries.{clause-item, entries-still, entries-held, entries-rising}
 use Rattle.run_between.proofs.Enlarging.{CopiedTo, extended-moved}
@@ -73,6 +75,10 @@ module _ {s : List ℕ} {text : Bytes} {names : List Bytes} {j : Job} {figures :
 
   abbrev unit : QueryUnit
   unit = unit-at q (σ .units)
+
+  -- The mark of the body's goals.
+  abbrev made : ℕ
+  made = goal-mark q (made-by c unit)
 
   abbrev vals : ℕ
   vals = values-region figures
@@ -346,7 +352,7 @@ module _ {s : List ℕ} {text : Bytes} {names : List Bytes} {j : Job} {figures :
         few-woken = omega (arith, h₃ .number, hits-number, length-those (wakes q given) (σ .goals .waiting), st .waiting .number)
 
         module _ (front body : ℕ) (front-inside : front < figures .goals) (body-is : body ≡ length (c .body)) where
-          pub adding : Adding s₃ x (clause-goals-from k) body P middle q (queue-region figures) (figures .goals) front (t .active - 1) (c .body)
+          pub adding : Adding s₃ x (clause-goals-from k) body P middle made (queue-region figures) (figures .goals) front (t .active - 1) (c .body)
           adding =
               let z = sizes in
               record {
@@ -360,12 +366,12 @@ module _ {s : List ℕ} {text : Bytes} {names : List Bytes} {j : Job} {figures :
                 room = λ some. omega (arith, z .space (omega arith), z .room, z .some-goals, size-3);
                 ring-ok = record { inside = omega (arith, z .room, size-3); front-inside = front-inside };
                 space = omega (arith, goals-now, active-is);
-                few = z .few-queries;
+                few = omega (arith, z .few-queries, made-fits taken red .clause, made-fits taken red .tries);
               }
 
           -- The body's goals join the queue.
           module _ (s₄ : List ℕ) (r₄ : ℕ) (h₄ : Added s₃ s₄ (clause-item (atlas (g .query) .names) k c) body (t .pairs)
-              (t .cells + total (entry-terms (red .gave .gave .list))) (g .query) (queue-region figures) (figures .goals) front (t .active - 1) (c .body) r₄) where
+              (t .cells + total (entry-terms (red .gave .gave .list))) made (queue-region figures) (figures .goals) front (t .active - 1) (c .body) r₄) where
             log-4 : LogOk s₄ (waiting-region figures) (waiters-region figures) (sets-region figures) (figures .pairs) (quieted zs slots)
             log-4 =
                 let z = sizes in
@@ -529,7 +535,7 @@ module _ {s : List ℕ} {text : Bytes} {names : List Bytes} {j : Job} {figures :
 
               queue-6 : ring s₆ (queue-region figures) (figures .goals) front (t .active - 1 + length (c .body) + length (hits zs 0 slots))
                   ≡ (ring s (queue-region figures) (figures .goals) front (t .active - 1)
-                  ++ map (λ b. packed q (places .compound (unit .compounds + b .number))) (c .body))
+                  ++ map (λ b. packed made (places .compound (unit .compounds + b .number))) (c .body))
                   ++ woken zs slots
               queue-6 =
                   rw (← body-is, ← h₃ .number, ← queue-3)

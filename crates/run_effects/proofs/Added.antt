@@ -24,10 +24,10 @@ use Rattle.run_queues.proofs.Ring.{ring-kept}
 
 -- The word of a goal's copy.
 abbrev pub copy-word : ℕ → Places → ℕ → Named → ℕ
-copy-word query places c g = packed query (places .compound (c + g .number))
+copy-word mark places c g = packed mark (places .compound (c + g .number))
 
 -- The first i goals have joined, the rest is left.
-pub record Partly (s₀ s : List ℕ) (x : Item) (from n pair to query queue size front active : ℕ) (goals : List Named) (i free : ℕ) (rest : List Named)
+pub record Partly (s₀ s : List ℕ) (x : Item) (from n pair to mark queue size front active : ℕ) (goals : List Named) (i free : ℕ) (rest : List Named)
     : Type 0 where
   pub left : i + length rest ≡ n
   pub beyond : to ≤ free
@@ -37,17 +37,17 @@ pub record Partly (s₀ s : List ℕ) (x : Item) (from n pair to query queue siz
   pub within : GoalsWithin (x .pairs) (x .compounds) rest
   pub spread : (y : Copies) → ListSpread y to (goal-terms goals) → ListSpread y free (goal-terms rest)
   pub items : (places : Places) (y : Copies) (p c : ℕ) → Moved x places pair y p c → ListSpread y to (goal-terms goals)
-      → ring s queue size front (active + i) ++ map (copy-word query places c) rest ≡ ring s₀ queue size front active ++ map (copy-word query places c) goals
+      → ring s queue size front (active + i) ++ map (copy-word mark places c) rest ≡ ring s₀ queue size front active ++ map (copy-word mark places c) goals
   pub whole : (places : Places) (y : Copies) (p c : ℕ) → Moved x places pair y p c → ListSpread y to (goal-terms goals)
       → (s′ : List ℕ) → length s ≤ length s′ → ((k : ℕ) → to ≤ k → k < free → getD s′ k 0 ≡ getD s k 0)
       → GoalsHeld s′ places p c rest → GoalsHeld s′ places p c goals
 
-module _ (s₀ : List ℕ) (x : Item) (from n pair to query queue size front active : ℕ) (goals : List Named)
-    (a : Adding s₀ x from n pair to query queue size front active goals) where
+module _ (s₀ : List ℕ) (x : Item) (from n pair to mark queue size front active : ℕ) (goals : List Named)
+    (a : Adding s₀ x from n pair to mark queue size front active goals) where
   P : ℕ → Type 0
   P = Elsewhere queue size to (to + total (goal-terms goals))
 
-  pub none-added : Partly s₀ s₀ x from n pair to query queue size front active goals 0 to goals
+  pub none-added : Partly s₀ s₀ x from n pair to mark queue size front active goals 0 to goals
   unfolding P
   none-added =
       let same : active + 0 ≡ active = omega arith in
@@ -65,8 +65,8 @@ module _ (s₀ : List ℕ) (x : Item) (from n pair to query queue size front act
 
   module _ (s : List ℕ) (i free : ℕ) where
     -- All goals have joined.
-    pub all-added : (rest : List Named) → Partly s₀ s x from n pair to query queue size front active goals i free rest → n ≤ i
-        → Added s₀ s x n pair to query queue size front active goals free
+    pub all-added : (rest : List Named) → Partly s₀ s x from n pair to mark queue size front active goals i free rest → n ≤ i
+        → Added s₀ s x n pair to mark queue size front active goals free
     unfolding GoalsHeld total
     all-added [] g h =
         let done : i ≡ n = omega (arith, g .left) in
@@ -79,11 +79,11 @@ module _ (s₀ : List ℕ) (x : Item) (from n pair to query queue size front act
     all-added (d ∷ rest) g h = absurd (omega (arith, g .left))
 
     -- The words before the copies stay as they were.
-    below : (rest : List Named) → Partly s₀ s x from n pair to query queue size front active goals i free rest → (k : ℕ) → k < trial-region
+    below : (rest : List Named) → Partly s₀ s x from n pair to mark queue size front active goals i free rest → (k : ℕ) → k < trial-region
         → getD s k 0 ≡ getD s₀ k 0
     below rest g k h = g .kept .same k (inl (omega (arith, a .behind)), inl (omega (arith, a .behind, a .before)))
 
-    pub inside : (rest : List Named) → Partly s₀ s x from n pair to query queue size front active goals i free rest → i < n
+    pub inside : (rest : List Named) → Partly s₀ s x from n pair to mark queue size front active goals i free rest → i < n
         → (from + i < length s) × (free ≤ length s)
     inside rest g h = (
       omega (arith, a .from-before, a .behind, a .before, a .ring-ok .inside, g .kept .size),
@@ -91,7 +91,7 @@ module _ (s₀ : List ℕ) (x : Item) (from n pair to query queue size front act
     )
 
     -- A goal of the item has joined; it is still there, to be copied.
-    pub next-goal : (rest : List Named) → Partly s₀ s x from n pair to query queue size front active goals i free rest → i < n
+    pub next-goal : (rest : List Named) → Partly s₀ s x from n pair to mark queue size front active goals i free rest → i < n
         → (s₁ : List ℕ) (v : ℕ) → Pushed s s₁ queue size front (active + i) v → (q : ℕ) → q ≡ rest-in (getD s (from + i) 0)
         → (d : Named) × (others : List Named) × (rest ≡ d ∷ others)
         × Original s₁ x pair free (compound-word q) (compound (d .number) (named (d .name)) (d .arguments))
@@ -116,8 +116,8 @@ module _ (s₀ : List ℕ) (x : Item) (from n pair to query queue size front act
           },
         )
 
-    module _ (d : Named) (others : List Named) (g : Partly s₀ s x from n pair to query queue size front active goals i free (d ∷ others)) (h : i < n)
-        (s₁ : List ℕ) (v : ℕ) (v-is : v ≡ packed query free) (f : Pushed s s₁ queue size front (active + i) v)
+    module _ (d : Named) (others : List Named) (g : Partly s₀ s x from n pair to mark queue size front active goals i free (d ∷ others)) (h : i < n)
+        (s₁ : List ℕ) (v : ℕ) (v-is : v ≡ packed mark free) (f : Pushed s s₁ queue size front (active + i) v)
         (s₂ : List ℕ) (r : ℕ) (e : Laid s₁ s₂ x pair free (as-term d) r) where
       -- Where the copy ends.
       last : free + Build.size (as-term d) ≤ to + total (goal-terms goals)
@@ -142,20 +142,20 @@ module _ (s₀ : List ℕ) (x : Item) (from n pair to query queue size front act
       earlier k l = e .only .below k l ∙ f .only .below k (omega (arith, last, a .before))
 
       one-item : (places : Places) (y : Copies) (p c : ℕ) → Moved x places pair y p c → ListSpread y to (goal-terms goals)
-          → ring s₂ queue size front (active + (i + 1)) ++ map (copy-word query places c) others
-          ≡ ring s₀ queue size front active ++ map (copy-word query places c) goals
+          → ring s₂ queue size front (active + (i + 1)) ++ map (copy-word mark places c) others
+          ≡ ring s₀ queue size front active ++ map (copy-word mark places c) goals
       unfolding ListSpread Spread GoalsWithin Within as-term
       one-item places y p c moved all =
           let one : active + (i + 1) ≡ active + i + 1 = omega arith in
           let place : places .compound (c + d .number) ≡ free = moved .compound-at (d .number) (g .within .0 .0) ∙ g .spread y all .0 .0 in
-          let goal-is : v ≡ copy-word query places c d = omega arith in
+          let goal-is : v ≡ copy-word mark places c d = omega arith in
           let same : ring s₂ queue size front (active + i + 1) ≡ ring s₁ queue size front (active + i + 1) =
           ring-kept queue size s₁ s₂ front (active + i + 1) (omega (arith, a .space, a .ring-ok .front-inside))
           (λ k l u. e .only .above k (omega (arith, a .before, last))) in
-          let joined : ring s₂ queue size front (active + (i + 1)) ≡ ring s queue size front (active + i) ++ (copy-word query places c d ∷ []) =
+          let joined : ring s₂ queue size front (active + (i + 1)) ≡ ring s queue size front (active + i) ++ (copy-word mark places c d ∷ []) =
           rw one (same ∙ rw (sym goal-is) (f .items)) in
-          ap (λ l. l ++ map (copy-word query places c) others) joined
-          ∙ append-assoc (ring s queue size front (active + i)) (copy-word query places c d ∷ []) (map (copy-word query places c) others)
+          ap (λ l. l ++ map (copy-word mark places c) others) joined
+          ∙ append-assoc (ring s queue size front (active + i)) (copy-word mark places c d ∷ []) (map (copy-word mark places c) others)
           ∙ g .items places y p c moved all
 
       one-held : (places : Places) (y : Copies) (p c : ℕ) → Moved x places pair y p c → ListSpread y to (goal-terms goals)
@@ -171,7 +171,7 @@ module _ (s₀ : List ℕ) (x : Item) (from n pair to query queue size front act
             rest,
           )
 
-      pub one-added : Partly s₀ s₂ x from n pair to query queue size front active goals (i + 1) r others
+      pub one-added : Partly s₀ s₂ x from n pair to mark queue size front active goals (i + 1) r others
       unfolding HoldsGoals GoalsWithin ListSpread total P
       one-added = record {
         left = omega (arith, g .left);
@@ -186,11 +186,11 @@ module _ (s₀ : List ℕ) (x : Item) (from n pair to query queue size front act
       }
 
     -- The next goal pushed and copied, as the code reads and writes it.
-    pub again : (rest : List Named) → Partly s₀ s x from n pair to query queue size front active goals i free rest → i < n → (s₁ : List ℕ) (v : ℕ)
-        → v ≡ packed query free → Pushed s s₁ queue size front (active + i) v → (q : ℕ) → q ≡ rest-in (getD s (from + i) 0) → (s₂ : List ℕ) (r : ℕ)
+    pub again : (rest : List Named) → Partly s₀ s x from n pair to mark queue size front active goals i free rest → i < n → (s₁ : List ℕ) (v : ℕ)
+        → v ≡ packed mark free → Pushed s s₁ queue size front (active + i) v → (q : ℕ) → q ≡ rest-in (getD s (from + i) 0) → (s₂ : List ℕ) (r : ℕ)
         → ((x : Item) (m : ℕ) (f : Functor) (ts : Terms) → Original s₁ x pair free (compound-word q) (compound m f ts)
         → Laid s₁ s₂ x pair free (compound m f ts) r)
-        → (rest′ : List Named) × Partly s₀ s₂ x from n pair to query queue size front active goals (i + 1) r rest′
+        → (rest′ : List Named) × Partly s₀ s₂ x from n pair to mark queue size front active goals (i + 1) r rest′
     unfolding as-term
     again rest g h s₁ v v-is f q read s₂ r told =
         let (d, others, is, b) = next-goal rest g h s₁ v f q read in

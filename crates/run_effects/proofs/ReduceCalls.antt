@@ -67,20 +67,20 @@ module _ (s₀ : List ℕ) (values pair to n : ℕ) where
         assigned.all-assigned s₀ x unit values bound pair to n list a s i free rest g done
 
 -- Goals that join the queue, i of them so far.
-module _ (s₀ : List ℕ) (from n pair to query queue size front active : ℕ) where
+module _ (s₀ : List ℕ) (from n pair to mark queue size front active : ℕ) where
   abbrev pub AsksGoals : Type 0
-  AsksGoals = (x : Item) × (goals : List Named) × Adding s₀ x from n pair to query queue size front active goals
+  AsksGoals = (x : Item) × (goals : List Named) × Adding s₀ x from n pair to mark queue size front active goals
 
   abbrev pub Adds : List ℕ → ℕ → ℕ → Type 0
   Adds s free i =
-      (x : Item) (goals : List Named) → Adding s₀ x from n pair to query queue size front active goals
-      → (rest : List Named) × added.Partly s₀ s x from n pair to query queue size front active goals i free rest
+      (x : Item) (goals : List Named) → Adding s₀ x from n pair to mark queue size front active goals
+      → (rest : List Named) × added.Partly s₀ s x from n pair to mark queue size front active goals i free rest
 
   pub adds-none : Adds s₀ to 0
-  adds-none x goals a = (goals, added.none-added s₀ x from n pair to query queue size front active goals a)
+  adds-none x goals a = (goals, added.none-added s₀ x from n pair to mark queue size front active goals a)
 
   -- How many there may be.
-  pub adds-few : AsksGoals → (query < 8) × (active + n ≤ size) × (queue + size ≤ length s₀)
+  pub adds-few : AsksGoals → (mark ≤ 4503599627370496) × (active + n ≤ size) × (queue + size ≤ length s₀)
   adds-few (x, goals, a) = (a .few, a .space, a .ring-ok .inside)
 
   module _ (s : List ℕ) (free i : ℕ) (walk : Adds s free i) where
@@ -90,29 +90,29 @@ module _ (s₀ : List ℕ) (from n pair to query queue size front active : ℕ) 
     pub adds-inside : AsksGoals → i < n → (from + i < length s) × (free ≤ length s)
     adds-inside (x, goals, a) less =
         let (rest, g) = walk x goals a in
-        added.inside s₀ x from n pair to query queue size front active goals a s i free rest g less
+        added.inside s₀ x from n pair to mark queue size front active goals a s i free rest g less
 
     pub adds-ring : AsksGoals → RingOk s queue size front
     adds-ring (x, goals, a) =
         let (rest, g) = walk x goals a in
         record { inside = omega (arith, a .ring-ok .inside, g .kept .size); front-inside = a .ring-ok .front-inside }
 
-    module _ (less : i < n) (s₁ : List ℕ) (v : ℕ) (is : v ≡ packed query free) (pushed : Pushed s s₁ queue size front (active + i) v)
+    module _ (less : i < n) (s₁ : List ℕ) (v : ℕ) (is : v ≡ packed mark free) (pushed : Pushed s s₁ queue size front (active + i) v)
         (q : ℕ) (read : q ≡ rest-in (getD s (from + i) 0)) where
       pub adds-asks : AsksGoals → AsksCompound s₁ pair free q
       adds-asks (x, goals, a) =
           let (rest, g) = walk x goals a in
           let (d, others, same, b) =
-          added.next-goal s₀ x from n pair to query queue size front active goals a s i free rest g less s₁ v pushed q read in
+          added.next-goal s₀ x from n pair to mark queue size front active goals a s i free rest g less s₁ v pushed q read in
           (x, d .number, named (d .name), d .arguments, b)
 
       pub adds-on : (s₂ : List ℕ) (r : ℕ) → TellsCompound s₁ pair free q s₂ r → Adds s₂ r (i + 1)
       adds-on s₂ r told x goals a =
           let (rest, g) = walk x goals a in
-          added.again s₀ x from n pair to query queue size front active goals a s i free rest g less s₁ v is pushed q read s₂ r told
+          added.again s₀ x from n pair to mark queue size front active goals a s i free rest g less s₁ v is pushed q read s₂ r told
 
-    pub adds-all : n ≤ i → (x : Item) (goals : List Named) → Adding s₀ x from n pair to query queue size front active goals
-        → Added s₀ s x n pair to query queue size front active goals free
+    pub adds-all : n ≤ i → (x : Item) (goals : List Named) → Adding s₀ x from n pair to mark queue size front active goals
+        → Added s₀ s x n pair to mark queue size front active goals free
     adds-all done x goals a =
         let (rest, g) = walk x goals a in
-        added.all-added s₀ x from n pair to query queue size front active goals a s i free rest g done
+        added.all-added s₀ x from n pair to mark queue size front active goals a s i free rest g done

@@ -73,7 +73,7 @@ pub record GoalAssigned (s s′ : List ℕ) (x : Item) (unit : Places) (values b
   pub given : (places : Places) (y : Copies) (p c : ℕ) → Moved x places pair y p c → ListSpread y to (entry-terms list)
       → EntriesGiven s′ unit places values p c list
 
--- Goals of an item, whose words stand from a place on, for the queue's end.
+-- Goals of an item, whose words stand from a place on, for the queue's end; their mark is what their words have besides their compounds' places.
 unfoldable pub GoalsWithin : ℕ → ℕ → List Named → Type 0
 GoalsWithin pairs compounds [] = Unit {0}
 GoalsWithin pairs compounds (g ∷ gs) = Within pairs compounds (as-term g) × GoalsWithin pairs compounds gs
@@ -81,7 +81,7 @@ GoalsWithin pairs compounds (g ∷ gs) = Within pairs compounds (as-term g) × G
 abbrev pub goal-terms : List Named → List Term
 goal-terms goals = map as-term goals
 
-pub record Adding (s : List ℕ) (x : Item) (from n pair to query queue size front active : ℕ) (goals : List Named) : Type 0 where
+pub record Adding (s : List ℕ) (x : Item) (from n pair to mark queue size front active : ℕ) (goals : List Named) : Type 0 where
   pub goes : Goes x pair
   pub behind : compounds-region ≤ to
   pub number : n ≡ length goals
@@ -92,17 +92,17 @@ pub record Adding (s : List ℕ) (x : Item) (from n pair to query queue size fro
   pub room : 1 ≤ total (goal-terms goals) → to + total (goal-terms goals) + 7 ≤ length s
   pub ring-ok : RingOk s queue size front
   pub space : active + n ≤ size
-  pub few : query < 8
+  pub few : mark ≤ 4503599627370496
 
 unfoldable pub GoalsHeld : List ℕ → Places → ℕ → ℕ → List Named → Type 0
 GoalsHeld s places p c [] = Unit {0}
 GoalsHeld s places p c (g ∷ gs) = Holds s places (renamed p c (as-term g)) × GoalsHeld s places p c gs
 
-pub record Added (s s′ : List ℕ) (x : Item) (n pair to query queue size front active : ℕ) (goals : List Named) (r : ℕ) : Type 0 where
+pub record Added (s s′ : List ℕ) (x : Item) (n pair to mark queue size front active : ℕ) (goals : List Named) (r : ℕ) : Type 0 where
   pub behind : r ≡ to + total (goal-terms goals)
   pub kept : KeptWhere (λ k. Apart to (to + total (goal-terms goals)) k × Apart queue (queue + size) k) s s′
   pub items : (places : Places) (y : Copies) (p c : ℕ) → Moved x places pair y p c → ListSpread y to (goal-terms goals)
-      → ring s′ queue size front (active + n) ≡ ring s queue size front active ++ map (λ g. packed query (places .compound (c + g .number))) goals
+      → ring s′ queue size front (active + n) ≡ ring s queue size front active ++ map (λ g. packed mark (places .compound (c + g .number))) goals
   pub held : (places : Places) (y : Copies) (p c : ℕ) → Moved x places pair y p c → ListSpread y to (goal-terms goals) → GoalsHeld s′ places p c goals
 
 -- The places of the pairs that the trial's first n entries give a term.

@@ -93,12 +93,12 @@ pub fn wake(s: &mut [u64], log: usize, waiters: usize, sets: usize, n: usize) ->
     woken
 }
 
-// The word of a goal of a query, by its compound's place.
-fn goal_of(place: usize, query: usize) -> u64
-    requires { ⌜ (place ≤ 1152921504606846976) × (query < 8) ⌝ }
-    ensures { λ r. ⌜ r ≡ packed query place ⌝ }
+// The word of a goal, by its compound's place and its mark.
+fn goal_of(place: usize, mark: u64) -> u64
+    requires { ⌜ (place ≤ 1152921504606846976) × (mark ≤ 4503599627370496) ⌝ }
+    ensures { λ r. ⌜ r ≡ packed mark place ⌝ }
 {
-    TAGS * word(place) + word(query)
+    TAGS * word(place) + mark
 }
 
 // Goals of an item, whose words stand from a place on, are copied and join the queue in order. The place behind the copies.
@@ -108,21 +108,21 @@ pub fn add_goals(
     n: usize,
     pair: usize,
     to: usize,
-    query: usize,
+    mark: u64,
     queue: usize,
     size: usize,
     front: usize,
     active: usize,
 ) -> usize
-    requires { ⌜ ((x : Item) × (goals : List Named) × Adding (now s) x from n pair to query queue size front active goals) ⌝ }
-    ensures { λ r. ⌜ ((x : Item) (goals : List Named) → Adding (now (s .entry)) x from n pair to query queue size front active goals
-        → Added (now (s .entry)) (now (s .exit)) x n pair to query queue size front active goals r) ⌝ }
+    requires { ⌜ ((x : Item) × (goals : List Named) × Adding (now s) x from n pair to mark queue size front active goals) ⌝ }
+    ensures { λ r. ⌜ ((x : Item) (goals : List Named) → Adding (now (s .entry)) x from n pair to mark queue size front active goals
+        → Added (now (s .entry)) (now (s .exit)) x n pair to mark queue size front active goals r) ⌝ }
 {
     let mut free = to;
     let mut i = 0;
     while i < n {
         let h = word_at(s, from, i);
-        push(s, queue, size, front, active + i, goal_of(free, query));
+        push(s, queue, size, front, active + i, goal_of(free, mark));
         free = copy_arguments(s, pair, free, index(h / TAGS));
         i += 1;
     }

@@ -7,7 +7,7 @@ use native.Mathlib.Omega.{arith}
 use lib.ListN.{length, getD, length-map, length-replicate}
 use Rattle.meaning.specs.Bytes.{Bytes}
 use Rattle.meaning.specs.Terms.{Term, Query, Named, as-term}
-use Rattle.meaning.specs.State.{Room, QueryUnit, Goal, value, unit-at, first-unit, goals-at}
+use Rattle.meaning.specs.State.{Room, QueryUnit, Goal, value, unit-at, first-unit, goals-at, from-query}
 use Rattle.laws.proofs.Lists.EachOf.{Each}
 use Rattle.laws.proofs.Trial.Values.{value-replicate}
 use Rattle.term.specs.Cells.{Places, Known}
@@ -23,6 +23,7 @@ use Rattle.run_effects.specs.Reducing.{GoalsWithin}
 use Rattle.run_between.proofs.Enlarging.{CopiedTo, replaced-there, replaced-elsewhere}
 use Rattle.term.proofs.Units.{unit-term-alike}
 use Rattle.term.specs.Words.{packed}
+use Rattle.term.specs.Goals.{origin-word, packed-goal}
 use Rattle.run_between.proofs.Frames.{unit-stands-kept}
 use Rattle.run_queues.proofs.Log.{by-place}
 use Rattle.run_enter.proofs.Starting.{units-number, unit-older, unit-newest}
@@ -255,6 +256,7 @@ module _ (s s′ : List ℕ) (names : List Bytes) (figures : Room) (atlas : Atla
         term = rw (setting-older (g .query) i)
             (unit-term-alike s s′ (setting-at figures atlas units (g .query)) (omega (arith, r .size)) (older-words (g .query) i)
             (as-term (g .goal)) (h .term));
+        origin = h .origin;
       }
 
   pub goals-older : (gs : List Goal) → AllStand s figures atlas units gs → AllStand s′ figures atlas′ units′ gs
@@ -266,7 +268,7 @@ module _ (s s′ : List ℕ) (names : List Bytes) (figures : Room) (atlas : Atla
   words-older (g ∷ gs) h =
       let i : g .query < q = omega (arith, as-many, h .0 .query) in
       let first : goal-word atlas′ g ≡ goal-word atlas g =
-      ap (λ (z : Places). packed (g .query) (z .compound (g .goal .number)))
+      ap (λ (z : Places). packed-goal (g .query) (z .compound (g .goal .number)) (origin-word (g .origin)))
       (replaced-elsewhere atlas q (g .query) (next-places names P y) (not-last (g .query) i))
       in
       let later = words-older gs (h .1) in
@@ -277,28 +279,30 @@ module _ (s s′ : List ℕ) (names : List Bytes) (figures : Room) (atlas : Atla
   HeldHere gs = Each (λ g. Holds s′ (next-places names P y) (as-term g)) gs
 
   goal-newer : (g : Named) → Holds s′ (next-places names P y) (as-term g) → Within (length (x .variables)) (x .compounds) (as-term g)
-      → Known names (as-term g) → Ranged (as-term g) → GoalStands s′ figures atlas′ units′ (record { query = q; goal = g })
+      → Known names (as-term g) → Ranged (as-term g) → GoalStands s′ figures atlas′ units′ (record { query = q; goal = g; origin = from-query })
+  unfolding from-query
   goal-newer g held within known ranged =
       record {
         query = omega (arith, units-number done x);
         term = rw setting-newest
             (record { held = held; of = record { within = rw (own-pairs, own-compounds) within; known = known; ranged = ranged } });
+        origin = record { clause = omega arith; tries = omega arith };
       }
 
   pub goals-newer : (gs : List Named) → HeldHere gs → GoalsWithin (length (x .variables)) (x .compounds) gs → GoalsKnown names gs
-      → Each (λ g. Ranged (as-term g)) gs → AllStand s′ figures atlas′ units′ (goals-at q gs)
+      → Each (λ g. Ranged (as-term g)) gs → AllStand s′ figures atlas′ units′ (goals-at from-query q gs)
   unfolding GoalsWithin GoalsKnown goals-at
   goals-newer [] h w k i = tt
   goals-newer (g ∷ gs) h w k i = (goal-newer g (h .0) (w .0) (k .0) (i .0), goals-newer gs (h .1) (w .1) (k .1) (i .1))
 
-  pub words-newer : (gs : List Named) → map (goal-word atlas′) (goals-at q gs) ≡ map (λ g. packed q (next-places names P y .compound (0 + g .number))) gs
-  unfolding goals-at
+  pub words-newer : (gs : List Named) → map (goal-word atlas′) (goals-at from-query q gs) ≡ map (λ g. packed q (next-places names P y .compound (0 + g .number))) gs
+  unfolding goals-at from-query
   words-newer [] = refl
   words-newer (g ∷ gs) =
       let plain : 0 + g .number ≡ g .number = omega arith in
       let there : atlas′ q .compound (g .number) ≡ y .at (0 + g .number) =
       ap (λ (z : Places). z .compound (g .number)) (replaced-there atlas q (next-places names P y)) ∙ ap (y .at) (sym plain)
       in
-      let first : packed q (atlas′ q .compound (g .number)) ≡ packed q (y .at (0 + g .number)) = ap (λ w. packed q w) there in
+      let first : packed-goal q (atlas′ q .compound (g .number)) (origin-word from-query) ≡ packed q (y .at (0 + g .number)) = omega (arith, there) in
       let later = words-newer gs in
       cc

@@ -8,7 +8,7 @@ use lib.ListN.{length, getD, set, length-append, length-set}
 use lib.Seq.{getD-append-seam, getD-set-same, getD-set-other}
 use Rattle.meaning.specs.Bytes.{Bytes}
 use Rattle.meaning.specs.Terms.{Term, Terms, variable, constant, compound, end, more, Named, Query, Job, renamed, all-renamed, as-term}
-use Rattle.meaning.specs.State.{Room, Goal, number-of, first-unit, goals-at, all-goals, query-pairs, query-compounds, start}
+use Rattle.meaning.specs.State.{Room, Goal, number-of, first-unit, goals-at, from-query, all-goals, query-pairs, query-compounds, start}
 use Rattle.laws.proofs.Lists.EachOf.{Each, each-split}
 use Rattle.laws.proofs.Reading.{accepted-keeps-the-figures}
 use Rattle.laws.proofs.Reading.Figures.{QueryFits}
@@ -193,7 +193,7 @@ module _ (s : List ℕ) (text : Bytes) (names : List Bytes) (j : Job) (figures :
           room = λ some. omega (arith, copies .room some, compounds-fit, e .inside, e .state .queue .front-inside);
           ring-ok = record { inside = omega (arith, e .inside); front-inside = omega (arith, e .state .queue .front-inside, e .front) };
           space = omega (arith, goals-fit, number);
-          few = few;
+          few = omega (arith, few);
         }
 
     module _ (s₁ : List ℕ) (r : ℕ)
@@ -276,7 +276,7 @@ module _ (s : List ℕ) (text : Bytes) (names : List Bytes) (j : Job) (figures :
       queue-held-now : AllStand s′ figures atlas′ (map first-unit (done ++ x ∷ [])) (all-goals 0 (done ++ x ∷ []))
       queue-held-now =
           rw (goals-one-more done x)
-          (all-append s′ figures atlas′ (map first-unit (done ++ x ∷ [])) (all-goals 0 done) (goals-at q (x .goals))
+          (all-append s′ figures atlas′ (map first-unit (done ++ x ∷ [])) (all-goals 0 done) (goals-at from-query q (x .goals))
           (goals-older s s′ names figures atlas done x P C cells cells′ y adjoins (all-goals 0 done) old-queue)
           (goals-newer s s′ names figures atlas done x P C cells cells′ y adjoins (x .goals) (here (x .goals) within (added .held places y 0 0 moved (copies .spread-there))) within
           (query .laid .known) ranged))
@@ -284,7 +284,7 @@ module _ (s : List ℕ) (text : Bytes) (names : List Bytes) (j : Job) (figures :
       number-now : t .active + length (x .goals) ≡ length (all-goals 0 (done ++ x ∷ []))
       number-now =
           let a = ap (length {A = Goal}) (goals-one-more done x) in
-          omega (arith, a, length-append (all-goals 0 done) (goals-at q (x .goals)), goals-at-number q (x .goals), active-is)
+          omega (arith, a, length-append (all-goals 0 done) (goals-at from-query q (x .goals)), goals-at-number q (x .goals), active-is)
 
       words-now : ring s′ (queue-region figures) (figures .goals) 0 (t .active + n) ≡ map (goal-word atlas′) (all-goals 0 (done ++ x ∷ []))
       words-now =
@@ -293,7 +293,7 @@ module _ (s : List ℕ) (text : Bytes) (names : List Bytes) (j : Job) (figures :
           ∙ added .items places y 0 0 moved (copies .spread-there)
           ∙ rw (
             goals-one-more done x,
-            map-append (goal-word atlas′) (all-goals 0 done) (goals-at q (x .goals)),
+            map-append (goal-word atlas′) (all-goals 0 done) (goals-at from-query q (x .goals)),
             words-older s s′ names figures atlas done x P C cells cells′ y adjoins (all-goals 0 done) old-queue,
             words-newer s s′ names figures atlas done x P C cells cells′ y adjoins (x .goals),
             old-words,

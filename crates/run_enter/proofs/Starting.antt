@@ -6,7 +6,7 @@ use mathlib.Core.List.{List, [], _∷_, _++_, map, append-nil, append-assoc}
 use native.Mathlib.Omega.{arith}
 use lib.ListN.{length, length-append, length-map}
 use Rattle.meaning.specs.Terms.{Named, Query}
-use Rattle.meaning.specs.State.{Room, Goal, unit-at, number-of, first-unit, goals-at, all-goals, query-pairs, query-compounds, start}
+use Rattle.meaning.specs.State.{Room, Goal, unit-at, number-of, first-unit, goals-at, from-query, all-goals, query-pairs, query-compounds, start}
 use Rattle.meaning.specs.Run.{queries-fit}
 use Rattle.laws.proofs.Runs.Counts.{within-says}
 
@@ -40,24 +40,24 @@ compounds-more (q ∷ done) x rest = omega (arith, compounds-more done x rest)
 
 pub goals-more : (place : ℕ) (done : List Query) (x : Query) (rest : List Query)
     → all-goals place (done ++ x ∷ rest)
-    ≡ all-goals place done ++ (goals-at (place + length done) (x .goals) ++ all-goals (suc (place + length done)) rest)
+    ≡ all-goals place done ++ (goals-at from-query (place + length done) (x .goals) ++ all-goals (suc (place + length done)) rest)
 unfolding all-goals
 goals-more place [] x rest = let e : place + 0 ≡ place = omega arith in rw e
 goals-more place (q ∷ done) x rest =
     let e : place + suc (length done) ≡ suc place + length done = omega arith in
     rw (e, goals-more (suc place) done x rest)
-    (sym (append-assoc (goals-at place (q .goals)) (all-goals (suc place) done)
-    (goals-at (suc place + length done) (x .goals) ++ all-goals (suc (suc place + length done)) rest)))
+    (sym (append-assoc (goals-at from-query place (q .goals)) (all-goals (suc place) done)
+    (goals-at from-query (suc place + length done) (x .goals) ++ all-goals (suc (suc place + length done)) rest)))
 
-pub goals-one-more : (done : List Query) (x : Query) → all-goals 0 (done ++ x ∷ []) ≡ all-goals 0 done ++ goals-at (length done) (x .goals)
+pub goals-one-more : (done : List Query) (x : Query) → all-goals 0 (done ++ x ∷ []) ≡ all-goals 0 done ++ goals-at from-query (length done) (x .goals)
 unfolding all-goals
 goals-one-more done x =
     let e : 0 + length done ≡ length done = omega arith in
-    (rw e at (goals-more 0 done x [])) ∙ ap (λ gs. all-goals 0 done ++ gs) (append-nil (goals-at (length done) (x .goals)))
+    (rw e at (goals-more 0 done x [])) ∙ ap (λ gs. all-goals 0 done ++ gs) (append-nil (goals-at from-query (length done) (x .goals)))
 
-pub goals-at-number : (place : ℕ) (gs : List Named) → length (goals-at place gs) ≡ length gs
+pub goals-at-number : (place : ℕ) (gs : List Named) → length (goals-at from-query place gs) ≡ length gs
 unfolding goals-at
-goals-at-number place gs = length-map gs (λ g. record { query = place; goal = g })
+goals-at-number place gs = length-map gs (λ g. record { query = place; goal = g; origin = from-query })
 
 -- What all of them charge fits, so what some of them charge does.
 pub record Fits (figures : Room) (done : List Query) (x : Query) : Type 0 where
@@ -72,7 +72,7 @@ fits-so-far figures queries done x rest is fit =
     let (pairs, compounds, goals) = within-says figures (query-pairs queries) (query-compounds queries) (length (all-goals 0 queries) + 0 + 0) fit in
     let p = ap query-pairs is ∙ pairs-more done x rest in
     let c = ap query-compounds is ∙ compounds-more done x rest in
-    let own = goals-at (0 + length done) (x .goals) in
+    let own = goals-at from-query (0 + length done) (x .goals) in
     let later = all-goals (suc (0 + length done)) rest in
     let g = ap (λ qs. length (all-goals 0 qs)) is ∙ ap (length {A = Goal}) (goals-more 0 done x rest) in
     record {

@@ -9,7 +9,7 @@ use lib.ListN.{length, getD, length-append, length-map}
 use borrow.Author.Tests.{leb-true, leb-false}
 use Rattle.meaning.specs.Bytes.{Bytes}
 use Rattle.meaning.specs.Terms.{Query, Job}
-use Rattle.meaning.specs.State.{Room, query-pairs, query-compounds, goals-at, all-goals, start, number-of}
+use Rattle.meaning.specs.State.{Room, query-pairs, query-compounds, goals-at, from-query, all-goals, start, number-of}
 use Rattle.meaning.specs.Run.{within, queries-fit}
 use Rattle.term.specs.Jobs.{EachFrom, HoldsQuery, HoldsJob}
 use Rattle.term.specs.Layout.{query-record, query-pairs-word, query-compounds-word}
@@ -58,9 +58,9 @@ module _ (s : List ℕ) (names : List Bytes) where
   unfolding sum-from all-goals goals-at EachFrom
   goals-from k place [] h = refl
   goals-from k place (q ∷ qs) h =
-      let size : length (goals-at place (q .goals)) ≡ length (q .goals) = length-map (q .goals) (λ g. record { query = place; goal = g }) in
-      let all : length (all-goals place (q ∷ qs)) ≡ length (goals-at place (q .goals)) + length (all-goals (suc place) qs) =
-      length-append (goals-at place (q .goals)) (all-goals (suc place) qs) in
+      let size : length (goals-at from-query place (q .goals)) ≡ length (q .goals) = length-map (q .goals) (λ g. record { query = place; goal = g; origin = from-query }) in
+      let all : length (all-goals place (q ∷ qs)) ≡ length (goals-at from-query place (q .goals)) + length (all-goals (suc place) qs) =
+      length-append (goals-at from-query place (q .goals)) (all-goals (suc place) qs) in
       let plain : query-record k + 0 ≡ query-record k = omega arith in
       let word : getD s (query-record k + 0) 0 ≡ getD s (query-record k) 0 = ap (λ n. getD s n 0) plain in
       omega (arith, h .0 .goals, goals-from (k + 1) (suc place) qs (h .1), all, word, size)

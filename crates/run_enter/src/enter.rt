@@ -75,7 +75,7 @@ fn enter(s: &mut [u64], room: Room, q: usize, t: Standing) -> Standing
         goals,
         t.pairs,
         t.cells,
-        q,
+        q as u64,
         layout::queue(room),
         room.goals,
         0,

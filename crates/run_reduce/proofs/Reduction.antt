@@ -7,14 +7,15 @@ use native.Mathlib.Omega.{arith}
 use lib.ListN.{length, getD, set, length-set}
 use Rattle.meaning.specs.Bytes.{Bytes}
 use Rattle.meaning.specs.Terms.{Named, Clause, Job}
-use Rattle.meaning.specs.State.{Room, Goal, State, number-of}
+use Rattle.meaning.specs.State.{Room, Goal, State, number-of, unit-at}
 use Rattle.meaning.specs.Compare.{Assignment}
 use Rattle.meaning.specs.Trial.{reduces}
-use Rattle.meaning.specs.Step.{without-front}
+use Rattle.meaning.specs.Step.{made-by, without-front}
 use Rattle.meaning.specs.Run.{within, fits, run}
 use Rattle.term.specs.Cells.{Places}
 use Rattle.term.specs.Layout.{values-region, waiters-region, sets-region, queue-region, waiting-region, clauses-region, items-region, compounds-region, query-tries-word, clause-goals-from}
 use Rattle.term.specs.States.{Atlas}
+use Rattle.term.specs.Goals.{goal-mark}
 use Rattle.term.specs.declared.state.Standing.{Standing}
 use Rattle.run_between.specs.declared.stepped.Stepped.the-variants.{Next, NoRoom}
 use Rattle.run_queues.specs.Log.{Slot}
@@ -169,23 +170,23 @@ module _ {s : List ℕ} {text : Bytes} {names : List Bytes} {j : Job} {figures :
             h₃ : Waked s₂ s₃ (waiting-region figures) (waiters-region figures) (sets-region figures) (figures .pairs) slots n r
             h₃ = (rw (e₅, e₆, e₇) at raw₃) _ _ (parts.waking taken red fit s₁ h₁ s₂ r₂ h₂)
 
-            module _ {front active body queue₁ : ℕ} (passed : Passed (figures .goals) (t .front) front) (e₈ : active ≡ t .active - 1) (e₉ : body ≡ length (c .body))
-                (d₁ : queue₁ ≡ queue-region figures) where
+            module _ {front active body queue₁ mark : ℕ} (passed : Passed (figures .goals) (t .front) front) (e₈ : active ≡ t .active - 1) (e₉ : body ≡ length (c .body))
+                (d₁ : queue₁ ≡ queue-region figures) (d₄ : mark ≡ goal-mark (g .query) (made-by c (unit-at (g .query) (run j limit figures .state .units)))) where
               pub asks-4 : (x : Item) × (goals : List Named)
-                  × Adding s₃ x (clause-goals-from k) body (t .pairs) r₂ query queue₁ (figures .goals) front active goals
+                  × Adding s₃ x (clause-goals-from k) body (t .pairs) r₂ mark queue₁ (figures .goals) front active goals
               asks-4 = (
                 clause-item (atlas (g .query) .names) k c,
                 c .body,
-                rw (h₂ .behind, e₈, d₁, red .query-is) (parts.adding taken red fit s₁ h₁ s₂ r₂ h₂ s₃ r h₃ front body (passed .front-inside) e₉),
+                rw (h₂ .behind, e₈, d₁, d₄) (parts.adding taken red fit s₁ h₁ s₂ r₂ h₂ s₃ r h₃ front body (passed .front-inside) e₉),
               )
 
               module _ {s₄ : List ℕ} {r₄ : ℕ} (raw₄ : (x : Item) (goals : List Named)
-                  → Adding s₃ x (clause-goals-from k) body (t .pairs) r₂ query queue₁ (figures .goals) front active goals
-                  → Added s₃ s₄ x body (t .pairs) r₂ query queue₁ (figures .goals) front active goals r₄) where
+                  → Adding s₃ x (clause-goals-from k) body (t .pairs) r₂ mark queue₁ (figures .goals) front active goals
+                  → Added s₃ s₄ x body (t .pairs) r₂ mark queue₁ (figures .goals) front active goals r₄) where
                 h₄ : Added s₃ s₄ (clause-item (atlas (g .query) .names) k c) body (t .pairs) (t .cells + total (entry-terms (red .gave .gave .list)))
-                    (g .query) (queue-region figures) (figures .goals) front (t .active - 1) (c .body) r₄
+                    (goal-mark (g .query) (made-by c (unit-at (g .query) (run j limit figures .state .units)))) (queue-region figures) (figures .goals) front (t .active - 1) (c .body) r₄
                 h₄ =
-                    (rw (h₂ .behind, e₈, d₁, red .query-is) at raw₄) _ _
+                    (rw (h₂ .behind, e₈, d₁, d₄) at raw₄) _ _
                     (parts.adding taken red fit s₁ h₁ s₂ r₂ h₂ s₃ r h₃ front body (passed .front-inside) e₉)
 
                 module _ {waiting₂ queue₂ : ℕ} (d₂ : waiting₂ ≡ waiting-region figures) (d₃ : queue₂ ≡ queue-region figures) where

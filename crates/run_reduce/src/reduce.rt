@@ -2,6 +2,7 @@
 use run_between::stepped::Stepped;
 use run_charges::charges::count_try;
 use run_charges::charges::fits;
+use run_charges::charges::made;
 use run_effects::reduce::add_goals;
 use run_effects::reduce::add_woken;
 use run_effects::reduce::assign_goal;
@@ -41,6 +42,7 @@ pub fn reduce(s: &mut [u64], room: Room, t: Standing, query: usize, k: usize, n:
         → Reducing (now (s .entry)) names j (figures room) limit atlas g query k n c given
         → StepIs (now (s .entry)) (now (s .exit)) text names j (figures room) limit atlas g others t r) ⌝ }
 {
+    let mark = made(s, query, k);
     let pairs = index(word_at(s, CLAUSES + CLAUSE_STRIDE * k, CLAUSE_PAIRS));
     let compounds = index(word_at(s, CLAUSES + CLAUSE_STRIDE * k, CLAUSE_COMPOUNDS));
     let body = index(word_at(s, CLAUSES + CLAUSE_STRIDE * k, CLAUSE_GOALS));
@@ -64,7 +66,7 @@ pub fn reduce(s: &mut [u64], room: Room, t: Standing, query: usize, k: usize, n:
         body,
         t.pairs,
         free,
-        query,
+        mark,
         layout::queue(room),
         room.goals,
         front,

@@ -173,6 +173,7 @@ module _ (marks pairs : ℕ) (s s′ : List ℕ) (o : TrialOnly compounds-region
       let number : k < 128 = a .number in
       record {
         number = number;
+        nth = a .nth;
         held = holds-clause-kept s s′ names k (omega (arith, o .size)) c (λ i l m. low-stays (clause-record k + i) (omega arith))
             (λ i l m. low-stays i (omega arith)) (a .held);
       }

@@ -14,7 +14,8 @@ use Rattle.term.specs.Layout.{values-region, readers-region, ends-region, queue
 use Rattle.term.specs.Setting.{Setting}
 use Rattle.term.specs.States.{Atlas, setting-at}
 use Rattle.term.specs.declared.state.Standing.{Standing}
-use Rattle.term.specs.Words.{rest-in}
+use Rattle.term.specs.Goals.{origin-word, place-in}
+use Rattle.term.proofs.Goals.{goal-place}
 use Rattle.run_chains.specs.Follow.{Keeps, EndsKept}
 use Rattle.run_queues.specs.Log.{Slot}
 use Rattle.run_queues.proofs.Listed.{listed-kept}
@@ -25,7 +26,7 @@ use Rattle.run_between.proofs.Ends.{end-at-alike, find}
 use Rattle.run_unreduced.proofs.Failing.{front-query, query-below}
 use Rattle.run_between.proofs.Frames.{cells-before, units-same}
 use Rattle.run_between.proofs.GroundMarks.{grounds-alike}
-use Rattle.run_between.proofs.FramesRunning.{StateKept, state-units-kept, unit-ends, running-kept, run-only-then, word-place, front-stands}
+use Rattle.run_between.proofs.FramesRunning.{StateKept, state-units-kept, unit-ends, running-kept, run-only-then, front-stands, front-low}
 
 module _ {s : List ℕ} {text : Bytes} {names : List Bytes} {j : Job} {figures : Room} {limit : ℕ} {atlas : Atlas} {slots : List Slot}
     {g : Goal} {others : List Goal} {t : Standing} {goal query n : ℕ} {readers : List ℕ}
@@ -36,7 +37,7 @@ module _ {s : List ℕ} {text : Bytes} {names : List Bytes} {j : Job} {figures :
   here : g .query < length (run j limit figures .state .units)
   here = front-query s text names j figures limit atlas slots g others t k
 
-  pub keeps : (place : ℕ) → place ≡ rest-in goal
+  pub keeps : (place : ℕ) → place ≡ place-in goal
       → Keeps s x (values-region figures) (figures .pairs) (g .goal .number) (named (g .goal .name)) (g .goal .arguments) place
   unfolding as-term
   keeps place e =
@@ -52,8 +53,9 @@ module _ {s : List ℕ} {text : Bytes} {names : List Bytes} {j : Job} {figures :
           before = λ n a. omega (arith, h .lies .compound-below (g .query) n here a, cells-before (h .lies));
         };
         term = front-stands s names figures (j .queries) atlas (run j limit figures .state) t h g others (k .front) .term;
-        place = e ∙ ap (λ w. rest-in w) (joins .goal-is)
-            ∙ word-place (g .query) (atlas (g .query) .compound (g .goal .number)) (query-below s text names j figures limit atlas slots g others t k);
+        place = e ∙ ap (λ w. place-in w) (joins .goal-is)
+            ∙ goal-place (g .query) (atlas (g .query) .compound (g .goal .number)) (query-below s text names j figures limit atlas slots g others t k)
+            (front-low s names figures (j .queries) atlas (run j limit figures .state) t h g others (k .front) (k .running .in-range)) (origin-word (g .origin));
       }
 
   module _ {s′ : List ℕ} (kept : EndsKept s s′ x (values-region figures) (figures .pairs)) where

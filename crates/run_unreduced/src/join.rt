@@ -6,11 +6,10 @@ use run_queues::goals::behind;
 use run_queues::goals::close_up;
 use run_queues::goals::fail;
 use run_queues::goals::wait;
+use term::goal::place_of;
 use term::layout;
 use term::layout::Room;
 use term::state::Standing;
-use term::word::TAGS;
-use term::word::index;
 ghost use mathlib.Core.Path.{_≡_};
 ghost use mathlib.Core.List.{List};
 ghost use Prim.Native.Nat.{ℕ};
@@ -101,7 +100,7 @@ pub fn join_waiting(
         → JoiningWaiting (now (s .entry)) j (figures room) limit atlas g goal query readers rs
         → StepIs (now (s .entry)) (now (s .exit)) text names j (figures room) limit atlas g others t r) ⌝ }
 {
-    keep_ends(s, layout::values(room), room.pairs, index(goal / TAGS));
+    keep_ends(s, layout::values(room), room.pairs, place_of(goal));
     add_waiting(s, room, t, goal, query, readers)
 }
 

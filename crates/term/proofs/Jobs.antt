@@ -141,7 +141,7 @@ module _ (s s′ : List ℕ) (names : List Bytes) (kept : JobKept s s′) where
       let number : number-of (goal .name) names < length names = number-below (goal .name) names known in
       rw (kept .before (procedure-place names goal) (omega (arith, h .few-names)))
       (linked-map s s′ (ClauseAt s names) (ClauseAt s′ names) (getD s (procedure-place names goal) 0) (procedure (job .clauses) goal)
-      (λ k c a. (record { number = a .number; held = clause-stays k c (a .number) (a .held) }, kept .before (clause-record k) (omega (arith, a .number))))
+      (λ k c a. (record { number = a .number; nth = a .nth; held = clause-stays k c (a .number) (a .held) }, kept .before (clause-record k) (omega (arith, a .number))))
       (h .procedures goal known few))
 
   pub holds-job-kept : (job : Job) → HoldsJob s names job → HoldsJob s′ names job

@@ -3,6 +3,7 @@ pub mod Ceiling
 pub mod Cells
 pub mod Chains
 pub mod Frames
+pub mod Goals
 pub mod Held
 pub mod Holds
 pub mod KeptGuards

@@ -93,9 +93,10 @@ procedure-place names goal = procedure-slot (functor-word (places-from names 0) 
 unfoldable pub Distinct : List Bytes → Type 0
 Distinct names = (i j : ℕ) → i < j → j < length names → same (getD names i []) (getD names j []) ≡ false
 
--- One of the 128 clauses.
+-- One of the 128 clauses, which count from 1.
 pub record ClauseAt (s : List ℕ) (names : List Bytes) (k : ℕ) (c : Clause) : Type 0 where
   pub number : k < 128
+  pub nth : c .place ≡ k + 1
   pub held : HoldsClause s names k c
 
 pub record HoldsJob (s : List ℕ) (names : List Bytes) (job : Job) : Type 0 where

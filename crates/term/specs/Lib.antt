@@ -2,6 +2,7 @@ pub mod Cells
 pub mod Chains
 pub mod Every
 pub mod Frames
+pub mod Goals
 pub mod Holds
 pub mod Guards
 pub mod Jobs

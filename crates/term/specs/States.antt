@@ -20,7 +20,7 @@ use Rattle.term.specs.Layout.{values-region, queue-region, waiting-regio
 use Rattle.term.specs.declared.state.Standing.{Standing}
 use Rattle.term.specs.declared.state.Verdict.{Verdict as Told}
 use Rattle.term.specs.declared.state.Verdict.the-variants.{Rest, Budget, Room as NoRoom}
-use Rattle.term.specs.Words.{packed}
+use Rattle.term.specs.Goals.{origin-word, packed-goal, OriginFits}
 
 -- Where the pairs and compounds of each query's unit lie, by the query's place.
 abbrev pub Atlas : Type 0
@@ -33,9 +33,9 @@ setting figures places unit = record { places = places; values = unit .values; p
 abbrev pub setting-at : Room → Atlas → List QueryUnit → ℕ → Setting
 setting-at figures atlas units k = setting figures (atlas k) (unit-at k units)
 
--- A goal is one word: eight times its compound's place, and its query.
+-- A goal is one word: its query, its compound's place and its origin.
 abbrev pub goal-word : Atlas → Goal → ℕ
-goal-word atlas g = packed (g .query) (atlas (g .query) .compound (g .goal .number))
+goal-word atlas g = packed-goal (g .query) (atlas (g .query) .compound (g .goal .number)) (origin-word (g .origin))
 
 -- Where everything lies: the units' pairs at places of their own below the pairs charged, their compounds below the first free word, which is no
 -- further on than eight words for each compound charged.
@@ -58,10 +58,11 @@ pub record UnitsStand (s : List ℕ) (figures : Room) (atlas : Atlas) (units : L
 abbrev pub FirstPair : List ℕ → Atlas → ℕ → Query → Type 0
 FirstPair s atlas k q = (n : ℕ) → n < length (q .variables) → atlas k .pair n ≡ getD s (query-first-pair-word k) 0 + n
 
--- A goal: a compound of its query's unit.
+-- A goal: a compound of its query's unit, and an origin that its word has room for.
 pub record GoalStands (s : List ℕ) (figures : Room) (atlas : Atlas) (units : List QueryUnit) (g : Goal) : Type 0 where
   pub query : g .query < length units
   pub term : UnitTerm s (setting-at figures atlas units (g .query)) (as-term (g .goal))
+  pub origin : OriginFits (g .origin)
 
 abbrev pub AllStand : List ℕ → Room → Atlas → List QueryUnit → List Goal → Type 0
 AllStand s figures atlas units [] = Unit {0}

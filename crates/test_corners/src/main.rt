@@ -215,6 +215,28 @@ fn readers(s: &mut [u64], buffer: &mut [u8]) {
     );
 }
 
+// Where goals come from (document 02, T-09): by clauses of the whole text and tries of the own query; a woken goal keeps its origin.
+fn origins(s: &mut [u64], buffer: &mut [u8]) {
+    asked(
+        b"a(X,Y) :- b(X?), c(Y?). b(1). set(X,X?).\n?- a(P?,2), set(1,P).\n?- a(3,Q?).\n",
+        10000,
+        1024,
+        1024,
+        128,
+        s,
+        buffer,
+    );
+    asked(
+        b"a(X) :- b(X?). b(1). l(X?) :- m(X). m(1).\n?- a(P?), l(P).\n",
+        4,
+        1024,
+        1024,
+        128,
+        s,
+        buffer,
+    );
+}
+
 // K9 and K10.
 fn stops(s: &mut [u64], buffer: &mut [u8]) {
     asked(
@@ -466,6 +488,7 @@ fn main() {
     waits(&mut s, &mut buffer);
     places(&mut s, &mut buffer);
     readers(&mut s, &mut buffer);
+    origins(&mut s, &mut buffer);
     stops(&mut s, &mut buffer);
     rules(&mut s, &mut buffer);
     lines(&mut s, &mut buffer);

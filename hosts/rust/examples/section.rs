@@ -23,7 +23,9 @@ fn put(section: &Section<'_>, to: &mut impl Write) -> std::io::Result<()> {
     Kind::ALL.iter().try_for_each(|kind| write!(to, " {} {}", kind.word(), section.count(*kind)))?;
     writeln!(to)?;
     section.values().try_for_each(|(name, value)| writeln!(to, "{name} = {value}"))?;
-    Kind::ALL
-        .iter()
-        .try_for_each(|kind| section.goals(*kind).try_for_each(|goal| writeln!(to, "{} {goal}", kind.word())))
+    Kind::ALL.iter().try_for_each(|kind| {
+        section.goals(*kind).try_for_each(|goal| {
+            writeln!(to, "{} {} from {} at {}", kind.word(), goal.text(), goal.clause(), goal.tries())
+        })
+    })
 }

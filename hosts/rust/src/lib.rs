@@ -3,7 +3,7 @@
 //! A [`Job`] is a text with its figures: a budget of steps, a [`Room`] and the longest report that is wanted. A
 //! [`Machine`] keeps what a call is lent and runs jobs one after the other. Every job gets an [`Answer`]: a report, or
 //! a [`Refusal`] that says what is wrong and shows where. Nothing has to be tested first. [`Report`] reads a report:
-//! the verdict, and for each query a [`Section`] with its values and goals.
+//! the verdict, and for each query a [`Section`] with its values and its goals, each [`Goal`] with its origin.
 //!
 //! ```
 //! use troscunel::{Answer, Job, Machine, Refusal};
@@ -58,7 +58,7 @@ mod shown;
 pub use answer::{Answer, Refusal};
 pub use call::{call, Given};
 pub use machine::{Job, Machine};
-pub use report::{Kind, Report, Section, Sections};
+pub use report::{Goal, Kind, Report, Section, Sections};
 pub use room::Room;
 pub use shown::Place;
 

@@ -17,7 +17,8 @@
 /// let second = report.sections().nth(1).unwrap();
 /// assert_eq!((second.number(), second.tries(), second.count(Kind::Waiting)), (2, 2, 1));
 /// assert!(second.values().eq([("More", "_1"), ("Hits", "[hit(divide)|_2?]")]));
-/// assert!(second.goals(Kind::Waiting).eq(["tag(_1?,_2)"]));
+/// let stuck = second.goals(Kind::Waiting).next().unwrap();
+/// assert_eq!((stuck.text(), stuck.clause(), stuck.tries()), ("tag(_1?,_2)", 1, 1));
 /// ```
 #[derive(Clone, Copy, Debug, PartialEq, Eq)]
 pub struct Report<'r> {
@@ -103,6 +104,31 @@ impl Kind {
     }
 }
 
+/// A goal of a section, with the clause that made it and when.
+#[derive(Clone, Copy, Debug, PartialEq, Eq)]
+pub struct Goal<'r> {
+    text: &'r str,
+    clause: usize,
+    tries: usize,
+}
+
+impl<'r> Goal<'r> {
+    /// The goal as it is written, without its line's ` from C at T`.
+    pub fn text(&self) -> &'r str {
+        self.text
+    }
+
+    /// The place among all clauses of the text, from 1, of the one that made it; 0 for a goal of the query.
+    pub fn clause(&self) -> usize {
+        self.clause
+    }
+
+    /// The query's number of tries when it was made, the step that made it counted; 0 for a goal of the query.
+    pub fn tries(&self) -> usize {
+        self.tries
+    }
+}
+
 /// What a report says of one query.
 #[derive(Clone, Copy, Debug, PartialEq, Eq)]
 pub struct Section<'r> {
@@ -158,8 +184,8 @@ impl<'r> Section<'r> {
         self.values.lines().filter_map(value)
     }
 
-    /// The goals of a kind as they are written, in the machine's order.
-    pub fn goals(&self, kind: Kind) -> impl Iterator<Item = &'r str> + Clone {
+    /// The goals of a kind, in the machine's order.
+    pub fn goals(&self, kind: Kind) -> impl Iterator<Item = Goal<'r>> + Clone {
         self.goals[kind as usize].lines.lines().filter_map(move |line| goal(line, kind))
     }
 }
@@ -199,9 +225,11 @@ fn value(line: &str) -> Option<(&str, &str)> {
     })
 }
 
-/// The goal of a line of its kind.
-fn goal(line: &str, kind: Kind) -> Option<&str> {
-    line.strip_prefix(kind.word())?.strip_prefix(' ').filter(|goal| is_one_word(goal))
+/// `GOAL from C at T` behind the word of its kind, of a line.
+fn goal(line: &str, kind: Kind) -> Option<Goal<'_>> {
+    let (text, origin) = line.strip_prefix(kind.word())?.strip_prefix(' ')?.split_once(' ')?;
+    let [clause, tries] = numbers(origin, ["from", "at"])?;
+    is_one_word(text).then_some(Goal { text, clause, tries })
 }
 
 /// Values and goals are written without spaces.

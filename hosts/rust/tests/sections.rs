@@ -1,6 +1,6 @@
 //! Reports read by sections: every example's, corner cases, generated ones; and bytes that are no report.
 
-use troscunel::{Job, Kind, Machine, Report, Room, Section};
+use troscunel::{Goal, Job, Kind, Machine, Report, Room, Section};
 
 /// The report put together from all that is read of it.
 fn put_together(report: &Report<'_>) -> String {
@@ -11,8 +11,17 @@ fn put_together(report: &Report<'_>) -> String {
 fn section_put_together(section: &Section<'_>) -> String {
     let counts: String = Kind::ALL.iter().map(|kind| format!(" {} {}", kind.word(), section.count(*kind))).collect();
     let values: String = section.values().map(|(name, value)| format!("{name} = {value}\n")).collect();
-    let goals = Kind::ALL.iter().flat_map(|kind| section.goals(*kind).map(|goal| format!("{} {goal}\n", kind.word())));
-    format!("query {} tries {}{counts}\n{values}{}", section.number(), section.tries(), goals.collect::<String>())
+    let goals: String = Kind::ALL.iter().flat_map(|kind| section.goals(*kind).map(|goal| line(*kind, &goal))).collect();
+    format!("query {} tries {}{counts}\n{values}{goals}", section.number(), section.tries())
+}
+
+fn line(kind: Kind, goal: &Goal<'_>) -> String {
+    format!("{} {} from {} at {}\n", kind.word(), goal.text(), goal.clause(), goal.tries())
+}
+
+/// Of each goal its text and its origin.
+fn goals<'r>(section: &Section<'r>, kind: Kind) -> Vec<(&'r str, usize, usize)> {
+    section.goals(kind).map(|goal| (goal.text(), goal.clause(), goal.tries())).collect()
 }
 
 /// All that is given is a part of the report's own bytes.
@@ -20,6 +29,14 @@ fn is_part(part: &str, of: &[u8]) -> bool {
     let (from, to) = (part.as_ptr() as usize, part.as_ptr() as usize + part.len());
     let whole = of.as_ptr_range();
     (whole.start as usize) <= from && to <= whole.end as usize
+}
+
+/// A goal of the query was made before its tries, any other one by a clause in one of them.
+fn is_origin(goal: &Goal<'_>, section: &Section<'_>) -> bool {
+    match goal.clause() {
+        0 => goal.tries() == 0,
+        clause => clause <= 128 && (1..=section.tries()).contains(&goal.tries()),
+    }
 }
 
 /// What holds of every report. Gives the number of its sections.
@@ -34,7 +51,8 @@ fn judge(bytes: &[u8], label: &str) -> usize {
         assert!(section.values().all(|(name, value)| is_part(name, bytes) && is_part(value, bytes)), "{label}");
         for kind in Kind::ALL {
             assert_eq!(section.goals(kind).count(), section.count(kind), "{label}");
-            assert!(section.goals(kind).all(|goal| is_part(goal, bytes)), "{label}");
+            assert!(section.goals(kind).all(|goal| is_part(goal.text(), bytes)), "{label}");
+            assert!(section.goals(kind).all(|goal| is_origin(&goal, &section)), "{label}");
         }
     }
     report.sections().count()
@@ -66,7 +84,7 @@ fn no_variables_and_no_goals() {
     assert_eq!(sections[0].text(), "query 1 tries 1 active 0 waiting 0 failed 0\n");
     assert_eq!(sections[0].values().next(), None);
     assert!(Kind::ALL.iter().all(|kind| sections[0].count(*kind) == 0 && sections[0].goals(*kind).next().is_none()));
-    assert!(sections[1].goals(Kind::Failed).eq(["p(b)"]));
+    assert_eq!(goals(&sections[1], Kind::Failed), [("p(b)", 0, 0)]);
 }
 
 #[test]
@@ -104,8 +122,26 @@ fn names_that_look_like_lines() {
     assert_eq!(judge(&bytes, "names"), 2);
     let sections: Vec<Section<'_>> = Report::of(&bytes).unwrap().sections().collect();
     assert!(sections[0].values().eq([("Query", "_1")]));
-    assert!(sections[0].goals(Kind::Failed).eq(["query(_1,run,active)"]));
-    assert!(sections[1].goals(Kind::Failed).eq(["waiting(failed)"]));
+    assert_eq!(goals(&sections[0], Kind::Failed), [("query(_1,run,active)", 0, 0)]);
+    assert_eq!(goals(&sections[1], Kind::Failed), [("waiting(failed)", 0, 0)]);
+    let bytes = run(&Job::new("from(at) :- at(from,1).\n?- from(at).\n"));
+    let section = Report::of(&bytes).unwrap().sections().next().unwrap();
+    assert_eq!(goals(&section, Kind::Failed), [("at(from,1)", 1, 1)]);
+}
+
+/// Which clause made a goal, and at which try of its own query, whatever the other query does between.
+#[test]
+fn where_goals_come_from() {
+    let text = "a(X,Y) :- b(X?), c(Y?).\nb(1).\nset(X,X?).\n?- a(P?,2), set(1,P).\n?- a(3,Q?), b(R?).\n";
+    let bytes = run(&Job::new(text));
+    let sections: Vec<Section<'_>> = Report::of(&bytes).unwrap().sections().collect();
+    assert_eq!(goals(&sections[0], Kind::Failed), [("c(2)", 1, 1)]);
+    assert_eq!(goals(&sections[1], Kind::Waiting), [("b(_2?)", 0, 0)]);
+    assert_eq!(goals(&sections[1], Kind::Failed), [("b(3)", 1, 1), ("c(_1?)", 1, 1)]);
+    let loops = "n(0).\nn(0).\nn(0).\nn(0).\nn(0).\nn(0).\nn(0).\nn(0).\nn(0).\nloop(a) :- loop(a).\n?- loop(a).\n";
+    let bytes = run(&Job::new(loops).budget(123));
+    let section = Report::of(&bytes).unwrap().sections().next().unwrap();
+    assert_eq!(goals(&section, Kind::Active), [("loop(a)", 10, 123)]);
 }
 
 #[test]
@@ -130,7 +166,8 @@ fn generated_reports() {
 #[test]
 fn bytes_that_are_no_report() {
     let good = "run rest steps 5\nquery 1 tries 3 active 0 waiting 0 failed 0\nHits = [a]\n\
-                query 2 tries 2 active 1 waiting 1 failed 1\nMore = _1\nactive p(a)\nwaiting p(_1?)\nfailed q\n";
+                query 2 tries 2 active 1 waiting 1 failed 1\nMore = _1\nactive p(a) from 0 at 0\n\
+                waiting p(_1?) from 12 at 1\nfailed q from 3 at 2\n";
     assert!(Report::of(good).is_some());
     for (from, to) in [
         ("run rest", "run west"),
@@ -157,12 +194,30 @@ fn bytes_that_are_no_report() {
         ("Hits = [a]", "Hits ="),
         ("Hits = [a]", "Hits = "),
         ("More = _1", "More=_1"),
-        ("active p(a)\nwaiting p(_1?)", "waiting p(_1?)\nactive p(a)"),
-        ("More = _1\nactive p(a)", "active p(a)\nMore = _1"),
-        ("failed q\n", "failed q"),
-        ("failed q\n", "failed \n"),
-        ("failed q\n", "failed q\n\n"),
-        ("failed q\n", "failed q\nfailed r\n"),
+        (
+            "active p(a) from 0 at 0\nwaiting p(_1?) from 12 at 1",
+            "waiting p(_1?) from 12 at 1\nactive p(a) from 0 at 0",
+        ),
+        ("More = _1\nactive p(a) from 0 at 0", "active p(a) from 0 at 0\nMore = _1"),
+        ("More = _1\n", "More = _1 from 0 at 0\n"),
+        ("failed q from 3 at 2\n", "failed q from 3 at 2"),
+        ("failed q from 3 at 2\n", "failed q\n"),
+        ("failed q from 3 at 2\n", "failed from 3 at 2\n"),
+        ("failed q from 3 at 2\n", "failed  from 3 at 2\n"),
+        ("failed q from 3 at 2\n", "failed q at 2 from 3\n"),
+        ("failed q from 3 at 2\n", "failed q from 3 at 2 at 2\n"),
+        ("failed q from 3 at 2\n", "failed q from 3 at 2\n\n"),
+        ("failed q from 3 at 2\n", "failed q from 3 at 2\nfailed r from 3 at 2\n"),
+        ("from 12 at", "from at"),
+        ("from 12 at", "from -12 at"),
+        ("from 12 at", "from 012 at"),
+        ("from 12 at", "from  12 at"),
+        ("from 12 at 1", "from 12 at 1 "),
+        ("from 12 at 1", "from 12 at"),
+        ("from 12 at 1", "from 12"),
+        ("p(_1?) from", "p(_1?)from"),
+        ("p(_1?) from", "p(_1? ) from"),
+        ("p(_1?) from", "p(_1?) From"),
         ("p(a)", "p(\u{e4})"),
         ("p(a)", "p(\r)"),
     ] {

@@ -26,11 +26,11 @@ fn the_example_of_the_readme() {
 #[test]
 fn the_session() {
     let wanted = "run rest steps 5\nquery 1 tries 3 active 0 waiting 0 failed 0\nA = []\nZ = []\n\
-                  query 2 tries 2 active 0 waiting 1 failed 0\nB = _1\nY = [hit(1)|_2?]\nwaiting tag(_1?,_2)\n";
+                  query 2 tries 2 active 0 waiting 1 failed 0\nB = _1\nY = [hit(1)|_2?]\nwaiting tag(_1?,_2) from 1 at 1\n";
     assert_eq!(report(&format!("{RULES}?- tag(A?,Z), end(A).\n?- tag([1|B?],Y).\n")), wanted);
-    assert!(report(&format!("{RULES}?- same(A?,A).\n")).contains("failed same(_1?,_1)"));
-    assert!(report(&format!("{RULES}?- two(A,A?).\n")).contains("waiting two(_1,_1?)"));
-    assert!(report(&format!("{RULES}?- w(A?,1).\n")).contains("failed w(_1?,1)"));
+    assert!(report(&format!("{RULES}?- same(A?,A).\n")).contains("failed same(_1?,_1) from 0 at 0\n"));
+    assert!(report(&format!("{RULES}?- two(A,A?).\n")).contains("waiting two(_1,_1?) from 0 at 0\n"));
+    assert!(report(&format!("{RULES}?- w(A?,1).\n")).contains("failed w(_1?,1) from 0 at 0\n"));
     assert!(report(&format!("{RULES}?- same(7,B).\n")).contains("B = 7\n"));
 }
 

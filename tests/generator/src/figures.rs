@@ -33,11 +33,11 @@ pub fn chosen(random: &mut Random, text: &[u8], turn: usize) -> (&'static str, F
 /// Figures of which one is out of range, or just not, or scratch that is short, or just not.
 pub fn spoilt(random: &mut Random, text: &[u8], mut figures: Figures, turn: usize) -> Figures {
     match turn % 6 {
-        0 => figures.budget = random.pick(&[1_000_000, 1_000_001, 1_000_001, 4_294_967_296]),
+        0 => figures.budget = random.pick(&[1_000_000, 1_000_001, 1_000_001, 1_000_001, 4_294_967_296]),
         4 => figures.scratch = random.pick(&[0, 1, 2, 3, 3, 3]),
         5 => figures.scratch = random.pick(&[3, 4, 5, 7]),
         room => {
-            figures = with(figures, ROOM[room - 1], random.pick(&[0, 65_536, 65_535]));
+            figures = with(figures, ROOM[room - 1], random.pick(&[0, 0, 65_536, 65_536, 65_535]));
             figures.budget = figures.budget.min(20);
         }
     }

@@ -1,12 +1,13 @@
 //! Texts whose report has a given length.
 //!
 //! A value that doubles is written with a power of 2 of leaves, all of one name. A byte more of that name is so many
-//! bytes more of the report, so the names' lengths are digits: every fourth power down from the largest, and one name
-//! that stands once.
+//! bytes more of the report, so the names' lengths are digits: every fourth power down from the largest, and up to
+//! three names, parted by commas, that stand once.
 
 use reference::{call, Figures};
 
 const LONGEST_NAME: usize = 31;
+const THREE_NAMES: usize = 3 * LONGEST_NAME + 2;
 const LARGEST_POWER: usize = 20;
 
 /// The figures to run these texts with: the largest rooms, and no buffer.
@@ -23,7 +24,8 @@ pub fn of_length(length: u32) -> Option<String> {
         let least = call(text(&values).as_bytes(), &figures()).length;
         let mut rest = length.checked_sub(least)? as usize;
         for (power, name) in &mut values {
-            let more = (rest / leaves(*power)).min(LONGEST_NAME - *name);
+            let longest = if *power == 0 { THREE_NAMES } else { LONGEST_NAME };
+            let more = (rest / leaves(*power)).min(longest - *name);
             *name += more;
             rest -= more * leaves(*power);
         }
@@ -40,13 +42,22 @@ fn leaves(power: usize) -> usize {
     }
 }
 
+/// As many names as so many bytes need, commas counted.
+fn names(length: usize) -> String {
+    if length <= LONGEST_NAME {
+        return "z".repeat(length);
+    }
+    let first = LONGEST_NAME.min(length - 2);
+    format!("{},{}", "z".repeat(first), names(length - first - 1))
+}
+
 /// A query for each power of 2 of leaves and the length of their name.
 fn text(values: &[(usize, usize)]) -> String {
     let rules = "mk(f(C,C?)).\np([1|Xs],f(R?,S)) :- mk(R), p(Xs?,S?).\np(E,f(E?,S)) :- no(S?).\n".to_string();
     values.iter().fold(rules, |text, &(power, length)| {
         let name = "z".repeat(length);
         text + &match power {
-            0 => format!("?- no({name}).\n"),
+            0 => format!("?- no({}).\n", names(length)),
             1 => format!("?- mk(A), p({name},A?).\n"),
             _ => format!("?- mk(A), p([{}|{name}],A?).\n", vec!["1"; power - 1].join(",")),
         }

@@ -205,10 +205,31 @@ fn running(
     word: &str,
     program: fn(&mut Random) -> Vec<Vec<Token>>,
 ) -> (String, Vec<u8>, Figures) {
-    let items = program(random);
+    let mut items = program(random);
+    if random.chance(20) {
+        among_the_clauses(random, &mut items);
+    }
+    if random.chance(8) {
+        behind_others(random, &mut items);
+    }
     let text = layout::text_of(random, &items);
     let (how, figures) = figures::chosen(random, &text, take(&mut turns.chosen));
     (format!("{word}-{how}"), text, figures)
+}
+
+/// Each query moved to a place before its own: which clause made a goal is counted without the queries.
+fn among_the_clauses(random: &mut Random, items: &mut [Vec<Token>]) {
+    for place in 0..items.len() {
+        if items[place][0] == "?-" {
+            items[random.below(place + 1)..=place].rotate_right(1);
+        }
+    }
+}
+
+/// Clauses that no goal asks for put before the others, whose numbers then have two digits, or three.
+fn behind_others(random: &mut Random, items: &mut Vec<Vec<Token>>) {
+    let count = random.pick(&[8, 9, 10, 11, 12, 99]).min(120_usize.saturating_sub(items.len()));
+    items.splice(0..0, vec![term::split("n(0)."); count]);
 }
 
 /// Figures out of range, scratch short or a text too long, on any text and now and then two of them at once.

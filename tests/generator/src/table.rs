@@ -2,7 +2,8 @@
 //!
 //! A comparison says nothing of what never occurred, so a table can tell which counts are 0. Numbers are counted over
 //! all answers, verdicts and lines over the reports that were delivered; apart also waiting goals with several
-//! unassigned readers, and failed ones that have one.
+//! unassigned readers, failed ones that have one, and goals of each kind that a clause made, some of them by a clause
+//! behind the ninth, after nine tries, or in a query behind the first.
 
 use std::fmt;
 
@@ -11,6 +12,8 @@ use reference::Answer;
 const VERDICTS: [&str; 3] = ["rest", "budget", "room"];
 const GOALS: [&str; 3] = ["active", "waiting", "failed"];
 const READERS: [&str; 2] = ["waiting, several", "failed, a reader"];
+const MADE: [&str; 6] =
+    ["active, made", "waiting, made", "failed, made", "clause 10 or up", "tries 10 or up", "another query"];
 
 /// The counts of some answers.
 #[derive(Clone, Debug, Default)]
@@ -19,6 +22,7 @@ pub struct Table {
     verdicts: [usize; 3],
     goals: [usize; 3],
     readers: [usize; 2],
+    made: [usize; 6],
 }
 
 impl Table {
@@ -33,16 +37,32 @@ impl Table {
     fn count(&mut self, answer: &Answer) {
         self.numbers[usize::from(answer.number)] += 1;
         let Some(report) = &answer.report else { return };
+        let mut queries = 0;
         for line in String::from_utf8_lossy(report).lines() {
             let mut words = line.split(' ');
             match (words.next(), words.next()) {
                 (Some("run"), Some(verdict)) => add(&VERDICTS, &mut self.verdicts, verdict),
+                (Some("query"), _) => queries += 1,
                 (Some(goal), _) => add(&GOALS, &mut self.goals, goal),
                 _ => {}
             }
+            self.count_made(line, queries > 1);
             let readers = line.matches('?').count();
             self.readers[0] += usize::from(line.starts_with("waiting ") && readers > 1);
             self.readers[1] += usize::from(line.starts_with("failed ") && readers > 0);
+        }
+    }
+
+    /// A goal's line, if a clause made the goal; whether its query is another than the first.
+    fn count_made(&mut self, line: &str, another: bool) {
+        let words: Vec<&str> = line.split(' ').collect();
+        let [kind, _, "from", clause, "at", tries] = words[..] else { return };
+        let [clause, tries] = [clause, tries].map(|digits| digits.parse::<u64>().unwrap_or(0));
+        if clause > 0 {
+            add(&GOALS, &mut self.made[..3], kind);
+            self.made[3] += usize::from(clause > 9);
+            self.made[4] += usize::from(tries > 9);
+            self.made[5] += usize::from(another);
         }
     }
 
@@ -56,7 +76,8 @@ impl Table {
         let verdicts = VERDICTS.iter().zip(self.verdicts).map(|(name, count)| (format!("run {name}"), count));
         let goals = GOALS.iter().zip(self.goals).map(|(name, count)| (format!("{name} lines"), count));
         let readers = READERS.iter().zip(self.readers).map(|(name, count)| (name.to_string(), count));
-        numbers.chain(verdicts).chain(goals).chain(readers).collect()
+        let made = MADE.iter().zip(self.made).map(|(name, count)| (name.to_string(), count));
+        numbers.chain(verdicts).chain(goals).chain(readers).chain(made).collect()
     }
 }
 

@@ -1,7 +1,8 @@
 //! What is new in an answer: a cheap sum of what the run did, kept in one table of bits.
 //!
-//! An answer shows number, line, offset, verdict, tries and goals of each query, and the shapes of its values. Each of these,
-//! coarsened, is one bit of the table; an answer with a bit that no answer before it had is new.
+//! An answer shows number, line, offset, verdict, tries and goals of each query, where the goals come from, and the
+//! shapes of its values. Each of these, coarsened, is one bit of the table; an answer with a bit that no answer before
+//! it had is new.
 
 use reference::Answer;
 
@@ -34,17 +35,18 @@ impl Novelty {
         new
     }
 
-    /// The numbers of a line `run` or `query`, coarsened; of any other line the shapes, three bytes at a time.
+    /// The numbers of a line `run` or `query`, coarsened; of any other line the shapes, three bytes at a time, and of a
+    /// goal's also the numbers at its end.
     fn see_line(&mut self, line: &[u8]) -> bool {
         if line.starts_with(b"run ") || line.starts_with(b"query ") {
             let sum = line.split(|byte| *byte == b' ').fold(3, |sum, word| {
-                let number = std::str::from_utf8(word).ok().and_then(|digits| digits.parse().ok());
-                mixed(sum, number.map_or(word.len() as u64 + u64::from(word.first().copied().unwrap_or(0)), log))
+                let other = word.len() as u64 + u64::from(word.first().copied().unwrap_or(0));
+                mixed(sum, number(word).map_or(other, log))
             });
             return self.see([4, sum, 0, 0]);
         }
         let kind = u64::from(line.first().copied().unwrap_or(0).to_ascii_lowercase());
-        let mut new = false;
+        let mut new = self.see_origin(kind, line);
         let (mut last, mut last_but_one) = (0, 0);
         for &byte in line {
             let shape = shape(byte);
@@ -56,10 +58,22 @@ impl Novelty {
         new
     }
 
+    /// Of a goal's line the clause that made it and the tries, coarsened.
+    fn see_origin(&mut self, kind: u64, line: &[u8]) -> bool {
+        let words: Vec<&[u8]> = line.split(|byte| *byte == b' ').collect();
+        let [_, _, b"from", clause, b"at", tries] = words[..] else { return false };
+        self.see([7, kind, number(clause).map_or(0, log), number(tries).map_or(0, log)])
+    }
+
     fn see(&mut self, what: [u64; 4]) -> bool {
         let place = what.iter().fold(0, |sum, part| mixed(sum, *part)) as usize % BITS;
         !std::mem::replace(&mut self.seen[place], true)
     }
+}
+
+/// The number that a word is, if it is one.
+fn number(word: &[u8]) -> Option<u64> {
+    std::str::from_utf8(word).ok().and_then(|digits| digits.parse().ok())
 }
 
 /// The shapes of the bytes before an offset and at it; 0 where there is none.

@@ -170,7 +170,8 @@ impl<'t> Items<'t> {
         let guards = self.judge_guards(guards)?;
         self.judge_occurrences(true)?;
         self.advance();
-        self.job.clauses.push(Clause { head, guards, body });
+        let number = self.job.clauses.len() as u32 + 1;
+        self.job.clauses.push(Clause { number, head, guards, body });
         Ok(())
     }
 

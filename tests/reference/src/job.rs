@@ -30,6 +30,8 @@ pub(crate) struct Functor {
 
 #[derive(Debug)]
 pub(crate) struct Clause {
+    /// Which one it is of the clauses of the whole text, from 1.
+    pub number: u32,
     /// The head's functor word in the code.
     pub head: usize,
     pub guards: Vec<Guard>,

@@ -1,5 +1,5 @@
-//! A reference implementation of document 01, with T-01, T-02 and T-03 of document 02: a job text is read and checked,
-//! run under a budget and a room, and its report written.
+//! A reference implementation of document 01, with T-01, T-02, T-03 and T-09 of document 02: a job text is read and
+//! checked, run under a budget and a room, and its report written.
 //!
 //! `read`, `run` and `write` are the three phases; `call` composes them and gives the numbers in their order.
 //! Read the modules as `text`, `job`, `items` with `rules`, `machine` with `trial`, `circle` and `guards`, `report`,

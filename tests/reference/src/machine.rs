@@ -54,12 +54,24 @@ impl Finished<'_> {
     }
 }
 
-/// A goal: the place of its functor word in `cells`, and the query that it comes from.
+/// A goal: the place of its functor word in `cells`, the query that it comes from, and what made it.
 #[derive(Clone, Copy, Debug)]
 pub(crate) struct Goal {
     pub place: u32,
     pub query: u32,
+    pub origin: Origin,
 }
+
+/// 'Each goal shall carry the clause that made it (0 for the query) and its own query's number of tries when it was
+/// made, the step that made it counted' (document 02, T-09). Nothing renews it.
+#[derive(Clone, Copy, Debug)]
+pub(crate) struct Origin {
+    pub clause: u32,
+    pub tries: u64,
+}
+
+/// What made the goals of a query: no clause, and no try before them.
+const QUERY: Origin = Origin { clause: 0, tries: 0 };
 
 /// A pair of writer and reader.
 #[derive(Clone, Copy, Debug)]
@@ -157,7 +169,7 @@ impl<'j> Machine<'j> {
             first_pairs.push(self.pairs.len());
             self.bound_bits = 0;
             self.rename(&query.body);
-            self.add_goals(&query.body, number as u32);
+            self.add_goals(&query.body, number as u32, QUERY);
         }
         first_pairs
     }
@@ -172,14 +184,17 @@ impl<'j> Machine<'j> {
             if self.steps == budget {
                 return Verdict::Budget;
             }
-            match self.taken_clause(goal) {
-                // 'With the goal still in front and nothing counted.'
-                Some(clause) if !self.fits(&clause.body) => return Verdict::Room,
-                Some(clause) => self.reduce(goal, clause),
-                None => self.wait_or_fail(goal),
+            let taken = self.taken_clause(goal);
+            // 'With the goal still in front and nothing counted.'
+            if taken.is_some_and(|clause| !self.fits(&clause.body)) {
+                return Verdict::Room;
             }
             self.steps += 1;
             self.tries[goal.query as usize] += 1;
+            match taken {
+                Some(clause) => self.reduce(goal, clause),
+                None => self.wait_or_fail(goal),
+            }
         }
     }
 
@@ -208,12 +223,13 @@ impl<'j> Machine<'j> {
     }
 
     /// 'The queue is the rest, then the body goals in order, then every waiting goal that waits on a pair assigned in
-    /// this step, in the order in which they began to wait.'
+    /// this step, in the order in which they began to wait.' The step is counted by now.
     fn reduce(&mut self, goal: Goal, clause: &Clause) {
         self.queue.pop_front();
         self.rename(&clause.body);
         self.assign();
-        self.add_goals(&clause.body, goal.query);
+        let origin = Origin { clause: clause.number, tries: self.tries[goal.query as usize] };
+        self.add_goals(&clause.body, goal.query, origin);
         self.wake();
     }
 
@@ -278,10 +294,10 @@ impl<'j> Machine<'j> {
         self.woken.clear();
     }
 
-    fn add_goals(&mut self, item: &Goals, query: u32) {
+    fn add_goals(&mut self, item: &Goals, query: u32, origin: Origin) {
         let distance = self.copy(item.block.clone());
         for place in &self.job.goals[item.places.clone()] {
-            self.queue.push_back(Goal { place: place.wrapping_add(distance), query });
+            self.queue.push_back(Goal { place: place.wrapping_add(distance), query, origin });
         }
     }
 

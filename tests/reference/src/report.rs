@@ -180,9 +180,12 @@ impl<'f> Report<'f> {
         Ok(())
     }
 
+    /// 'Each active, waiting or failed line ends with ` from C at T`' (document 02, T-09).
     fn goal_line(&mut self, label: &[u8], goal: &Goal) -> Writing {
         self.put(label)?;
         self.value(Word::new(Kind::Compound, goal.place))?;
+        self.put_count(" from ", goal.origin.clause as u64)?;
+        self.put_count(" at ", goal.origin.tries)?;
         self.put(b"\n")
     }
 

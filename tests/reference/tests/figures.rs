@@ -163,30 +163,39 @@ fn names_and_variables_of_31_bytes() {
         assert_eq!(refused(format!("?- p({}?).", long("V", length))).0, number);
     }
     let (name, variable) = (long("n", 31), long("V", 31));
-    check(&report(&format!("?- {name}({variable}?).")), &[&format!("{variable} = _1"), &format!("failed {name}(_1?)")]);
+    check(
+        &report(&format!("?- {name}({variable}?).")),
+        &[&format!("{variable} = _1"), &format!("failed {name}(_1?) from 0 at 0")],
+    );
 }
 
 #[test]
 fn integers_in_range() {
     let report = report("?- p(2147483647,-2147483648,0,-1,10,-7).");
-    check(&report, &["failed p(2147483647,-2147483648,0,-1,10,-7)"]);
+    check(&report, &["failed p(2147483647,-2147483648,0,-1,10,-7) from 0 at 0"]);
     for bad in ["2147483648", "-2147483649", "12345678901"] {
         assert_eq!(refused(format!("?- p(\n{bad}).")), (4, 2));
     }
-    check(&common::report("p(-1). ?- p(-1), p(1)."), &["failed p(1)"]);
+    check(&common::report("p(-1). ?- p(-1), p(1)."), &["failed p(1) from 0 at 0"]);
 }
 
 #[test]
 fn names_by_spelling_and_arity() {
     let report =
         report("p(p). p(p,p). q(Q,Q?). ?- p(p), p(p,p), p(p,p,p), q(p(1),A), q(p(1,2),B), q([1],C), q(a1_B,D).");
-    check(&report, &["run rest steps 7", "failed p(p,p,p)", "A = p(1)", "B = p(1,2)", "C = [1]", "D = a1_B"]);
+    check(
+        &report,
+        &["run rest steps 7", "failed p(p,p,p) from 0 at 0", "A = p(1)", "B = p(1,2)", "C = [1]", "D = a1_B"],
+    );
 }
 
 #[test]
 fn clauses_keep_text_order_and_need_not_be_adjacent() {
     let report = report("p(1,b). ?- p(A?,B). q(1). p(X,c) :- q(X?). ?- q(1). p(X,d) :- q(X?).");
-    check(&report, &["run rest steps 3", "B = c", "waiting q(_1?)", "query 2 tries 1 active 0 waiting 0 failed 0"]);
+    check(
+        &report,
+        &["run rest steps 3", "B = c", "waiting q(_1?) from 3 at 1", "query 2 tries 1 active 0 waiting 0 failed 0"],
+    );
 }
 
 /// No byte sequence makes the reading stumble: prefixes and changed bytes of a job are answered.

@@ -17,8 +17,8 @@ fn a_the_four_kinds() {
         check(&run(&format!("kind({term},K,V)")), &[&format!("K = {kind}"), &format!("V = {term}")]);
     }
     check(&run("kind(f(B?),K,V)"), &["B = _1", "K = cmp", "V = f(_1?)"]);
-    check(&run("kind(A?,K,V)"), &["run rest steps 1", "waiting kind(_1?,_2,_3)"]);
-    check(&run("kind(A,K,V)"), &["run rest steps 1", "failed kind(_1,_2,_3)"]);
+    check(&run("kind(A?,K,V)"), &["run rest steps 1", "waiting kind(_1?,_2,_3) from 0 at 0"]);
+    check(&run("kind(A,K,V)"), &["run rest steps 1", "failed kind(_1,_2,_3) from 0 at 0"]);
 }
 
 #[test]
@@ -28,11 +28,11 @@ fn b_ground_waits_on_every_reader() {
     assert_eq!(
         run("g(f(A?,B?),Z), set(2,B)"),
         "run rest steps 3\nquery 1 tries 3 active 0 waiting 1 failed 0\nA = _1\nB = 2\nZ = _2\n\
-         waiting g(f(_1?,2),_2)\n"
+         waiting g(f(_1?,2),_2) from 0 at 0\n"
     );
-    check(&run("g(f(A?,B?),Z), set(2,A)"), &["run rest steps 3", "waiting g(f(2,_1?),_2)"]);
-    check(&run("g(f(A?,B),Z)"), &["run rest steps 1", "failed g(f(_1?,_2),_3)"]);
-    check(&run("g(f(B,A?),Z)"), &["run rest steps 1", "failed g(f(_1,_2?),_3)"]);
+    check(&run("g(f(A?,B?),Z), set(2,A)"), &["run rest steps 3", "waiting g(f(2,_1?),_2) from 0 at 0"]);
+    check(&run("g(f(A?,B),Z)"), &["run rest steps 1", "failed g(f(_1?,_2),_3) from 0 at 0"]);
+    check(&run("g(f(B,A?),Z)"), &["run rest steps 1", "failed g(f(_1,_2?),_3) from 0 at 0"]);
     check(&run("g(A?,Z), set(B?,A), set(7,B)"), &["run rest steps 4", "A = 7", "B = 7", "Z = 7"]);
 }
 
@@ -40,28 +40,31 @@ fn b_ground_waits_on_every_reader() {
 fn c_where_the_head_gave_nothing() {
     for guard in ["known(X?)", "ground(X?)", "X? == a", "a == X?", "integer(X?)", "constant(X?)", "compound(X?)"] {
         let report = report(&format!("mk(f(X),X?) :- {guard} | . ?- mk(A,B)."));
-        check(&report, &["run rest steps 1", "A = _1", "B = _2", "failed mk(_1,_2)"]);
+        check(&report, &["run rest steps 1", "A = _1", "B = _2", "failed mk(_1,_2) from 0 at 0"]);
     }
     // Inside a compound it is one to ground and `==`; to the others the compound is known.
-    for (guard, steps) in [("ground(g(X?))", "failed mk(_1,_2)"), ("g(X?) == g(X?)", "failed mk(_1,_2)")] {
-        check(&report(&format!("mk(f(X),X?) :- {guard} | . ?- mk(A,B).")), &[steps]);
+    for guard in ["ground(g(X?))", "g(X?) == g(X?)"] {
+        check(&report(&format!("mk(f(X),X?) :- {guard} | . ?- mk(A,B).")), &["failed mk(_1,_2) from 0 at 0"]);
     }
     check(&report("mk(f(X),X?) :- known(g(X?)) | . ?- mk(A,B)."), &["A = f(_1)", "B = _1?"]);
 }
 
 #[test]
 fn d_what_the_trial_gives_a_goals_writer_is_not_seen() {
-    check(&report("h(1,Y,Y?) :- ground(Y?) | . ?- h(A,A?,Z)."), &["run rest steps 1", "waiting h(_1,_1?,_2)"]);
-    check(&report("h(1,Y,Y?) :- Y? == 1 | . ?- h(A,A?,Z)."), &["run rest steps 1", "waiting h(_1,_1?,_2)"]);
-    check(&report("h(1,Y,Y?) :- ground(Y?) | . ?- h(A,f(A?),Z)."), &["waiting h(_1,f(_1?),_2)"]);
+    check(
+        &report("h(1,Y,Y?) :- ground(Y?) | . ?- h(A,A?,Z)."),
+        &["run rest steps 1", "waiting h(_1,_1?,_2) from 0 at 0"],
+    );
+    check(&report("h(1,Y,Y?) :- Y? == 1 | . ?- h(A,A?,Z)."), &["run rest steps 1", "waiting h(_1,_1?,_2) from 0 at 0"]);
+    check(&report("h(1,Y,Y?) :- ground(Y?) | . ?- h(A,f(A?),Z)."), &["waiting h(_1,f(_1?),_2) from 0 at 0"]);
 }
 
 #[test]
 fn e_an_argument_that_is_written_as_a_compound() {
     check(&report("k(X,X?) :- known(f(X?)) | . ?- k(A?,Z)."), &["run rest steps 1", "A = _1", "Z = _1?"]);
     check(&report("k(X,X?) :- compound([X?]) | . ?- k(A?,Z)."), &["run rest steps 1", "A = _1", "Z = _1?"]);
-    check(&report("k(X,X?) :- constant(f(X?)) | . ?- k(A?,Z)."), &["failed k(_1?,_2)"]);
-    check(&report("k(X,X?) :- integer(f(X?)) | . ?- k(A?,Z)."), &["failed k(_1?,_2)"]);
+    check(&report("k(X,X?) :- constant(f(X?)) | . ?- k(A?,Z)."), &["failed k(_1?,_2) from 0 at 0"]);
+    check(&report("k(X,X?) :- integer(f(X?)) | . ?- k(A?,Z)."), &["failed k(_1?,_2) from 0 at 0"]);
     check(&report("k(X,X?) :- integer(-3), constant([]), known(a) | . ?- k(A?,Z)."), &["Z = _1?"]);
 }
 
@@ -70,12 +73,12 @@ fn f_equal() {
     let rules = "e(X,Y,X?,Y?) :- X? == Y? | . e(X,Y,X?,no(Y?)) :- otherwise | .";
     let run = |terms: &str| report(&format!("{rules}?- e({terms},U,V)."));
     for (terms, lines) in [
-        ("f(a,A?),f(b,B?)", ["run rest steps 1", "waiting e(f(a,_1?),f(b,_2?),_3,_4)"]),
+        ("f(a,A?),f(b,B?)", ["run rest steps 1", "waiting e(f(a,_1?),f(b,_2?),_3,_4) from 0 at 0"]),
         ("a,a", ["U = a", "V = a"]),
         ("a,b", ["U = a", "V = no(b)"]),
-        ("[1,2],[1|T?]", ["run rest steps 1", "waiting e([1,2],[1|_1?],_2,_3)"]),
+        ("[1,2],[1|T?]", ["run rest steps 1", "waiting e([1,2],[1|_1?],_2,_3) from 0 at 0"]),
         ("f(A),g(B?)", ["U = f(_1)", "V = no(g(_2?))"]),
-        ("f(A?),g(B)", ["run rest steps 1", "waiting e(f(_1?),g(_2),_3,_4)"]),
+        ("f(A?),g(B)", ["run rest steps 1", "waiting e(f(_1?),g(_2),_3,_4) from 0 at 0"]),
         ("a,f(B)", ["U = a", "V = no(f(_1))"]),
         ("f(1),f(1)", ["U = f(1)", "V = f(1)"]),
         ("f(1),f(1,1)", ["U = f(1)", "V = no(f(1,1))"]),
@@ -87,17 +90,17 @@ fn f_equal() {
         ("f(a,b),f(b,a)", ["U = f(a,b)", "V = no(f(b,a))"]),
         ("1,one(1)", ["U = 1", "V = no(one(1))"]),
         // The first from the left: a reader to the left of a writer, a writer to the left of a reader.
-        ("g(A?,B),a", ["run rest steps 1", "waiting e(g(_1?,_2),a,_3,_4)"]),
+        ("g(A?,B),a", ["run rest steps 1", "waiting e(g(_1?,_2),a,_3,_4) from 0 at 0"]),
         ("g(B,A?),a", ["U = g(_1,_2?)", "V = no(a)"]),
-        ("g([a,[b|C?]],B),a", ["run rest steps 1", "waiting e(g([a,[b|_1?]],_2),a,_3,_4)"]),
+        ("g([a,[b|C?]],B),a", ["run rest steps 1", "waiting e(g([a,[b|_1?]],_2),a,_3,_4) from 0 at 0"]),
     ] {
         check(&run(terms), &lines);
     }
     // It waits on that one alone.
     let text = format!("{rules}{SET}?- e(f(A?,B?),a,U,V), set(1,B).");
-    check(&report(&text), &["run rest steps 2", "waiting e(f(_1?,1),a,_2,_3)"]);
+    check(&report(&text), &["run rest steps 2", "waiting e(f(_1?,1),a,_2,_3) from 0 at 0"]);
     let text = format!("{rules}{SET}?- e(f(A?,B?),a,U,V), set(1,A).");
-    check(&report(&text), &["run rest steps 3", "waiting e(f(1,_1?),a,_2,_3)"]);
+    check(&report(&text), &["run rest steps 3", "waiting e(f(1,_1?),a,_2,_3) from 0 at 0"]);
     let text = format!("{rules}{SET}?- e(f(A?),f(B?),U,V), set(1,A), set(1,B).");
     check(&report(&text), &["run rest steps 4", "U = f(1)", "V = f(1)"]);
 }
@@ -130,7 +133,7 @@ fn f_equal_with_written_compounds() {
 #[test]
 fn g_otherwise() {
     let rules = format!("c(a,yes). c(X,other(X?)) :- otherwise | . {SET}");
-    check(&report(&format!("{rules}?- c(A?,R).")), &["run rest steps 1", "waiting c(_1?,_2)"]);
+    check(&report(&format!("{rules}?- c(A?,R).")), &["run rest steps 1", "waiting c(_1?,_2) from 0 at 0"]);
     check(&report(&format!("{rules}?- c(b,R).")), &["run rest steps 1", "R = other(b)"]);
     check(&report(&format!("{rules}?- c(A?,R), set(b,A).")), &["run rest steps 3", "R = other(b)"]);
     check(&report("f(X,X?) :- otherwise | . ?- f(1,R)."), &["R = 1"]);
@@ -138,12 +141,12 @@ fn g_otherwise() {
     let text = "c(a,1). d(X,X?) :- otherwise | . c(X,X?) :- otherwise | . c(b,3). ?- c(b,A), d(b,B), c(a,C).";
     check(&report(text), &["A = b", "B = b", "C = 1"]);
     let text = "c(a,1). c(a,b,c). c(X,Y,Z,Z?) :- otherwise | d(X?,Y?). ?- c(A?,B?,c,Z).";
-    check(&report(text), &["run rest steps 2", "failed d(_1?,_2?)"]);
+    check(&report(text), &["run rest steps 2", "failed d(_1?,_2?) from 3 at 1"]);
     // With the earlier ones: woken by their readers and by no other.
     let text = format!("c(a,B,1) :- x(B?). c(X,B,2) :- otherwise | y(X?,B?). {SET}?- c(P?,Q?,Z), set(1,Q).");
-    check(&report(&text), &["run rest steps 2", "waiting c(_1?,1,_2)"]);
+    check(&report(&text), &["run rest steps 2", "waiting c(_1?,1,_2) from 0 at 0"]);
     let text = format!("c(a,B,1) :- x(B?). c(X,B,2) :- otherwise | y(X?,B?). {SET}?- c(P?,Q?,Z), set(1,P).");
-    check(&report(&text), &["run rest steps 4", "Z = 2", "failed y(1,_1?)"]);
+    check(&report(&text), &["run rest steps 4", "Z = 2", "failed y(1,_1?) from 2 at 3"]);
     // Two of them: the first takes what the earlier clause leaves, the second is never asked.
     let text = "c(a,1). c(X,2) :- otherwise, known(X?) | . c(X,3) :- otherwise | . ?- c(b,R).";
     assert_eq!(refused(text), (9, 1));
@@ -155,19 +158,19 @@ fn g_otherwise() {
 fn h_a_circle_has_failed() {
     assert_eq!(
         report("s(X,X?). s(X,Y?) :- otherwise | t(X?,Y). ?- s(A?,A)."),
-        "run rest steps 2\nquery 1 tries 2 active 0 waiting 0 failed 1\nA = _1?\nfailed t(_1?,_1)\n"
+        "run rest steps 2\nquery 1 tries 2 active 0 waiting 0 failed 1\nA = _1?\nfailed t(_1?,_1) from 2 at 1\n"
     );
 }
 
 #[test]
 fn i_the_first_that_does_not_succeed() {
     let run = |guards: &str| report(&format!("p(X,Y) :- {guards} | q(X?,Y?). ?- p(A?,b)."));
-    check(&run("integer(X?), integer(Y?)"), &["run rest steps 1", "waiting p(_1?,b)"]);
-    check(&run("integer(Y?), integer(X?)"), &["run rest steps 1", "failed p(_1?,b)"]);
-    check(&run("known(Y?), ground(X?), integer(Y?)"), &["run rest steps 1", "waiting p(_1?,b)"]);
+    check(&run("integer(X?), integer(Y?)"), &["run rest steps 1", "waiting p(_1?,b) from 0 at 0"]);
+    check(&run("integer(Y?), integer(X?)"), &["run rest steps 1", "failed p(_1?,b) from 0 at 0"]);
+    check(&run("known(Y?), ground(X?), integer(Y?)"), &["run rest steps 1", "waiting p(_1?,b) from 0 at 0"]);
     // The first that waits alone gives the readers.
     let text = format!("p(X,Y) :- known(X?), known(Y?) | q(X?,Y?). {SET}?- p(A?,B?), set(1,B).");
-    check(&report(&text), &["run rest steps 2", "waiting p(_1?,1)"]);
+    check(&report(&text), &["run rest steps 2", "waiting p(_1?,1) from 0 at 0"]);
 }
 
 #[test]
@@ -176,14 +179,14 @@ fn j_otherwise_has_its_place() {
         let rules = format!("c(a,B) :- x(B?). c(X,B) :- {guards} | y(X?,B?). {SET}");
         report(&format!("{rules}?- c(P?,Q?), set(1,Q)."))
     };
-    check(&run("integer(B?), otherwise"), &["run rest steps 3", "waiting c(_1?,1)"]);
-    check(&run("otherwise, integer(B?)"), &["run rest steps 2", "waiting c(_1?,1)"]);
+    check(&run("integer(B?), otherwise"), &["run rest steps 3", "waiting c(_1?,1) from 0 at 0"]);
+    check(&run("otherwise, integer(B?)"), &["run rest steps 2", "waiting c(_1?,1) from 0 at 0"]);
 }
 
 #[test]
 fn k_with_the_wrong_column() {
     let text = "w(1,2). w(X,Y) :- otherwise | r(X?,Y?). ?- w(A?,1).";
-    check(&report(text), &["run rest steps 2", "failed r(_1?,1)"]);
+    check(&report(text), &["run rest steps 2", "failed r(_1?,1) from 2 at 1"]);
 }
 
 #[test]
@@ -192,8 +195,11 @@ fn l_sharing() {
     let report_of = |query: &str| report(&format!("{rules}?- {query}."));
     let both = report_of("d(A?), set(f(B?),A), set(1,B)");
     check(&both, &["run rest steps 6", "A = f(1)", "B = 1"]);
-    assert!(both.ends_with("failed q(f(1))\nfailed q(f(1))\n"), "{both}");
-    check(&report_of("d(A?), set(f(B?),A)"), &["run rest steps 3", "A = f(_1?)", "B = _1", "waiting d(f(_1?))"]);
+    assert!(both.ends_with("failed q(f(1)) from 1 at 4\nfailed q(f(1)) from 1 at 4\n"), "{both}");
+    check(
+        &report_of("d(A?), set(f(B?),A)"),
+        &["run rest steps 3", "A = f(_1?)", "B = _1", "waiting d(f(_1?)) from 0 at 0"],
+    );
 }
 
 #[test]
@@ -203,7 +209,7 @@ fn m_a_fan_out() {
     assert_eq!(
         report(&format!("{rules}?- dist([1,f(a)|T?],A,B).")),
         "run rest steps 7\nquery 1 tries 7 active 0 waiting 1 failed 0\nT = _1\nA = [1,f(a)|_2?]\nB = [1,f(a)|_3?]\n\
-         waiting dist(_1?,_2,_3)\n"
+         waiting dist(_1?,_2,_3) from 1 at 4\n"
     );
 }
 
@@ -235,8 +241,14 @@ fn o_the_charge() {
     }
     // A waiting or failing guard needs no room; pairs are the head's.
     let tight = Figures { compounds: 1, pairs: 2, goals: 1, ..Figures::default() };
-    check(&report_with("k(X,X?) :- ground(X?) | . ?- k(A?,Z).", &tight), &["run rest steps 1", "waiting k(_1?,_2)"]);
-    check(&report_with("k(X,X?) :- integer(X?) | . ?- k(a,Z).", &tight), &["run rest steps 1", "failed k(a,_1)"]);
+    check(
+        &report_with("k(X,X?) :- ground(X?) | . ?- k(A?,Z).", &tight),
+        &["run rest steps 1", "waiting k(_1?,_2) from 0 at 0"],
+    );
+    check(
+        &report_with("k(X,X?) :- integer(X?) | . ?- k(a,Z).", &tight),
+        &["run rest steps 1", "failed k(a,_1) from 0 at 0"],
+    );
     let pairs = |pairs: u64| {
         let text = "k(X,X?) :- X? == X?, ground(X?) | . ?- k(1,Z).";
         report_with(text, &Figures { pairs, ..Figures::default() })
@@ -248,18 +260,24 @@ fn o_the_charge() {
 #[test]
 fn p_compounds_called_ground() {
     let report = report("p(X) :- ground(X?) == ground(a) | q(X?). ?- p(a), p(b), p(A?).");
-    check(&report, &["run rest steps 4", "waiting p(_1?)", "failed p(b)", "failed q(a)"]);
+    check(
+        &report,
+        &["run rest steps 4", "waiting p(_1?) from 0 at 0", "failed p(b) from 0 at 0", "failed q(a) from 1 at 1"],
+    );
 }
 
 #[test]
 fn q_a_later_clause_though_an_earlier_waits() {
     let rules = "m(X,Y,R?) :- known(X?) | one(X?,Y?,R). m(X,Y,R?) :- known(Y?) | two(X?,Y?,R).";
-    check(&report(&format!("{rules}?- m(A?,b,R).")), &["run rest steps 2", "R = _2?", "failed two(_1?,b,_2)"]);
+    check(
+        &report(&format!("{rules}?- m(A?,b,R).")),
+        &["run rest steps 2", "R = _2?", "failed two(_1?,b,_2) from 2 at 1"],
+    );
 }
 
 #[test]
 fn r_the_circle_test_comes_before_the_guards() {
-    check(&report("s(X,X?) :- known(X?) | . ?- s(A?,A)."), &["run rest steps 1", "failed s(_1?,_1)"]);
+    check(&report("s(X,X?) :- known(X?) | . ?- s(A?,A)."), &["run rest steps 1", "failed s(_1?,_1) from 0 at 0"]);
 }
 
 /// 'All else as before the step': chains are followed to their end, and the reader found there is waited on.
@@ -270,31 +288,37 @@ fn chains_are_followed() {
         &report(&format!("{rules}?- set(B?,A), i(A?,Z), set(C?,B), set(4,C).")),
         &["run rest steps 5", "A = 4", "Z = 4"],
     );
-    check(&report(&format!("{rules}?- set(B?,A), i(A?,Z), set(a,B).")), &["run rest steps 4", "failed i(a,_1)"]);
+    check(
+        &report(&format!("{rules}?- set(B?,A), i(A?,Z), set(a,B).")),
+        &["run rest steps 4", "failed i(a,_1) from 0 at 0"],
+    );
 }
 
 /// A waiting goal's readers are those of all its clauses, comparisons and guards; waking keeps the order of waiting.
 #[test]
 fn waiting_over_clauses() {
     let rules = format!("v(1,Y,a) :- q(Y?). v(X,Y,b) :- ground(f(X?,Y?)) | r(X?,Y?). {SET}");
-    check(&report(&format!("{rules}?- v(A?,B?,Z), set(2,B).")), &["run rest steps 3", "waiting v(_1?,2,_2)"]);
+    check(
+        &report(&format!("{rules}?- v(A?,B?,Z), set(2,B).")),
+        &["run rest steps 3", "waiting v(_1?,2,_2) from 0 at 0"],
+    );
     check(
         &report(&format!("{rules}?- v(A?,B?,Z), set(2,B), set(3,A).")),
-        &["run rest steps 5", "Z = b", "failed r(3,2)"],
+        &["run rest steps 5", "Z = b", "failed r(3,2) from 2 at 4"],
     );
     let text = format!("g(X) :- ground(X?) | q(X?). k(X) :- known(X?) | q(X?). {SET}?- k(A?), g([B?,C?]), set(1,B).");
     let report = report(&text);
-    assert!(report.ends_with("waiting k(_1?)\nwaiting g([1,_2?])\n"), "{report}");
+    assert!(report.ends_with("waiting k(_1?) from 0 at 0\nwaiting g([1,_2?]) from 0 at 0\n"), "{report}");
 }
 
 /// Guards do not change what is given: a writer of the goal gets the head's term, the body the head's value.
 #[test]
 fn what_is_given_stays() {
     let text = "p(f(X,Y?),Y,Z?) :- integer(X?), known(Y?) | q(X?,X?,Z). ?- p(f(3,A),[b|C?],D).";
-    check(&report(text), &["A = [b|_1?]", "C = _1", "D = _2?", "failed q(3,3,_2)"]);
+    check(&report(text), &["A = [b|_1?]", "C = _1", "D = _2?", "failed q(3,3,_2) from 1 at 1"]);
     // A reader that may stand several times, once in the head.
     let text = "p(X,X?) :- constant(X?) | q(X?,[X?|X?]). ?- p(c,A).";
-    check(&report(text), &["A = c", "failed q(c,[c|c])"]);
+    check(&report(text), &["A = c", "failed q(c,[c|c]) from 1 at 1"]);
 }
 
 // Values are no longer trees: written out, what ground and `==` look at has more places than can be walked.
@@ -447,5 +471,5 @@ fn ground_of_an_open_list_assigned_one_by_one() {
     );
     let report = timed(|| report_with(&text, &large()));
     assert!(report.starts_with("run rest steps "));
-    assert!(report.ends_with(&format!("failed q([{}])\n", ones(8 * 28 * 11))));
+    assert!(report.contains(&format!("\nfailed q([{}]) from 7 at ", ones(8 * 28 * 11))));
 }

@@ -14,7 +14,7 @@ fn nested(levels: usize, open: &str, inside: &str, close: &str) -> String {
 fn a_deep_value_in_a_goal() {
     let report = timed(|| report_with("grow(X) :- grow(f(X?)). ?- grow(a).", &large()));
     let levels = 65_534 / 3;
-    let line = format!("active {}\n", nested(1, "grow(", &nested(levels, "f(", "a", ")"), ")"));
+    let line = format!("active grow({}) from 1 at {levels}\n", nested(levels, "f(", "a", ")"));
     assert!(report.starts_with(&format!("run room steps {levels}\n")) && report.ends_with(&line));
 }
 
@@ -65,7 +65,7 @@ p([],f(R?,S)) :- link(R), no(S?).\n";
     let text = format!("{rules}?- mk(A), p([{}],A?).", vec!["1"; 20].join(","));
     let answer = timed(|| call(text.as_bytes(), &Figures { budget: 30_000, ..large() }));
     let report = String::from_utf8(answer.report.expect("a report")).unwrap();
-    check(&report, &["run budget steps 30000", "failed no(_1?)", "active link(_1)"]);
+    check(&report, &["run budget steps 30000", "failed no(_1?) from 4 at 42", "active link(_1) from 2 at 30000"]);
     let leaves = 1 << 21;
     let line = report.lines().find(|line| line.starts_with("A = ")).unwrap();
     assert_eq!(line.len(), "A = ".len() + leaves * "_1?".len() + (leaves - 1) * "f(,)".len());
@@ -77,7 +77,15 @@ fn a_goal_that_waits_at_the_end_of_a_growing_chain() {
     let report = timed(|| report_with("link(X?) :- link(X). see(1). ?- see(A?), link(A).", &large()));
     let links = 65_533 / 2;
     let steps = links + 1 + links / 2;
-    check(&report, &[&format!("run room steps {steps}"), "A = _1?", "waiting see(_1?)", "active link(_1)"]);
+    check(
+        &report,
+        &[
+            &format!("run room steps {steps}"),
+            "A = _1?",
+            "waiting see(_1?) from 0 at 0",
+            "active link(_1) from 1 at 49149",
+        ],
+    );
 }
 
 /// Each second step wraps the whole value built so far, so each circle test meets it.
@@ -149,7 +157,7 @@ fn a_report_of_exactly_the_buffers_length() {
 #[test]
 fn runs_that_fill_the_room() {
     let report = timed(|| report_with("p(1) :- p(1). ?- p(1).", &large()));
-    check(&report, &["run room steps 32767", "active p(1)"]);
+    check(&report, &["run room steps 32767", "active p(1) from 1 at 32767"]);
     // Nothing but goals of one argument: 7 of 8 compounds charged are goals that stay.
     let text = "p(1) :- p(1),p(1),p(1),p(1),p(1),p(1),p(1). ?- p(1).";
     let report = timed(|| report_with(text, &large()));

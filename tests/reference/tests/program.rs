@@ -27,7 +27,7 @@ fn printed(options: &[&str], input: impl AsRef<[u8]>) -> String {
     output
 }
 
-const SHORT: &str = "run rest steps 1\nquery 1 tries 1 active 0 waiting 0 failed 1\nfailed p(a)\n";
+const SHORT: &str = "run rest steps 1\nquery 1 tries 1 active 0 waiting 0 failed 1\nfailed p(a) from 0 at 0\n";
 
 #[test]
 fn the_report_or_the_refusal() {
@@ -38,7 +38,7 @@ fn the_report_or_the_refusal() {
     assert_eq!(printed(&[], " ".repeat(16_385)), "refused 3 line 0\n");
     assert_eq!(printed(&[], " ".repeat(1_000_000)), "refused 3 line 0\n");
     let k3 = printed(&[], format!("{RULES}?- tag(A?,Z), end(A).\n?- tag([1|B?],Y).\n"));
-    assert!(k3.starts_with("run rest steps 5\n") && k3.ends_with("waiting tag(_1?,_2)\n"));
+    assert!(k3.starts_with("run rest steps 5\n") && k3.ends_with("waiting tag(_1?,_2) from 1 at 1\n"));
 }
 
 #[test]
@@ -92,7 +92,7 @@ fn frames() {
     ]
     .concat();
     let short = format!("0 0 {} 0\n{SHORT}", SHORT.len());
-    let active = "run budget steps 0\nquery 1 tries 0 active 1 waiting 0 failed 0\nactive p(a)\n";
+    let active = "run budget steps 0\nquery 1 tries 0 active 1 waiting 0 failed 0\nactive p(a) from 0 at 0\n";
     let expected = format!("{short}4 3 0 2\n6 0 0 0\n8 0 {} 0\n2 0 0 0\n{short}", active.len());
     assert_eq!(printed(&["--framed"], input), expected);
     assert_eq!(printed(&["--framed"], ""), "");

@@ -63,7 +63,7 @@ fn r05_tokens_from_left_to_right() {
 
 #[test]
 fn r06_separators_between_any_two_tokens() {
-    check(&report("?-p (a , [ ] ,[ 1%x\n|\tX? ]\r)\n."), &["failed p(a,[],[1|_1?])"]);
+    check(&report("?-p (a , [ ] ,[ 1%x\n|\tX? ]\r)\n."), &["failed p(a,[],[1|_1?]) from 0 at 0"]);
 }
 
 #[test]
@@ -86,7 +86,7 @@ fn r08_a_full_stop_wherever_it_stands() {
 /// Document 02, T-04. Of all bytes between two letters, besides those of a name, only a comma makes arguments of it.
 #[test]
 fn t04_the_bytes_of_a_name() {
-    assert!(shows(&report("?- p(aZ09_z)."), "failed p(aZ09_z)"));
+    assert!(shows(&report("?- p(aZ09_z)."), "failed p(aZ09_z) from 0 at 0"));
     let of_a_name = b"0123456789ABCDEFGHIJKLMNOPQRSTUVWXYZ_abcdefghijklmnopqrstuvwxyz";
     for byte in 0..=255u8 {
         let text = [b"?- p(a", &[byte][..], b"b)."].concat();
@@ -224,36 +224,39 @@ fn r19_a_reader_wakes_too_and_waiting_again_joins_the_end() {
     assert_eq!(
         report,
         "run rest steps 4\nquery 1 tries 4 active 0 waiting 2 failed 0\nA = _1?\nC = _2\nB = _3\nD = _4\nE = _1\n\
-         waiting see(_3?,two,_4)\nwaiting see(_1?,one,_2)\n"
+         waiting see(_3?,two,_4) from 0 at 0\nwaiting see(_1?,one,_2) from 0 at 0\n"
     );
 }
 
 #[test]
 fn r20_waiting_and_failing_need_no_room_but_failed_goals_count() {
     let tight = |text: &str, goals| report_with(text, &Figures { pairs: 1, compounds: 2, goals, ..Figures::default() });
-    check(&tight("see(1). ?- see(A?), no(1).", 2), &["run rest steps 2", "waiting see(_1?)", "failed no(1)"]);
+    check(
+        &tight("see(1). ?- see(A?), no(1).", 2),
+        &["run rest steps 2", "waiting see(_1?) from 0 at 0", "failed no(1) from 0 at 0"],
+    );
     let text = "p(1) :- p(2),p(3). ?- no(1), p(1).";
     let room = |goals| report_with(text, &Figures { goals, ..Figures::default() });
     check(&room(3), &["run rest steps 4", "query 1 tries 4 active 0 waiting 0 failed 3"]);
-    check(&room(2), &["run room steps 1", "active p(1)", "failed no(1)"]);
+    check(&room(2), &["run room steps 1", "active p(1) from 0 at 0", "failed no(1) from 0 at 0"]);
     let text = "p(1) :- p(2),p(3). see(1). ?- see(A?), p(1).";
     let room = |goals| report_with(text, &Figures { goals, ..Figures::default() });
     check(&room(3), &["run rest steps 4"]);
-    check(&room(2), &["run room steps 1", "active p(1)", "waiting see(_1?)"]);
+    check(&room(2), &["run room steps 1", "active p(1) from 0 at 0", "waiting see(_1?) from 0 at 0"]);
 }
 
 #[test]
 fn r21_room_is_judged_on_the_first_clause_that_succeeds() {
     let text = "p(1) :- p(f(f(f(1)))). p(1). ?- p(1).";
     let room = |compounds| report_with(text, &Figures { compounds, ..Figures::default() });
-    check(&room(5), &["run room steps 0", "query 1 tries 0 active 1 waiting 0 failed 0", "active p(1)"]);
+    check(&room(5), &["run room steps 0", "query 1 tries 0 active 1 waiting 0 failed 0", "active p(1) from 0 at 0"]);
     check(&room(6), &["run rest steps 2"]);
 }
 
 #[test]
 fn r22_later_clauses_are_tried_after_a_circle() {
     let report = report("p(X,X?). p(X,1) :- q(X?). q(a). ?- p(A?,A).");
-    check(&report, &["run rest steps 2", "A = 1", "failed q(1)"]);
+    check(&report, &["run rest steps 2", "A = 1", "failed q(1) from 2 at 1"]);
 }
 
 #[test]
@@ -274,21 +277,24 @@ fn r25_only_the_pairs_own_line_writes_the_writer() {
         session("?- same(B?,A)."),
         "run rest steps 1\nquery 1 tries 1 active 0 waiting 0 failed 0\nB = _1\nA = _1?\n"
     );
-    check(&session("?- no(B?)."), &["B = _1", "failed no(_1?)"]);
+    check(&session("?- no(B?)."), &["B = _1", "failed no(_1?) from 0 at 0"]);
 }
 
 #[test]
 fn r26_first_appearance_in_the_order_of_writing() {
     check(&session("?- same([Y,X],Z)."), &["Y = _1", "X = _2", "Z = [_1,_2]"]);
-    check(&session("?- same(f(Y?,X),Z), no(X?)."), &["Y = _1", "X = _2", "Z = f(_1?,_2)", "failed no(_2?)"]);
+    check(
+        &session("?- same(f(Y?,X),Z), no(X?)."),
+        &["Y = _1", "X = _2", "Z = f(_1?,_2)", "failed no(_2?) from 0 at 0"],
+    );
 }
 
 #[test]
 fn r27_goals_are_written_with_every_assignment_of_the_run() {
-    check(&session("?- no(A?), w(B?,2), same(5,A)."), &["failed no(5)", "waiting w(_1?,2)"]);
+    check(&session("?- no(A?), w(B?,2), same(5,A)."), &["failed no(5) from 0 at 0", "waiting w(_1?,2) from 0 at 0"]);
     check(
         &session("k(1,X,X?). ?- w([1|A?],B), k(C?,[2|B?],D), same([5],A)."),
-        &["failed w([1,5],_1)", "waiting k(_2?,[2|_1?],_3)"],
+        &["failed w([1,5],_1) from 0 at 0", "waiting k(_2?,[2|_1?],_3) from 0 at 0"],
     );
 }
 
@@ -328,11 +334,11 @@ fn budget_comes_before_room() {
 fn lists_are_written_with_commas_and_one_bar() {
     check(
         &report("?- p([a,b,c],[a,b|c],[[]|[]],[a|[b|[c]]],[[a|b]|f(X)])."),
-        &["failed p([a,b,c],[a,b|c],[[]],[a,b,c],[[a|b]|f(_1)])"],
+        &["failed p([a,b,c],[a,b|c],[[]],[a,b,c],[[a|b]|f(_1)]) from 0 at 0"],
     );
     // A tail that is a pair is followed, also where its value has been written before.
     check(&session("?- same([2,3],T), same([1|T?],L)."), &["T = [2,3]", "L = [1,2,3]"]);
     check(&session("?- same([1|T?],L), same([2,3],T)."), &["T = [2,3]", "L = [1,2,3]"]);
     let tail_first = "to(X?,X). ?- to(L,[1|T?]), to(T,[f([4]),3]), no(L?).";
-    check(&report(tail_first), &["L = [1,f([4]),3]", "T = [f([4]),3]", "failed no([1,f([4]),3])"]);
+    check(&report(tail_first), &["L = [1,f([4]),3]", "T = [f([4]),3]", "failed no([1,f([4]),3]) from 0 at 0"]);
 }

@@ -7,7 +7,7 @@ use mathlib.Core.Option.{none, some}
 use Rattle.meaning.specs.Bytes.{Bytes, bytes}
 use Rattle.meaning.specs.Terms.{writer, reader, empty, Terms, variable, constant, end, more, Job}
 use Rattle.meaning.specs.Items.{reading}
-use Rattle.meaning.specs.State.{Room, Goal, State, unit-at, part-of, start}
+use Rattle.meaning.specs.State.{Room, Goal, State, unit-at, part-of, from-query, start}
 use Rattle.meaning.specs.Step.{step}
 use Rattle.meaning.specs.Run.{choice-for, run}
 use Rattle.meaning.specs.Call.{everything}
@@ -30,7 +30,8 @@ figures = record { pairs = 10; compounds = 10; goals = 10 }
 
 -- Its goals.
 abbrev goal-of : ℕ → ℕ → Bytes → Terms → Goal
-goal-of query number name arguments = record { query = query; goal = record { number = number; name = name; arguments = arguments } }
+goal-of query number name arguments =
+    record { query = query; goal = record { number = number; name = name; arguments = arguments }; origin = from-query }
 
 unfoldable pub two-of-B : Goal
 two-of-B = goal-of 0 0 (bytes "two") (more (variable writer 0) (more (variable reader 0) end))

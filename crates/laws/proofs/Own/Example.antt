@@ -35,17 +35,18 @@ stopped =
       budget = 6;
       room = record { pairs = 30; compounds = 40; goals = 9 };
       scratch = [];
-      buffer = replicate 300 46;
+      buffer = replicate 400 46;
     }
 
--- The section of `?- tag([1|B?],Y).` in the second place, after two tries.
+-- The section of `?- tag([1|B?],Y).` in the second place, after two tries. The waiting goal was made by the first clause at the query's first try:
+-- the machine's third step, since other queries' steps lie before it.
 unfoldable pub shared : Bytes
-shared = bytes "query 2 tries 2 active 0 waiting 1 failed 0\nB = _1\nY = [hit(1)|_2?]\nwaiting tag(_1?,_2)\n"
+shared = bytes "query 2 tries 2 active 0 waiting 1 failed 0\nB = _1\nY = [hit(1)|_2?]\nwaiting tag(_1?,_2) from 1 at 1\n"
 
 pub example-at-rest : _≡_ {A = Outcome} (call (λ room. 0) rests)
     (record {
-      answer = ran 163;
-      buffer = bytes "run rest steps 5\nquery 1 tries 3 active 0 waiting 0 failed 0\nA = []\nZ = []\n" ++ shared ++ replicate 37 46;
+      answer = ran 175;
+      buffer = bytes "run rest steps 5\nquery 1 tries 3 active 0 waiting 0 failed 0\nA = []\nZ = []\n" ++ shared ++ replicate 25 46;
       scratch = [];
     })
 unfolding rules rests shared everything
@@ -53,19 +54,19 @@ example-at-rest = refl
 
 pub example-stopped : _≡_ {A = Outcome} (call (λ room. 0) stopped)
     (record {
-      answer = ran 270;
+      answer = ran 306;
       buffer =
-          bytes "run budget steps 6\nquery 1 tries 2 active 0 waiting 1 failed 0\nA = _1\nC = 7\nwaiting two(_1,_1?)\n"
+          bytes "run budget steps 6\nquery 1 tries 2 active 0 waiting 1 failed 0\nA = _1\nC = 7\nwaiting two(_1,_1?) from 0 at 0\n"
           ++ shared
-          ++ bytes "query 3 tries 2 active 1 waiting 0 failed 0\nD = []\nE = [hit(2)|_1?]\nactive tag([],_1)\n"
-          ++ replicate 30 46;
+          ++ bytes "query 3 tries 2 active 1 waiting 0 failed 0\nD = []\nE = [hit(2)|_1?]\nactive tag([],_1) from 1 at 2\n"
+          ++ replicate 94 46;
       scratch = [];
     })
 unfolding rules stopped shared everything
 example-stopped = refl
 
 -- By the bytes alone, both calls show that section.
-pub example-shows-the-section : (section-shown 1 (left-by (λ room. 0) rests 163) ≡ shared) × (section-shown 1 (left-by (λ room. 0) stopped 270) ≡ shared)
+pub example-shows-the-section : (section-shown 1 (left-by (λ room. 0) rests 175) ≡ shared) × (section-shown 1 (left-by (λ room. 0) stopped 306) ≡ shared)
 unfolding rules rests stopped shared section-shown left-by cut before-first begins-q everything
 example-shows-the-section = (refl, refl)
 
@@ -74,11 +75,11 @@ unfoldable pub job-of : Reading → Job
 job-of (job j) = j
 job-of (refused r) = record { clauses = []; queries = [] }
 
-pub example-ran-at-rest : Ran (λ room. 0) rests 163 (job-of (reading (rests .text)))
+pub example-ran-at-rest : Ran (λ room. 0) rests 175 (job-of (reading (rests .text)))
 unfolding rules rests job-of everything
 example-ran-at-rest = record { answers = refl; reads = refl }
 
-pub example-ran-stopped : Ran (λ room. 0) stopped 270 (job-of (reading (stopped .text)))
+pub example-ran-stopped : Ran (λ room. 0) stopped 306 (job-of (reading (stopped .text)))
 unfolding rules stopped job-of everything
 example-ran-stopped = record { answers = refl; reads = refl }
 

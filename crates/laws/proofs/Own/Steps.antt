@@ -11,27 +11,10 @@ use lib.Seq.{getD-set-same, getD-set-other}
 use borrow.Author.Tests.{eqb-true, eqb-false, ne-eqb, eq-eqb}
 use Rattle.meaning.specs.Bytes.{those}
 use Rattle.meaning.specs.Terms.{Named, Clause, Query, Job}
-use Rattle.meaning.specs.State.{
-  QueryUnit,
-  Goal,
-  Waiting,
-  Goals,
-  State,
-  Part,
-  Room,
-  no-unit,
-  unit-at,
-  first-unit,
-  goals-at,
-  all-goals,
-  start,
-  of,
-  goals-of,
-  part-of,
-}
+use Rattle.meaning.specs.State.{QueryUnit, Goal, Waiting, Goals, State, Part, Room, no-unit, unit-at, first-unit, goals-at, all-goals, start, of, goals-of, part-of, Origin, from-query}
 use Rattle.meaning.specs.Compare.{Assignment}
 use Rattle.meaning.specs.Trial.{Choice, reduces, joins-waiting, joins-failed, choice}
-use Rattle.meaning.specs.Step.{unit-after, body-goals, wakes, goals-after, without-front, step}
+use Rattle.meaning.specs.Step.{unit-after, made-by, body-goals, wakes, goals-after, without-front, step}
 use Rattle.meaning.specs.Run.{choice-for, Ended, ended, run}
 use Rattle.meaning.specs.Report.{section}
 use Rattle.laws.proofs.Lists.{
@@ -83,7 +66,7 @@ Goes (suc n) clauses part = Some (part .goals .queue) × Goes n clauses (own-ste
 -- The part of the query at place k before the first step.
 unfoldable pub first-part : ℕ → Query → Part
 first-part k q =
-    record { unit = first-unit q; goals = record { queue = goals-at k (q .goals); waiting = []; failed = [] } }
+    record { unit = first-unit q; goals = record { queue = goals-at from-query k (q .goals); waiting = []; failed = [] } }
 
 same-goals : (queue queue′ : List Goal) (waiting waiting′ : List Waiting) (failed failed′ : List Goal)
     → queue ≡ queue′ → waiting ≡ waiting′ → failed ≡ failed′
@@ -95,13 +78,13 @@ same-part : (unit unit′ : QueryUnit) (goals goals′ : Goals) → unit ≡ uni
 same-part unit unit′ goals goals′ p q = λ i. record { unit = p i; goals = q i }
 
 -- The goals of a query among those of one body.
-goals-at-own : (k : ℕ) (gs : List Named) → those (of k) (goals-at k gs) ≡ goals-at k gs
+goals-at-own : (origin : Origin) (k : ℕ) (gs : List Named) → those (of k) (goals-at origin k gs) ≡ goals-at origin k gs
 unfolding goals-at of
-goals-at-own k gs = those-map (of k) _ gs ∙ ap (map _) (those-all _ (λ g. eq-eqb k k refl) gs)
+goals-at-own origin k gs = those-map (of k) _ gs ∙ ap (map _) (those-all _ (λ g. eq-eqb k k refl) gs)
 
-goals-at-other : (j k : ℕ) → eqb j k ≡ false → (gs : List Named) → those (of k) (goals-at j gs) ≡ []
+goals-at-other : (origin : Origin) (j k : ℕ) → eqb j k ≡ false → (gs : List Named) → those (of k) (goals-at origin j gs) ≡ []
 unfolding goals-at of
-goals-at-other j k d gs = those-map (of k) _ gs ∙ ap (map _) (those-none _ (λ g. d) gs)
+goals-at-other origin j k d gs = those-map (of k) _ gs ∙ ap (map _) (those-none _ (λ g. d) gs)
 
 own : (g : Goal) → of (g .query) g ≡ true
 unfolding of
@@ -143,7 +126,7 @@ goals-after-other k (reduces clause given) unit g others d =
     same-goals _ _ _ _ _ _
     (simp (
       those-append,
-      goals-at-other (g .query) k d,
+      goals-at-other (made-by clause unit) (g .query) k d,
       those-map,
       those-excluded (λ w. of k (w .goal)) (wakes (g .query) given) (λ w e. woken-is-own (g .query) k given w d e) (others .waiting),
       append-nil,
@@ -260,16 +243,16 @@ none-before : (k place : ℕ) (qs : List Query) → k < place → those (of k) (
 unfolding all-goals those
 none-before k place [] h = refl
 none-before k place (q ∷ qs) h =
-    simp (those-append, goals-at-other place k (ne-eqb place k (λ p. omega arith)), none-before k (suc place) qs (omega arith))
+    simp (those-append, goals-at-other from-query place k (ne-eqb place k (λ p. omega arith)), none-before k (suc place) qs (omega arith))
 
-goals-of-query : (k place i : ℕ) (qs : List Query) → k ≡ place + i → those (of k) (all-goals place qs) ≡ goals-at k (query-at i qs .goals)
+goals-of-query : (k place i : ℕ) (qs : List Query) → k ≡ place + i → those (of k) (all-goals place qs) ≡ goals-at from-query k (query-at i qs .goals)
 unfolding all-goals query-at goals-at those
 goals-of-query k place i [] e = refl
 goals-of-query k place zero (q ∷ qs) e =
     let here : place ≡ k = omega arith in
     rw here (simp (those-append, goals-at-own, none-before k (suc k) qs (omega arith), append-nil))
 goals-of-query k place (suc i) (q ∷ qs) e =
-    simp (those-append, goals-at-other place k (ne-eqb place k (λ p. omega arith))) (goals-of-query k (suc place) i qs (omega arith))
+    simp (those-append, goals-at-other from-query place k (ne-eqb place k (λ p. omega arith))) (goals-of-query k (suc place) i qs (omega arith))
 
 start-part : (k : ℕ) (queries : List Query) → part-of k (start queries) ≡ first-part k (query-at k queries)
 unfolding part-of start first-part goals-of unit-at query-at no-unit those first-unit

@@ -146,7 +146,7 @@ module _ (so-far : SoFar) (names-fit : SpellingsFit 256 (so-far .names)) (at : �
     read-so : ItemRead rule (token at t rest)
     read-so = record { names = so-far .names; names-fit = names-fit; fit = fit; value = r; counted = counted; rest = behind; is-read = e }
 
-    as-guarded : (o : Option (List Guard)) → as-guards (r .body .guards) ≡ o → unless-unknown at (token at t rest) r counted o ≡ refused (occurrence-rule begins f)
+    as-guarded : (o : Option (List Guard)) → as-guards (r .body .guards) ≡ o → unless-unknown (so-far .clauses + 1) at (token at t rest) r counted o ≡ refused (occurrence-rule begins f)
         → ItemBroken (token at t rest) begins f
     unfolding unless-unknown with-guards unless-broken if_then_else_ read-so
     as-guarded none known q = absurd (differ (cc))
@@ -169,7 +169,7 @@ module _ (so-far : SoFar) (names-fit : SpellingsFit 256 (so-far .names)) (at : �
             }
 
   as-clause : (x : Read Rule) → rule (fresh (so-far .names)) (token at t rest) ≡ x
-      → clause-piece at (token at t rest) x ≡ refused (occurrence-rule begins f) → ItemBroken (token at t rest) begins f
+      → clause-piece (so-far .clauses + 1) at (token at t rest) x ≡ refused (occurrence-rule begins f) → ItemBroken (token at t rest) begins f
   unfolding clause-piece
   as-clause (read r counted behind) e q = as-guarded r counted behind e (as-guards (r .body .guards)) refl q
   as-clause (malformed place) e q = absurd (differ (cc))

@@ -75,14 +75,14 @@ not-eleven at begins (some fault) accepted h e = differ (cc)
 module _ (so-far : SoFar) (names-fit : SpellingsFit 256 (so-far .names)) (at : ℕ) (t : Token) (rest : Tokens)
     (fit : EachToken TokenFits (token at t rest)) (begins : ℕ) where
   as-clause : (x : Read Rule) → rule (fresh (so-far .names)) (token at t rest) ≡ x
-      → clause-piece at (token at t rest) x ≡ refused (guard-rule begins) → GuardsBroken (token at t rest) begins
+      → clause-piece (so-far .clauses + 1) at (token at t rest) x ≡ refused (guard-rule begins) → GuardsBroken (token at t rest) begins
   unfolding clause-piece unless-unknown with-guards if_then_else_
   as-clause (read r counted behind) e q = by (as-guards (r .body .guards)) refl q
     where
       read-so : ItemRead rule (token at t rest)
       read-so = record { names = so-far .names; names-fit = names-fit; fit = fit; value = r; counted = counted; rest = behind; is-read = e }
 
-      by : (o : Option (List Guard)) → as-guards (r .body .guards) ≡ o → unless-unknown at (token at t rest) r counted o ≡ refused (guard-rule begins)
+      by : (o : Option (List Guard)) → as-guards (r .body .guards) ≡ o → unless-unknown (so-far .clauses + 1) at (token at t rest) r counted o ≡ refused (guard-rule begins)
           → GuardsBroken (token at t rest) begins
       by none unknown q = let at-is : at ≡ begins = cc in record { begins-there = (t, rest, rw at-is refl); item = read-so; broken = inl unknown }
       by (some guards) known q = go (all (of-the-head (length (counted .variables)) (r .head)) guards) refl
@@ -90,7 +90,7 @@ module _ (so-far : SoFar) (names-fit : SpellingsFit 256 (so-far .names)) (at : �
           go : (of-head : Bool) → all (of-the-head (length (counted .variables)) (r .head)) guards ≡ of-head → GuardsBroken (token at t rest) begins
           go true p =
               absurd (not-eleven at begins (least (clause-faults (free guards (counted .variables)) (pairing (r .body .behind) (token at t rest)) (counted .variables)))
-              (clause (record { head = r .head; guards = guards; body = r .body .goals; pairs = length (counted .variables); compounds = counted .compounds }) (counted .names))
+              (clause (record { place = so-far .clauses + 1; head = r .head; guards = guards; body = r .body .goals; pairs = length (counted .variables); compounds = counted .compounds }) (counted .names))
               (λ d. differ (cc)) (rw p at q))
           go false p =
               let q′ : Piece.refused (guard-rule at) ≡ refused (guard-rule begins) = rw p at q in

@@ -1,6 +1,6 @@
 -- The text item by item: in an accepted text each clause piece reads as the clause, and each query piece as the query, in its place.
 -- By induction over the pieces, with the names, clauses and queries counted so far.
-use Prim.Native.Nat.{_+_, _≤_}
+use Prim.Native.Nat.{ℕ, _+_, _≤_}
 use mathlib.Core.Path.{_≡_, refl}
 use mathlib.Core.Bool.{Bool, true, false}
 use mathlib.Core.List.{List, [], _∷_}
@@ -30,7 +30,7 @@ use Rattle.meaning.specs.Items.{
   asked,
   reading,
 }
-use Rattle.laws.proofs.Lists.{Each, Paired, done, pair, differ}
+use Rattle.laws.proofs.Lists.{In, here, there, Each, Paired, done, pair, differ}
 use Rattle.laws.proofs.Reading.Figures.{SpellingsFit, no-spellings-fit}
 use Rattle.laws.proofs.Reading.EachToken.{EachToken}
 use Rattle.laws.proofs.Reading.TokensFit.{TokenFits, tokens-fit}
@@ -71,6 +71,15 @@ ClauseAmong names piece c = (r : ClauseRead piece c) × Among (r .item .counted 
 abbrev pub QueryAmong : List Bytes → Tokens → Query → Type 0
 QueryAmong names piece q = (r : QueryRead piece q) × Among (r .item .counted .names) names
 
+-- Clauses are counted on, from a number.
+abbrev pub CountedFrom : ℕ → List Clause → Type 0
+CountedFrom n [] = Unit {0}
+CountedFrom n (c ∷ cs) = (c .place ≡ n) × CountedFrom (n + 1) cs
+
+counted-within : (n : ℕ) (cs : List Clause) → CountedFrom n cs → (c : Clause) → In c cs → (n ≤ c .place) × (c .place + 1 ≤ n + length cs)
+counted-within n (d ∷ cs) h c (here e) = rw e (omega (arith, h .0), omega (arith, h .0))
+counted-within n (d ∷ cs) h c (there m) = let (a, b) = counted-within (n + 1) cs (h .1) c m in (omega arith, omega arith)
+
 -- The pieces are read, each in its place, behind what has been counted so far; and the figures of the whole text are kept.
 pub record ReadInOrder (so-far : SoFar) (ps : List Tokens) (j : Job) : Type 0 where
   pub names : List Bytes
@@ -79,6 +88,7 @@ pub record ReadInOrder (so-far : SoFar) (ps : List Tokens) (j : Job) : Type 0 wh
   pub among : Among (so-far .names) names
   pub few-clauses : so-far .clauses + length (j .clauses) ≤ 128
   pub few-queries : so-far .queries + length (j .queries) ≤ 8
+  pub nth : CountedFrom (so-far .clauses + 1) (j .clauses)
   pub clauses : Paired (ClauseAmong names) (those (begins-with is-name) ps) (j .clauses)
   pub queries : Paired (QueryAmong names) (those (begins-with (is "?")) ps) (j .queries)
 
@@ -100,6 +110,7 @@ module _ (so-far : SoFar) (piece : Tokens) (ps : List Tokens) (j : Job) where
         among = h .among;
         few-clauses = h .few-clauses;
         few-queries = h .few-queries;
+        nth = h .nth;
         clauses = rw unnamed (h .clauses);
         queries = rw unasked (h .queries);
       }
@@ -117,6 +128,7 @@ module _ (so-far : SoFar) (piece : Tokens) (ps : List Tokens) (j : Job) where
           among = λ f k. h .among f (n .among f k);
           few-clauses = omega (arith, h .few-clauses);
           few-queries = h .few-queries;
+          nth = (n .nth, h .nth);
           clauses = rw (n .named) (pair (n .clause-read, rw (n .counted) (h .among)) (h .clauses));
           queries = rw (n .unasked) (h .queries);
         }
@@ -133,6 +145,7 @@ module _ (so-far : SoFar) (piece : Tokens) (ps : List Tokens) (j : Job) where
           among = λ f k. h .among f (n .among f k);
           few-clauses = h .few-clauses;
           few-queries = omega (arith, h .few-queries);
+          nth = h .nth;
           clauses = rw (n .unnamed) (h .clauses);
           queries = rw (n .asked) (pair (n .query-read, rw (n .counted) (h .among)) (h .queries));
         }
@@ -162,6 +175,7 @@ items-in-order [] fit cut so-far j h e =
       among = λ f k. k;
       few-clauses = omega arith;
       few-queries = omega arith;
+      nth = tt;
       clauses = done;
       queries = done;
     })
@@ -203,6 +217,7 @@ pub record TextRead (text : Bytes) (j : Job) : Type 0 where
   pub few-clauses : length (j .clauses) ≤ 128
   pub some-queries : 1 ≤ length (j .queries)
   pub few-queries : length (j .queries) ≤ 8
+  pub nth : CountedFrom 1 (j .clauses)
   pub clauses : Paired (ClauseAmong (names-of text)) (clause-pieces text) (j .clauses)
   pub queries : Paired (QueryAmong (names-of text)) (query-pieces text) (j .queries)
 
@@ -217,6 +232,13 @@ accepted-is-read text j e =
       few-clauses = omega (arith, in-order .few-clauses);
       some-queries = asked;
       few-queries = omega (arith, in-order .few-queries);
+      nth = in-order .nth;
       clauses = rw (in-order .counted) (in-order .clauses);
       queries = rw (in-order .counted) (in-order .queries);
     }
+
+-- A clause's number is one of those from 1 to as many clauses as there are.
+pub clause-numbered : (text : Bytes) (j : Job) → reading text ≡ job j → (c : Clause) → In c (j .clauses) → (1 ≤ c .place) × (c .place ≤ length (j .clauses))
+clause-numbered text j e c m =
+    let (a, b) = counted-within 1 (j .clauses) (accepted-is-read text j e .nth) c m in
+    (a, omega arith)

@@ -1,6 +1,6 @@
 -- One item read: from nothing counted but the text's names, over the tokens of its piece, to a clause or a query that passed the tests.
 -- Every law of accepted items follows from that; two pieces with the same tokens read as the same.
-use Prim.Native.Nat.{ℕ, _<_}
+use Prim.Native.Nat.{ℕ, _+_, _<_}
 use mathlib.Core.Path.{_≡_, refl}
 use mathlib.Core.Bool.{Bool, true, false}
 use mathlib.Core.List.{List, [], _∷_}
@@ -117,7 +117,7 @@ pub record ClauseRead (piece : Tokens) (c : Clause) : Type 0 where
   pub not-twice : nothing-twice-but (licensed guards) (length (item .counted .variables)) (item .value .head) (item .value .body .goals) ≡ true
   pub halves : both-halves (length (item .counted .variables)) (item .value .head ∷ item .value .body .goals) ≡ true
   pub made : c
-      ≡ record { head = item .value .head; guards = guards; body = item .value .body .goals; pairs = length (item .counted .variables); compounds = item .counted .compounds }
+      ≡ record { place = c .place; head = item .value .head; guards = guards; body = item .value .body .goals; pairs = length (item .counted .variables); compounds = item .counted .compounds }
 
 -- A piece reads as a query: its goals stand behind its `?-`.
 pub record QueryRead (piece : Tokens) (q : Query) : Type 0 where
@@ -184,6 +184,7 @@ pub record ClauseNext (so-far : SoFar) (piece : Tokens) (c : Clause) (names : Li
   pub named : begins-with is-name piece ≡ true
   pub unasked : begins-with (is "?") piece ≡ false
   pub room : so-far .clauses < 128
+  pub nth : c .place ≡ so-far .clauses + 1
   pub clause-read : ClauseRead piece c
   pub counted : clause-read .item .counted .names ≡ names
   pub among : Among (so-far .names) names
@@ -224,7 +225,7 @@ module _ (so-far : SoFar) (names-fit : SpellingsFit 256 (so-far .names)) (begins
       unfolding whole
       read-so = record { names = so-far .names; names-fit = names-fit; fit = fit; value = r; counted = counted; rest = rest; is-read = e }
 
-      judged-says : (guards : List Guard) → as-guards (r .body .guards) ≡ some guards → Says so-far whole (with-guards begins whole r counted guards)
+      judged-says : (guards : List Guard) → as-guards (r .body .guards) ≡ some guards → Says so-far whole (with-guards (so-far .clauses + 1) begins whole r counted guards)
       unfolding Says with-guards unless-broken begins-with whole fresh if_then_else_ read-so
       judged-says guards known = go (all (of-the-head (length (counted .variables)) (r .head)) guards) refl (least faults) refl
         where
@@ -234,7 +235,7 @@ module _ (so-far : SoFar) (names-fit : SpellingsFit 256 (so-far .names)) (begins
           go : (of-head : Bool) → all (of-the-head (length (counted .variables)) (r .head)) guards ≡ of-head
               → (broken : Option Fault) → least faults ≡ broken
               → Says so-far whole (if of-head then unless-broken begins broken
-              (clause (record { head = r .head; guards = guards; body = r .body .goals; pairs = length (counted .variables); compounds = counted .compounds }) (counted .names))
+              (clause (record { place = so-far .clauses + 1; head = r .head; guards = guards; body = r .body .goals; pairs = length (counted .variables); compounds = counted .compounds }) (counted .names))
               else refused (guard-rule begins))
           go true e₁ none e₂ =
               let kept = rule-kept read-so cut guards (least-none faults e₂) in
@@ -242,6 +243,7 @@ module _ (so-far : SoFar) (names-fit : SpellingsFit 256 (so-far .names)) (begins
                 named = named;
                 unasked = name-no-sign t named;
                 room = room;
+                nth = refl;
                 clause-read = record { item = read-so; guards = guards; in-table = known; of-head = e₁; not-twice = kept .0; halves = kept .1; made = refl };
                 counted = refl;
                 among = rule-fits read-so .widens .names;
@@ -250,12 +252,12 @@ module _ (so-far : SoFar) (names-fit : SpellingsFit 256 (so-far .names)) (begins
           go true e₁ (some fault) e₂ = tt
           go false e₁ broken e₂ = tt
 
-      guarded-says : (o : Option (List Guard)) → as-guards (r .body .guards) ≡ o → Says so-far whole (unless-unknown begins whole r counted o)
+      guarded-says : (o : Option (List Guard)) → as-guards (r .body .guards) ≡ o → Says so-far whole (unless-unknown (so-far .clauses + 1) begins whole r counted o)
       unfolding Says unless-unknown
       guarded-says none e = tt
       guarded-says (some guards) e = judged-says guards e
 
-    clause-piece-says : (x : Read Rule) → rule (fresh (so-far .names)) whole ≡ x → Says so-far whole (clause-piece begins whole x)
+    clause-piece-says : (x : Read Rule) → rule (fresh (so-far .names)) whole ≡ x → Says so-far whole (clause-piece (so-far .clauses + 1) begins whole x)
     unfolding Says clause-piece
     clause-piece-says (read r counted rest) e = guarded-says r counted rest e (as-guards (r .body .guards)) refl
     clause-piece-says (malformed place) e = tt
@@ -296,7 +298,7 @@ module _ (so-far : SoFar) (names-fit : SpellingsFit 256 (so-far .names)) (begins
   token-says = go (is-name t) refl (is "?" t) refl
     where
       as-clause : is-name t ≡ true → (room : Bool) → ltb (so-far .clauses) 128 ≡ room
-          → Says so-far whole (if room then clause-piece begins whole (rule (fresh (so-far .names)) whole) else refused (figure begins))
+          → Says so-far whole (if room then clause-piece (so-far .clauses + 1) begins whole (rule (fresh (so-far .names)) whole) else refused (figure begins))
       as-clause named true e = clause-piece-says named (ltb-true (so-far .clauses) 128 e) (rule (fresh (so-far .names)) whole) refl
       as-clause named false e = tt
 

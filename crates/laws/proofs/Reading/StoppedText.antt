@@ -67,7 +67,7 @@ module _ (so-far : SoFar) (at : ℕ) (t : Token) (rest : Tokens) (p : ℕ) where
   not-four none accepted h e = h e
   not-four (some fault) accepted h e = differ (cc)
 
-  guarded-not-four : (r : Rule) (counted : Counted) (o : Option (List Guard)) → unless-unknown at (token at t rest) r counted o ≡ refused (no-item p) → ⊥
+  guarded-not-four : (r : Rule) (counted : Counted) (o : Option (List Guard)) → unless-unknown (so-far .clauses + 1) at (token at t rest) r counted o ≡ refused (no-item p) → ⊥
   unfolding unless-unknown with-guards if_then_else_
   guarded-not-four r counted none e = differ (cc)
   guarded-not-four r counted (some guards) e = go (all (of-the-head (length (counted .variables)) (r .head)) guards) refl
@@ -75,11 +75,11 @@ module _ (so-far : SoFar) (at : ℕ) (t : Token) (rest : Tokens) (p : ℕ) where
       go : (b : Bool) → all (of-the-head (length (counted .variables)) (r .head)) guards ≡ b → ⊥
       go true q =
           not-four (least (clause-faults (free guards (counted .variables)) (pairing (r .body .behind) (token at t rest)) (counted .variables)))
-          (clause (record { head = r .head; guards = guards; body = r .body .goals; pairs = length (counted .variables); compounds = counted .compounds }) (counted .names))
+          (clause (record { place = so-far .clauses + 1; head = r .head; guards = guards; body = r .body .goals; pairs = length (counted .variables); compounds = counted .compounds }) (counted .names))
           (λ d. differ (cc)) (rw q at e)
       go false q = let e′ : Piece.refused (guard-rule at) ≡ refused (no-item p) = rw q at e in differ (cc)
 
-  as-clause : (x : Read Rule) → rule (fresh (so-far .names)) (token at t rest) ≡ x → clause-piece at (token at t rest) x ≡ refused (no-item p) → At p (token at t rest)
+  as-clause : (x : Read Rule) → rule (fresh (so-far .names)) (token at t rest) ≡ x → clause-piece (so-far .clauses + 1) at (token at t rest) x ≡ refused (no-item p) → At p (token at t rest)
   unfolding clause-piece
   as-clause (read r counted behind) e q = absurd (guarded-not-four r counted (as-guards (r .body .guards)) q)
   as-clause (malformed place) e q =

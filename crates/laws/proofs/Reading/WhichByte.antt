@@ -85,14 +85,14 @@ abbrev pub query-rules : {behind : Tokens} → ItemRead (goals 8) behind → Boo
 query-rules x = nothing-twice (length (x .counted .variables)) (x .value)
 
 -- 11 is judged first: "for a guard not in the table or with another variable".
-module _ {piece : Tokens} (x : ItemRead rule piece) (begins : ℕ) where
-  pub unknown-guard-refused : as-guards (x .value .body .guards) ≡ none → clause-piece begins piece (read (x .value) (x .counted) (x .rest)) ≡ refused (guard-rule begins)
+module _ {piece : Tokens} (x : ItemRead rule piece) (nth begins : ℕ) where
+  pub unknown-guard-refused : as-guards (x .value .body .guards) ≡ none → clause-piece nth begins piece (read (x .value) (x .counted) (x .rest)) ≡ refused (guard-rule begins)
   unfolding clause-piece unless-unknown
   unknown-guard-refused e = rw e refl
 
   pub other-variable-refused : (guards : List Guard) → as-guards (x .value .body .guards) ≡ some guards
       → all (of-the-head (length (x .counted .variables)) (x .value .head)) guards ≡ false
-      → clause-piece begins piece (read (x .value) (x .counted) (x .rest)) ≡ refused (guard-rule begins)
+      → clause-piece nth begins piece (read (x .value) (x .counted) (x .rest)) ≡ refused (guard-rule begins)
   unfolding clause-piece unless-unknown with-guards if_then_else_
   other-variable-refused guards e q = rw (e, q) refl
 
@@ -107,18 +107,18 @@ module _ {piece : Tokens} (x : ItemRead rule piece) (cut : Cut piece) (guards : 
       (and-right (nothing-twice-but (licensed guards) (length (x .counted .variables)) (x .value .head) (x .value .body .goals)) _ e))
 
   -- So a clause whose guards keep 11 is accepted exactly if the rules hold, and else refused where the same item begins.
-  module _ (in-table : as-guards (x .value .body .guards) ≡ some guards) (of-head : all (of-the-head (length (x .counted .variables)) (x .value .head)) guards ≡ true) (begins : ℕ) where
+  module _ (in-table : as-guards (x .value .body .guards) ≡ some guards) (of-head : all (of-the-head (length (x .counted .variables)) (x .value .head)) guards ≡ true) (nth begins : ℕ) where
     pub clause-as-before :
-        ((clause-rules x guards ≡ true) × (clause-piece begins piece (read (x .value) (x .counted) (x .rest))
-        ≡ clause (record { head = x .value .head; guards = guards; body = x .value .body .goals; pairs = length (x .counted .variables); compounds = x .counted .compounds }) (x .counted .names)))
-        ⊎ ((clause-rules x guards ≡ false) × ((f : Fault) × (clause-piece begins piece (read (x .value) (x .counted) (x .rest)) ≡ refused (occurrence-rule begins f))))
+        ((clause-rules x guards ≡ true) × (clause-piece nth begins piece (read (x .value) (x .counted) (x .rest))
+        ≡ clause (record { place = nth; head = x .value .head; guards = guards; body = x .value .body .goals; pairs = length (x .counted .variables); compounds = x .counted .compounds }) (x .counted .names)))
+        ⊎ ((clause-rules x guards ≡ false) × ((f : Fault) × (clause-piece nth begins piece (read (x .value) (x .counted) (x .rest)) ≡ refused (occurrence-rule begins f))))
     unfolding clause-piece unless-unknown with-guards unless-broken if_then_else_
     clause-as-before = go clause-judged
       where
         go : Judged (clause-rules x guards) (least (faults-of x cut guards))
-            → ((clause-rules x guards ≡ true) × (clause-piece begins piece (read (x .value) (x .counted) (x .rest))
-            ≡ clause (record { head = x .value .head; guards = guards; body = x .value .body .goals; pairs = length (x .counted .variables); compounds = x .counted .compounds }) (x .counted .names)))
-            ⊎ ((clause-rules x guards ≡ false) × ((f : Fault) × (clause-piece begins piece (read (x .value) (x .counted) (x .rest)) ≡ refused (occurrence-rule begins f))))
+            → ((clause-rules x guards ≡ true) × (clause-piece nth begins piece (read (x .value) (x .counted) (x .rest))
+            ≡ clause (record { place = nth; head = x .value .head; guards = guards; body = x .value .body .goals; pairs = length (x .counted .variables); compounds = x .counted .compounds }) (x .counted .names)))
+            ⊎ ((clause-rules x guards ≡ false) × ((f : Fault) × (clause-piece nth begins piece (read (x .value) (x .counted) (x .rest)) ≡ refused (occurrence-rule begins f))))
         go (inl (kept, e)) = inl (kept, rw (in-table, of-head, e) refl)
         go (inr (broken, (f, e))) = inr (broken, (f, rw (in-table, of-head, e) refl))
 

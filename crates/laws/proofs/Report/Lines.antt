@@ -3,7 +3,7 @@
 use Prim.Native.Nat.{ℕ, zero, suc, _+_, _/_, _%_}
 use mathlib.Core.Path.{_≡_, refl}
 use mathlib.Core.Bool.{Bool, true, false, not, _&&_}
-use mathlib.Core.List.{List, [], _∷_, _++_, map}
+use mathlib.Core.List.{List, [], _∷_, _++_, map, append-assoc}
 use native.Mathlib.Omega.{arith}
 use lib.Dec.{eqb, ltb}
 use lib.ListN.{length}
@@ -32,9 +32,10 @@ use Rattle.meaning.specs.Terms.{
   Query,
   as-term,
 }
-use Rattle.meaning.specs.State.{Values, Goal, Waiting, Part}
+use Rattle.meaning.specs.State.{Values, Origin, Goal, Waiting, Part}
 use Rattle.meaning.specs.Report.{
   variable-bytes,
+  origin-bytes,
   number-in,
   integer-bytes,
   Role,
@@ -170,11 +171,12 @@ module _ (pairs : List ℕ) where
     other-arguments-plain (more t ts) s =
         comma-plain (written pairs alone t) (other-arguments pairs ts) (written-plain alone t (s .0)) (other-arguments-plain ts (s .1))
 
--- Lines: what stands before the term has no LF and begins with something other than `q`.
+-- Lines: what stands before the term, and what stands behind it, has no LF; the line begins with something other than `q`.
 pub record Line-inner (line : Line) : Type 0 where
   pub plain : Plain (line .words)
   pub begins : (behind : Bytes) → begins-q (line .words ++ behind) ≡ false
   pub spelled : Spelled Plain (line .shown)
+  pub ends : Plain (line .ending)
 
 variable-words-begin : (x behind : Bytes) → begins-q x ≡ false → begins-q (x ++ bytes " = " ++ behind) ≡ false
 unfolding begins-q bytes byte
@@ -189,15 +191,23 @@ value-lines-inner p (x ∷ xs) i = (
     plain = plain-append x (bytes " = ") (i .0 .plain) refl;
     begins = λ behind. variable-words-begin x behind (i .0 .begins);
     spelled = tt;
+    ends = refl;
   },
   value-lines-inner (suc p) xs (i .1),
 )
+
+origin-plain : (o : Origin) → Plain (origin-bytes o)
+unfolding origin-bytes no-break bytes byte
+origin-plain o =
+    plain-append (bytes " from " ++ decimal (o .clause) ++ bytes " at ") (decimal (o .tries))
+    (plain-append (bytes " from " ++ decimal (o .clause)) (bytes " at ") (plain-append (bytes " from ") (decimal (o .clause)) refl (decimal-plain (o .clause))) refl)
+    (decimal-plain (o .tries))
 
 goal-lines-inner : (word : Bytes) (gs : List Goal) → Plain word → ((behind : Bytes) → begins-q (word ++ behind) ≡ false)
     → Each (λ g. Goal-spelled Plain (g .goal)) gs → Each Line-inner (goal-lines word gs)
 unfolding goal-lines as-term Spelled Functor-spelled Goal-spelled
 goal-lines-inner word [] p b s = tt
-goal-lines-inner word (g ∷ gs) p b s = (record { plain = p; begins = b; spelled = s .0 }, goal-lines-inner word gs p b (s .1))
+goal-lines-inner word (g ∷ gs) p b s = (record { plain = p; begins = b; spelled = s .0; ends = origin-plain (g .origin) }, goal-lines-inner word gs p b (s .1))
 
 -- What is needed of a query and its part: names without LF, variables that do not begin with `q`.
 pub record Part-spelled (query : Query) (part : Part) : Type 0 where
@@ -233,21 +243,24 @@ lines-applied-inner values (l ∷ ls) v i = (
     plain = i .0 .plain;
     begins = i .0 .begins;
     spelled = applied-spelled Plain (length values) values v (l .shown) (i .0 .spelled);
+    ends = i .0 .ends;
   },
   lines-applied-inner values ls v (i .1),
 )
 
 -- A line without its LF.
 line-body : List ℕ → Line → Bytes
-line-body pairs l = l .words ++ written pairs alone (l .shown)
+line-body pairs l = l .words ++ written pairs alone (l .shown) ++ l .ending
 
 lines-inner : (pairs : List ℕ) (ls : List Line) → Each Line-inner ls → Each Inner (map (line-body pairs) ls)
 unfolding line-body
 lines-inner pairs [] i = tt
 lines-inner pairs (l ∷ ls) i = (
   record {
-    plain = plain-append (l .words) (written pairs alone (l .shown)) (i .0 .plain) (written-plain pairs alone (l .shown) (i .0 .spelled));
-    begins = i .0 .begins (written pairs alone (l .shown));
+    plain =
+        plain-append (l .words ++ written pairs alone (l .shown)) (l .ending)
+        (plain-append (l .words) (written pairs alone (l .shown)) (i .0 .plain) (written-plain pairs alone (l .shown) (i .0 .spelled))) (i .0 .ends);
+    begins = rw append-assoc (i .0 .begins (written pairs alone (l .shown) ++ l .ending));
   },
   lines-inner pairs ls (i .1),
 )

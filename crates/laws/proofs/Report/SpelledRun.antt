@@ -7,7 +7,7 @@ use mathlib.Core.Option.{none, some}
 use lib.ListN.{length, set, replicate}
 use Rattle.meaning.specs.Bytes.{Bytes}
 use Rattle.meaning.specs.Terms.{Named, Clause, Query, Job, renamed-goal}
-use Rattle.meaning.specs.State.{Values, QueryUnit, Goal, Goals, State, Room, no-unit, unit-at, first-unit, goals-at, all-goals, start}
+use Rattle.meaning.specs.State.{Values, QueryUnit, Goal, Goals, State, Room, no-unit, unit-at, first-unit, goals-at, all-goals, start, Origin, from-query}
 use Rattle.meaning.specs.Compare.{Assignment}
 use Rattle.meaning.specs.Trial.{Choice, reduces, joins-waiting, joins-failed, next-pair, compared, with-pairs, assigned, values-after, choice}
 use Rattle.meaning.specs.Step.{unit-after, body-goals, goals-after, without-front, step}
@@ -82,8 +82,8 @@ module _ (S : Bytes → Type 0) where
   unit-after-spelled (joins-waiting readers) unit c u = record { values = u .values }
   unit-after-spelled joins-failed unit c u = record { values = u .values }
 
-  goals-at-spelled : (place : ℕ) (gs : List Named) → Each (Goal-spelled S) gs → Each (λ g. Goal-spelled S (g .goal)) (goals-at place gs)
-  goals-at-spelled place gs s = each-goal-at (λ (g : Goal). Goal-spelled S (g .goal)) place gs s
+  goals-at-spelled : (origin : Origin) (place : ℕ) (gs : List Named) → Each (Goal-spelled S) gs → Each (λ g. Goal-spelled S (g .goal)) (goals-at origin place gs)
+  goals-at-spelled origin place gs s = each-goal-at (λ (g : Goal). Goal-spelled S (g .goal)) origin place gs s
 
   body-spelled : (p c : ℕ) (gs : List Named) → Each (Goal-spelled S) gs → Each (Goal-spelled S) (map (renamed-goal p c) gs)
   unfolding Goal-spelled renamed-goal
@@ -96,7 +96,7 @@ module _ (S : Bytes → Type 0) where
   goals-after-spelled choice unit g others c s o =
       each-goal-after (λ g. Goal-spelled S (g .goal)) choice unit g others s
       (λ clause given e. let taken : Choice-spelled (reduces clause given) = rw e at c in
-      goals-at-spelled (g .query) _ (body-spelled (next-pair unit) (unit .compounds) (clause .body) (taken .0 .body))) o
+      goals-at-spelled _ (g .query) _ (body-spelled (next-pair unit) (unit .compounds) (clause .body) (taken .0 .body))) o
 
   pub unit-at-spelled : (k : ℕ) (units : List QueryUnit) → Each Unit-spelled units → Unit-spelled (unit-at k units)
   unfolding unit-at no-unit
@@ -126,7 +126,7 @@ module _ (S : Bytes → Type 0) where
   unfolding all-goals
   all-goals-spelled place [] s = tt
   all-goals-spelled place (q ∷ qs) s =
-      each-append _ (goals-at place (q .goals)) (all-goals (suc place) qs) (goals-at-spelled place (q .goals) (s .0)) (all-goals-spelled (suc place) qs (s .1))
+      each-append _ (goals-at from-query place (q .goals)) (all-goals (suc place) qs) (goals-at-spelled from-query place (q .goals) (s .0)) (all-goals-spelled (suc place) qs (s .1))
 
   -- A run makes no new spelling.
   pub run-spelled : (job : Job) (limit : ℕ) (figures : Room) → Job-spelled job → State-spelled (run job limit figures .state)

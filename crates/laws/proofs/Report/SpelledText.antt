@@ -70,15 +70,15 @@ module _ (N X : Bytes → Type 0) where
   unless-broken-good begins none accepted g = g
   unless-broken-good begins (some fault) accepted g = tt
 
-  clause-piece-good : (begins : ℕ) (piece : Tokens) (r : Read Rule) → Good N X (Rule-spelled N X) r → Piece-good (clause-piece begins piece r)
+  clause-piece-good : (nth begins : ℕ) (piece : Tokens) (r : Read Rule) → Good N X (Rule-spelled N X) r → Piece-good (clause-piece nth begins piece r)
   unfolding clause-piece unless-unknown with-guards
-  clause-piece-good begins piece (read r counted rest) g = go (as-guards (r .body .guards))
+  clause-piece-good nth begins piece (read r counted rest) g = go (as-guards (r .body .guards))
     where
-      go : (guards : Option (List Guard)) → Piece-good (unless-unknown begins piece r counted guards)
+      go : (guards : Option (List Guard)) → Piece-good (unless-unknown nth begins piece r counted guards)
       go none = tt
       go (some guards) = if-holds Piece-good _ _ _ (λ e. unless-broken-good begins _ _ (record { head = g .0 .head; body = g .0 .body })) (λ e. tt)
-  clause-piece-good begins piece (malformed place) g = tt
-  clause-piece-good begins piece passed g = tt
+  clause-piece-good nth begins piece (malformed place) g = tt
+  clause-piece-good nth begins piece passed g = tt
 
   query-piece-good : (begins : ℕ) (piece : Tokens) (r : Read (List Named)) → Good N X (Each (Goal-spelled N)) r → Piece-good (query-piece begins piece r)
   unfolding query-piece
@@ -92,7 +92,7 @@ module _ (N X : Bytes → Type 0) where
   item-good so-far (token begins s rest) t =
       if-holds Piece-good (is-name s) _ _
       (λ e. if-holds Piece-good (ltb (so-far .clauses) 128) _ _
-      (λ e. clause-piece-good begins _ _ (rule-reads N X .from (fresh (so-far .names)) (token begins s rest) tt t)) (λ e. tt))
+      (λ e. clause-piece-good _ begins _ _ (rule-reads N X .from (fresh (so-far .names)) (token begins s rest) tt t)) (λ e. tt))
       (λ e. if-holds Piece-good (is "?" s) _ _
       (λ e. if-holds Piece-good (ltb (so-far .queries) 8) _ _
       (λ e. query-piece-good begins _ _ (goals-reads N X 8 .from (fresh (so-far .names)) rest tt (t .1))) (λ e. tt))

@@ -6,7 +6,7 @@ use mathlib.Core.Bool.{not}
 use mathlib.Core.List.{List, [], _∷_, _++_, map}
 use Rattle.meaning.specs.Bytes.{those}
 use Rattle.meaning.specs.Terms.{Named, Clause}
-use Rattle.meaning.specs.State.{QueryUnit, Goal, Waiting, Goals, goals-at, of, goals-of}
+use Rattle.meaning.specs.State.{QueryUnit, Goal, Waiting, Goals, goals-at, of, goals-of, Origin}
 use Rattle.meaning.specs.Compare.{Assignment}
 use Rattle.meaning.specs.Trial.{Choice, reduces, joins-waiting, joins-failed}
 use Rattle.meaning.specs.Step.{body-goals, wakes, goals-after, without-front}
@@ -19,9 +19,10 @@ pub record EachGoal (P : Goal → Type 0) (goals : Goals) : Type 0 where
 
 module _ (P : Goal → Type 0) where
   -- The goals of one query, made of terms.
-  pub each-goal-at : (place : ℕ) (gs : List Named) → Each (λ g. P (record { query = place; goal = g })) gs → Each P (goals-at place gs)
+  pub each-goal-at : (origin : Origin) (place : ℕ) (gs : List Named) → Each (λ g. P (record { query = place; goal = g; origin = origin })) gs
+      → Each P (goals-at origin place gs)
   unfolding goals-at
-  each-goal-at place gs ps = each-map P (λ g. record { query = place; goal = g }) gs ps
+  each-goal-at origin place gs ps = each-map P (λ g. record { query = place; goal = g; origin = origin }) gs ps
 
   -- What a state has of one query.
   pub each-goal-of : (k : ℕ) (goals : Goals) → EachGoal P goals → EachGoal P (goals-of k goals)

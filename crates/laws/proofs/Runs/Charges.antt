@@ -6,21 +6,7 @@ use mathlib.Core.List.{List, [], _∷_, map}
 use native.Mathlib.Omega.{arith}
 use lib.ListN.{length, length-map, length-set, length-replicate}
 use Rattle.meaning.specs.Terms.{Named, Query, Job}
-use Rattle.meaning.specs.State.{
-  QueryUnit,
-  Goal,
-  Goals,
-  State,
-  Room,
-  no-unit,
-  unit-at,
-  first-unit,
-  goals-at,
-  all-goals,
-  query-pairs,
-  query-compounds,
-  start,
-}
+use Rattle.meaning.specs.State.{QueryUnit, Goal, Goals, State, Room, no-unit, unit-at, first-unit, goals-at, all-goals, query-pairs, query-compounds, start, Origin, from-query}
 use Rattle.meaning.specs.Trial.{Choice, reduces, joins-waiting, joins-failed}
 use Rattle.meaning.specs.Step.{unit-after, body-goals, goals-after, pairs-charged, compounds-charged, without-front, step}
 use Rattle.meaning.specs.Run.{choice-for, run}
@@ -53,14 +39,14 @@ module _ (unit : QueryUnit) where
 abbrev pub Placed : ℕ → Goals → Type 0
 Placed n goals = EachGoal (λ g. g .query < n) goals
 
-goals-at-placed : (n place : ℕ) (gs : List Named) → place < n → Each (λ g. g .query < n) (goals-at place gs)
-goals-at-placed n place gs h = each-goal-at (λ g. g .query < n) place gs (each-all (λ g. place < n) (λ g. h) gs)
+goals-at-placed : (origin : Origin) (n place : ℕ) (gs : List Named) → place < n → Each (λ g. g .query < n) (goals-at origin place gs)
+goals-at-placed origin n place gs h = each-goal-at (λ g. g .query < n) origin place gs (each-all (λ g. place < n) (λ g. h) gs)
 
 after-placed : (n : ℕ) (choice : Choice) (unit : QueryUnit) (g : Goal) (others : Goals) → g .query < n → Placed n others
     → Placed n (goals-after choice unit g others)
 unfolding body-goals
 after-placed n choice unit g others h p =
-    each-goal-after (λ g. g .query < n) choice unit g others h (λ clause given e. goals-at-placed n (g .query) _ h) p
+    each-goal-after (λ g. g .query < n) choice unit g others h (λ clause given e. goals-at-placed _ n (g .query) _ h) p
 
 -- What the units count, against the state's own counts.
 pub record Summed (state : State) : Type 0 where
@@ -91,7 +77,7 @@ all-goals-placed : (place n : ℕ) (qs : List Query) → place + length qs ≤ n
 unfolding all-goals
 all-goals-placed place n [] h = tt
 all-goals-placed place n (q ∷ qs) h =
-    each-append _ (goals-at place (q .goals)) (all-goals (suc place) qs) (goals-at-placed n place (q .goals) (omega arith)) (all-goals-placed (suc place) n qs (omega arith))
+    each-append _ (goals-at from-query place (q .goals)) (all-goals (suc place) qs) (goals-at-placed from-query n place (q .goals) (omega arith)) (all-goals-placed (suc place) n qs (omega arith))
 
 start-tries : (qs : List Query) → 0 ≡ sum (λ u. u .tries) (map first-unit qs)
 unfolding first-unit
@@ -108,7 +94,7 @@ unfolding first-unit query-compounds
 start-compounds [] = refl
 start-compounds (q ∷ qs) = let further = start-compounds qs in omega arith
 
-start-summed : (qs : List Query) → Summed (start qs)
+pub start-summed : (qs : List Query) → Summed (start qs)
 unfolding start
 start-summed qs =
     record {

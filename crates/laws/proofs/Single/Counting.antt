@@ -8,7 +8,7 @@ use native.Mathlib.Omega.{arith}
 use borrow.Author.Tests.{eq-eqb, ne-eqb}
 use Rattle.meaning.specs.Bytes.{if_then_else_, those}
 use Rattle.meaning.specs.Terms.{Half, Named, Clause, Query, all-occurrences, goals-occurrences}
-use Rattle.meaning.specs.State.{QueryUnit, Goal, Goals, goals-at, all-goals, of, goals-of}
+use Rattle.meaning.specs.State.{QueryUnit, Goal, Goals, goals-at, all-goals, of, goals-of, Origin, from-query}
 use Rattle.meaning.specs.Compare.{Assignment}
 use Rattle.meaning.specs.Trial.{reduces, joins-waiting, joins-failed}
 use Rattle.meaning.specs.Step.{body-goals, wakes, goals-after, without-front}
@@ -62,15 +62,16 @@ module _ (k : ℕ) (h : Half) (n : ℕ) where
   own-of-other g e = rw e
 
   -- A query's goals, or a body's, entered at its place, and at another.
-  pub entered : (gs : List Named) → sum (own k h n) (goals-at k gs) ≡ goals-occurrences h n gs
+  pub entered : (origin : Origin) (gs : List Named) → sum (own k h n) (goals-at origin k gs) ≡ goals-occurrences h n gs
   unfolding goals-at goals-occurrences of
-  entered [] = refl
-  entered (g ∷ gs) = omega (arith, entered gs, own-of (record { query = k; goal = g }) (eq-eqb k k refl))
+  entered origin [] = refl
+  entered origin (g ∷ gs) = omega (arith, entered origin gs, own-of (record { query = k; goal = g; origin = origin }) (eq-eqb k k refl))
 
-  pub entered-at-other : (j : ℕ) (gs : List Named) → (j ≡ k → ⊥) → sum (own k h n) (goals-at j gs) ≡ 0
+  pub entered-at-other : (origin : Origin) (j : ℕ) (gs : List Named) → (j ≡ k → ⊥) → sum (own k h n) (goals-at origin j gs) ≡ 0
   unfolding goals-at of
-  entered-at-other j [] d = refl
-  entered-at-other j (g ∷ gs) d = omega (arith, entered-at-other j gs d, own-of-other (record { query = j; goal = g }) (ne-eqb j k d))
+  entered-at-other origin j [] d = refl
+  entered-at-other origin j (g ∷ gs) d =
+      omega (arith, entered-at-other origin j gs d, own-of-other (record { query = j; goal = g; origin = origin }) (ne-eqb j k d))
 
   -- Queries at later places are others.
   pub entered-later : (place : ℕ) (qs : List Query) → k < place → sum (own k h n) (all-goals place qs) ≡ 0
@@ -79,8 +80,8 @@ module _ (k : ℕ) (h : Half) (n : ℕ) where
   entered-later place (q ∷ qs) e =
       omega (
         arith,
-        sum-append (own k h n) (goals-at place (q .goals)) (all-goals (suc place) qs),
-        entered-at-other place (q .goals) (λ i. omega arith),
+        sum-append (own k h n) (goals-at from-query place (q .goals)) (all-goals (suc place) qs),
+        entered-at-other from-query place (q .goals) (λ i. omega arith),
         entered-later (suc place) qs (omega arith),
       )
 

@@ -8,7 +8,7 @@ use mathlib.Core.Option.{none, some}
 use Rattle.meaning.specs.Bytes.{Bytes, bytes}
 use Rattle.meaning.specs.Terms.{writer, reader, plus, integer, named, variable, constant, compound, end, more, Job, occurrences}
 use Rattle.meaning.specs.Items.{job, refused, reading}
-use Rattle.meaning.specs.State.{Goal, Part, State, unit-at, part-of}
+use Rattle.meaning.specs.State.{Goal, Part, State, unit-at, part-of, from-query}
 use Rattle.meaning.specs.Trial.{joins-failed}
 use Rattle.meaning.specs.Run.{choice-for, run}
 use Rattle.meaning.specs.Call.{everything}
@@ -80,6 +80,7 @@ failing-goal =
             arguments =
                 more (compound 1 (named (bytes "f")) (more (variable reader 0) (more (variable writer 1) end))) (more (variable writer 2) end);
           };
+      origin = from-query;
     }
 
 unfoldable failing-words : Unit {0}

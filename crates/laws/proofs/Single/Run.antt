@@ -7,7 +7,7 @@ use mathlib.Core.Option.{none, some}
 use native.Mathlib.Omega.{arith}
 use lib.ListN.{length, replicate, length-map, length-replicate}
 use Rattle.meaning.specs.Terms.{Term, Query, Job, goals-occurrences}
-use Rattle.meaning.specs.State.{Room, value, Goal, State, unit-at, first-unit, goals-at, all-goals, start}
+use Rattle.meaning.specs.State.{Room, value, Goal, State, unit-at, first-unit, goals-at, all-goals, start, from-query}
 use Rattle.meaning.specs.Step.{step}
 use Rattle.meaning.specs.Run.{choice-for, run}
 use Rattle.laws.proofs.Lists.{Each, sum, sum-append, differ, TakenOut, taken-front}
@@ -49,8 +49,8 @@ start-balanced (q ∷ queries) place zero k e inside oks =
     (λ h n.
     omega (
       arith,
-      sum-append (own k h n) (goals-at k (q .goals)) (all-goals (suc k) queries),
-      entered k h n (q .goals),
+      sum-append (own k h n) (goals-at from-query k (q .goals)) (all-goals (suc k) queries),
+      entered k h n from-query (q .goals),
       entered-later k h n (suc k) queries (omega arith),
     ))
     (first-balanced q (oks .0)))
@@ -59,8 +59,8 @@ start-balanced (q ∷ queries) place (suc i) k e inside oks =
     (λ h n.
     omega (
       arith,
-      sum-append (own k h n) (goals-at place (q .goals)) (all-goals (suc place) queries),
-      entered-at-other k h n place (q .goals) (λ j. omega arith),
+      sum-append (own k h n) (goals-at from-query place (q .goals)) (all-goals (suc place) queries),
+      entered-at-other k h n from-query place (q .goals) (λ j. omega arith),
     ))
     (start-balanced queries (suc place) i k (omega arith) (omega arith) (oks .1))
 

@@ -16,7 +16,7 @@ use Rattle.meaning.specs.Compare.{Assignment, succeeds}
 use Rattle.meaning.specs.Circle.{circle}
 use Rattle.meaning.specs.Trial.{next-pair, compared, with-pairs, values-after, trial, procedure, Choice, reduces, joins-waiting, joins-failed, choice}
 use Rattle.meaning.specs.Bytes.{among, those, if_then_else_}
-use Rattle.meaning.specs.Step.{unit-after, wakes, body-goals, goals-after, without-front, step}
+use Rattle.meaning.specs.Step.{unit-after, wakes, made-by, body-goals, goals-after, without-front, step}
 use Rattle.meaning.specs.Run.{choice-for}
 use Rattle.laws.proofs.Lists.{differ, false-not-true, in-any, in-among, each-member, In, here, there, those-member, Each, each-in, each-append, each-implies, each-of-those, TakenOut}
 use Rattle.laws.proofs.Terms.{occurs-in-other}
@@ -168,7 +168,7 @@ module _ (clauses : List Clause) (ok : Each ClauseOk clauses) (unit : QueryUnit)
             omega (
               arith,
               count-reduced k h n clause given unit g rest,
-              entered k h n (map (renamed-goal (next-pair unit) (unit .compounds)) (clause .body)),
+              entered k h n (made-by clause unit) (map (renamed-goal (next-pair unit) (unit .compounds)) (clause .body)),
             ))
             (reduction-balanced clause clause-ok unit (g .goal) given earlier succeeded (s .no-circle) (count-of k rest) b);
         chained =
@@ -219,7 +219,7 @@ module _ (clauses : List Clause) (ok : Each ClauseOk clauses) (unit : QueryUnit)
               arith,
               count-taken k h n goals g others taken,
               count-reduced k h n clause given unit g rest,
-              entered-at-other k h n (g .query) (map (renamed-goal (next-pair unit) (unit .compounds)) (clause .body)) d,
+              entered-at-other k h n (made-by clause unit) (g .query) (map (renamed-goal (next-pair unit) (unit .compounds)) (clause .body)) d,
             ))
             (s .balanced);
         chained = each-of-those _ _ (goals .waiting) (s .chained);

@@ -26,6 +26,7 @@ n-of t u = record { number = 0; name = bytes "n"; arguments = more t (more u end
 unfoldable pub rule : Clause
 rule =
     record {
+      place = 1;
       head = n-of (f-of (constant (integer (plus 1))) (constant (integer (plus 2)))) (constant (integer (plus 3)));
       guards = [];
       body = [];

@@ -41,7 +41,7 @@ unit = first-unit query
 unfoldable pub second : Clause
 second =
     getD clauses 1
-    (record { head = goal 0; guards = []; body = []; pairs = 0; compounds = 0 })
+    (record { place = 2; head = goal 0; guards = []; body = []; pairs = 0; compounds = 0 })
 
 unfoldable example-words : Unit {0}
 unfolding everything text clauses query goal unit second with-its-readers trials told

@@ -19,12 +19,12 @@ unfoldable pub small : String → Expected → Case
 small label expected = text label "?- p([A]), q(B)." expected
 
 unfoldable pub small-done : Expected
-small-done = shows "run rest steps 2\nquery 1 tries 2 active 0 waiting 0 failed 2\nA = _1\nB = _2\nfailed p([_1])\nfailed q(_2)\n"
+small-done = shows "run rest steps 2\nquery 1 tries 2 active 0 waiting 0 failed 2\nA = _1\nB = _2\nfailed p([_1]) from 0 at 0\nfailed q(_2) from 0 at 0\n"
 
 unfoldable pub calls-cases : List Case
 calls-cases =
     with-budget 1000000 (with-room 65535 65535 65535 (asked "the largest budget and room" done))
-    ∷ with-room 1 1 1 (text "the smallest room" "?- p(A)." (shows "run rest steps 1\nquery 1 tries 1 active 0 waiting 0 failed 1\nA = _1\nfailed p(_1)\n"))
+    ∷ with-room 1 1 1 (text "the smallest room" "?- p(A)." (shows "run rest steps 1\nquery 1 tries 1 active 0 waiting 0 failed 1\nA = _1\nfailed p(_1) from 0 at 0\n"))
     ∷ with-budget 1000001 (asked "a budget above 1,000,000" (refuses 1 0 0))
     ∷ with-room 0 9 9 (asked "no pairs" (refuses 1 0 0))
     ∷ with-room 65536 9 9 (asked "pairs above 65,535" (refuses 1 0 0))
@@ -45,7 +45,7 @@ calls-cases =
     ∷ with-room 1 3 2 (text "the queries together have one pair too many" "?- p(A).\n?- p(A)." (refuses 7 0 0))
     ∷ with-room 2 1 2 (text "the queries together have one compound too many" "?- p(A).\n?- p(A)." (refuses 7 0 0))
     ∷ with-room 2 2 1 (text "the queries together have one goal too many" "?- p(A).\n?- p(A)." (refuses 7 0 0))
-    ∷ with-room 1 1 1 (text "7 judges the queries alone" "p([A],A?) :- q(1), q(1).\n?- r(1)." (shows "run rest steps 1\nquery 1 tries 1 active 0 waiting 0 failed 1\nfailed r(1)\n"))
+    ∷ with-room 1 1 1 (text "7 judges the queries alone" "p([A],A?) :- q(1), q(1).\n?- r(1)." (shows "run rest steps 1\nquery 1 tries 1 active 0 waiting 0 failed 1\nfailed r(1) from 0 at 0\n"))
     ∷ with-room 1 1 1 (text "clauses alone, of more than the room" "p([A],A?)." (refuses 6 0 0))
     ∷ with-room 1 1 1 (text "the text before 7" "?- p(A,B).\n?- p(X,X)." (refuses 5 2 18))
     ∷ with-buffer 0 (with-room 1 3 2 (small "7 before 8" (refuses 7 0 0)))

@@ -9,7 +9,7 @@ use Rattle.meaning.proofs.Cases.Words.{text, of-bytes, shows, times, fo
 
 -- One goal that fails, as the report shows it.
 unfoldable pub fails-with : Bytes → Expected
-fails-with goal = prints (bytes "run rest steps 1\nquery 1 tries 1 active 0 waiting 0 failed 1\nfailed " ++ goal ++ bytes "\n")
+fails-with goal = prints (bytes "run rest steps 1\nquery 1 tries 1 active 0 waiting 0 failed 1\nfailed " ++ goal ++ bytes " from 0 at 0\n")
 
 unfoldable pub query-of : Bytes → Bytes
 query-of goal = bytes "?- " ++ goal ++ bytes "."
@@ -37,7 +37,7 @@ figures-cases =
     ∷ refused-behind "cut off behind the sixth argument's comma" (bytes "p(1,2,3,4,5,6,\n") 4 2 24
     ∷ refused-behind "an earlier 4 is before a later 6" (bytes "p(a\nb,1,2,3,4,5,6,7).") 4 3 13
     ∷ refused-behind "an earlier 6 is before a later 4" (bytes "p(1,2,3,4,5,6,7,\n!") 6 2 0
-    ∷ of-bytes "16 pairs" (bytes "?- p([A,B,C,D,E,F,G,H,I,J,K,L,M,N,O,P]).") (prints (bytes "run rest steps 1\nquery 1 tries 1 active 0 waiting 0 failed 1\nA = _1\nB = _2\nC = _3\nD = _4\nE = _5\nF = _6\nG = _7\nH = _8\nI = _9\nJ = _10\nK = _11\nL = _12\nM = _13\nN = _14\nO = _15\nP = _16\nfailed p([_1,_2,_3,_4,_5,_6,_7,_8,_9,_10,_11,_12,_13,_14,_15,_16])\n"))
+    ∷ of-bytes "16 pairs" (bytes "?- p([A,B,C,D,E,F,G,H,I,J,K,L,M,N,O,P]).") (prints (bytes "run rest steps 1\nquery 1 tries 1 active 0 waiting 0 failed 1\nA = _1\nB = _2\nC = _3\nD = _4\nE = _5\nF = _6\nG = _7\nH = _8\nI = _9\nJ = _10\nK = _11\nL = _12\nM = _13\nN = _14\nO = _15\nP = _16\nfailed p([_1,_2,_3,_4,_5,_6,_7,_8,_9,_10,_11,_12,_13,_14,_15,_16]) from 0 at 0\n"))
     ∷ refused-behind "17 pairs" (bytes "p([A,B,C,D,E,F,G,H,I,J,K,L,M,N,O,P,\nQ]).") 6 2 0
     ∷ refused-behind "17 pairs, the seventeenth's reader before bytes that cannot stand" (bytes "p([A,B,C,D,E,F,G,H,I,J,K,L,M,N,O,P,\nQ?abc]).") 6 2 0
     ∷ refused-behind "a seventeenth pair where no variable can stand" (bytes "p([A,B,C,D,E,F,G,H,I,J,K,L,M,N,O,P])\nQ.") 4 3 46
@@ -46,7 +46,7 @@ figures-cases =
     ∷ refused-behind "33 compounds, by list cells" (bytes "p([1" ++ times 30 ",1" ++ bytes ",\n1]).") 6 2 0
     ∷ refused-behind "a thirty-third element that cannot stand" (bytes "p([1" ++ times 30 ",1" ++ bytes ",\n]).") 4 3 75
     ∷ refused-behind "a cell is counted at its element's first token" (bytes "p([1" ++ times 30 ",1" ++ bytes ",[\n!") 6 2 0
-    ∷ of-bytes "32 compounds, by parentheses" (bytes "q(a).\n?- p([" ++ times 14 "f(1)," ++ bytes "f(1)],2), q(a).") (prints (bytes "run rest steps 2\nquery 1 tries 2 active 0 waiting 0 failed 1\nfailed p([" ++ times 14 "f(1)," ++ bytes "f(1)],2)\n"))
+    ∷ of-bytes "32 compounds, by parentheses" (bytes "q(a).\n?- p([" ++ times 14 "f(1)," ++ bytes "f(1)],2), q(a).") (prints (bytes "run rest steps 2\nquery 1 tries 2 active 0 waiting 0 failed 1\nfailed p([" ++ times 14 "f(1)," ++ bytes "f(1)],2) from 0 at 0\n"))
     ∷ refused-behind "33 compounds, by parentheses" (bytes "p([" ++ times 14 "f(1)," ++ bytes "f(1)],2), q(a), r(\n!") 6 2 0
     ∷ refused-behind "a cell before the compounds inside its element" (bytes "p([" ++ times 14 "f(1)," ++ bytes "f(1),f(\n!") 6 2 0
     ∷ refused-behind "a bare name where the thirty-third compound would open" (bytes "p([" ++ times 14 "f(1)," ++ bytes "f(1)],2), q(a), r\n.") 4 3 100
@@ -74,7 +74,7 @@ many-cases =
     of-bytes "128 clauses" (times 128 "p(a).\n" ++ bytes "?- p(a).") (shows "run rest steps 1\nquery 1 tries 1 active 0 waiting 0 failed 0\n")
     ∷ of-bytes "129 clauses, whatever follows" (times 128 "p(a).\n" ++ bytes "p!") (refuses 6 129 0)
     ∷ of-bytes "behind 128 clauses a token that begins no item" (times 128 "p(a).\n" ++ bytes "X") (refuses 4 129 768)
-    ∷ of-bytes "256 names, integers and lists none of them" (names-255 ++ bytes "?- last([1,2]).") (shows "run rest steps 1\nquery 1 tries 1 active 0 waiting 0 failed 1\nfailed last([1,2])\n")
+    ∷ of-bytes "256 names, integers and lists none of them" (names-255 ++ bytes "?- last([1,2]).") (shows "run rest steps 1\nquery 1 tries 1 active 0 waiting 0 failed 1\nfailed last([1,2]) from 0 at 0\n")
     ∷ of-bytes "257 names" (names-255 ++ bytes "?- last(a1,\na1,\none,!).") (refuses 6 52 0)
     ∷ of-bytes "257 names, the last a head's before its parenthesis, one a query's" (names-255 ++ bytes "?- last(a1).\none\n!") (refuses 6 53 0)
     ∷ of-bytes "a 257th name that cannot stand" (names-255 ++ bytes "?- last(a1\none).") (refuses 4 53 1236)

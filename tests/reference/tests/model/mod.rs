@@ -1,6 +1,6 @@
-//! A plain model of a run, which follows document 01, with T-02 and T-03 of document 02, word for word: it gives every
-//! clause variable a pair, goes through every place, copies every term, tests all pairs for circles, writes guards'
-//! terms out in full and writes values by recursion.
+//! A plain model of a run, which follows document 01, with T-02, T-03 and T-09 of document 02, word for word: it gives
+//! every clause variable a pair, goes through every place, copies every term, tests all pairs for circles, writes
+//! guards' terms out in full and writes values by recursion.
 
 use std::collections::BTreeSet;
 
@@ -182,13 +182,21 @@ enum Answer {
     Fails,
 }
 
+/// A goal with the number of its query, and how its line ends.
+#[derive(Clone)]
+struct Goal {
+    term: Term,
+    query: usize,
+    ending: String,
+}
+
 #[derive(Default)]
 struct Machine {
     values: Vec<Option<Term>>,
     charged_compounds: u64,
-    queue: Vec<(Term, usize)>,
-    waiting: Vec<(Term, usize, BTreeSet<usize>)>,
-    failed: Vec<(Term, usize)>,
+    queue: Vec<Goal>,
+    waiting: Vec<(Goal, BTreeSet<usize>)>,
+    failed: Vec<Goal>,
 }
 
 impl Machine {
@@ -364,7 +372,8 @@ pub fn plain_report(text: &str, figures: &Figures) -> (String, usize) {
         firsts.push(first);
         m.values.resize(first + query.variables.len(), None);
         m.charged_compounds += charge(query).1;
-        m.queue.extend(query.goals.iter().map(|goal| (renamed(goal, first), number)));
+        let made = |goal| Goal { term: renamed(goal, first), query: number, ending: " from 0 at 0".into() };
+        m.queue.extend(query.goals.iter().map(made));
     }
     let (mut steps, mut reductions, mut tries) = (0, 0, vec![0; queries.len()]);
     let verdict = loop {
@@ -374,27 +383,28 @@ pub fn plain_report(text: &str, figures: &Figures) -> (String, usize) {
         if steps == figures.budget {
             break "budget";
         }
-        let (goal, query) = m.queue[0].clone();
+        let front = m.queue[0].clone();
+        let query = front.query;
         let mut readers = BTreeSet::new();
         let mut taken = None;
-        for clause in &clauses {
-            let same = match (clause.head.as_ref().unwrap(), &goal) {
+        for (place, clause) in clauses.iter().enumerate() {
+            let same = match (clause.head.as_ref().unwrap(), &front.term) {
                 (Compound(f, xs), Compound(g, ys)) => f == g && xs.len() == ys.len(),
                 _ => unreachable!(),
             };
             if !same {
                 continue;
             }
-            match m.trial(clause, &goal, &readers) {
+            match m.trial(clause, &front.term, &readers) {
                 Trial::Succeeds(new) => {
-                    taken = Some((clause, new));
+                    taken = Some((place, clause, new));
                     break;
                 }
                 Trial::Waits(needed) => readers.extend(needed),
                 Trial::Fails => {}
             }
         }
-        if let Some((clause, new)) = taken {
+        if let Some((place, clause, new)) = taken {
             let (pairs, compounds) = charge(clause);
             let goals = m.queue.len() + m.waiting.len() + m.failed.len() - 1 + clause.goals.len();
             if m.values.len() as u64 + pairs > figures.pairs
@@ -407,32 +417,32 @@ pub fn plain_report(text: &str, figures: &Figures) -> (String, usize) {
             m.charged_compounds += compounds;
             m.values.resize(first + clause.variables.len(), None);
             m.queue.remove(0);
-            m.queue.extend(clause.goals.iter().map(|goal| (renamed(goal, first), query)));
+            let ending = format!(" from {} at {}", place + 1, tries[query] + 1);
+            let made = |goal| Goal { term: renamed(goal, first), query, ending: ending.clone() };
+            m.queue.extend(clause.goals.iter().map(made));
             let assigned: BTreeSet<usize> = new.iter().map(|(pair, _)| *pair).collect();
             for (pair, value) in new {
                 m.values[pair] = Some(value);
             }
             let (woken, still): (Vec<_>, Vec<_>) =
-                m.waiting.drain(..).partition(|(_, _, readers)| !readers.is_disjoint(&assigned));
+                m.waiting.drain(..).partition(|(_, readers)| !readers.is_disjoint(&assigned));
             m.waiting = still;
-            m.queue.extend(woken.into_iter().map(|(goal, query, _)| (goal, query)));
+            m.queue.extend(woken.into_iter().map(|(goal, _)| goal));
             reductions += 1;
         } else {
             m.queue.remove(0);
             match readers.is_empty() {
-                true => m.failed.push((goal, query)),
-                false => m.waiting.push((goal, query, readers)),
+                true => m.failed.push(front),
+                false => m.waiting.push((front, readers)),
             }
         }
         steps += 1;
         tries[query] += 1;
     };
-    let waiting: Vec<_> = m.waiting.iter().map(|(goal, query, _)| (goal.clone(), *query)).collect();
+    let waiting: Vec<_> = m.waiting.iter().map(|(goal, _)| goal.clone()).collect();
     let mut out = format!("run {verdict} steps {steps}\n");
     for (k, query) in queries.iter().enumerate() {
-        let own = |goals: &[(Term, usize)]| -> Vec<Term> {
-            goals.iter().filter(|(_, query)| *query == k).map(|(goal, _)| goal.clone()).collect()
-        };
+        let own = |goals: &[Goal]| -> Vec<Goal> { goals.iter().filter(|goal| goal.query == k).cloned().collect() };
         let (active, waiting, failed) = (own(&m.queue), own(&waiting), own(&m.failed));
         out += &format!("query {} tries {} ", k + 1, tries[k]);
         out += &format!("active {} waiting {} failed {}\n", active.len(), waiting.len(), failed.len());
@@ -442,7 +452,7 @@ pub fn plain_report(text: &str, figures: &Figures) -> (String, usize) {
         }
         for (label, goals) in [("active", active), ("waiting", waiting), ("failed", failed)] {
             for goal in goals {
-                out += &format!("{label} {}\n", m.written(&goal, &mut numbers));
+                out += &format!("{label} {}{}\n", m.written(&goal.term, &mut numbers), goal.ending);
             }
         }
     }

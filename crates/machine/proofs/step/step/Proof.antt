@@ -43,7 +43,7 @@ module _ (w : tie.After-word) where
   query = w .before .before .before .before .before .index .result
 
   abbrev place : ℕ
-  place = w .before .index2 .result
+  place = w .before .place-of .result
 
   abbrev values : ℕ
   values = w .before .before .before .values .result
@@ -58,7 +58,7 @@ module _ (w : tie.After-word) where
   fetched = record {
     goal-is = rw (w .before .before .before .before .before .before .before .queue .ensures) at (w .before .before .before .before .before .before .word-at .ensures);
     query-is = w .before .before .before .before .before .index .ensures;
-    place-is = w .before .index2 .ensures;
+    place-is = w .before .place-of .ensures;
     values-is = w .before .before .before .values .ensures;
     marks-is = w .before .before .marks .ensures;
     steps-are = w .word .ensures;
@@ -156,8 +156,8 @@ values-requires c κs = search needs
 marks-requires : tie.Need-marks-requires
 marks-requires c κs = search needs
 
-index-requires-2 : tie.Need-index-requires-2
-index-requires-2 c κs = search needs
+place-of-requires : tie.Need-place-of-requires
+place-of-requires c κs = search needs
 
 word-requires : tie.Need-word-requires
 word-requires c κs = search needs
@@ -256,7 +256,7 @@ step-spec =
     index-requires
     values-requires
     marks-requires
-    index-requires-2
+    place-of-requires
     word-requires
     mul-choice
     add-choice

@@ -2,9 +2,16 @@
 use Prim.Native.Nat.{ℕ, _+_, _*_, _/_}
 use mathlib.Core.Path.{_≡_, refl, sym, ap, _∙_}
 use mathlib.Core.Bool.{Bool, true, false}
+use native.Mathlib.Omega.{arith}
+use lib.ListN.{length}
 use Rattle.laws.proofs.Lists.Tests.{false-not-true}
-use Rattle.term.specs.Words.{compound-word, rest-in}
+use Rattle.term.specs.Words.{compound-word}
+use Rattle.term.specs.Goals.{place-in}
 use Rattle.report_tallies.specs.Groups.{goal-in, own}
+use Rattle.meaning.specs.Report.{alone}
+use Rattle.report_pairs.specs.Threaded.{full, shown}
+use Rattle.report_tallies.specs.Origins.{origin-of}
+use Rattle.report_count.proofs.Lengths.{counted-as}
 use borrow.Author.Needs.{needs}
 use Rattle.report_sections.proofs.sections.count_goal.Statement.{statement}
 use Rattle.report_sections.proofs.sections.count_goal.Tie as tie
@@ -12,8 +19,12 @@ use Rattle.report_sections.proofs.sections.count_goal.Reads as reads
 use Rattle.report_sections.proofs.sections.count_goal.Lts as lts
 use Rattle.report_tallies.proofs.groups.goal_at.Reads as goal-at-reads
 use Rattle.report_tallies.proofs.groups.own.Reads as own-reads
+use Rattle.report_tallies.proofs.origin.origin_length.Reads as origin-length-reads
 use Rattle.report_sections.proofs.sections.count_line.Reads as count-line-reads
 use Rattle.report_sections.proofs.sections.goal_term.Reads as goal-term-reads
+
+one-more : {n m : ℕ} (a b : ℕ) → n ≡ m → a + (b + (n + 1)) ≡ a + (b + (m + 1))
+one-more a b e = ap (λ (k : ℕ). a + (b + (k + 1))) e
 
 -- src/sections.rt:128:9
 goal-at-requires : tie.Need-goal-at-requires
@@ -27,29 +38,49 @@ own-requires c κs = search needs
 goal-term-requires : tie.Need-goal-term-requires
 goal-term-requires c κs = search needs
 
--- src/sections.rt:131:9
+-- src/sections.rt:155:22
+origin-length-requires : tie.Need-origin-length-requires
+origin-length-requires c κs = search needs
+
+-- src/sections.rt:155:22
+add-behind : tie.Need-add-behind
+add-behind c = omega (arith, c .origin-length .ensures .1)
+
+-- src/sections.rt:156:9
 count-line-requires : tie.Need-count-line-requires
 count-line-requires c κs =
-    let (text, x, seen, t, counts, inside, h, shows) = c .before .before .before .before .before .before .before .pre in
-    let is : own (c .before .before .before .before .before .before .before .args .q) (goal-in (c .before .before .before .before .before .before .before .args .s .now) (c .before .before .before .before .before .before .before .args .g) (c .before .before .before .before .before .before .before .args .i)) ≡ true =
-    sym (ap (own (c .before .before .before .before .before .before .before .args .q)) (c .before .before .before .before .goal-at .ensures)) ∙ sym (c .before .before .before .own .ensures) ∙ c .before .before .if1 .taken in
-    let word : c .before .goal-term .result ≡ compound-word (rest-in (goal-in (c .before .before .before .before .before .before .before .args .s .now) (c .before .before .before .before .before .before .before .args .g) (c .before .before .before .before .before .before .before .args .i))) =
-    c .before .goal-term .ensures ∙ ap (λ (w : ℕ). compound-word (rest-in w)) (c .before .before .before .before .goal-at .ensures) in
+    let S = c .before .before .before .before .before .before .before .before in
+    let a = S .args in
+    let at = c .before .before .before .before .before .goal-at in
+    let term = c .before .before .goal-term in
+    let (text, x, seen, t, counts, inside, h, shows) = S .pre in
+    let is : own (a .q) (goal-in (a .s .now) (a .g) (a .i)) ≡ true =
+    sym (ap (own (a .q)) (at .ensures)) ∙ sym (c .before .before .before .before .own .ensures) ∙ c .before .before .before .if1 .taken in
+    let word : term .result ≡ compound-word (place-in (goal-in (a .s .now) (a .g) (a .i))) =
+    term .ensures ∙ ap (λ (w : ℕ). compound-word (place-in w)) (at .ensures) in
     (text, x, seen, t, counts, rw word (shows is))
 
 -- src/sections.rt:131:9
 same-length : tie.Need-same-length
 same-length c = search needs
 
--- src/sections.rt:131:9
+-- src/sections.rt:156:9
 returns : tie.Need-returns
 returns c =
-    let is : own (c .before .before .before .before .before .before .before .before .before .before .args .q) (goal-in (c .before .before .before .before .before .before .before .before .before .before .args .s .now) (c .before .before .before .before .before .before .before .before .before .before .args .g) (c .before .before .before .before .before .before .before .before .before .before .args .i)) ≡ true =
-    sym (ap (own (c .before .before .before .before .before .before .before .before .before .before .args .q)) (c .before .before .before .before .before .before .before .goal-at .ensures)) ∙ sym (c .before .before .before .before .before .before .own .ensures) ∙ c .before .before .before .before .before .if1 .taken in
-    let word : c .before .before .before .before .goal-term .result ≡ compound-word (rest-in (goal-in (c .before .before .before .before .before .before .before .before .before .before .args .s .now) (c .before .before .before .before .before .before .before .before .before .before .args .g) (c .before .before .before .before .before .before .before .before .before .before .args .i))) =
-    c .before .before .before .before .goal-term .ensures ∙ ap (λ (w : ℕ). compound-word (rest-in w)) (c .before .before .before .before .before .before .before .goal-at .ensures) in (
+    let a = c .before .before .before .before .before .before .before .before .before .before .before .args in
+    let at = c .before .before .before .before .before .before .before .before .goal-at in
+    let term = c .before .before .before .before .before .goal-term in
+    let line = c .before .before .count-line in
+    let is : own (a .q) (goal-in (a .s .now) (a .g) (a .i)) ≡ true =
+    sym (ap (own (a .q)) (at .ensures)) ∙ sym (c .before .before .before .before .before .before .before .own .ensures) ∙ c .before .before .before .before .before .before .if1 .taken in
+    let word : term .result ≡ compound-word (place-in (goal-in (a .s .now) (a .g) (a .i))) =
+    term .ensures ∙ ap (λ (w : ℕ). compound-word (place-in w)) (at .ensures) in
+    let behind = c .before .before .before .before .origin-length .ensures .0 ∙ ap (λ (w : ℕ). length (origin-of w)) (at .ensures) in (
       λ e. absurd (false-not-true _ e is),
-      λ text x seen t e counts shows. c .before .before .count-line .ensures text x seen t counts (rw word shows),
+      λ text x seen t e counts shows.
+          counted-as (a .s .now) (line .last .0) text x (a .facts) (a .at) _ _ _ _ (line .result)
+          (one-more (a .label) (length (shown seen alone (full (x .values) t))) behind) refl
+          (line .ensures text x seen t counts (rw word shows)),
     )
 
 -- src/sections.rt:119:1
@@ -70,6 +101,8 @@ count-goal-spec =
     goal-at-requires
     own-requires
     goal-term-requires
+    origin-length-requires
+    add-behind
     count-line-requires
     same-length
     returns

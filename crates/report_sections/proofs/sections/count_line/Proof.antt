@@ -1,4 +1,4 @@
--- `report_sections::sections::count_line` meets its contract: bytes, a term, one byte.
+-- `report_sections::sections::count_line` meets its contract: bytes, a term, bytes.
 use native.Mathlib.Omega.{arith}
 use Rattle.report_count.proofs.Lengths.{counts-further, counted-line}
 use borrow.Author.Needs.{needs}
@@ -34,7 +34,7 @@ returns : tie.Need-returns
 returns c =
     let a = c .before .before .before .before .before .before .before .args in
     λ text x seen t counts shows.
-    counted-line (a .s .now) (c .before .before .before .count-term .last .0) text x (a .facts) _ (a .at) (a .before) (c .before .before .before .before .before .further .result) _ (c .before .before .before .count-term .result) (c .further2 .result) (counts .low) (c .before .before .before .before .before .further .ensures)
+    counted-line (a .s .now) (c .before .before .before .count-term .last .0) text x (a .facts) _ (a .at) (a .before) (c .before .before .before .before .before .further .result) _ (c .before .before .before .count-term .result) (a .behind) (c .further2 .result) (counts .low) (c .before .before .before .before .before .further .ensures)
     (c .before .before .before .count-term .ensures text x seen t (counts-further _ text x _ seen _ _ _ counts (c .before .before .before .before .before .further .ensures)) shows) (c .further2 .ensures)
 
 pub count-line-spec : {M : Type 1} → statement M

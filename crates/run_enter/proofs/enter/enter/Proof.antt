@@ -130,8 +130,8 @@ set-at-requires c κs =
     let b = bounded (S .args .s .now) (figures (S .args .room)) (S .args .q) (S .args .t) (S .pre) in
     omega (arith, call .add-goals .kept .0)
 
-add-t13 : tie.Need-add-t13
-add-t13 c =
+add-t20 : tie.Need-add-t20
+add-t20 c =
     let z = c .before .before .before .before .before .before .before .before .before .before .before in
     let y = z .before .before .before in
     let x = y .before .before .before in
@@ -146,8 +146,8 @@ add-t13 c =
     let fit = sums (S .args .s .now) (figures (S .args .room)) (S .args .q) (S .args .t) (S .pre) numbers in
     omega arith
 
-add-t20 : tie.Need-add-t20
-add-t20 c =
+add-t13 : tie.Need-add-t13
+add-t13 c =
     let z = c .before .before .before .before .before .before .before .before .before .before .before .before in
     let y = z .before .before .before in
     let x = y .before .before .before in
@@ -238,8 +238,8 @@ enter-spec =
     add-set-at
     word-requires
     set-at-requires
-    add-t13
     add-t20
+    add-t13
     add-t21
     same-length
     returns)

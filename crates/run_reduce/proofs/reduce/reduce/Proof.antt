@@ -6,12 +6,16 @@ use mir.Syntax.{w64}
 use mir.Val.{Fits}
 use native.Mathlib.Omega.{arith}
 use borrow.Author.Needs.{needs}
+use Rattle.run_between.proofs.Origins as origins
 use Rattle.run_reduce.proofs.Reduction as calls
 use Rattle.run_reduce.proofs.reduce.reduce.Statement.{statement}
 use Rattle.run_reduce.proofs.reduce.reduce.Tie as tie
 
 small : (x : ℕ) → x ≤ 2000000 → Fits w64 x
 small x h = search needs
+
+made-requires : tie.Need-made-requires
+made-requires c κs = origins.made-asks (c .before .before .pre .10) (c .before .before .pre .11)
 
 mul-word-at : tie.Need-mul-word-at
 mul-word-at c = search needs
@@ -53,7 +57,7 @@ fits-requires : tie.Need-fits-requires
 fits-requires c κs =
     let second = c .before .before .before in
     let first = second .before .before .before in
-    let S = first .before .before .before .before in
+    let S = first .before .before .before .before .before .before in
     let p = S .pre in
     let taken = p .10 in
     let red = p .11 in
@@ -75,7 +79,7 @@ returns c =
     let third = c .before .before in
     let second = third .before .before .before in
     let first = second .before .before .before in
-    let S = first .before .before .before .before in
+    let S = first .before .before .before .before .before .before in
     let e-pairs = first .index .ensures ∙ first .before .word-at .ensures ∙ red .at .held .pairs in
     let e-compounds = second .index2 .ensures ∙ second .before .word-at2 .ensures ∙ red .at .held .compounds in
     let e-body = third .index3 .ensures ∙ third .before .word-at3 .ensures ∙ red .at .held .goals in
@@ -86,7 +90,7 @@ behind-requires : tie.Need-behind-requires
 behind-requires c κs = search needs
 
 sub-active : tie.Need-sub-active
-sub-active c = let n = calls.counted (c .before .before .before .before .before .before .before .before .before .before .before .before .before .before .pre .10) in omega (arith, n .some)
+sub-active c = let n = calls.counted (c .before .before .before .before .before .before .before .before .before .before .before .before .before .before .before .before .pre .10) in omega (arith, n .some)
 
 values-requires : tie.Need-values-requires
 values-requires c κs =
@@ -94,7 +98,7 @@ values-requires c κs =
     let third = test .before .before in
     let second = third .before .before .before in
     let first = second .before .before .before in
-    let S = first .before .before .before .before in
+    let S = first .before .before .before .before .before .before in
     S .pre .10 .running .in-range
 
 assign-head-requires : tie.Need-assign-head-requires
@@ -103,7 +107,7 @@ assign-head-requires c κs =
     let third = test .before .before in
     let second = third .before .before .before in
     let first = second .before .before .before in
-    let S = first .before .before .before .before in
+    let S = first .before .before .before .before .before .before in
     let p = S .pre in
     let taken = p .10 in
     let red = p .11 in
@@ -121,7 +125,7 @@ values-requires-2 c κs =
     let third = test .before .before in
     let second = third .before .before .before in
     let first = second .before .before .before in
-    let S = first .before .before .before .before in
+    let S = first .before .before .before .before .before .before in
     S .pre .10 .running .in-range
 
 assign-goal-requires : tie.Need-assign-goal-requires
@@ -131,7 +135,7 @@ assign-goal-requires c κs =
     let third = test .before .before in
     let second = third .before .before .before in
     let first = second .before .before .before in
-    let S = first .before .before .before .before in
+    let S = first .before .before .before .before .before .before in
     let p = S .pre in
     let taken = p .10 in
     let red = p .11 in
@@ -150,7 +154,7 @@ waiting-requires c κs =
     let third = test .before .before in
     let second = third .before .before .before in
     let first = second .before .before .before in
-    let S = first .before .before .before .before in
+    let S = first .before .before .before .before .before .before in
     S .pre .10 .running .in-range
 
 waiters-requires : tie.Need-waiters-requires
@@ -161,7 +165,7 @@ waiters-requires c κs =
     let third = test .before .before in
     let second = third .before .before .before in
     let first = second .before .before .before in
-    let S = first .before .before .before .before in
+    let S = first .before .before .before .before .before .before in
     S .pre .10 .running .in-range
 
 sets-requires : tie.Need-sets-requires
@@ -172,7 +176,7 @@ sets-requires c κs =
     let third = test .before .before in
     let second = third .before .before .before in
     let first = second .before .before .before in
-    let S = first .before .before .before .before in
+    let S = first .before .before .before .before .before .before in
     S .pre .10 .running .in-range
 
 wake-requires : tie.Need-wake-requires
@@ -183,7 +187,7 @@ wake-requires c κs =
     let third = test .before .before in
     let second = third .before .before .before in
     let first = second .before .before .before in
-    let S = first .before .before .before .before in
+    let S = first .before .before .before .before .before .before in
     let p = S .pre in
     let taken = p .10 in
     let red = p .11 in
@@ -204,7 +208,7 @@ mul-add-goals c =
     let third = test .before .before in
     let second = third .before .before .before in
     let first = second .before .before .before in
-    let S = first .before .before .before .before in
+    let S = first .before .before .before .before .before .before in
     omega (arith, S .pre .11 .at .number)
 
 add-add-goals : tie.Need-add-add-goals
@@ -216,7 +220,7 @@ add-add-goals c =
     let third = test .before .before in
     let second = third .before .before .before in
     let first = second .before .before .before in
-    let S = first .before .before .before .before in
+    let S = first .before .before .before .before .before .before in
     omega (arith, S .pre .11 .at .number)
 
 add-add-goals-2 : tie.Need-add-add-goals-2
@@ -228,7 +232,7 @@ add-add-goals-2 c =
     let third = test .before .before in
     let second = third .before .before .before in
     let first = second .before .before .before in
-    let S = first .before .before .before .before in
+    let S = first .before .before .before .before .before .before in
     omega (arith, S .pre .11 .at .number)
 
 queue-requires : tie.Need-queue-requires
@@ -240,7 +244,7 @@ queue-requires c κs =
     let third = test .before .before in
     let second = third .before .before .before in
     let first = second .before .before .before in
-    let S = first .before .before .before .before in
+    let S = first .before .before .before .before .before .before in
     S .pre .10 .running .in-range
 
 add-goals-requires : tie.Need-add-goals-requires
@@ -252,7 +256,7 @@ add-goals-requires c κs =
     let third = test .before .before in
     let second = third .before .before .before in
     let first = second .before .before .before in
-    let S = first .before .before .before .before in
+    let S = first .before .before .before .before .before .before in
     let p = S .pre in
     let taken = p .10 in
     let red = p .11 in
@@ -263,7 +267,7 @@ add-goals-requires c κs =
     calls.asks-4 taken red fit
     (heads .before .values .ensures) e-pairs (heads .assign-head .ensures) (gives .before .values2 .ensures) (gives .assign-goal .ensures)
     (wakes .before .before .before .waiting .ensures) (wakes .before .before .waiters .ensures) (wakes .before .sets .ensures)
-    (wakes .wake .ensures) (heads .before .before .before .before .behind .ensures) refl e-body (c .queue .ensures)
+    (wakes .wake .ensures) (heads .before .before .before .before .behind .ensures) refl e-body (c .queue .ensures) (origins.made-is taken red (first .before .before .before .made .ensures))
 
 waiting-requires-2 : tie.Need-waiting-requires-2
 waiting-requires-2 c κs =
@@ -275,7 +279,7 @@ waiting-requires-2 c κs =
     let third = test .before .before in
     let second = third .before .before .before in
     let first = second .before .before .before in
-    let S = first .before .before .before .before in
+    let S = first .before .before .before .before .before .before in
     S .pre .10 .running .in-range
 
 queue-requires-2 : tie.Need-queue-requires-2
@@ -288,7 +292,7 @@ queue-requires-2 c κs =
     let third = test .before .before in
     let second = third .before .before .before in
     let first = second .before .before .before in
-    let S = first .before .before .before .before in
+    let S = first .before .before .before .before .before .before in
     S .pre .10 .running .in-range
 
 add-add-woken : tie.Need-add-add-woken
@@ -301,7 +305,7 @@ add-add-woken c =
     let third = test .before .before in
     let second = third .before .before .before in
     let first = second .before .before .before in
-    let S = first .before .before .before .before in
+    let S = first .before .before .before .before .before .before in
     let red = S .pre .11 in
     let e = third .index3 .ensures ∙ third .before .word-at3 .ensures ∙ red .at .held .goals in
     small (S .args .t .active - 1 + third .index3 .result)
@@ -317,7 +321,7 @@ add-woken-requires c κs =
     let third = test .before .before in
     let second = third .before .before .before in
     let first = second .before .before .before in
-    let S = first .before .before .before .before in
+    let S = first .before .before .before .before .before .before in
     let p = S .pre in
     let taken = p .10 in
     let red = p .11 in
@@ -328,7 +332,7 @@ add-woken-requires c κs =
     calls.asks-5 taken red fit
     (heads .before .values .ensures) e-pairs (heads .assign-head .ensures) (gives .before .values2 .ensures) (gives .assign-goal .ensures)
     (wakes .before .before .before .waiting .ensures) (wakes .before .before .waiters .ensures) (wakes .before .sets .ensures)
-    (wakes .wake .ensures) (heads .before .before .before .before .behind .ensures) refl e-body (goals .before .queue .ensures)
+    (wakes .wake .ensures) (heads .before .before .before .before .behind .ensures) refl e-body (goals .before .queue .ensures) (origins.made-is taken red (first .before .before .before .made .ensures))
     (goals .add-goals .ensures) (c .before .waiting2 .ensures) (c .queue2 .ensures)
 
 count-try-requires : tie.Need-count-try-requires
@@ -342,7 +346,7 @@ count-try-requires c κs =
     let third = test .before .before in
     let second = third .before .before .before in
     let first = second .before .before .before in
-    let S = first .before .before .before .before in
+    let S = first .before .before .before .before .before .before in
     let p = S .pre in
     let taken = p .10 in
     let red = p .11 in
@@ -353,11 +357,11 @@ count-try-requires c κs =
     calls.asks-6 taken red fit
     (heads .before .values .ensures) e-pairs (heads .assign-head .ensures) (gives .before .values2 .ensures) (gives .assign-goal .ensures)
     (wakes .before .before .before .waiting .ensures) (wakes .before .before .waiters .ensures) (wakes .before .sets .ensures)
-    (wakes .wake .ensures) (heads .before .before .before .before .behind .ensures) refl e-body (goals .before .queue .ensures)
+    (wakes .wake .ensures) (heads .before .before .before .before .behind .ensures) refl e-body (goals .before .queue .ensures) (origins.made-is taken red (first .before .before .before .made .ensures))
     (goals .add-goals .ensures) (woken .before .before .waiting2 .ensures) (woken .before .queue2 .ensures) (woken .add-woken .ensures)
 
-add-t18 : tie.Need-add-t18
-add-t18 c =
+add-t21 : tie.Need-add-t21
+add-t21 c =
     let tries = c .before .before .before in
     let woken = tries .before .before .before .before in
     let goals = woken .before .before .before .before .before .before in
@@ -368,47 +372,11 @@ add-t18 c =
     let third = test .before .before in
     let second = third .before .before .before in
     let first = second .before .before .before in
-    let S = first .before .before .before .before in
+    let S = first .before .before .before .before .before .before in
     let red = S .pre .11 in
     let e = first .index .ensures ∙ first .before .word-at .ensures ∙ red .at .held .pairs in
     small (S .args .t .pairs + first .index .result)
     (calls.small-pairs (S .args .t) (first .index .result) _ (calls.counted (S .pre .10)) e (red .at .held .laid .few-pairs))
-
-add-t33 : tie.Need-add-t33
-add-t33 c =
-    let tries = c .before .before .before .before in
-    let woken = tries .before .before .before .before in
-    let goals = woken .before .before .before .before .before .before in
-    let wakes = goals .before .before .before .before .before in
-    let gives = wakes .before .before .before .before .before .before .before in
-    let heads = gives .before .before .before .before .before in
-    let test = heads .before .before .before .before .before in
-    let third = test .before .before in
-    let second = third .before .before .before in
-    let first = second .before .before .before in
-    let S = first .before .before .before .before in
-    let red = S .pre .11 in
-    let e = second .index2 .ensures ∙ second .before .word-at2 .ensures ∙ red .at .held .compounds in
-    small (S .args .t .compounds + second .index2 .result)
-    (calls.small-compounds (S .args .t) (second .index2 .result) _ (calls.counted (S .pre .10)) e (red .at .held .laid .few-compounds))
-
-add-t19 : tie.Need-add-t19
-add-t19 c =
-    let tries = c .before .before .before .before in
-    let woken = tries .before .before .before .before in
-    let goals = woken .before .before .before .before .before .before in
-    let wakes = goals .before .before .before .before .before in
-    let gives = wakes .before .before .before .before .before .before .before in
-    let heads = gives .before .before .before .before .before in
-    let test = heads .before .before .before .before .before in
-    let third = test .before .before in
-    let second = third .before .before .before in
-    let first = second .before .before .before in
-    let S = first .before .before .before .before in
-    let red = S .pre .11 in
-    let e = third .index3 .ensures ∙ third .before .word-at3 .ensures ∙ red .at .held .goals in
-    small (S .args .t .active - 1 + third .index3 .result)
-    (calls.small-active (S .args .t) (third .index3 .result) _ (calls.counted (S .pre .10)) e (red .at .held .laid .few-goals))
 
 add-t36 : tie.Need-add-t36
 add-t36 c =
@@ -422,7 +390,43 @@ add-t36 c =
     let third = test .before .before in
     let second = third .before .before .before in
     let first = second .before .before .before in
-    let S = first .before .before .before .before in
+    let S = first .before .before .before .before .before .before in
+    let red = S .pre .11 in
+    let e = second .index2 .ensures ∙ second .before .word-at2 .ensures ∙ red .at .held .compounds in
+    small (S .args .t .compounds + second .index2 .result)
+    (calls.small-compounds (S .args .t) (second .index2 .result) _ (calls.counted (S .pre .10)) e (red .at .held .laid .few-compounds))
+
+add-t22 : tie.Need-add-t22
+add-t22 c =
+    let tries = c .before .before .before .before in
+    let woken = tries .before .before .before .before in
+    let goals = woken .before .before .before .before .before .before in
+    let wakes = goals .before .before .before .before .before in
+    let gives = wakes .before .before .before .before .before .before .before in
+    let heads = gives .before .before .before .before .before in
+    let test = heads .before .before .before .before .before in
+    let third = test .before .before in
+    let second = third .before .before .before in
+    let first = second .before .before .before in
+    let S = first .before .before .before .before .before .before in
+    let red = S .pre .11 in
+    let e = third .index3 .ensures ∙ third .before .word-at3 .ensures ∙ red .at .held .goals in
+    small (S .args .t .active - 1 + third .index3 .result)
+    (calls.small-active (S .args .t) (third .index3 .result) _ (calls.counted (S .pre .10)) e (red .at .held .laid .few-goals))
+
+add-t39 : tie.Need-add-t39
+add-t39 c =
+    let tries = c .before .before .before .before in
+    let woken = tries .before .before .before .before in
+    let goals = woken .before .before .before .before .before .before in
+    let wakes = goals .before .before .before .before .before in
+    let gives = wakes .before .before .before .before .before .before .before in
+    let heads = gives .before .before .before .before .before in
+    let test = heads .before .before .before .before .before in
+    let third = test .before .before in
+    let second = third .before .before .before in
+    let first = second .before .before .before in
+    let S = first .before .before .before .before .before .before in
     let p = S .pre in
     let taken = p .10 in
     let red = p .11 in
@@ -434,13 +438,13 @@ add-t36 c =
     calls.woken-few taken red fit
     (heads .before .values .ensures) e-pairs (heads .assign-head .ensures) (gives .before .values2 .ensures) (gives .assign-goal .ensures)
     (wakes .before .before .before .waiting .ensures) (wakes .before .before .waiters .ensures) (wakes .before .sets .ensures)
-    (wakes .wake .ensures) (heads .before .before .before .before .behind .ensures) refl e-body (goals .before .queue .ensures)
+    (wakes .wake .ensures) (heads .before .before .before .before .behind .ensures) refl e-body (goals .before .queue .ensures) (origins.made-is taken red (first .before .before .before .made .ensures))
     (goals .add-goals .ensures) (woken .before .before .waiting2 .ensures) (woken .before .queue2 .ensures) (woken .add-woken .ensures)
     in
     small (S .args .t .active - 1 + third .index3 .result + wakes .wake .result) (calls.small-goals _ _ (few .0) (taken .running .in-range .goals))
 
-sub-t41 : tie.Need-sub-t41
-sub-t41 c =
+sub-t44 : tie.Need-sub-t44
+sub-t44 c =
     let tries = c .before .before .before .before .before in
     let woken = tries .before .before .before .before in
     let goals = woken .before .before .before .before .before .before in
@@ -451,7 +455,7 @@ sub-t41 c =
     let third = test .before .before in
     let second = third .before .before .before in
     let first = second .before .before .before in
-    let S = first .before .before .before .before in
+    let S = first .before .before .before .before .before .before in
     let p = S .pre in
     let taken = p .10 in
     let red = p .11 in
@@ -462,11 +466,11 @@ sub-t41 c =
     calls.woken-few taken red fit
     (heads .before .values .ensures) e-pairs (heads .assign-head .ensures) (gives .before .values2 .ensures) (gives .assign-goal .ensures)
     (wakes .before .before .before .waiting .ensures) (wakes .before .before .waiters .ensures) (wakes .before .sets .ensures)
-    (wakes .wake .ensures) (heads .before .before .before .before .behind .ensures) refl e-body (goals .before .queue .ensures)
+    (wakes .wake .ensures) (heads .before .before .before .before .behind .ensures) refl e-body (goals .before .queue .ensures) (origins.made-is taken red (first .before .before .before .made .ensures))
     (goals .add-goals .ensures) (woken .before .before .waiting2 .ensures) (woken .before .queue2 .ensures) (woken .add-woken .ensures) .1
 
-add-t42 : tie.Need-add-t42
-add-t42 c =
+add-t45 : tie.Need-add-t45
+add-t45 c =
     let tries = c .before .before .before .before .before .before in
     let woken = tries .before .before .before .before in
     let goals = woken .before .before .before .before .before .before in
@@ -477,7 +481,7 @@ add-t42 c =
     let third = test .before .before in
     let second = third .before .before .before in
     let first = second .before .before .before in
-    let S = first .before .before .before .before in
+    let S = first .before .before .before .before .before .before in
     small (S .args .t .steps + 1) (calls.small-steps (S .args .t .steps) (S .pre .10 .more))
 
 same-length-2 : tie.Need-same-length-2
@@ -492,7 +496,7 @@ same-length-2 c =
     let third = test .before .before in
     let second = third .before .before .before in
     let first = second .before .before .before in
-    let S = first .before .before .before .before in
+    let S = first .before .before .before .before .before .before in
     let p = S .pre in
     let taken = p .10 in
     let red = p .11 in
@@ -503,7 +507,7 @@ same-length-2 c =
     calls.size-6 taken red fit
     (heads .before .values .ensures) e-pairs (heads .assign-head .ensures) (gives .before .values2 .ensures) (gives .assign-goal .ensures)
     (wakes .before .before .before .waiting .ensures) (wakes .before .before .waiters .ensures) (wakes .before .sets .ensures)
-    (wakes .wake .ensures) (heads .before .before .before .before .behind .ensures) refl e-body (goals .before .queue .ensures)
+    (wakes .wake .ensures) (heads .before .before .before .before .behind .ensures) refl e-body (goals .before .queue .ensures) (origins.made-is taken red (first .before .before .before .made .ensures))
     (goals .add-goals .ensures) (woken .before .before .waiting2 .ensures) (woken .before .queue2 .ensures) (woken .add-woken .ensures) _ (tries .count-try .ensures)
 
 returns-2 : tie.Need-returns-2
@@ -519,7 +523,7 @@ returns-2 c =
     let third = test .before .before in
     let second = third .before .before .before in
     let first = second .before .before .before in
-    let S = first .before .before .before .before in
+    let S = first .before .before .before .before .before .before in
     let e-pairs = first .index .ensures ∙ first .before .word-at .ensures ∙ red .at .held .pairs in
     let e-compounds = second .index2 .ensures ∙ second .before .word-at2 .ensures ∙ red .at .held .compounds in
     let e-body = third .index3 .ensures ∙ third .before .word-at3 .ensures ∙ red .at .held .goals in
@@ -527,7 +531,7 @@ returns-2 c =
     calls.ends taken red fit
     (heads .before .values .ensures) e-pairs (heads .assign-head .ensures) (gives .before .values2 .ensures) (gives .assign-goal .ensures)
     (wakes .before .before .before .waiting .ensures) (wakes .before .before .waiters .ensures) (wakes .before .sets .ensures)
-    (wakes .wake .ensures) (heads .before .before .before .before .behind .ensures) refl e-body (goals .before .queue .ensures)
+    (wakes .wake .ensures) (heads .before .before .before .before .behind .ensures) refl e-body (goals .before .queue .ensures) (origins.made-is taken red (first .before .before .before .made .ensures))
     (goals .add-goals .ensures) (woken .before .before .waiting2 .ensures) (woken .before .queue2 .ensures) (woken .add-woken .ensures) _ (tries .count-try .ensures) _
     (record {
       pairs = ap (λ m. S .args .t .pairs + m) e-pairs;
@@ -545,6 +549,7 @@ pub reduce-spec : {M : Type 1} → statement M
 reduce-spec =
     tie.close
     (tie.spec
+    made-requires
     mul-word-at
     add-word-at
     word-at-requires
@@ -580,11 +585,11 @@ reduce-spec =
     add-add-woken
     add-woken-requires
     count-try-requires
-    add-t18
-    add-t33
-    add-t19
+    add-t21
     add-t36
-    sub-t41
-    add-t42
+    add-t22
+    add-t39
+    sub-t44
+    add-t45
     same-length-2
     returns-2)

@@ -24,13 +24,13 @@ module _ (e : tie.After-keep-ends) where
       → EndsKept (start .args .s .now) (e .keep-ends .last .0) (keeping.x k joins) (values-region (figures (start .args .room))) (start .args .room .pairs)
   kept text names j limit atlas slots g others readers k joins =
       (rw (e .before .before .values .ensures) at (e .keep-ends .ensures))
-      (keeping.x k joins) (g .goal .number) (named (g .goal .name)) (g .goal .arguments) (keeping.keeps k joins (e .before .index .result) (e .before .index .ensures))
+      (keeping.x k joins) (g .goal .number) (named (g .goal .name)) (g .goal .arguments) (keeping.keeps k joins (e .before .place-of .result) (e .before .place-of .ensures))
 
 values-requires : tie.Need-values-requires
 values-requires c κs = search needs
 
-index-requires : tie.Need-index-requires
-index-requires c κs = search needs
+place-of-requires : tie.Need-place-of-requires
+place-of-requires c κs = search needs
 
 keep-ends-requires : tie.Need-keep-ends-requires
 keep-ends-requires c κs =
@@ -39,7 +39,7 @@ keep-ends-requires c κs =
       p .6 .goal .number,
       named (p .6 .goal .name),
       p .6 .goal .arguments,
-      rw (c .before .values .ensures) (keeping.keeps (p .9) (p .10) (c .index .result) (c .index .ensures)),
+      rw (c .before .values .ensures) (keeping.keeps (p .9) (p .10) (c .place-of .result) (c .place-of .ensures)),
     )
 
 add-waiting-requires : tie.Need-add-waiting-requires
@@ -76,7 +76,7 @@ join-waiting-spec =
     tie.close
     (tie.spec
     values-requires
-    index-requires
+    place-of-requires
     keep-ends-requires
     add-waiting-requires
     same-length
