@@ -8,6 +8,7 @@ pub mod Trial
 pub mod Runs
 pub mod Circle
 pub mod Single
+pub mod Elsewhere
 pub mod Reading
 pub mod Own
 pub mod Report

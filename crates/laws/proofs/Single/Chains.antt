@@ -100,7 +100,7 @@ chain-flows values {p} {ts} (through k q u m e further) =
     (flows-then (flows-to-less (λ h n. omega arith)) (chain-flows values further))
 
 module _ (values : Values) where
-  followed-reaches : (p : ℕ) (links : ℕ) (t : Term) → Reaches values p (more (followed links values t) end) → Reaches values p (more t end)
+  pub followed-reaches : (p : ℕ) (links : ℕ) (t : Term) → Reaches values p (more (followed links values t) end) → Reaches values p (more t end)
   unfolding followed all-occurrences
   followed-reaches p zero t r = r
   followed-reaches p (suc links) (constant k) r = r

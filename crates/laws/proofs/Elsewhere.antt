@@ -1,0 +1,4 @@
+-- Where a pair's reader stands elsewhere, no circle runs through the pair: the circle test need not start there.
+pub mod Open
+pub mod Live
+pub mod Before
