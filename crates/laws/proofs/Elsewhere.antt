@@ -2,3 +2,4 @@
 pub mod Open
 pub mod Live
 pub mod Before
+pub mod NoCircle
