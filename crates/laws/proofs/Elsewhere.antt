@@ -3,3 +3,8 @@ pub mod Open
 pub mod Live
 pub mod Before
 pub mod NoCircle
+pub mod Written
+pub mod Following
+pub mod Staying
+pub mod Kept
+pub mod Nowhere

@@ -207,7 +207,7 @@ module _ (by : Half → ℕ → Term) (p : ℕ) where
         go false e one others = let (k, q, at, inside) = others (omega (arith, leb-false 1 (occurrences reader p (replaced by t)) e)) in (k, q, omega arith, inside)
 
 -- A reader that stands in a term written out is reached from it.
-applied-reaches : (values : Values) (links p : ℕ) (t : Term) → 1 ≤ occurrences reader p (applied links values t) → Reaches values p (more t end)
+pub applied-reaches : (values : Values) (links p : ℕ) (t : Term) → 1 ≤ occurrences reader p (applied links values t) → Reaches values p (more t end)
 unfolding applied all-occurrences
 applied-reaches values zero p t m = here {ts = more t end} (omega arith)
 applied-reaches values (suc links) p t m =

@@ -1,0 +1,105 @@
+-- A goal that is not the one in front is there after the step, and what it has a chain to it keeps.
+-- So is the goal in front, unless it is reduced.
+use Prim.Native.Nat.{ℕ}
+use mathlib.Core.Path.{_≡_, refl, ap}
+use mathlib.Core.Bool.{Bool, true, false, not}
+use mathlib.Core.List.{List, [], _∷_, _++_, map}
+use Rattle.meaning.specs.Bytes.{those}
+use Rattle.meaning.specs.Terms.{Clause}
+use Rattle.meaning.specs.State.{QueryUnit, Goal, Waiting, Goals, State, unit-at}
+use Rattle.meaning.specs.Compare.{Assignment}
+use Rattle.meaning.specs.Trial.{Choice, reduces, joins-waiting, joins-failed}
+use Rattle.meaning.specs.Step.{body-goals, wakes, goals-after, without-front, step}
+use Rattle.meaning.specs.Run.{choice-for}
+use Rattle.laws.proofs.Lists.{In, here, in-append-left, in-append-right, in-map, in-those, each-append, each-in, each-map, each-member}
+use Rattle.laws.proofs.Circle.Never.{NoCircle}
+use Rattle.laws.proofs.Circle.ValuesStay.{step-values-stay}
+use Rattle.laws.proofs.Single.Chains.{Reaches, reaches-kept}
+use Rattle.laws.proofs.Single.Counting.{together}
+
+-- What holds of each goal of the three lists holds of each of them together.
+each-together : (P : Goal → Type 0) (goals : Goals) → ((g : Goal) → In g (goals .queue) → P g) → ((w : Waiting) → In w (goals .waiting) → P (w .goal))
+    → ((g : Goal) → In g (goals .failed) → P g) → (g : Goal) → In g (together goals) → P g
+each-together P goals queue waiting failed g m =
+    each-in P
+    (each-append P (goals .queue ++ map (λ w. w .goal) (goals .waiting)) (goals .failed)
+    (each-append P (goals .queue) (map (λ w. w .goal) (goals .waiting)) (each-member P (goals .queue) queue)
+    (each-map P (λ (w : Waiting). w .goal) (goals .waiting) (each-member (λ w. P (w .goal)) (goals .waiting) waiting)))
+    (each-member P (goals .failed) failed)) m
+
+-- Where a goal of one of the lists stands in all together.
+pub in-queue : (goals : Goals) {g : Goal} → In g (goals .queue) → In g (together goals)
+in-queue goals m = in-append-left (goals .failed) (in-append-left (map (λ w. w .goal) (goals .waiting)) m)
+
+pub in-waiting : (goals : Goals) {w : Waiting} → In w (goals .waiting) → In (w .goal) (together goals)
+in-waiting goals m = in-append-left (goals .failed) (in-append-right (goals .queue) (in-map (λ (w : Waiting). w .goal) m))
+
+pub in-failed : (goals : Goals) {g : Goal} → In g (goals .failed) → In g (together goals)
+in-failed goals m = in-append-right (goals .queue ++ map (λ w. w .goal) (goals .waiting)) m
+
+-- The other goals are there after the step.
+pub others-stay : (c : Choice) (unit : QueryUnit) (g : Goal) (others : Goals) (o : Goal) → In o (together others)
+    → In o (together (goals-after c unit g others))
+unfolding goals-after
+others-stay (reduces clause given) unit g others o m =
+    each-together (λ o. In o (together (goals-after (reduces clause given) unit g others))) others
+    (λ o i. in-queue (goals-after (reduces clause given) unit g others)
+    (in-append-left (map (λ w. w .goal) (those woken (others .waiting))) (in-append-left (body-goals clause unit (g .query)) i)))
+    (λ w i. go w i (woken w) refl)
+    (λ o i. in-failed (goals-after (reduces clause given) unit g others) i) o m
+  where
+    woken : Waiting → Bool
+    woken = wakes (g .query) given
+
+    go : (w : Waiting) → In w (others .waiting) → (b : Bool) → woken w ≡ b → In (w .goal) (together (goals-after (reduces clause given) unit g others))
+    go w i true e =
+        in-queue (goals-after (reduces clause given) unit g others)
+        (in-append-right (others .queue ++ body-goals clause unit (g .query)) (in-map (λ (w : Waiting). w .goal) (in-those woken i e)))
+    go w i false e =
+        in-waiting (goals-after (reduces clause given) unit g others) (in-those (λ w. not (woken w)) i (ap not e))
+others-stay (joins-waiting readers) unit g others o m =
+    each-together (λ o. In o (together (goals-after (joins-waiting readers) unit g others))) others
+    (λ o i. in-queue (goals-after (joins-waiting readers) unit g others) i)
+    (λ w i. in-waiting (goals-after (joins-waiting readers) unit g others) (in-append-left (record { goal = g; readers = readers } ∷ []) i))
+    (λ o i. in-failed (goals-after (joins-waiting readers) unit g others) i) o m
+others-stay joins-failed unit g others o m =
+    each-together (λ o. In o (together (goals-after joins-failed unit g others))) others
+    (λ o i. in-queue (goals-after joins-failed unit g others) i)
+    (λ w i. in-waiting (goals-after joins-failed unit g others) i)
+    (λ o i. in-failed (goals-after joins-failed unit g others) (in-append-left (g ∷ []) i)) o m
+
+-- The goal in front is there unless it is reduced.
+pub front-stays : (c : Choice) (unit : QueryUnit) (g : Goal) (others : Goals) → ((clause : Clause) (given : List Assignment) → c ≡ reduces clause given → ⊥)
+    → In g (together (goals-after c unit g others))
+unfolding goals-after
+front-stays (reduces clause given) unit g others d = absurd (d clause given refl)
+front-stays (joins-waiting readers) unit g others d =
+    in-waiting (goals-after (joins-waiting readers) unit g others) (in-append-right (others .waiting) (here {x = record { goal = g; readers = readers }} refl))
+front-stays joins-failed unit g others d =
+    in-failed (goals-after joins-failed unit g others) (in-append-right (others .failed) (here refl))
+
+-- A body's goals are there.
+pub body-enters : (clause : Clause) (given : List Assignment) (unit : QueryUnit) (g : Goal) (others : Goals) (o : Goal)
+    → In o (body-goals clause unit (g .query)) → In o (together (goals-after (reduces clause given) unit g others))
+unfolding goals-after
+body-enters clause given unit g others o m =
+    in-queue (goals-after (reduces clause given) unit g others)
+    (in-append-left (map (λ w. w .goal) (those (wakes (g .query) given) (others .waiting))) (in-append-right (others .queue) m))
+
+-- A goal of the state, of the query at place k, that has a chain to the reader of pair z.
+pub record ReachedBy (k z : ℕ) (state : State) (o : Goal) : Type 0 where
+  pub present : In o (together (state .goals))
+  pub its-own : o .query ≡ k
+  pub reached : Reaches (unit-at k (state .units) .values) z (o .goal .arguments)
+
+-- It keeps the chain, whatever goal the step takes; if it is another, it stays.
+pub reached-by-stays : (clauses : List Clause) (state : State) (g : Goal) (others : List Goal) → NoCircle state → (k z : ℕ) (o : Goal)
+    → In o (together (without-front others (state .goals))) → ReachedBy k z state o
+    → ReachedBy k z (step (choice-for clauses state g) g others state) o
+unfolding step
+reached-by-stays clauses state g others no-circle k z o m r =
+    record {
+      present = others-stay (choice-for clauses state g) (unit-at (g .query) (state .units)) g (without-front others (state .goals)) o m;
+      its-own = r .its-own;
+      reached = reaches-kept _ (step-values-stay clauses state g others no-circle k) (r .reached);
+    }
