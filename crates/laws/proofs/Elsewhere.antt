@@ -8,3 +8,4 @@ pub mod Following
 pub mod Staying
 pub mod Kept
 pub mod Nowhere
+pub mod Handed

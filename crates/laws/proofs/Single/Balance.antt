@@ -307,6 +307,3 @@ module _ (unit : QueryUnit) (clause : Clause) (goal : Named) (given : List Assig
     pub balanced-and-live : (after : Balanced (values-after clause given unit) (λ h n. body-count h n + around h n))
         × ((n : ℕ) → marks writer writer n given ≤ marks reader reader n (after .live))
     balanced-and-live = balanced-with body-count (λ h n. omega arith) limits
-
-    pub balanced-after : Balanced (values-after clause given unit) (λ h n. body-count h n + around h n)
-    balanced-after = balanced-and-live .0
