@@ -9,3 +9,4 @@ pub mod Staying
 pub mod Kept
 pub mod Nowhere
 pub mod Handed
+pub mod Homes
