@@ -6,7 +6,7 @@ pub mod NoCircle
 pub mod Written
 pub mod Following
 pub mod Staying
-pub mod Kept
+pub mod Unread
 pub mod Nowhere
 pub mod Handed
 pub mod Homes

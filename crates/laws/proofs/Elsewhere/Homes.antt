@@ -30,7 +30,7 @@ use Rattle.laws.proofs.Single.Step.{balanced-taken, reduction-kept, red
 use Rattle.laws.proofs.Single.Run.{run-sound}
 use Rattle.laws.proofs.Elsewhere.Following.{place-stays, place-handed-on}
 use Rattle.laws.proofs.Elsewhere.Handed.{read-where-given}
-use Rattle.laws.proofs.Elsewhere.Kept.{Unread}
+use Rattle.laws.proofs.Elsewhere.Unread.{Unread}
 use Rattle.laws.proofs.Elsewhere.Staying.{in-queue, in-waiting, in-failed}
 
 -- A reduction in a state of a run.

@@ -2,18 +2,18 @@
 use Prim.Native.Nat.{ℕ, _+_, _<_}
 use mathlib.Core.Path.{_≡_, refl}
 use mathlib.Core.Bool.{false}
-use mathlib.Core.List.{List, [], _∷_, _++_, map}
+use mathlib.Core.List.{_++_, map}
 use mathlib.Core.Option.{none}
 use native.Mathlib.Decide.{decLt}
 use native.Mathlib.Omega.{arith}
 use lib.ListN.{length}
 use borrow.Author.Tests.{eq-eqb, eqb-true}
-use Rattle.meaning.specs.Terms.{reader, named, Job, occurrences, all-occurrences, as-term}
+use Rattle.meaning.specs.Terms.{reader, Job, occurrences, all-occurrences, as-term}
 use Rattle.meaning.specs.State.{Room, Values, value, Goal, Waiting, Goals, State, Part, unit-at, of, goals-of, part-of}
 use Rattle.meaning.specs.Circle.{circle}
 use Rattle.meaning.specs.Run.{run}
 use Rattle.meaning.specs.Report.{applied}
-use Rattle.laws.proofs.Lists.{In, in-map, in-those, in-sum, Each, each-append, each-implies, each-map, each-member, each-those, sum}
+use Rattle.laws.proofs.Lists.{In, in-map, in-those, in-sum, Each, each-append, each-implies, each-map, each-member, each-those, sum, sum-of-none}
 use Rattle.laws.proofs.Runs.AllGoals.{EachGoal}
 use Rattle.laws.proofs.Runs.Charges.{run-units}
 use Rattle.laws.proofs.Circle.Never.{run-no-circle}
@@ -21,16 +21,12 @@ use Rattle.laws.proofs.Single.{written-out, goal-terms}
 use Rattle.laws.proofs.Single.Chains.{Reaches, reaches-more, applied-reaches}
 use Rattle.laws.proofs.Single.Counting.{together}
 use Rattle.laws.proofs.Elsewhere.Staying.{in-queue, in-waiting, in-failed}
-use Rattle.laws.proofs.Elsewhere.Written.{reached-written}
-use Rattle.laws.proofs.Elsewhere.Kept.{Unread, unread-stays}
+use Rattle.laws.proofs.Elsewhere.Written.{reached-exactly-if-written}
+use Rattle.laws.proofs.Elsewhere.Unread.{Unread, unread-stays}
 
 -- No goal of the query, written out, holds the pair's reader.
 abbrev pub ReadNowhere : Part → ℕ → Type 0
 ReadNowhere part z = sum (λ t. occurrences reader z (written-out part t)) (goal-terms part) ≡ 0
-
-sum-none : {A : Type 0} (f : A → ℕ) (l : List A) → Each (λ a. f a ≡ 0) l → sum f l ≡ 0
-sum-none f [] e = refl
-sum-none f (a ∷ l) e = omega (arith, e .0, sum-none f l (e .1))
 
 module _ (k z : ℕ) (state : State) where
   abbrev values : Values
@@ -60,7 +56,7 @@ module _ (k z : ℕ) (state : State) where
       not-read g m r =
           omega (
             arith,
-            reached-written values z no-circle (g .goal .number) (named (g .goal .name)) (g .goal .arguments) free r,
+            reached-exactly-if-written values z no-circle free (g .goal) .0 r,
             in-sum (λ t. occurrences reader z (applied (length values) values t)) (in-map (λ (g : Goal). as-term (g .goal)) m),
           )
 
@@ -78,7 +74,7 @@ module _ (k z : ℕ) (state : State) where
   pub unread-nowhere : EachGoal (Unread k z (unit-at k (state .units) .values)) (state .goals) → ReadNowhere (part-of k state) z
   unfolding part-of goals-of of
   unread-nowhere unread =
-      sum-none (λ t. occurrences reader z (applied (length values) values t)) (map (λ g. as-term (g .goal)) (together own-goals))
+      sum-of-none (λ t. occurrences reader z (applied (length values) values t)) (map (λ g. as-term (g .goal)) (together own-goals))
       (each-map (λ t. occurrences reader z (applied (length values) values t) ≡ 0) (λ (g : Goal). as-term (g .goal)) (together own-goals)
       (each-append (λ g. held-by g ≡ 0) (own-goals .queue ++ map (λ w. w .goal) (own-goals .waiting)) (own-goals .failed)
       (each-append (λ g. held-by g ≡ 0) (own-goals .queue) (map (λ w. w .goal) (own-goals .waiting))

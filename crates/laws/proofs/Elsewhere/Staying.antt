@@ -1,12 +1,12 @@
--- A goal that is not the one in front is there after the step, and what it has a chain to it keeps.
--- So is the goal in front, unless it is reduced.
+-- A goal that a step does not take is there after the step, and what it has a chain to it keeps.
+-- So is the goal that is taken, unless it is reduced.
 use Prim.Native.Nat.{ℕ}
 use mathlib.Core.Path.{_≡_, refl, ap}
 use mathlib.Core.Bool.{Bool, true, false, not}
 use mathlib.Core.List.{List, [], _∷_, _++_, map}
 use Rattle.meaning.specs.Bytes.{those}
 use Rattle.meaning.specs.Terms.{Clause}
-use Rattle.meaning.specs.State.{QueryUnit, Goal, Waiting, Goals, State, unit-at}
+use Rattle.meaning.specs.State.{Values, QueryUnit, Goal, Waiting, Goals, State, unit-at}
 use Rattle.meaning.specs.Compare.{Assignment}
 use Rattle.meaning.specs.Trial.{Choice, reduces, joins-waiting, joins-failed}
 use Rattle.meaning.specs.Step.{body-goals, wakes, goals-after, without-front, step}
@@ -68,14 +68,14 @@ others-stay joins-failed unit g others o m =
     (λ w i. in-waiting (goals-after joins-failed unit g others) i)
     (λ o i. in-failed (goals-after joins-failed unit g others) (in-append-left (g ∷ []) i)) o m
 
--- The goal in front is there unless it is reduced.
-pub front-stays : (c : Choice) (unit : QueryUnit) (g : Goal) (others : Goals) → ((clause : Clause) (given : List Assignment) → c ≡ reduces clause given → ⊥)
+-- The goal that is taken is there unless it is reduced.
+pub taken-stays : (c : Choice) (unit : QueryUnit) (g : Goal) (others : Goals) → ((clause : Clause) (given : List Assignment) → c ≡ reduces clause given → ⊥)
     → In g (together (goals-after c unit g others))
 unfolding goals-after
-front-stays (reduces clause given) unit g others d = absurd (d clause given refl)
-front-stays (joins-waiting readers) unit g others d =
+taken-stays (reduces clause given) unit g others d = absurd (d clause given refl)
+taken-stays (joins-waiting readers) unit g others d =
     in-waiting (goals-after (joins-waiting readers) unit g others) (in-append-right (others .waiting) (here {x = record { goal = g; readers = readers }} refl))
-front-stays joins-failed unit g others d =
+taken-stays joins-failed unit g others d =
     in-failed (goals-after joins-failed unit g others) (in-append-right (others .failed) (here refl))
 
 -- A body's goals are there.
@@ -86,20 +86,32 @@ body-enters clause given unit g others o m =
     in-queue (goals-after (reduces clause given) unit g others)
     (in-append-left (map (λ w. w .goal) (those (wakes (g .query) given) (others .waiting))) (in-append-right (others .queue) m))
 
--- A goal of the state, of the query at place k, that has a chain to the reader of pair z.
-pub record ReachedBy (k z : ℕ) (state : State) (o : Goal) : Type 0 where
-  pub present : In o (together (state .goals))
+-- One of these goals, of the query at place k, has a chain to the reader of pair z.
+pub record ReachedBy (k z : ℕ) (values : Values) (goals : Goals) (o : Goal) : Type 0 where
+  pub present : In o (together goals)
   pub its-own : o .query ≡ k
-  pub reached : Reaches (unit-at k (state .units) .values) z (o .goal .arguments)
+  pub reached : Reaches values z (o .goal .arguments)
 
--- It keeps the chain, whatever goal the step takes; if it is another, it stays.
-pub reached-by-stays : (clauses : List Clause) (state : State) (g : Goal) (others : List Goal) → NoCircle state → (k z : ℕ) (o : Goal)
-    → In o (together (without-front others (state .goals))) → ReachedBy k z state o
-    → ReachedBy k z (step (choice-for clauses state g) g others state) o
-unfolding step
-reached-by-stays clauses state g others no-circle k z o m r =
-    record {
-      present = others-stay (choice-for clauses state g) (unit-at (g .query) (state .units)) g (without-front others (state .goals)) o m;
-      its-own = r .its-own;
-      reached = reaches-kept _ (step-values-stay clauses state g others no-circle k) (r .reached);
-    }
+module _ (clauses : List Clause) (state : State) (g : Goal) (others : List Goal) (no-circle : NoCircle state) (k z : ℕ) where
+  -- Whatever goal the step takes, another stays and keeps its chain.
+  pub reached-by-stays : (o : Goal) → ReachedBy k z (unit-at k (state .units) .values) (without-front others (state .goals)) o
+      → let later = step (choice-for clauses state g) g others state in ReachedBy k z (unit-at k (later .units) .values) (later .goals) o
+  unfolding step
+  reached-by-stays o r =
+      record {
+        present = others-stay (choice-for clauses state g) (unit-at (g .query) (state .units)) g (without-front others (state .goals)) o (r .present);
+        its-own = r .its-own;
+        reached = reaches-kept _ (step-values-stay clauses state g others no-circle k) (r .reached);
+      }
+
+  -- The goal that it takes does too, unless it is reduced.
+  pub reached-by-taken-stays : ((clause : Clause) (given : List Assignment) → choice-for clauses state g ≡ reduces clause given → ⊥)
+      → ReachedBy k z (unit-at k (state .units) .values) (state .goals) g
+      → let later = step (choice-for clauses state g) g others state in ReachedBy k z (unit-at k (later .units) .values) (later .goals) g
+  unfolding step
+  reached-by-taken-stays not-reduced r =
+      record {
+        present = taken-stays (choice-for clauses state g) (unit-at (g .query) (state .units)) g (without-front others (state .goals)) not-reduced;
+        its-own = r .its-own;
+        reached = reaches-kept _ (step-values-stay clauses state g others no-circle k) (r .reached);
+      }

@@ -1,7 +1,8 @@
--- Terms that have a chain to an unassigned pair's reader hold that reader when written out; that only they do is in Chains.
--- Writing out goes along every chain; without a circle its links are enough for each.
+-- A goal has a chain to an unassigned pair's reader exactly if it holds that reader when written out.
+-- Writing out goes along every chain, and only along chains; without a circle its links are enough for each.
 use Prim.Native.Nat.{ℕ, zero, suc, _+_, _≤_, _<_}
-use mathlib.Core.Path.{_≡_, refl}
+use mathlib.Core.Path.{_≡_}
+use mathlib.Core.Logic.{_↔_}
 use mathlib.Core.Bool.{false}
 use mathlib.Core.Option.{Option, none, some}
 use native.Mathlib.Decide.{decLt}
@@ -12,7 +13,6 @@ use Rattle.meaning.specs.Terms.{
   Half,
   writer,
   reader,
-  Functor,
   Term,
   Terms,
   variable,
@@ -20,18 +20,20 @@ use Rattle.meaning.specs.Terms.{
   compound,
   end,
   more,
+  Named,
   same-half,
   occurrences,
   all-occurrences,
   replaced,
   all-replaced,
+  as-term,
 }
 use Rattle.meaning.specs.State.{Values, value}
 use Rattle.meaning.specs.Circle.{circle}
 use Rattle.meaning.specs.Report.{applied}
 use Rattle.laws.proofs.Terms.{occurs-itself, occurs-stands, Stands}
 use Rattle.laws.proofs.Circle.Written.{applied-within}
-use Rattle.laws.proofs.Single.Chains.{Reaches, here, through}
+use Rattle.laws.proofs.Single.Chains.{Reaches, here, through, reaches-more, applied-reaches}
 
 -- A half that occurs in a variable is that variable.
 occurs-same : (h k : Half) (n p : ℕ) → 1 ≤ occurrences h n (variable k p) → variable h n ≡ variable k p
@@ -105,10 +107,13 @@ module _ (values : Values) where
             rw (written-assigned (suc larger) k q u e) (omega (arith, rest larger (omega arith))) in
             omega (arith, all-replaced-hold (written-as (suc larger)) ts k q m reader z)
 
-    -- A chain to an unassigned pair's reader: written out, the terms hold it.
-    pub reached-written : circle values ≡ false → (m : ℕ) (f : Functor) (ts : Terms) → value values z ≡ none → Reaches values z ts
-        → 1 ≤ occurrences reader z (applied (length values) values (compound m f ts))
-    unfolding occurrences applied replaced
-    reached-written no-circle m f ts free chain =
-        let (links, rest) = chain-written ts free chain in
-        rw (← applied-within values no-circle (suc (links + length values)) (omega arith) (compound m f ts)) (rest (links + length values) (omega arith))
+    -- A goal has a chain to an unassigned pair's reader exactly if it holds that reader when written out.
+    pub reached-exactly-if-written : circle values ≡ false → value values z ≡ none → (g : Named)
+        → Reaches values z (g .arguments) ↔ (1 ≤ occurrences reader z (applied (length values) values (as-term g)))
+    unfolding occurrences all-occurrences applied replaced as-term
+    reached-exactly-if-written no-circle free g = (
+      λ chain.
+          let (links, rest) = chain-written (g .arguments) free chain in
+          rw (← applied-within values no-circle (suc (links + length values)) (omega arith) (as-term g)) (rest (links + length values) (omega arith)),
+      λ o. reaches-more (g .arguments) (λ h n. omega arith) (applied-reaches values (length values) z (as-term g) o),
+    )

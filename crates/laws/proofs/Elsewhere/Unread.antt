@@ -1,5 +1,5 @@
 -- A pair whose reader no goal of its query has a chain to is unread for ever.
--- A step makes no chain to an old pair that neither the goal in front nor another had.
+-- A step makes no chain to an old pair that neither the goal that it takes nor another had.
 use Prim.Native.Nat.{ℕ, _+_, _≤_, _<_}
 use mathlib.Core.Path.{_≡_, refl, sym}
 use mathlib.Core.Logic.{⊎-elim}
@@ -14,11 +14,11 @@ use Rattle.meaning.specs.State.{Room, Values, QueryUnit, Goal, Goals, State, fi
 use Rattle.meaning.specs.Trial.{next-pair, Choice, reduces, joins-waiting, joins-failed, choice}
 use Rattle.meaning.specs.Step.{unit-after, made-by, body-goals, goals-after, without-front, step}
 use Rattle.meaning.specs.Run.{choice-for, run}
-use Rattle.laws.proofs.Lists.{Each, each-all, each-implies, each-map, each-member, in-sum, differ}
+use Rattle.laws.proofs.Lists.{Each, each-all, each-implies, each-map, each-member, in-sum, differ, TakenOut, taken-front}
 use Rattle.laws.proofs.Terms.{all-renamed-beyond}
 use Rattle.laws.proofs.Trial.{reduces-agrees, unit-at-set-same, unit-at-set-other}
-use Rattle.laws.proofs.Runs.{KeptByStep, run-goes-on}
-use Rattle.laws.proofs.Runs.AllGoals.{EachGoal, each-goal-at, each-goal-front, each-goal-after}
+use Rattle.laws.proofs.Runs.{KeptAtAnyPlace, run-goes-on}
+use Rattle.laws.proofs.Runs.AllGoals.{EachGoal, each-goal-at, each-goal-taken, each-goal-after}
 use Rattle.laws.proofs.Runs.Charges.{step-units, pairs-after}
 use Rattle.laws.proofs.Runs.Further.{goes-on}
 use Rattle.laws.proofs.Runs.Invariant.{onward-keeps}
@@ -45,13 +45,13 @@ pub record UnreadAt (k z : ℕ) (state : State) : Type 0 where
   pub old : z < length (unit-at k (state .units) .values)
   pub unread : EachGoal (Unread k z (unit-at k (state .units) .values)) (state .goals)
 
-module _ (clauses : List Clause) (unit : QueryUnit) (g : Goal) (goals : Goals) (others : List Goal) (front : goals .queue ≡ g ∷ others) where
+module _ (clauses : List Clause) (unit : QueryUnit) (g : Goal) (goals : Goals) (others : List Goal) (taken : TakenOut g others (goals .queue)) where
   -- A step on a goal of the query.
   own-unread : (z : ℕ) → z < length (unit .values) → EachGoal (Unread (g .query) z (unit .values)) goals → (c : Choice) → choice clauses unit (g .goal) ≡ c
       → EachGoal (Unread (g .query) z (unit-after c unit .values)) (goals-after c unit g (without-front others goals))
   unfolding unit-after body-goals goals-at renamed-goal next-pair
   own-unread z old unread c e =
-      let (first, behind) = each-goal-front (Unread (g .query) z (unit .values)) goals g others front unread in
+      let (first, behind) = each-goal-taken (Unread (g .query) z (unit .values)) goals g others taken unread in
       go c e first behind
     where
       stays : (c : Choice) → choice clauses unit (g .goal) ≡ c → Unread (g .query) z (unit .values) g
@@ -84,16 +84,16 @@ module _ (clauses : List Clause) (unit : QueryUnit) (g : Goal) (goals : Goals) (
       → EachGoal (Unread k z values) (goals-after c unit g (without-front others goals))
   unfolding body-goals
   other-unread k z values d unread c =
-      let (first, behind) = each-goal-front (Unread k z values) goals g others front unread in
+      let (first, behind) = each-goal-taken (Unread k z values) goals g others taken unread in
       each-goal-after (Unread k z values) c unit g (without-front others goals) first
       (λ clause given i. each-goal-at (Unread k z values) (made-by clause unit) (g .query) _
       (each-all (λ b. Unread k z values (record { query = g .query; goal = b; origin = made-by clause unit })) (λ b own. absurd (d own))
       (map (renamed-goal (next-pair unit) (unit .compounds)) (clause .body)))) behind
 
--- Each step keeps it.
-pub step-unread : (clauses : List Clause) (figures : Room) (k z : ℕ) → KeptByStep clauses figures (UnreadAt k z)
+-- Each step keeps it, whichever goal of the queue it takes.
+pub step-unread : (clauses : List Clause) (figures : Room) (k z : ℕ) → KeptAtAnyPlace clauses figures (UnreadAt k z)
 unfolding step choice-for
-step-unread clauses figures k z state g others front fit u = go (eqb (g .query) k) refl
+step-unread clauses figures k z state g others taken fit u = go (eqb (g .query) k) refl
   where
     unit : QueryUnit
     unit = unit-at (g .query) (state .units)
@@ -108,7 +108,7 @@ step-unread clauses figures k z state g others front fit u = go (eqb (g .query) 
         record {
           place = rw (step-units (choice-for clauses state g) g others state) (u .place);
           old = rw (← same, at-k) (omega (arith, pairs-after unit (choice clauses unit (g .goal)), rw (← same) at (u .old)));
-          unread = rw (← same, at-k) (own-unread clauses unit g (state .goals) others front z (rw (← same) at (u .old)) (rw (← same) at (u .unread)) _ refl);
+          unread = rw (← same, at-k) (own-unread clauses unit g (state .goals) others taken z (rw (← same) at (u .old)) (rw (← same) at (u .unread)) _ refl);
         }
     go false e =
         let d : g .query ≡ k → ⊥ = eqb-false (g .query) k e in
@@ -116,7 +116,7 @@ step-unread clauses figures k z state g others front fit u = go (eqb (g .query) 
         record {
           place = rw (step-units (choice-for clauses state g) g others state) (u .place);
           old = rw at-k (u .old);
-          unread = rw at-k (other-unread clauses unit g (state .goals) others front k z _ d (u .unread) _);
+          unread = rw at-k (other-unread clauses unit g (state .goals) others taken k z _ d (u .unread) _);
         }
 
 -- So once unread, unread in every later state of the run.
@@ -124,7 +124,8 @@ pub unread-stays : (job : Job) (m n : ℕ) (figures : Room) (k z : ℕ) → Unre
 unfolding goes-on
 unread-stays job m n figures k z u =
     rw (run-goes-on job m n figures)
-    (onward-keeps (job .clauses) figures (UnreadAt k z) (step-unread (job .clauses) figures k z) n (run job m figures .state) _ refl u)
+    (onward-keeps (job .clauses) figures (UnreadAt k z)
+    (λ state g others front fit u. step-unread (job .clauses) figures k z state g others (taken-front front) fit u) n (run job m figures .state) _ refl u)
 
 -- Before the first step: a pair whose reader stands in no goal of the query.
 module _ (queries : List Query) (k z : ℕ) where
