@@ -4,7 +4,6 @@ pub mod Live
 pub mod Before
 pub mod NoCircle
 pub mod Written
-pub mod Following
 pub mod Staying
 pub mod Unread
 pub mod Nowhere

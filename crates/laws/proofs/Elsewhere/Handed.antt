@@ -18,12 +18,11 @@ use Rattle.laws.proofs.Reading.{ClauseOk}
 use Rattle.laws.proofs.Circle.Starts.{Assigns}
 use Rattle.laws.proofs.Single.Closed.{closed}
 use Rattle.laws.proofs.Single.LiveValues.{Count, held, marks, Settled, Fair, no-writer-marks, taken-out}
-use Rattle.laws.proofs.Single.Chains.{Reaches, here, through}
+use Rattle.laws.proofs.Single.Chains.{Reaches, here, through, reaches-then}
 use Rattle.laws.proofs.Single.Balance.{Balanced}
 use Rattle.laws.proofs.Single.Step.{reduction-balanced-and-live}
 use Rattle.laws.proofs.Elsewhere.Open.{reaches-open}
 use Rattle.laws.proofs.Elsewhere.NoCircle.{assigns-marked}
-use Rattle.laws.proofs.Elsewhere.Following.{reaches-then}
 
 module _ (values : Values) (c : Count) (live : List Assignment) (settled : Settled values live) (fair : Fair values c live)
     (once : (h : Half) (n : ℕ) → closed values n ≡ false → c h n + held h n live ≤ 1)

@@ -12,20 +12,20 @@ use Rattle.meaning.specs.Trial.{Choice, reduces, joins-waiting, joins-failed}
 use Rattle.meaning.specs.Step.{body-goals, wakes, goals-after, without-front, step}
 use Rattle.meaning.specs.Run.{choice-for}
 use Rattle.laws.proofs.Lists.{In, here, in-append-left, in-append-right, in-map, in-those, each-append, each-in, each-map, each-member}
+use Rattle.laws.proofs.Runs.AllGoals.{EachGoal}
 use Rattle.laws.proofs.Circle.Never.{NoCircle}
 use Rattle.laws.proofs.Circle.ValuesStay.{step-values-stay}
 use Rattle.laws.proofs.Single.Chains.{Reaches, reaches-kept}
 use Rattle.laws.proofs.Single.Counting.{together}
 
 -- What holds of each goal of the three lists holds of each of them together.
-each-together : (P : Goal → Type 0) (goals : Goals) → ((g : Goal) → In g (goals .queue) → P g) → ((w : Waiting) → In w (goals .waiting) → P (w .goal))
-    → ((g : Goal) → In g (goals .failed) → P g) → (g : Goal) → In g (together goals) → P g
-each-together P goals queue waiting failed g m =
+pub each-together : (P : Goal → Type 0) (goals : Goals) → EachGoal P goals → (g : Goal) → In g (together goals) → P g
+each-together P goals all g m =
     each-in P
     (each-append P (goals .queue ++ map (λ w. w .goal) (goals .waiting)) (goals .failed)
-    (each-append P (goals .queue) (map (λ w. w .goal) (goals .waiting)) (each-member P (goals .queue) queue)
-    (each-map P (λ (w : Waiting). w .goal) (goals .waiting) (each-member (λ w. P (w .goal)) (goals .waiting) waiting)))
-    (each-member P (goals .failed) failed)) m
+    (each-append P (goals .queue) (map (λ w. w .goal) (goals .waiting)) (all .queue)
+    (each-map P (λ (w : Waiting). w .goal) (goals .waiting) (all .waiting)))
+    (all .failed)) m
 
 -- Where a goal of one of the lists stands in all together.
 pub in-queue : (goals : Goals) {g : Goal} → In g (goals .queue) → In g (together goals)
@@ -37,36 +37,56 @@ in-waiting goals m = in-append-left (goals .failed) (in-append-right (goals .que
 pub in-failed : (goals : Goals) {g : Goal} → In g (goals .failed) → In g (together goals)
 in-failed goals m = in-append-right (goals .queue ++ map (λ w. w .goal) (goals .waiting)) m
 
+-- And back.
+pub together-each : (P : Goal → Type 0) (goals : Goals) → ((g : Goal) → In g (together goals) → P g) → EachGoal P goals
+together-each P goals all =
+    record {
+      queue = each-member P (goals .queue) (λ g m. all g (in-queue goals m));
+      waiting = each-member (λ w. P (w .goal)) (goals .waiting) (λ w m. all (w .goal) (in-waiting goals m));
+      failed = each-member P (goals .failed) (λ g m. all g (in-failed goals m));
+    }
+
 -- The other goals are there after the step.
 pub others-stay : (c : Choice) (unit : QueryUnit) (g : Goal) (others : Goals) (o : Goal) → In o (together others)
     → In o (together (goals-after c unit g others))
 unfolding goals-after
-others-stay (reduces clause given) unit g others o m =
-    each-together (λ o. In o (together (goals-after (reduces clause given) unit g others))) others
-    (λ o i. in-queue (goals-after (reduces clause given) unit g others)
-    (in-append-left (map (λ w. w .goal) (those woken (others .waiting))) (in-append-left (body-goals clause unit (g .query)) i)))
-    (λ w i. go w i (woken w) refl)
-    (λ o i. in-failed (goals-after (reduces clause given) unit g others) i) o m
+others-stay c unit g others = each-together (λ o. In o (together (goals-after c unit g others))) others (go c)
   where
-    woken : Waiting → Bool
-    woken = wakes (g .query) given
-
-    go : (w : Waiting) → In w (others .waiting) → (b : Bool) → woken w ≡ b → In (w .goal) (together (goals-after (reduces clause given) unit g others))
-    go w i true e =
-        in-queue (goals-after (reduces clause given) unit g others)
-        (in-append-right (others .queue ++ body-goals clause unit (g .query)) (in-map (λ (w : Waiting). w .goal) (in-those woken i e)))
-    go w i false e =
-        in-waiting (goals-after (reduces clause given) unit g others) (in-those (λ w. not (woken w)) i (ap not e))
-others-stay (joins-waiting readers) unit g others o m =
-    each-together (λ o. In o (together (goals-after (joins-waiting readers) unit g others))) others
-    (λ o i. in-queue (goals-after (joins-waiting readers) unit g others) i)
-    (λ w i. in-waiting (goals-after (joins-waiting readers) unit g others) (in-append-left (record { goal = g; readers = readers } ∷ []) i))
-    (λ o i. in-failed (goals-after (joins-waiting readers) unit g others) i) o m
-others-stay joins-failed unit g others o m =
-    each-together (λ o. In o (together (goals-after joins-failed unit g others))) others
-    (λ o i. in-queue (goals-after joins-failed unit g others) i)
-    (λ w i. in-waiting (goals-after joins-failed unit g others) i)
-    (λ o i. in-failed (goals-after joins-failed unit g others) (in-append-left (g ∷ []) i)) o m
+    go : (c : Choice) → EachGoal (λ o. In o (together (goals-after c unit g others))) others
+    go (reduces clause given) =
+        let goals = goals-after (reduces clause given) unit g others in
+        let woken : Waiting → Bool = wakes (g .query) given in
+        record {
+          queue =
+              each-member _ (others .queue)
+              (λ o i. in-queue goals (in-append-left (map (λ w. w .goal) (those woken (others .waiting))) (in-append-left (body-goals clause unit (g .query)) i)));
+          waiting = each-member (λ w. In (w .goal) (together goals)) (others .waiting) (λ w i. still clause given w i (woken w) refl);
+          failed = each-member _ (others .failed) (λ o i. in-failed goals i);
+        }
+      where
+        still : (clause : Clause) (given : List Assignment) (w : Waiting) → In w (others .waiting) → (b : Bool) → wakes (g .query) given w ≡ b
+            → In (w .goal) (together (goals-after (reduces clause given) unit g others))
+        still clause given w i true e =
+            in-queue (goals-after (reduces clause given) unit g others)
+            (in-append-right (others .queue ++ body-goals clause unit (g .query)) (in-map (λ (w : Waiting). w .goal) (in-those (wakes (g .query) given) i e)))
+        still clause given w i false e =
+            in-waiting (goals-after (reduces clause given) unit g others) (in-those (λ w. not (wakes (g .query) given w)) i (ap not e))
+    go (joins-waiting readers) =
+        let goals = goals-after (joins-waiting readers) unit g others in
+        record {
+          queue = each-member _ (others .queue) (λ o i. in-queue goals i);
+          waiting =
+              each-member (λ w. In (w .goal) (together goals)) (others .waiting)
+              (λ w i. in-waiting goals (in-append-left (record { goal = g; readers = readers } ∷ []) i));
+          failed = each-member _ (others .failed) (λ o i. in-failed goals i);
+        }
+    go joins-failed =
+        let goals = goals-after joins-failed unit g others in
+        record {
+          queue = each-member _ (others .queue) (λ o i. in-queue goals i);
+          waiting = each-member (λ w. In (w .goal) (together goals)) (others .waiting) (λ w i. in-waiting goals i);
+          failed = each-member _ (others .failed) (λ o i. in-failed goals (in-append-left (g ∷ []) i));
+        }
 
 -- The goal that is taken is there unless it is reduced.
 pub taken-stays : (c : Choice) (unit : QueryUnit) (g : Goal) (others : Goals) → ((clause : Clause) (given : List Assignment) → c ≡ reduces clause given → ⊥)
