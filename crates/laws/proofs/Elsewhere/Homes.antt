@@ -25,7 +25,7 @@ use Rattle.laws.proofs.Single.Balance.{Balanced}
 use Rattle.laws.proofs.Single.Counting.{together, own, own-of, count-of, sum-together, count-reduced, entered}
 use Rattle.laws.proofs.Single.Step.{SoundAt, balanced-taken, reduction-balanced, reduction-settled}
 use Rattle.laws.proofs.Elsewhere.Handed.{read-where-given}
-use Rattle.laws.proofs.Elsewhere.Unread.{Unread, UnreadAt}
+use Rattle.laws.proofs.Elsewhere.StaysUnread.{Unread, UnreadAt}
 use Rattle.laws.proofs.Elsewhere.Staying.{ReachedBy, each-together, together-each}
 
 -- A reduction of a goal of the queue, wherever it stands there, in a state that is sound at its query.

@@ -22,7 +22,7 @@ use Rattle.laws.proofs.Single.Chains.{Reaches, reaches-more, applied-re
 use Rattle.laws.proofs.Single.Counting.{together}
 use Rattle.laws.proofs.Elsewhere.Staying.{in-queue, in-waiting, in-failed}
 use Rattle.laws.proofs.Elsewhere.Written.{reached-exactly-if-written}
-use Rattle.laws.proofs.Elsewhere.Unread.{Unread, unread-stays}
+use Rattle.laws.proofs.Elsewhere.StaysUnread.{Unread, unread-stays}
 
 -- No goal of the query, written out, holds the pair's reader.
 abbrev pub ReadNowhere : Part → ℕ → Type 0
