@@ -15,33 +15,41 @@ use Prim.Native.Nat.{ℕ, _+_, _≤_, _<_}
 use mathlib.Core.Path.{_≡_, refl}
 use mathlib.Core.Logic.{_↔_, _⊎_, inl, inr, ⊎-elim}
 use mathlib.Core.Bool.{true}
-use mathlib.Core.List.{List, _∷_}
+use mathlib.Core.List.{List, _∷_, map}
+use mathlib.Core.Option.{none}
 use native.Mathlib.Omega.{arith}
 use lib.ListN.{length}
 use borrow.Author.Tests.{eq-eqb}
 use Rattle.meaning.specs.Bytes.{any}
-use Rattle.meaning.specs.Terms.{Half, Clause, Job, all-occurrences}
-use Rattle.meaning.specs.State.{Room, Values, QueryUnit, Goal, Goals, State, unit-at, of, part-of}
+use Rattle.meaning.specs.Terms.{Half, reader, Clause, Job, renamed-goal, occurrences, all-occurrences, goals-occurrences}
+use Rattle.meaning.specs.State.{Room, Values, value, QueryUnit, Goal, Goals, State, unit-at, of, part-of}
 use Rattle.meaning.specs.Compare.{Assignment, succeeds}
 use Rattle.meaning.specs.Circle.{circle-at, circle}
-use Rattle.meaning.specs.Trial.{compared, values-after}
-use Rattle.meaning.specs.Step.{without-front}
-use Rattle.meaning.specs.Run.{run}
-use Rattle.laws.proofs.Lists.{In, in-sum, each-in, TakenOut, taken-front}
+use Rattle.meaning.specs.Trial.{next-pair, compared, values-after, reduces}
+use Rattle.meaning.specs.Step.{goals-after, without-front, step}
+use Rattle.meaning.specs.Run.{choice-for, run}
+use Rattle.laws.proofs.Lists.{In, in-sum, Each, each-in, TakenOut, taken-front}
 use Rattle.laws.proofs.Runs.{run-placed}
 use Rattle.laws.proofs.Runs.AllGoals.{EachGoal, each-goal-taken}
+use Rattle.laws.proofs.Runs.Charges.{run-units}
 use Rattle.laws.proofs.Reading.{ClauseOk, JobOk}
 use Rattle.laws.proofs.Circle.{Links, circle-says, circle-from}
 use Rattle.laws.proofs.Circle.Leaning.{links-join}
 use Rattle.laws.proofs.Circle.Starts.{Assigns}
+use Rattle.laws.proofs.Single.Chains.{Reaches}
 use Rattle.laws.proofs.Single.Balance.{Balanced}
-use Rattle.laws.proofs.Single.Counting.{own, own-of, count-of, sum-together}
+use Rattle.laws.proofs.Single.Counting.{together, own, own-of, count-of, sum-together}
 use Rattle.laws.proofs.Single.Step.{SoundAt, balanced-taken}
 use Rattle.laws.proofs.Single.Run.{run-sound}
 use Rattle.laws.proofs.Elsewhere.NoCircle.{assigns-unassigned, no-circle-through, no-circle-if-another-reads, circle-by-some-starts}
-use Rattle.laws.proofs.Elsewhere.Staying.{ReachedBy}
-use Rattle.laws.proofs.Elsewhere.StaysUnread.{Unread}
-use Rattle.laws.proofs.Elsewhere.Nowhere.{ReadNowhere, nowhere-unread}
+use Rattle.laws.proofs.Elsewhere.Homes.{sound-reads-alike, sound-reached-by-handed-on, sound-unread-handed-on, sound-new-unread}
+-- A chain to an unassigned pair's reader is the same as the reader written out.
+pub use Written.{reached-exactly-if-written}
+-- A goal that has one stays and keeps it, until it is reduced.
+pub use Staying.{ReachedBy, reached-by-stays, reached-by-taken-stays, body-enters}
+-- Where none has one, none ever has; written out, none holds the reader.
+pub use StaysUnread.{Unread, UnreadAt, step-unread, unread-stays, start-unread}
+pub use Nowhere.{ReadNowhere, nowhere-unread, unread-nowhere, nowhere-stays}
 
 -- A pair is known not to be read by the goal that is taken: another goal of its query has a chain to the pair's reader, so that it holds the reader
 -- written out; or, written out, none does.
@@ -131,49 +139,93 @@ module _ (state : State) (g : Goal) (others : List Goal) (taken : TakenOut g oth
     λ (z, old, assigns, unknown, c). circle-says after .1 (z, c),
   )
 
--- In a state of a run: the goal in front, and a clause whose places all agree with it.
+-- In a state of a run, the goal in front.
 module _ (job : Job) (ok : JobOk job) (limit : ℕ) (figures : Room) (g : Goal) (others : List Goal)
-    (front : run job limit figures .state .goals .queue ≡ g ∷ others)
-    (clause : Clause) (member : In clause (job .clauses)) (given : List Assignment)
-    (agrees : compared clause (unit-at (g .query) (run job limit figures .state .units)) (g .goal) ≡ succeeds given) where
-  abbrev state : State
-  state = run job limit figures .state
+    (front : run job limit figures .state .goals .queue ≡ g ∷ others) where
+  abbrev run-state : State
+  run-state = run job limit figures .state
 
-  sound-here : SoundAt (g .query) state
-  sound-here = run-sound job ok limit figures .sound (g .query) ((rw front at (run-placed job limit figures .queue)) .0)
+  its-place : g .query < length (job .queries)
+  its-place = (rw front at (run-placed job limit figures .queue)) .0
 
-  clause-ok : ClauseOk clause
-  clause-ok = each-in ClauseOk (ok .clauses-ok) member
+  its-unit : g .query < length (run-state .units)
+  its-unit = rw (run-units job limit figures) its-place
 
-  -- Another goal of the query has a chain to the reader of a pair that the trial assigns, so that it holds the reader written out:
-  -- no circle runs through the pair.
-  pub no-circle-if-reached-elsewhere : let state = run job limit figures .state in
-      let unit = unit-at (g .query) (state .units) in
-      (z : ℕ) → z < length (unit .values) → Assigns given z
-      → (o : Goal) → ReachedBy (g .query) z (unit .values) (without-front others (state .goals)) o
-      → ¬ Links (values-after clause given unit) z z
-  no-circle-if-reached-elsewhere =
-      sound-no-circle-if-reached-elsewhere state g others (taken-front front) sound-here clause clause-ok given agrees
+  sound-here : SoundAt (g .query) run-state
+  sound-here = run-sound job ok limit figures .sound (g .query) its-place
 
-  -- No goal of the query has a chain to the pair's reader: no circle runs through the pair.
-  pub no-circle-if-unread : let state = run job limit figures .state in
-      let unit = unit-at (g .query) (state .units) in
-      (z : ℕ) → z < length (unit .values) → Assigns given z
-      → EachGoal (Unread (g .query) z (unit .values)) (state .goals)
-      → ¬ Links (values-after clause given unit) z z
-  no-circle-if-unread = sound-no-circle-if-unread state g others (taken-front front) sound-here clause clause-ok given agrees
+  -- A clause whose places all agree with it.
+  module _ (clause : Clause) (member : In clause (job .clauses)) (given : List Assignment)
+      (agrees : compared clause (unit-at (g .query) (run job limit figures .state .units)) (g .goal) ≡ succeeds given) where
+    clause-ok : ClauseOk clause
+    clause-ok = each-in ClauseOk (ok .clauses-ok) member
 
-  -- The same where no goal of the query, written out, holds the reader.
-  pub no-circle-if-nowhere : let state = run job limit figures .state in
-      let unit = unit-at (g .query) (state .units) in
-      (z : ℕ) → z < length (unit .values) → Assigns given z
-      → ReadNowhere (part-of (g .query) state) z
-      → ¬ Links (values-after clause given unit) z z
-  no-circle-if-nowhere = sound-no-circle-if-nowhere state g others (taken-front front) sound-here clause clause-ok given agrees
+    -- Another goal of the query has a chain to the reader of a pair that the trial assigns, so that it holds the reader written out:
+    -- no circle runs through the pair.
+    pub no-circle-if-reached-elsewhere : let state = run job limit figures .state in
+        let unit = unit-at (g .query) (state .units) in
+        (z : ℕ) → z < length (unit .values) → Assigns given z
+        → (o : Goal) → ReachedBy (g .query) z (unit .values) (without-front others (state .goals)) o
+        → ¬ Links (values-after clause given unit) z z
+    no-circle-if-reached-elsewhere =
+        sound-no-circle-if-reached-elsewhere run-state g others (taken-front front) sound-here clause clause-ok given agrees
 
-  -- So a search that starts at the pairs of which that is not known, and perhaps at others, gives the test's answer.
-  pub circle-by-readers-here : let state = run job limit figures .state in
-      let unit = unit-at (g .query) (state .units) in
-      (starts : List ℕ) → ((z : ℕ) → z < length (unit .values) → Assigns given z → In z starts ⊎ NotHere state g others z)
-      → circle (values-after clause given unit) ≡ any (circle-at (values-after clause given unit)) starts
-  circle-by-readers-here = sound-circle-by-readers-here state g others (taken-front front) sound-here clause clause-ok given agrees
+    -- No goal of the query has a chain to the pair's reader: no circle runs through the pair.
+    pub no-circle-if-unread : let state = run job limit figures .state in
+        let unit = unit-at (g .query) (state .units) in
+        (z : ℕ) → z < length (unit .values) → Assigns given z
+        → EachGoal (Unread (g .query) z (unit .values)) (state .goals)
+        → ¬ Links (values-after clause given unit) z z
+    no-circle-if-unread = sound-no-circle-if-unread run-state g others (taken-front front) sound-here clause clause-ok given agrees
+
+    -- The same where no goal of the query, written out, holds the reader.
+    pub no-circle-if-nowhere : let state = run job limit figures .state in
+        let unit = unit-at (g .query) (state .units) in
+        (z : ℕ) → z < length (unit .values) → Assigns given z
+        → ReadNowhere (part-of (g .query) state) z
+        → ¬ Links (values-after clause given unit) z z
+    no-circle-if-nowhere = sound-no-circle-if-nowhere run-state g others (taken-front front) sound-here clause clause-ok given agrees
+
+    -- So a search that starts at the pairs of which that is not known, and perhaps at others, gives the test's answer.
+    pub circle-by-readers-here : let state = run job limit figures .state in
+        let unit = unit-at (g .query) (state .units) in
+        (starts : List ℕ) → ((z : ℕ) → z < length (unit .values) → Assigns given z → In z starts ⊎ NotHere state g others z)
+        → circle (values-after clause given unit) ≡ any (circle-at (values-after clause given unit)) starts
+    circle-by-readers-here = sound-circle-by-readers-here run-state g others (taken-front front) sound-here clause clause-ok given agrees
+
+  -- A reduction. Where an unassigned pair's reader stands is kept by every step, whichever goal it takes: by `reached-by-stays`, and by `step-unread` where
+  -- it stands nowhere. What a reduction gives and brings is read so:
+  module _ (clause : Clause) (given : List Assignment) (chosen : choice-for (job .clauses) (run job limit figures .state) g ≡ reduces clause given) where
+    -- The goals that read what a pair is given, of unassigned pairs, are those that read the pair.
+    pub reads-alike : let state = run job limit figures .state in
+        let unit = unit-at (g .query) (state .units) in
+        let after = values-after clause given unit in
+        (a : Assignment) → In a given → (x : ℕ) → 1 ≤ occurrences reader x (a .value) → value after x ≡ none
+        → (o : Goal) → In o (together (goals-after (reduces clause given) unit g (without-front others (state .goals)))) → o .query ≡ g .query
+        → Reaches after x (o .goal .arguments) ↔ Reaches after (a .pair) (o .goal .arguments)
+    reads-alike = sound-reads-alike (job .clauses) (ok .clauses-ok) run-state g others (taken-front front) its-unit sound-here clause given chosen
+
+    -- A goal that reads the pair reads what it is given.
+    pub reached-by-handed-on : let later = step (choice-for (job .clauses) (run job limit figures .state) g) g others (run job limit figures .state) in
+        let values = unit-at (g .query) (later .units) .values in
+        (a : Assignment) → In a given → (x : ℕ) → 1 ≤ occurrences reader x (a .value)
+        → (o : Goal) → ReachedBy (g .query) (a .pair) values (later .goals) o → ReachedBy (g .query) x values (later .goals) o
+    reached-by-handed-on =
+        sound-reached-by-handed-on (job .clauses) (ok .clauses-ok) run-state g others (taken-front front) its-unit sound-here clause given chosen
+
+    -- Where no goal reads the pair, none reads an unassigned pair of what it is given.
+    pub unread-handed-on : let later = step (choice-for (job .clauses) (run job limit figures .state) g) g others (run job limit figures .state) in
+        (a : Assignment) → In a given → (x : ℕ) → 1 ≤ occurrences reader x (a .value)
+        → value (unit-at (g .query) (later .units) .values) x ≡ none
+        → UnreadAt (g .query) (a .pair) later → UnreadAt (g .query) x later
+    unread-handed-on =
+        sound-unread-handed-on (job .clauses) (ok .clauses-ok) run-state g others (taken-front front) its-unit sound-here clause given chosen
+
+    -- A new pair whose reader stands neither in what is given nor in the body: no goal reads it.
+    pub new-unread : let state = run job limit figures .state in
+        let unit = unit-at (g .query) (state .units) in
+        (x : ℕ) → length (unit .values) ≤ x → x < length (values-after clause given unit)
+        → Each (λ a. occurrences reader x (a .value) ≡ 0) given
+        → goals-occurrences reader x (map (renamed-goal (next-pair unit) (unit .compounds)) (clause .body)) ≡ 0
+        → UnreadAt (g .query) x (step (choice-for (job .clauses) state g) g others state)
+    new-unread = sound-new-unread (job .clauses) (ok .clauses-ok) run-state g others (taken-front front) its-unit sound-here clause given chosen

@@ -95,22 +95,22 @@ module _ (clauses : List Clause) (oks : Each ClauseOk clauses) (state : State) (
 
   -- The goals that read what a pair is given are those that read the pair. Only of an unassigned x: a reader that a guard licenses may stand several
   -- times in the body, but its pair's value is ground.
-  pub reads-alike : let unit = unit-at (g .query) (state .units) in
+  pub sound-reads-alike : let unit = unit-at (g .query) (state .units) in
       let after = values-after clause given unit in
       (a : Assignment) → In a given → (x : ℕ) → 1 ≤ occurrences reader x (a .value) → value after x ≡ none
       → (o : Goal) → In o (together (goals-after (reduces clause given) unit g (without-front others (state .goals)))) → o .query ≡ g .query
       → Reaches after x (o .goal .arguments) ↔ Reaches after (a .pair) (o .goal .arguments)
-  reads-alike a m x inside free o present its =
+  sound-reads-alike a m x inside free o present its =
       read-where-given clause clause-ok unit (g .goal) given (succeeded .0) (succeeded .1) (sound .no-circle) (count-of (g .query) rest) balanced
       (a .pair) x (a .value) (a, m, refl) (given-value a m) inside (unassigned-open after x free) (o .goal .arguments) (counted o present its)
 
   -- So a goal that reads the pair reads what it is given: the pair's home is handed on.
-  pub reached-by-handed-on : let later = step (choice-for clauses state g) g others state in
+  pub sound-reached-by-handed-on : let later = step (choice-for clauses state g) g others state in
       let values = unit-at (g .query) (later .units) .values in
       (a : Assignment) → In a given → (x : ℕ) → 1 ≤ occurrences reader x (a .value)
       → (o : Goal) → ReachedBy (g .query) (a .pair) values (later .goals) o → ReachedBy (g .query) x values (later .goals) o
   unfolding all-occurrences
-  reached-by-handed-on a m x inside o r =
+  sound-reached-by-handed-on a m x inside o r =
       record {
         present = r .present;
         its-own = r .its-own;
@@ -131,23 +131,23 @@ module _ (clauses : List Clause) (oks : Each ClauseOk clauses) (state : State) (
       }
 
   -- Where no goal reads the pair, none reads an unassigned pair of what it is given.
-  pub unread-handed-on : let later = step (choice-for clauses state g) g others state in
+  pub sound-unread-handed-on : let later = step (choice-for clauses state g) g others state in
       (a : Assignment) → In a given → (x : ℕ) → 1 ≤ occurrences reader x (a .value)
       → value (unit-at (g .query) (later .units) .values) x ≡ none
       → UnreadAt (g .query) (a .pair) later → UnreadAt (g .query) x later
-  unread-handed-on a m x inside free u =
+  sound-unread-handed-on a m x inside free u =
       unread-then x (not-beyond x (length after) (λ past. omega (arith, balanced-then .values-below (a .pair) (a .value) (given-value a m) reader x past)))
       (λ o present its r.
       each-together (Unread (g .query) (a .pair) after) goals-then (rw (later-values, later-goals) at (u .unread)) o present its
-      (reads-alike a m x inside (rw later-values at free) o present its .0 r))
+      (sound-reads-alike a m x inside (rw later-values at free) o present its .0 r))
 
   -- A new pair whose reader stands neither in what is given nor in the body: no goal reads it.
-  pub new-unread : let unit = unit-at (g .query) (state .units) in
+  pub sound-new-unread : let unit = unit-at (g .query) (state .units) in
       (x : ℕ) → length (unit .values) ≤ x → x < length (values-after clause given unit)
       → Each (λ a. occurrences reader x (a .value) ≡ 0) given
       → goals-occurrences reader x (map (renamed-goal (next-pair unit) (unit .compounds)) (clause .body)) ≡ 0
       → UnreadAt (g .query) x (step (choice-for clauses state g) g others state)
-  new-unread x new old not-given not-in-body =
+  sound-new-unread x new old not-given not-in-body =
       unread-then x old
       (λ o present its r.
       omega (
