@@ -11,6 +11,7 @@ pub mod StaysUnread
 pub mod Nowhere
 pub mod Handed
 pub mod Homes
+pub mod Example
 use Prim.Native.Nat.{ℕ, _+_, _≤_, _<_}
 use mathlib.Core.Path.{_≡_, refl}
 use mathlib.Core.Logic.{_↔_, _⊎_, inl, inr, ⊎-elim}
