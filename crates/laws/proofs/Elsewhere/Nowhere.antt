@@ -1,26 +1,26 @@
 -- That no goal of a query, written out, holds a pair's reader: the same as that none has a chain to it. So it stays, in every later state of the run.
 use Prim.Native.Nat.{ℕ, _+_, _<_}
-use mathlib.Core.Path.{_≡_, refl}
-use mathlib.Core.Bool.{false}
-use mathlib.Core.List.{_++_, map}
+use mathlib.Core.Path.{_≡_}
+use mathlib.Core.Bool.{true, false}
+use mathlib.Core.List.{map}
 use mathlib.Core.Option.{none}
 use native.Mathlib.Decide.{decLt}
 use native.Mathlib.Omega.{arith}
 use lib.ListN.{length}
 use borrow.Author.Tests.{eq-eqb, eqb-true}
 use Rattle.meaning.specs.Terms.{reader, Job, occurrences, all-occurrences, as-term}
-use Rattle.meaning.specs.State.{Room, Values, value, Goal, Waiting, Goals, State, Part, unit-at, of, goals-of, part-of}
+use Rattle.meaning.specs.State.{Room, Values, value, Goal, Goals, State, Part, unit-at, of, goals-of, part-of}
 use Rattle.meaning.specs.Circle.{circle}
 use Rattle.meaning.specs.Run.{run}
 use Rattle.meaning.specs.Report.{applied}
-use Rattle.laws.proofs.Lists.{In, in-map, in-those, in-sum, Each, each-append, each-implies, each-map, each-member, each-those, sum, sum-of-none}
-use Rattle.laws.proofs.Runs.AllGoals.{EachGoal}
+use Rattle.laws.proofs.Lists.{In, in-map, in-those, in-sum, each-map, each-member, sum, sum-of-none}
+use Rattle.laws.proofs.Runs.AllGoals.{EachGoal, each-goal-implies, each-goal-own}
 use Rattle.laws.proofs.Runs.Charges.{run-units}
 use Rattle.laws.proofs.Circle.Never.{run-no-circle}
 use Rattle.laws.proofs.Single.{written-out, goal-terms}
 use Rattle.laws.proofs.Single.Chains.{Reaches, reaches-more, applied-reaches}
 use Rattle.laws.proofs.Single.Counting.{together}
-use Rattle.laws.proofs.Elsewhere.Staying.{in-queue, in-waiting, in-failed}
+use Rattle.laws.proofs.Elsewhere.Staying.{each-together, in-queue, in-waiting, in-failed}
 use Rattle.laws.proofs.Elsewhere.Written.{reached-exactly-if-written}
 use Rattle.laws.proofs.Elsewhere.StaysUnread.{Unread, unread-stays}
 
@@ -72,19 +72,15 @@ module _ (k z : ℕ) (state : State) where
 
   -- And back.
   pub unread-nowhere : EachGoal (Unread k z (unit-at k (state .units) .values)) (state .goals) → ReadNowhere (part-of k state) z
-  unfolding part-of goals-of of
+  unfolding part-of of
   unread-nowhere unread =
       sum-of-none (λ t. occurrences reader z (applied (length values) values t)) (map (λ g. as-term (g .goal)) (together own-goals))
       (each-map (λ t. occurrences reader z (applied (length values) values t) ≡ 0) (λ (g : Goal). as-term (g .goal)) (together own-goals)
-      (each-append (λ g. held-by g ≡ 0) (own-goals .queue ++ map (λ w. w .goal) (own-goals .waiting)) (own-goals .failed)
-      (each-append (λ g. held-by g ≡ 0) (own-goals .queue) (map (λ w. w .goal) (own-goals .waiting))
-      (each-those (λ g. held-by g ≡ 0) (of k) (state .goals .queue)
-      (each-implies _ _ (λ g its own. unread-held g (its (eqb-true (g .query) k own))) (state .goals .queue) (unread .queue)))
-      (each-map (λ g. held-by g ≡ 0) (λ (w : Waiting). w .goal) (own-goals .waiting)
-      (each-those (λ w. held-by (w .goal) ≡ 0) (λ w. of k (w .goal)) (state .goals .waiting)
-      (each-implies _ _ (λ w its own. unread-held (w .goal) (its (eqb-true (w .goal .query) k own))) (state .goals .waiting) (unread .waiting)))))
-      (each-those (λ g. held-by g ≡ 0) (of k) (state .goals .failed)
-      (each-implies _ _ (λ g its own. unread-held g (its (eqb-true (g .query) k own))) (state .goals .failed) (unread .failed)))))
+      (each-member (λ g. held-by g ≡ 0) (together own-goals)
+      (each-together (λ g. held-by g ≡ 0) own-goals
+      (each-goal-own (λ g. held-by g ≡ 0) k (state .goals)
+      (each-goal-implies (Unread k z values) (λ g. of k g ≡ true → held-by g ≡ 0) (λ g its own. unread-held g (its (eqb-true (g .query) k own)))
+      (state .goals) unread)))))
 
 -- Of an unassigned pair, in a state of a run: it stays, in every later state.
 pub nowhere-stays : (job : Job) (m n : ℕ) (figures : Room) (k z : ℕ) → k < length (job .queries)

@@ -4,7 +4,7 @@ use Prim.Native.Nat.{ℕ, _+_, _≤_, _<_}
 use mathlib.Core.Path.{_≡_, refl, sym}
 use mathlib.Core.Logic.{⊎-elim}
 use mathlib.Core.Bool.{Bool, true, false}
-use mathlib.Core.List.{List, _∷_, map}
+use mathlib.Core.List.{List, map}
 use native.Mathlib.Omega.{arith}
 use lib.Dec.{eqb}
 use lib.ListN.{length, length-map}
@@ -18,7 +18,7 @@ use Rattle.laws.proofs.Lists.{Each, each-all, each-implies, each-map, e
 use Rattle.laws.proofs.Terms.{all-renamed-beyond}
 use Rattle.laws.proofs.Trial.{reduces-agrees, unit-at-set-same, unit-at-set-other}
 use Rattle.laws.proofs.Runs.{KeptAtAnyPlace, run-goes-on}
-use Rattle.laws.proofs.Runs.AllGoals.{EachGoal, each-goal-at, each-goal-taken, each-goal-after}
+use Rattle.laws.proofs.Runs.AllGoals.{EachGoal, each-goal-implies, each-goal-at, each-goal-taken, each-goal-after}
 use Rattle.laws.proofs.Runs.Charges.{step-units, pairs-after}
 use Rattle.laws.proofs.Runs.Further.{goes-on}
 use Rattle.laws.proofs.Runs.Invariant.{onward-keeps}
@@ -26,14 +26,6 @@ use Rattle.laws.proofs.Circle.Never.{first-value}
 use Rattle.laws.proofs.Single.Chains.{Reaches, here, through}
 use Rattle.laws.proofs.Single.Counting.{own, own-of, count-of}
 use Rattle.laws.proofs.Elsewhere.Before.{reached-before, beyond-reaches-none}
-
-each-goal-implies : (P Q : Goal → Type 0) → ((g : Goal) → P g → Q g) → (goals : Goals) → EachGoal P goals → EachGoal Q goals
-each-goal-implies P Q f goals e =
-    record {
-      queue = each-implies P Q f (goals .queue) (e .queue);
-      waiting = each-implies (λ w. P (w .goal)) (λ w. Q (w .goal)) (λ w. f (w .goal)) (goals .waiting) (e .waiting);
-      failed = each-implies P Q f (goals .failed) (e .failed);
-    }
 
 -- A goal, if it is of the query, has no chain to the pair's reader.
 abbrev pub Unread : ℕ → ℕ → Values → Goal → Type 0
