@@ -46,10 +46,10 @@ use Rattle.laws.proofs.Elsewhere.NoCircle.{assigns-unassigned, no-circl
 use Rattle.laws.proofs.Elsewhere.Homes.{sound-reads-alike, sound-reached-by-handed-on, sound-unread-handed-on, sound-new-unread}
 -- A chain to an unassigned pair's reader is the same as the reader written out.
 pub use Written.{reached-exactly-if-written}
--- A goal that has one stays and keeps it, until it is reduced.
-pub use Staying.{ReachedBy, reached-by-stays, reached-by-taken-stays, body-enters}
+-- A goal that has one stays and keeps it, until it is reduced. A query's goals and a body's have one to each reader that they hold.
+pub use Staying.{ReachedBy, reached-at-start, reached-by-stays, reached-by-taken-stays, reached-by-body}
 -- Where none has one, none ever has; written out, none holds the reader.
-pub use StaysUnread.{Unread, UnreadAt, step-unread, unread-stays, start-unread}
+pub use StaysUnread.{Unread, UnreadAt, start-unread, step-unread, unread-stays}
 pub use Nowhere.{ReadNowhere, nowhere-unread, unread-nowhere, nowhere-stays}
 
 -- A pair is known not to be read by the goal that is taken: another goal of its query has a chain to the pair's reader, so that it holds the reader

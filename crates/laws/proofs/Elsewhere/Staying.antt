@@ -1,21 +1,22 @@
 -- A goal that a step does not take is there after the step, and what it has a chain to it keeps.
 -- So is the goal that is taken, unless it is reduced.
-use Prim.Native.Nat.{ℕ}
+use Prim.Native.Nat.{ℕ, _≤_}
 use mathlib.Core.Path.{_≡_, refl, ap}
 use mathlib.Core.Bool.{Bool, true, false, not}
 use mathlib.Core.List.{List, [], _∷_, _++_, map}
 use Rattle.meaning.specs.Bytes.{those}
-use Rattle.meaning.specs.Terms.{Clause}
-use Rattle.meaning.specs.State.{Values, QueryUnit, Goal, Waiting, Goals, State, unit-at}
+use Rattle.meaning.specs.Terms.{reader, Clause, Query, renamed-goal, all-occurrences}
+use Rattle.meaning.specs.State.{Values, QueryUnit, Goal, Waiting, Goals, State, unit-at, start}
 use Rattle.meaning.specs.Compare.{Assignment}
-use Rattle.meaning.specs.Trial.{Choice, reduces, joins-waiting, joins-failed}
-use Rattle.meaning.specs.Step.{body-goals, wakes, goals-after, without-front, step}
+use Rattle.meaning.specs.Trial.{next-pair, Choice, reduces, joins-waiting, joins-failed}
+use Rattle.meaning.specs.Step.{made-by, body-goals, wakes, goals-after, without-front, step}
 use Rattle.meaning.specs.Run.{choice-for}
-use Rattle.laws.proofs.Lists.{In, here, in-append-left, in-append-right, in-map, in-those, each-append, each-in, each-map, each-member}
-use Rattle.laws.proofs.Runs.AllGoals.{EachGoal}
+use Rattle.laws.proofs.Lists.{In, here, in-append-left, in-append-right, in-map, in-those, each-all, each-append, each-in, each-map, each-member}
+use Rattle.laws.proofs.Runs.AllGoals.{EachGoal, each-goal-at}
 use Rattle.laws.proofs.Circle.Never.{NoCircle}
 use Rattle.laws.proofs.Circle.ValuesStay.{step-values-stay}
 use Rattle.laws.proofs.Single.Chains.{Reaches, reaches-kept}
+use Rattle.laws.proofs.Single.Chains as chains
 use Rattle.laws.proofs.Single.Counting.{together}
 
 -- What holds of each goal of the three lists holds of each of them together.
@@ -135,3 +136,29 @@ module _ (clauses : List Clause) (state : State) (g : Goal) (others : List Goal)
         its-own = r .its-own;
         reached = reaches-kept _ (step-values-stay clauses state g others no-circle k) (r .reached);
       }
+
+-- A goal of the body reads each reader that it holds; so does a goal of the queries before the first step.
+body-own : (clause : Clause) (unit : QueryUnit) (query : ℕ) (o : Goal) → In o (body-goals clause unit query) → o .query ≡ query
+unfolding body-goals
+body-own clause unit query o m =
+    each-in (λ o. o .query ≡ query)
+    (each-goal-at (λ o. o .query ≡ query) (made-by clause unit) query (map (renamed-goal (next-pair unit) (unit .compounds)) (clause .body))
+    (each-all (λ b. query ≡ query) (λ b. refl) (map (renamed-goal (next-pair unit) (unit .compounds)) (clause .body)))) m
+
+pub reached-by-body : (clauses : List Clause) (state : State) (g : Goal) (others : List Goal) (clause : Clause) (given : List Assignment)
+    → choice-for clauses state g ≡ reduces clause given
+    → (o : Goal) → In o (body-goals clause (unit-at (g .query) (state .units)) (g .query)) → (x : ℕ) → 1 ≤ all-occurrences reader x (o .goal .arguments)
+    → let later = step (choice-for clauses state g) g others state in ReachedBy (g .query) x (unit-at (g .query) (later .units) .values) (later .goals) o
+unfolding step
+reached-by-body clauses state g others clause given chosen o m x held =
+    let unit = unit-at (g .query) (state .units) in
+    record {
+      present = rw chosen (body-enters clause given unit g (without-front others (state .goals)) o m);
+      its-own = body-own clause unit (g .query) o m;
+      reached = chains.here {ts = o .goal .arguments} held;
+    }
+
+pub reached-at-start : (queries : List Query) (o : Goal) → In o (start queries .goals .queue) → (x : ℕ) → 1 ≤ all-occurrences reader x (o .goal .arguments)
+    → ReachedBy (o .query) x (unit-at (o .query) (start queries .units) .values) (start queries .goals) o
+reached-at-start queries o m x held =
+    record { present = in-queue (start queries .goals) m; its-own = refl; reached = chains.here {ts = o .goal .arguments} held }
