@@ -131,7 +131,7 @@ module _ (unit : QueryUnit) (clause : Clause) (goal : Named) (given : List Assig
           absurd (false-not-true _ o
           (closed-kept (unit .values) (values-after clause given unit) (omega (arith, length-values-after clause given unit)) values-kept n e))
 
-  -- The clause's pairs and those in use are apart: so much of the clause is not counted with what is in use.
+  -- The clause's pairs and those in use are apart: what of the clause is counted at most once is so together with what is in use.
   apart : (h : Half) (n c : ℕ) → c ≤ head-count h n + body-count h n → closed (unit .values) n ≡ false
       → ((m : ℕ) → n ≡ next-pair unit + m → c ≤ 1)
       → c + (all-occurrences h n (goal .arguments) + around h n + held h n (b .live)) ≤ 1
@@ -187,7 +187,7 @@ module _ (unit : QueryUnit) (clause : Clause) (goal : Named) (given : List Assig
   settled-given =
       settled-after given (with-pairs (clause .pairs) (unit .values)) given-once (λ n e. given-inside n (rw length-with-pairs at e))
 
-  -- What is counted of the body: some of it, so that what is not closed afterwards is not counted twice.
+  -- Some of the body is counted, so much that of pairs which are not closed afterwards nothing is counted twice.
   module _ (body : Count) (part : (h : Half) (n : ℕ) → body h n ≤ body-count h n)
       (limits : (h : Half) (n : ℕ) → closed (values-after clause given unit) n ≡ false
       → head-count h n + body h n + (all-occurrences h n (goal .arguments) + around h n + held h n (b .live)) ≤ 1) where
