@@ -2,7 +2,7 @@
 -- What the reader guarantees of every accepted text discharges what the laws of a run ask of its job.
 use Prim.Native.Nat.{ℕ, _≤_, _<_}
 use mathlib.Core.Path.{_≡_, refl, ap}
-use mathlib.Core.Logic.{⊎-elim}
+use mathlib.Core.Logic.{_⊎_, ⊎-elim}
 use mathlib.Core.Bool.{true}
 use mathlib.Core.List.{List, _∷_, _++_, map}
 use mathlib.Core.Option.{some}
@@ -35,6 +35,8 @@ use Rattle.laws.proofs.Single.{
   value-stays,
   run-failed-goals-fail-again,
 }
+use Rattle.laws.proofs.Circle.Starts.{Assigns}
+use Rattle.laws.proofs.Elsewhere.{NotHere, circle-by-readers-here}
 use Rattle.laws.proofs.Report.{tries-shown}
 use Rattle.laws.proofs.Call.{ran-read-a-job}
 use Rattle.laws.proofs.Own.{
@@ -125,6 +127,13 @@ module _ (text : Bytes) (j : Job) (reads : reading text ≡ job j) (limit : ℕ)
     text-circle-by-assignments =
         circle-by-assignments clause _ (g .goal) given
         (part-single .values-in-range) (front-in-range g others front part-single) agree (run-no-circle j limit figures (g .query))
+
+    -- And it may leave out each pair whose reader another goal of the query, written out, holds, or none does: no circle runs through it.
+    pub text-circle-by-readers-here : In clause (j .clauses) → (starts : List ℕ) → let state = run j limit figures .state in
+        let unit = unit-at (g .query) (state .units) in
+        ((z : ℕ) → z < length (unit .values) → Assigns given z → In z starts ⊎ NotHere state g others z)
+        → circle (values-after clause given unit) ≡ any (circle-at (values-after clause given unit)) starts
+    text-circle-by-readers-here member = circle-by-readers-here j rules limit figures g others front clause member given agree
 
     pub text-circle-by-pairs : let unit = unit-at (g .query) (run j limit figures .state .units) in
         circle (values-after clause given unit)

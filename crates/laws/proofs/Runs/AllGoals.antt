@@ -2,7 +2,7 @@
 -- For a step makes no other goals: it moves them from one of the three lists to another.
 use Prim.Native.Nat.{ℕ}
 use mathlib.Core.Path.{_≡_, refl}
-use mathlib.Core.Bool.{not}
+use mathlib.Core.Bool.{true, not}
 use mathlib.Core.List.{List, [], _∷_, _++_, map}
 use Rattle.meaning.specs.Bytes.{those}
 use Rattle.meaning.specs.Terms.{Named, Clause}
@@ -10,12 +10,20 @@ use Rattle.meaning.specs.State.{QueryUnit, Goal, Waiting, Goals, goals-at, of, 
 use Rattle.meaning.specs.Compare.{Assignment}
 use Rattle.meaning.specs.Trial.{Choice, reduces, joins-waiting, joins-failed}
 use Rattle.meaning.specs.Step.{body-goals, wakes, goals-after, without-front}
-use Rattle.laws.proofs.Lists.{Each, each-append, each-map, each-of-those, TakenOut, taken-each, taken-front}
+use Rattle.laws.proofs.Lists.{Each, each-append, each-implies, each-map, each-those, each-of-those, TakenOut, taken-each, taken-front}
 
 pub record EachGoal (P : Goal → Type 0) (goals : Goals) : Type 0 where
   pub queue : Each P (goals .queue)
   pub waiting : Each (λ w. P (w .goal)) (goals .waiting)
   pub failed : Each P (goals .failed)
+
+pub each-goal-implies : (P Q : Goal → Type 0) → ((g : Goal) → P g → Q g) → (goals : Goals) → EachGoal P goals → EachGoal Q goals
+each-goal-implies P Q f goals e =
+    record {
+      queue = each-implies P Q f (goals .queue) (e .queue);
+      waiting = each-implies (λ w. P (w .goal)) (λ w. Q (w .goal)) (λ w. f (w .goal)) (goals .waiting) (e .waiting);
+      failed = each-implies P Q f (goals .failed) (e .failed);
+    }
 
 module _ (P : Goal → Type 0) where
   -- The goals of one query, made of terms.
@@ -32,6 +40,16 @@ module _ (P : Goal → Type 0) where
         queue = each-of-those P (of k) (goals .queue) (e .queue);
         waiting = each-of-those (λ w. P (w .goal)) (λ w. of k (w .goal)) (goals .waiting) (e .waiting);
         failed = each-of-those P (of k) (goals .failed) (e .failed);
+      }
+
+  -- And what holds of each goal if it is of the query holds of these.
+  pub each-goal-own : (k : ℕ) (goals : Goals) → EachGoal (λ g. of k g ≡ true → P g) goals → EachGoal P (goals-of k goals)
+  unfolding goals-of
+  each-goal-own k goals e =
+      record {
+        queue = each-those P (of k) (goals .queue) (e .queue);
+        waiting = each-those (λ w. P (w .goal)) (λ w. of k (w .goal)) (goals .waiting) (e .waiting);
+        failed = each-those P (of k) (goals .failed) (e .failed);
       }
 
   -- The goal that is taken, and the others; at the front, for one.

@@ -44,7 +44,7 @@ module _ (clauses : List Clause) (figures : Room) (left : ℕ) (state : State) (
   onward-stops f = rw (f, onward)
 
 module _ (clauses : List Clause) (figures : Room) (P : State → Type 0) (kept : KeptByStep clauses figures P) where
-  onward-keeps : (left : ℕ) (state : State) (queue : List Goal) → state .goals .queue ≡ queue → P state
+  pub onward-keeps : (left : ℕ) (state : State) (queue : List Goal) → state .goals .queue ≡ queue → P state
       → P (onward left clauses figures state queue .state)
   unfolding onward ended after
   onward-keeps zero state [] e p = p

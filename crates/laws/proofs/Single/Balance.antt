@@ -94,6 +94,10 @@ module _ (unit : QueryUnit) (clause : Clause) (goal : Named) (given : List Assig
   unfolding goals-occurrences renamed-goal
   clause-above h n = goals-renamed-above (next-pair unit) (unit .compounds) h n (clause .head ∷ clause .body)
 
+  head-above : (h : Half) (n : ℕ) → head-count h (next-pair unit + n) ≡ all-occurrences h n (clause .head .arguments)
+  unfolding goals-occurrences renamed-goal
+  head-above h n = omega (arith, goals-renamed-above (next-pair unit) (unit .compounds) h n (clause .head ∷ []))
+
   clause-beyond : (h : Half) (n : ℕ) → length (unit .values) + clause .pairs ≤ n → head-count h n + body-count h n ≡ 0
   unfolding goals-occurrences renamed-goal next-pair
   clause-beyond h n e = goals-renamed-beyond (next-pair unit) (unit .compounds) (clause .head ∷ clause .body) (clause .pairs) (ok .below) h n e
@@ -127,25 +131,24 @@ module _ (unit : QueryUnit) (clause : Clause) (goal : Named) (given : List Assig
           absurd (false-not-true _ o
           (closed-kept (unit .values) (values-after clause given unit) (omega (arith, length-values-after clause given unit)) values-kept n e))
 
-  -- The clause's pairs and those in use are apart.
-  apart : (h : Half) (n : ℕ) → closed (unit .values) n ≡ false → ((m : ℕ) → n ≡ next-pair unit + m → goals-occurrences h m (clause .head ∷ clause .body) ≤ 1)
-      → head-count h n + body-count h n + (all-occurrences h n (goal .arguments) + around h n + held h n (b .live)) ≤ 1
+  -- The clause's pairs and those in use are apart: what of the clause is counted at most once is so together with what is in use.
+  apart : (h : Half) (n c : ℕ) → c ≤ head-count h n + body-count h n → closed (unit .values) n ≡ false
+      → ((m : ℕ) → n ≡ next-pair unit + m → c ≤ 1)
+      → c + (all-occurrences h n (goal .arguments) + around h n + held h n (b .live)) ≤ 1
   unfolding next-pair
-  apart h n o once = go (ltb n (length (unit .values))) refl
+  apart h n c its o once = go (ltb n (length (unit .values))) refl
     where
-      go : (t : Bool) → ltb n (length (unit .values)) ≡ t
-          → head-count h n + body-count h n + (all-occurrences h n (goal .arguments) + around h n + held h n (b .live)) ≤ 1
-      go true e = omega (arith, clause-below h n (ltb-true n _ e), b .once h n o)
+      go : (t : Bool) → ltb n (length (unit .values)) ≡ t → c + (all-occurrences h n (goal .arguments) + around h n + held h n (b .live)) ≤ 1
+      go true e = omega (arith, its, clause-below h n (ltb-true n _ e), b .once h n o)
       go false e =
           let past = ltb-false n (length (unit .values)) e in
           let raised : n ≡ length (unit .values) + (n - length (unit .values)) = omega arith in
-          let few : head-count h n + body-count h n ≤ 1 =
-          rw raised (omega (arith, clause-above h (n - length (unit .values)), once (n - length (unit .values)) raised)) in
-          omega (arith, few, b .below h n past)
+          omega (arith, once (n - length (unit .values)) raised, b .below h n past)
 
   limits-writer : (n : ℕ) → closed (unit .values) n ≡ false
       → head-count writer n + body-count writer n + (all-occurrences writer n (goal .arguments) + around writer n + held writer n (b .live)) ≤ 1
-  limits-writer n o = apart writer n o (λ m e. ok .writers-once m)
+  limits-writer n o =
+      apart writer n (head-count writer n + body-count writer n) (omega arith) o (λ m e. rw e (omega (arith, clause-above writer m, ok .writers-once m)))
 
   comparison : Flow (unit .values) (λ h n. head-count h n + all-occurrences h n (goal .arguments)) (b .live) (worth given)
   unfolding compared
@@ -184,14 +187,10 @@ module _ (unit : QueryUnit) (clause : Clause) (goal : Named) (given : List Assig
   settled-given =
       settled-after given (with-pairs (clause .pairs) (unit .values)) given-once (λ n e. given-inside n (rw length-with-pairs at e))
 
-  -- The pairs of licensed readers are closed afterwards.
-  module _ (shut : (n : ℕ) → licensed (clause .guards) n ≡ true → closed (values-after clause given unit) (next-pair unit + n) ≡ true) where
-    limits : (h : Half) (n : ℕ) → closed (values-after clause given unit) n ≡ false
-        → head-count h n + body-count h n + (all-occurrences h n (goal .arguments) + around h n + held h n (b .live)) ≤ 1
-    limits writer n o = limits-writer n (open-before n o)
-    limits reader n o =
-        apart reader n (open-before n o) (λ m e. ok .readers-once m (not-true-is-false _ (λ l. false-not-true _ o (rw e (shut m l)))))
-
+  -- Some of the body is counted, so much that of pairs which are not closed afterwards nothing is counted twice.
+  module _ (body : Count) (part : (h : Half) (n : ℕ) → body h n ≤ body-count h n)
+      (limits : (h : Half) (n : ℕ) → closed (values-after clause given unit) n ≡ false
+      → head-count h n + body h n + (all-occurrences h n (goal .arguments) + around h n + held h n (b .live)) ≤ 1) where
     abbrev live-after : List Assignment
     live-after = comparison .left ++ given
 
@@ -201,28 +200,29 @@ module _ (unit : QueryUnit) (clause : Clause) (goal : Named) (given : List Assig
     marks-after : (h : Half) (n : ℕ) → marks reader h n live-after ≡ marks reader h n (comparison .left) + marks reader h n given
     marks-after h n = sum-append (λ a. occurrences h n (variable reader (a .pair))) (comparison .left) given
 
-    once-after : (h : Half) (n : ℕ) → closed (values-after clause given unit) n ≡ false → body-count h n + around h n + held h n live-after ≤ 1
+    once-after : (h : Half) (n : ℕ) → closed (values-after clause given unit) n ≡ false → body h n + around h n + held h n live-after ≤ 1
     once-after h n o = omega (arith, held-after h n, limits h n o, comparison .flow h n (open-before n o), comparison .fewer h n)
 
     -- A writer that is given a value is counted no more.
-    writer-gone : (n : ℕ) → 1 ≤ marks writer writer n given → body-count writer n + around writer n + held writer n live-after ≡ 0
+    writer-gone : (n : ℕ) → 1 ≤ marks writer writer n given → body writer n + around writer n + held writer n live-after ≡ 0
     writer-gone n m =
         let o = given-open n m in
         omega (
           arith,
           held-after writer n,
           limits-writer n o,
+          part writer n,
           comparison .flow writer n o,
           no-writer-marks n (b .live),
           no-writer-marks n (comparison .left),
         )
 
-    fair-after : Fair (values-after clause given unit) (λ h n. body-count h n + around h n) live-after
+    fair-after : Fair (values-after clause given unit) (λ h n. body h n + around h n) live-after
     unfolding values-after
     fair-after h n t o e = go h (value-after given (with-pairs (clause .pairs) (unit .values)) n t e)
       where
         go : (h : Half) → After given (with-pairs (clause .pairs) (unit .values)) n t
-            → body-count h n + around h n + held h n live-after ≤ marks reader h n live-after
+            → body h n + around h n + held h n live-after ≤ marks reader h n live-after
         go h (before i) =
             let j = sym (value-with-pairs (clause .pairs) (unit .values) n) ∙ i in
             omega (
@@ -232,21 +232,22 @@ module _ (unit : QueryUnit) (clause : Clause) (goal : Named) (given : List Assig
               comparison .flow h n (open-before n o),
               b .fair h n t (open-before n o) j,
               clause-below h n (assigned-below (unit .values) n t j),
+              part h n,
             )
         go writer (new m less) = omega (arith, writer-gone n m)
         go reader (new m less) = omega (arith, marks-after reader n, once-after reader n o, same-marks n given)
 
-    gone-after : (n : ℕ) (t : Term) → value (values-after clause given unit) n ≡ some t → body-count writer n + around writer n ≡ 0
+    gone-after : (n : ℕ) (t : Term) → value (values-after clause given unit) n ≡ some t → body writer n + around writer n ≡ 0
     unfolding values-after
     gone-after n t e = go (value-after given (with-pairs (clause .pairs) (unit .values)) n t e)
       where
-        go : After given (with-pairs (clause .pairs) (unit .values)) n t → body-count writer n + around writer n ≡ 0
+        go : After given (with-pairs (clause .pairs) (unit .values)) n t → body writer n + around writer n ≡ 0
         go (before i) =
             let j = sym (value-with-pairs (clause .pairs) (unit .values) n) ∙ i in
-            omega (arith, b .gone n t j, clause-below writer n (assigned-below (unit .values) n t j))
+            omega (arith, b .gone n t j, clause-below writer n (assigned-below (unit .values) n t j), part writer n)
         go (new m less) = omega (arith, writer-gone n m)
 
-    below-after : (h : Half) (n : ℕ) → length (unit .values) + clause .pairs ≤ n → body-count h n + around h n + held h n live-after ≡ 0
+    below-after : (h : Half) (n : ℕ) → length (unit .values) + clause .pairs ≤ n → body h n + around h n + held h n live-after ≡ 0
     below-after h n e =
         omega (
           arith,
@@ -254,6 +255,7 @@ module _ (unit : QueryUnit) (clause : Clause) (goal : Named) (given : List Assig
           comparison .flow h n (beyond-open n (omega arith)),
           comparison .fewer h n,
           clause-beyond h n e,
+          part h n,
           b .below h n (omega arith),
         )
 
@@ -266,19 +268,42 @@ module _ (unit : QueryUnit) (clause : Clause) (goal : Named) (given : List Assig
         go (before j) = b .values-below m t (sym (value-with-pairs (clause .pairs) (unit .values) m) ∙ j) h n (omega arith)
         go (new k less) = omega (arith, less h n, given-values-inside h n i)
 
-    -- A reduction keeps the balance.
-    pub balanced-after : Balanced (values-after clause given unit) (λ h n. body-count h n + around h n)
+    -- The balance is kept, and each pair given a value is live.
+    balanced-with : (after : Balanced (values-after clause given unit) (λ h n. body h n + around h n))
+        × ((n : ℕ) → marks writer writer n given ≤ marks reader reader n (after .live))
     unfolding values-after
-    balanced-after =
-        record {
-          live = live-after;
-          settled =
-              each-append _ (comparison .left) given
-              (each-implies _ _ (λ a. values-kept (a .pair) (a .value)) (comparison .left) (comparison .settled))
-              settled-given;
-          once = once-after;
-          fair = fair-after;
-          gone = gone-after;
-          below = λ h n e. below-after h n (rw length-values-after at e);
-          values-below = λ m t e h n i. values-below-after m t e h n (rw length-values-after at i);
-        }
+    balanced-with = (
+      record {
+        live = live-after;
+        settled =
+            each-append _ (comparison .left) given
+            (each-implies _ _ (λ a. values-kept (a .pair) (a .value)) (comparison .left) (comparison .settled))
+            settled-given;
+        once = once-after;
+        fair = fair-after;
+        gone = gone-after;
+        below = λ h n e. below-after h n (rw length-values-after at e);
+        values-below = λ m t e h n i. values-below-after m t e h n (rw length-values-after at i);
+      },
+      λ n. omega (arith, marks-after reader n, same-marks n given),
+    )
+
+  -- The balance before the guards: without the body nothing of the clause is counted twice, whatever its guards license.
+  pub balanced-without-body : (after : Balanced (values-after clause given unit) (λ h n. 0 + around h n))
+      × ((n : ℕ) → marks writer writer n given ≤ marks reader reader n (after .live))
+  balanced-without-body =
+      balanced-with (λ h n. 0) (λ h n. omega arith)
+      (λ h n o. apart h n (head-count h n + 0) (omega arith) (open-before n o) (λ m e. rw e (omega (arith, head-above h m, ok .head-once h m))))
+
+  -- A reduction keeps the balance: the pairs of licensed readers are closed afterwards.
+  module _ (shut : (n : ℕ) → licensed (clause .guards) n ≡ true → closed (values-after clause given unit) (next-pair unit + n) ≡ true) where
+    limits : (h : Half) (n : ℕ) → closed (values-after clause given unit) n ≡ false
+        → head-count h n + body-count h n + (all-occurrences h n (goal .arguments) + around h n + held h n (b .live)) ≤ 1
+    limits writer n o = limits-writer n (open-before n o)
+    limits reader n o =
+        apart reader n (head-count reader n + body-count reader n) (omega arith) (open-before n o)
+        (λ m e. rw e (omega (arith, clause-above reader m, ok .readers-once m (not-true-is-false _ (λ l. false-not-true _ o (rw e (shut m l)))))))
+
+    pub balanced-and-live : (after : Balanced (values-after clause given unit) (λ h n. body-count h n + around h n))
+        × ((n : ℕ) → marks writer writer n given ≤ marks reader reader n (after .live))
+    balanced-and-live = balanced-with body-count (λ h n. omega arith) limits

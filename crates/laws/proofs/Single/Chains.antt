@@ -81,6 +81,19 @@ pub reaches-kept : {values : Values} (after : Values) {p : ℕ} {ts : Terms} →
 reaches-kept after kept (here m) = here m
 reaches-kept after kept (through k q u m e further) = through k q u m (kept q u e) (reaches-kept after kept further)
 
+-- A chain to a pair's reader goes on to what its value reaches.
+pub reaches-then : {values : Values} {z x : ℕ} (ts : Terms) (u : Term) → Reaches values z ts → value values z ≡ some u → Reaches values x (more u end)
+    → Reaches values x ts
+reaches-then {z} ts u (here m) e further = through {ts = ts} reader z u m e further
+reaches-then ts u (through k q v m f chain) e further = through {ts = ts} k q v m f (reaches-then (more v end) u chain e further)
+
+-- To a reader that no value holds a chain has no links.
+pub reaches-unheld : {values : Values} {x : ℕ} → ((q : ℕ) (u : Term) → value values q ≡ some u → occurrences reader x u ≡ 0)
+    → (ts : Terms) → Reaches values x ts → 1 ≤ all-occurrences reader x ts
+unfolding all-occurrences
+reaches-unheld unheld ts (here m) = m
+reaches-unheld unheld ts (through k q u m e further) = absurd (omega (arith, unheld q u e, reaches-unheld unheld (more u end) further))
+
 -- What a chain reaches is in range where all that it passes is.
 pub reaches-inside : {values : Values} {p : ℕ} {ts : Terms} (pairs : ℕ) → ((h : Half) (n : ℕ) → pairs ≤ n → all-occurrences h n ts ≡ 0)
     → ((q : ℕ) (u : Term) → value values q ≡ some u → (h : Half) (n : ℕ) → pairs ≤ n → occurrences h n u ≡ 0)
@@ -100,7 +113,7 @@ chain-flows values {p} {ts} (through k q u m e further) =
     (flows-then (flows-to-less (λ h n. omega arith)) (chain-flows values further))
 
 module _ (values : Values) where
-  followed-reaches : (p : ℕ) (links : ℕ) (t : Term) → Reaches values p (more (followed links values t) end) → Reaches values p (more t end)
+  pub followed-reaches : (p : ℕ) (links : ℕ) (t : Term) → Reaches values p (more (followed links values t) end) → Reaches values p (more t end)
   unfolding followed all-occurrences
   followed-reaches p zero t r = r
   followed-reaches p (suc links) (constant k) r = r
@@ -207,7 +220,7 @@ module _ (by : Half → ℕ → Term) (p : ℕ) where
         go false e one others = let (k, q, at, inside) = others (omega (arith, leb-false 1 (occurrences reader p (replaced by t)) e)) in (k, q, omega arith, inside)
 
 -- A reader that stands in a term written out is reached from it.
-applied-reaches : (values : Values) (links p : ℕ) (t : Term) → 1 ≤ occurrences reader p (applied links values t) → Reaches values p (more t end)
+pub applied-reaches : (values : Values) (links p : ℕ) (t : Term) → 1 ≤ occurrences reader p (applied links values t) → Reaches values p (more t end)
 unfolding applied all-occurrences
 applied-reaches values zero p t m = here {ts = more t end} (omega arith)
 applied-reaches values (suc links) p t m =

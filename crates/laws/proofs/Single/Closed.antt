@@ -114,7 +114,7 @@ pub record Open-up (test : ℕ → Bool) (values : Values) (n : ℕ) : Type 0 wh
   pub only : holds-only test value-held ≡ true
 
 module _ (values : Values) where
-  opened : (links n : ℕ) → closed-within (suc links) values n ≡ true → Open-up (closed-within links values) values n
+  pub opened : (links n : ℕ) → closed-within (suc links) values n ≡ true → Open-up (closed-within links values) values n
   unfolding closed-within
   opened links n e = go (value values n) refl
     where
@@ -128,7 +128,7 @@ module _ (values : Values) where
   closing links n u e only = rw (e, closed-within) only
 
   -- More links close no less.
-  closed-more : (links n : ℕ) → closed-within links values n ≡ true → closed-within (suc links) values n ≡ true
+  pub closed-more : (links n : ℕ) → closed-within links values n ≡ true → closed-within (suc links) values n ≡ true
   unfolding closed-within
   closed-more zero n e = absurd (false-not-true false refl e)
   closed-more (suc links) n e =

@@ -109,14 +109,14 @@ no-writer-marks n [] = refl
 no-writer-marks n (a ∷ live) = omega (arith, no-writer-marks n live)
 
 -- A live value taken out.
-record Out (values : Values) (p : ℕ) (u : Term) (live : List Assignment) : Type 0 where
-  left : List Assignment
-  settled : Settled values left
-  values-out : (h : Half) (n : ℕ) → held h n live ≡ occurrences h n u + held h n left
-  readers-out : (h : Half) (n : ℕ) → marks reader h n live ≡ occurrences h n (variable reader p) + marks reader h n left
+pub record Out (values : Values) (p : ℕ) (u : Term) (live : List Assignment) : Type 0 where
+  pub left : List Assignment
+  pub settled : Settled values left
+  pub values-out : (h : Half) (n : ℕ) → held h n live ≡ occurrences h n u + held h n left
+  pub readers-out : (h : Half) (n : ℕ) → marks reader h n live ≡ occurrences h n (variable reader p) + marks reader h n left
 
 module _ (values : Values) where
-  taken-out : (p : ℕ) (u : Term) (live : List Assignment) → Settled values live → value values p ≡ some u → 1 ≤ marks reader reader p live
+  pub taken-out : (p : ℕ) (u : Term) (live : List Assignment) → Settled values live → value values p ≡ some u → 1 ≤ marks reader reader p live
       → Out values p u live
   taken-out p u [] s e m = absurd (omega arith)
   taken-out p u (a ∷ live) s e m = go (eqb p (a .pair)) refl (λ m. taken-out p u live (s .1) e m)

@@ -1,6 +1,6 @@
 -- What every state of a run keeps of each query: the balance of its goals, and a chain from each waiting goal to each pair that it waits on.
 -- A step on a goal of the query, wherever it stands in the queue, is a reduction or moves the goal; a step on another's goal leaves unit and counts as they are.
-use Prim.Native.Nat.{ℕ, _+_, _<_}
+use Prim.Native.Nat.{ℕ, _+_, _≤_, _<_}
 use mathlib.Core.Path.{_≡_, refl, sym, _∙_}
 use mathlib.Core.Bool.{Bool, true, false, not}
 use mathlib.Core.List.{List, [], _∷_, map}
@@ -9,7 +9,7 @@ use native.Mathlib.Omega.{arith}
 use lib.Dec.{eqb}
 use lib.ListN.{length}
 use borrow.Author.Tests.{eqb-true, eqb-false, eq-eqb}
-use Rattle.meaning.specs.Terms.{writer, Term, Terms, Named, Clause, renamed-goal, all-occurrences, goals-occurrences}
+use Rattle.meaning.specs.Terms.{writer, reader, Term, Terms, Named, Clause, renamed-goal, all-occurrences, goals-occurrences}
 use Rattle.meaning.specs.Table.{licensed}
 use Rattle.meaning.specs.State.{Values, value, QueryUnit, Goal, Waiting, Goals, State, unit-at, of}
 use Rattle.meaning.specs.Compare.{Assignment, succeeds}
@@ -25,9 +25,9 @@ use Rattle.laws.proofs.Circle.{given-unassigned}
 use Rattle.laws.proofs.Reading.{ClauseOk}
 use Rattle.laws.proofs.Single.Chains.{Reaches, reaches-kept, waits-reach}
 use Rattle.laws.proofs.Single.Closed.{both-true, closed, closed-new, licensed-closes, given-found}
-use Rattle.laws.proofs.Single.LiveValues.{Count, marks}
+use Rattle.laws.proofs.Single.LiveValues.{Count, marks, Settled}
 use Rattle.laws.proofs.Single.Assigned.{value-kept}
-use Rattle.laws.proofs.Single.Balance.{Balanced, balanced-less, balanced-after, settled-given, values-kept}
+use Rattle.laws.proofs.Single.Balance.{Balanced, balanced-less, balanced-and-live, settled-given, values-kept}
 use Rattle.laws.proofs.Single.Counting.{
   own-of,
   count-of,
@@ -104,9 +104,19 @@ module _ (clause : Clause) (ok : ClauseOk clause) (unit : QueryUnit) (goal : Nam
   pub reduction-kept : (n : ℕ) (t : Term) → value (unit .values) n ≡ some t → value (values-after clause given unit) n ≡ some t
   reduction-kept = values-kept unit clause goal given around ok agreed fresh b
 
+  -- The balance is kept, and each pair that was given a value is live.
+  pub reduction-balanced-and-live : (after : Balanced (values-after clause given unit)
+      (λ h n. goals-occurrences h n (map (renamed-goal (next-pair unit) (unit .compounds)) (clause .body)) + around h n))
+      × ((n : ℕ) → marks writer writer n given ≤ marks reader reader n (after .live))
+  reduction-balanced-and-live = balanced-and-live unit clause goal given around ok agreed fresh b shut
+
   pub reduction-balanced : Balanced (values-after clause given unit)
       (λ h n. goals-occurrences h n (map (renamed-goal (next-pair unit) (unit .compounds)) (clause .body)) + around h n)
-  reduction-balanced = balanced-after unit clause goal given around ok agreed fresh b shut
+  reduction-balanced = reduction-balanced-and-live .0
+
+  -- Each assignment is the value of its pair.
+  pub reduction-settled : Settled (values-after clause given unit) given
+  reduction-settled = settled-given unit clause goal given around ok agreed fresh b
 
   -- A pair that is not given a value has none afterwards if it had none.
   unassigned-still : (p : ℕ) → ((a : Assignment) → In a given → p ≡ a .pair → ⊥) → value (unit .values) p ≡ none
