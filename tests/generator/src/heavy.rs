@@ -49,9 +49,11 @@ fn runs() -> Vec<Heavy> {
         run("woken in order", ALL, waking([1, 2, 3, 4, 5, 6])),
         run("woken in reverse", ALL, waking([6, 5, 4, 3, 2, 1])),
         run("woken shuffled", ALL, waking([3, 6, 1, 4, 2, 5])),
-        run("128 clauses, first argument", ALL, clauses(|key| format!("{key},b,c"))),
-        run("128 clauses, last argument", ALL, clauses(|key| format!("a,b,c,d,e,{key}"))),
-        run("128 clauses, nested", ALL, clauses(|key| format!("f(g(a,h({key})))"))),
+        run("4 clauses, first argument", ALL, clauses(4, |key| format!("{key},b,c"))),
+        run("128 clauses, first argument", ALL, clauses(128, |key| format!("{key},b,c"))),
+        run("4 clauses, last argument", ALL, clauses(4, |key| format!("a,b,c,d,e,{key}"))),
+        run("128 clauses, last argument", ALL, clauses(128, |key| format!("a,b,c,d,e,{key}"))),
+        run("128 clauses, nested", ALL, clauses(128, |key| format!("f(g(a,h({key})))"))),
         run("124 clauses that wait", ALL, waiting_clauses()),
         run("a chain of readers made", ALL, "c(X?) :- c(X).\n?- c(A).\n".to_string()),
         run("chains of 64 readers", ALL, short_chains()),
@@ -63,6 +65,8 @@ fn runs() -> Vec<Heavy> {
             4_000,
             "count(N,R?) :- succ(N?,M), count(M?,R).\nsucc(N,s(N?)).\n?- count(0,A).\n".to_string(),
         ),
+        run("a list made in pieces, passed on", ALL, in_pieces()),
+        run("a deep open value handed on", ALL, handed_on()),
         run("a circle found deep", ALL, circle(15, |inner| format!("f({inner})"), 30)),
         run("found in first arguments", ALL, circle(15, |inner| format!("f({inner},a)"), 30)),
         run("found beside pairs", ALL, circle_through(&paired(), 30)),
@@ -203,9 +207,9 @@ fn waking(order: [usize; 6]) -> String {
     )
 }
 
-/// A procedure of 128 clauses of which the last one matches, and calls it again.
-fn clauses(arguments: impl Fn(&str) -> String) -> String {
-    let facts: String = (1..128).map(|k| format!("p({}).\n", arguments(&format!("k{k}")))).collect();
+/// A procedure of so many clauses of which the last one matches, and calls it again.
+fn clauses(number: usize, arguments: impl Fn(&str) -> String) -> String {
+    let facts: String = (1..number).map(|k| format!("p({}).\n", arguments(&format!("k{k}")))).collect();
     format!("{facts}p({0}) :- p({0}).\n?- p({0}).\n", arguments("last"))
 }
 
@@ -213,6 +217,19 @@ fn clauses(arguments: impl Fn(&str) -> String) -> String {
 fn waiting_clauses() -> String {
     let facts: String = (1..125).map(|k| format!("p(k{k}).\n")).collect();
     format!("{facts}go(X) :- p(Y?), give(Y), go(X?).\ngive(k124).\n?- go(a).\n")
+}
+
+/// A list that is made in 512 pieces of 8 elements, from its end on, and then passed on element by element.
+fn in_pieces() -> String {
+    let rules = "part([a,a,a,a,a,a,a,a|T?],T).\npass([X|Xs],[t(X?)|Ys?]) :- pass(Xs?,Ys).\npass([],[]).\n";
+    format!("{rules}{}net(a) :- all(L,T?), pass(L?,M), end(T), eat(M?).\nend([]).\neat([]).\n?- net(a).\n", spread())
+}
+
+/// A value of 7,680 levels around a reader that nobody gives a value, handed on in a compound some thousand times.
+fn handed_on() -> String {
+    let part = format!("part({},X).\n", nested(15, "X?", |inner| format!("f({inner})")));
+    let hand = "hand(X,r(X?)).\ngo([a|L],r(X),Y?) :- hand(X?,R), go(L?,R?,Y).\nmake([a|L?]) :- make(L).\n";
+    format!("{part}{}{hand}net(a) :- all(V,A?), make(L), go(L?,r(V?),A).\n?- net(a).\n", spread())
 }
 
 /// Constants that are each passed over 64 readers.
