@@ -103,19 +103,20 @@ fn loaded(
     text: &[u8],
     budget: usize,
     room: Room,
+    clauses: usize,
     queries: usize,
     s: &mut [u64],
     buffer: &mut [u8],
 ) -> Answer
     requires { ⌜ ((names : List Bytes) × (j : Job) × Ready (now s) (now text) names (figures room) j
-        × (budget ≤ 1000000) × (queries ≡ length (j .queries)) × (length (now text) ≤ 16384)) ⌝ }
+        × (budget ≤ 1000000) × (clauses ≡ length (j .clauses)) × (queries ≡ length (j .queries)) × (length (now text) ≤ 16384)) ⌝ }
     ensures { λ r. ⌜ ((names : List Bytes) (j : Job) → Ready (now (s .entry)) (now (text .entry)) names (figures room) j
-        → queries ≡ length (j .queries) → length (now (text .entry)) ≤ 16384
+        → clauses ≡ length (j .clauses) → queries ≡ length (j .queries) → length (now (text .entry)) ≤ 16384
         → outcome r (now (buffer .exit)) (now (s .exit))
         ≡ runs (need-of (figures room)) j (given (now (text .entry)) budget (figures room) (now (s .entry)) (now (buffer .entry)))) ⌝ }
 {
     let words = need(room);
-    match run(s, room, budget, queries) {
+    match run(s, room, budget, clauses, queries) {
         Ran::Ended(verdict, t) => ended(text, s, room, queries, verdict, t, buffer),
         Ran::QueriesPassRoom => {
             clear(s, words);
@@ -132,7 +133,7 @@ fn taken(text: &[u8], budget: usize, room: Room, s: &mut [u64], buffer: &mut [u8
         (given (now (text .entry)) budget (figures room) (now (s .entry)) (now (buffer .entry))) ⌝ }
 {
     match load(text, s, room) {
-        Loaded::Job(_, queries) => loaded(text, budget, room, queries, s, buffer),
+        Loaded::Job(clauses, queries) => loaded(text, budget, room, clauses, queries, s, buffer),
         Loaded::Refused(why) => Answer::Refused(why),
     }
 }

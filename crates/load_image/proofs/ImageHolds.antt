@@ -105,7 +105,7 @@ module _ (names : List Place) (es : List Entry) (s : List ℕ) (few-names : leng
   clause-in : (k : ℕ) (c : Clause) → HoldsClause items-in (spellings names) k c → HoldsClause names-too (spellings names) k c
   clause-in k c h =
       holds-clause-kept items-in names-too (spellings names) k size-names c
-      (λ i l m. last .above (clause-record k + i) (omega arith) ∙ links .records k i l m)
+      (λ i l m. last .above (clause-record k + i) (omega arith) ∙ links .records k i l (omega arith))
       (λ i l m. last .above i (omega arith) ∙ links .behind i (omega arith)) h
 
   query-in : (k : ℕ) (q : Query) → HoldsQuery items-in (spellings names) k q → HoldsQuery names-too (spellings names) k q

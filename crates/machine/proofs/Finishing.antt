@@ -1,23 +1,25 @@
 -- From the queries entered to the run, and from the run's end to what the report is given.
-use Prim.Native.Nat.{ℕ, zero, suc, _+_, _*_, _-_, _≤_, _<_}
-use mathlib.Core.Path.{_≡_, refl, sym, ap, _∙_}
+use Prim.Native.Nat.{ℕ, _+_, _≤_, _<_}
+use mathlib.Core.Path.{_≡_, refl, subst, _∙_}
 use mathlib.Core.Bool.{true}
 use mathlib.Core.Logic.{_≢_}
-use mathlib.Core.List.{List, [], _∷_, map}
+use mathlib.Core.List.{List, []}
 use native.Mathlib.Omega.{arith}
 use lib.ListN.{length, getD}
 use Rattle.meaning.specs.Bytes.{Bytes}
-use Rattle.meaning.specs.Terms.{Query, Job}
+use Rattle.meaning.specs.Terms.{Job}
 use Rattle.meaning.specs.State.{Room, start}
 use Rattle.meaning.specs.Run.{run}
-use Rattle.term.specs.Jobs.{EachFrom, HoldsJob, JobKept}
-use Rattle.term.specs.Spellings.{SpelledAt, HoldsSpellings, HoldsVariables, HoldsText}
-use Rattle.term.specs.Layout.{values-region, waiters-region, sets-region, marks-region, ends-region, queue-region, waiting-region, need-of, queries-region, items-region, trial-region, query-record, query-variables-from}
+use Rattle.term.specs.Jobs.{HoldsJob, KeptButIndex}
+use Rattle.term.specs.Layout.{waiters-region, sets-region, marks-region, ends-region, waiting-region, clause-record, query-record}
 use Rattle.term.specs.States.{Atlas, HoldsState, Ready, Finished, verdict-of}
 use Rattle.term.specs.declared.state.Standing.{Standing}
 use Rattle.term.specs.declared.state.Verdict.{Verdict}
-use Rattle.term.proofs.Jobs.{holds-job-kept}
+use Rattle.term.proofs.Jobs.{holds-job-but-index}
+use Rattle.term.proofs.Spellings.{holds-text-kept}
 use Rattle.run_queues.specs.Log.{Slot, present, LogOk}
+use Rattle.run_index.specs.Index.{Indexed, IndexOnly}
+use Rattle.run_index.proofs.Kept.{indexed-kept}
 use Rattle.run_enter.specs.Entering.{EnterOnly, Entered}
 use Rattle.run_between.specs.Running.{RunOnly, Running}
 use Rattle.machine.specs.Ending.{Untouched, GoneOn, RanIs}
@@ -27,9 +29,9 @@ use Rattle.machine.proofs.Going.{run-starts}
 
 -- All queries are entered: the run is at its start, and nobody waits.
 pub entered-running : (s : List ℕ) (text : Bytes) (names : List Bytes) (j : Job) (figures : Room) (atlas : Atlas) (t : Standing)
-    → Entered s text names j figures (j .queries) atlas t → Running s text names j figures 0 atlas [] t 2 × (t .steps ≡ 0)
+    → Indexed s (length (j .clauses)) → Entered s text names j figures (j .queries) atlas t → Running s text names j figures 0 atlas [] t 2 × (t .steps ≡ 0)
 unfolding present start
-entered-running s text names j figures atlas t e =
+entered-running s text names j figures atlas t indexed e =
     let none : t .steps ≡ 0 = e .state .steps in
     let waiters-none : (p : ℕ) → p < figures .pairs → getD s (waiters-region figures + p) 0 ≡ 0 =
     λ p l. e .room-zero (waiters-region figures + p) (omega arith) (omega arith) in (
@@ -40,6 +42,7 @@ entered-running s text names j figures atlas t e =
         fit = e .fit;
         few-steps = omega (arith, none);
         held = e .held;
+        indexed = indexed;
         state = rw (run-starts j figures) (e .state);
         log = record {
           waiters-first = omega arith;
@@ -57,74 +60,68 @@ entered-running s text names j figures atlas t e =
       none,
     )
 
--- Neither entering nor running changes these words.
-pub entered-then-run : (figures : Room) (s t u : List ℕ) → EnterOnly figures s t → RunOnly figures t u → Untouched figures s u
-entered-then-run figures s t u e r =
+-- A job that is ready is so when the index is built, which entering keeps.
+pub ready-indexed : (figures : Room) (s s′ : List ℕ) (text : Bytes) (names : List Bytes) (j : Job) → IndexOnly s s′ → Ready s text names figures j → Ready s′ text names figures j
+ready-indexed figures s s′ text names j i r =
+    let kept : KeptButIndex s s′ = record {
+      size = omega (arith, i .size);
+      before = i .below;
+      clauses = i .clauses;
+      records = λ q w h m a b. i .above (query-record q + w) (omega arith);
+      items = λ k a b. i .above k (omega arith);
+    } in
     record {
-      size = omega (arith, e .size, r .size);
-      before = λ k h. r .before k h ∙ e .before k h;
-      records = λ q i h m a b. r .records q i h m b ∙ e .records q i h m a;
-      items = λ k h m. r .items k h m ∙ e .items k h (omega arith);
-      behind = λ k h. r .behind k h ∙ e .behind k h;
+      in-range = r .in-range;
+      inside = omega (arith, r .inside, i .size);
+      reads = r .reads;
+      held = holds-job-but-index s s′ names kept j (r .held);
+      text-held = holds-text-kept s s′ text names j (r .held) kept (r .text-held);
+      records-zero = λ q w h e. i .above (query-record q + w) (omega arith) ∙ r .records-zero q w h e;
+      zero = λ k a b. i .above k (omega arith) ∙ r .zero k a b;
     }
 
-module _ (figures : Room) (s s′ : List ℕ) (u : Untouched figures s s′) where
-  untouched-job : JobKept s s′
-  untouched-job = record { size = omega (arith, u .size); before = u .before; records = u .records; items = u .items }
+pub entered-indexed : (figures : Room) (s s′ : List ℕ) (names : List Bytes) (j : Job) → HoldsJob s names j → HoldsJob s′ names j → EnterOnly figures s s′
+    → Indexed s (length (j .clauses)) → Indexed s′ (length (j .clauses))
+entered-indexed figures s s′ names j held held′ e = indexed-kept s s′ names j held held′ (e .before) 0
 
-  spellings-kept : (text : Bytes) (place : ℕ) (fs : List Bytes)
-      → ((k : ℕ) → place ≤ k → k < place + 2 * length fs → getD s′ k 0 ≡ getD s k 0)
-      → HoldsSpellings s text place fs → HoldsSpellings s′ text place fs
-  unfolding HoldsSpellings
-  spellings-kept text place [] same h = tt
-  spellings-kept text place (f ∷ fs) same h =
-      let more : length (f ∷ fs) ≡ 1 + length fs = omega arith in
-      let at : getD s′ place 0 ≡ getD s place 0 = same place (omega arith) (omega (arith, more)) in
-      let size : getD s′ (place + 1) 0 ≡ getD s (place + 1) 0 = same (place + 1) (omega arith) (omega (arith, more)) in
-      (rw (at, size) (h .0), spellings-kept text (place + 2) fs (λ k l m. same k (omega arith) (omega (arith, more))) (h .1))
+-- The index is built and all queries are entered.
+pub built-running : (figures : Room) (s₀ sᵢ s₁ : List ℕ) (text : Bytes) (names : List Bytes) (j : Job) (atlas : Atlas) (t : Standing) (clauses : ℕ)
+    → Ready s₀ text names figures j → clauses ≡ length (j .clauses) → IndexOnly s₀ sᵢ → Indexed sᵢ clauses → EnterOnly figures sᵢ s₁
+    → Entered s₁ text names j figures (j .queries) atlas t → Running s₁ text names j figures 0 atlas [] t 2 × (t .steps ≡ 0)
+built-running figures s₀ sᵢ s₁ text names j atlas t clauses ready count i indexed e entered =
+    entered-running s₁ text names j figures atlas t
+    (entered-indexed figures sᵢ s₁ names j (ready-indexed figures s₀ sᵢ text names j i ready .held) (entered .held) e (subst (Indexed sᵢ) count indexed)) entered
 
-  variables-kept : (text : Bytes) (k : ℕ) (qs : List Query) → k + length qs ≤ 8 → EachFrom (HoldsVariables s text) k qs → EachFrom (HoldsVariables s′ text) k qs
-  unfolding EachFrom
-  variables-kept text k [] few h = tt
-  variables-kept text k (q ∷ qs) few h =
-      let more : length (q ∷ qs) ≡ 1 + length qs = omega arith in
-      let vars = h .0 .few in (
-        record {
-          few = h .0 .few;
-          held = spellings-kept text (query-variables-from k) (q .variables) same (h .0 .held);
-        },
-        variables-kept text (k + 1) qs (omega (arith, more)) (h .1),
-      )
-    where
-      same : (w : ℕ) → query-variables-from k ≤ w → w < query-variables-from k + 2 * length (q .variables) → getD s′ w 0 ≡ getD s w 0
-      same w l m =
-          let more : length (q ∷ qs) ≡ 1 + length qs = omega arith in
-          let few-variables : length (q .variables) ≤ 16 = h .0 .few in
-          let i : ℕ = w - query-record k in
-          let e : query-record k + i ≡ w = omega arith in
-          rw e at (u .records k i (omega (arith, more)) (omega arith) (omega arith) (omega arith))
+-- Neither building the index nor entering nor running changes these words.
+pub built-then-run : (figures : Room) (s₀ s t u : List ℕ) → IndexOnly s₀ s → EnterOnly figures s t → RunOnly figures t u → Untouched figures s₀ u
+built-then-run figures s₀ s t u i e r =
+    record {
+      size = omega (arith, i .size, e .size, r .size);
+      before = λ k h. r .before k (omega arith) ∙ e .before k (omega arith) ∙ i .below k h;
+      clauses = λ c k h m. r .before (clause-record c + k) (omega arith) ∙ e .before (clause-record c + k) (omega arith) ∙ i .clauses c k h m;
+      records = λ q k h m a b. r .records q k h m b ∙ e .records q k h m a ∙ i .above (query-record q + k) (omega arith);
+      items = λ k h m. r .items k h m ∙ e .items k h (omega arith) ∙ i .above k (omega arith);
+      behind = λ k h. r .behind k h ∙ e .behind k h ∙ i .above k (omega arith);
+    }
 
-  pub untouched-text : (text : Bytes) (names : List Bytes) (j : Job) → length names ≤ 256 → length (j .queries) ≤ 8 → HoldsText s text names j → HoldsText s′ text names j
-  untouched-text text names j few few-queries h =
-      record {
-        names-held = spellings-kept text 0 names (λ k l m. u .before k (omega arith)) (h .names-held);
-        variables-held = variables-kept text 0 (j .queries) (omega arith) (h .variables-held);
-      }
+untouched-job : (figures : Room) (s s′ : List ℕ) → Untouched figures s s′ → KeptButIndex s s′
+untouched-job figures s s′ u = record { size = omega (arith, u .size); before = u .before; clauses = u .clauses; records = u .records; items = u .items }
 
 -- The run has ended.
-pub finished : (figures : Room) (s₀ s₁ s : List ℕ) (text : Bytes) (names : List Bytes) (j : Job) (atlas : Atlas) (first : Standing) (limit : ℕ) (v : Verdict) (t : Standing)
-    → Ready s₀ text names figures j → EnterOnly figures s₀ s₁ → Entered s₁ text names j figures (j .queries) atlas first → RunOnly figures s₁ s
+pub finished : (figures : Room) (s₀ sᵢ s₁ s : List ℕ) (text : Bytes) (names : List Bytes) (j : Job) (atlas : Atlas) (first : Standing) (limit : ℕ) (v : Verdict) (t : Standing)
+    → Ready s₀ text names figures j → IndexOnly s₀ sᵢ → EnterOnly figures sᵢ s₁ → Entered s₁ text names j figures (j .queries) atlas first → RunOnly figures s₁ s
     → limit ≤ 1000000 → GoneOn s names j figures limit (Ended v t)
     → Untouched figures s₀ s × Finished s text names figures j limit v t
-finished figures s₀ s₁ s text names j atlas first limit v t ready e entered r few g =
-    let all = entered-then-run figures s₀ s₁ s e r in (
+finished figures s₀ sᵢ s₁ s text names j atlas first limit v t ready i e entered r few g =
+    let all = built-then-run figures s₀ sᵢ s₁ s i e r in
+    let kept = untouched-job figures s₀ s all in (
       all,
       record {
         in-range = ready .in-range;
         inside = omega (arith, ready .inside, all .size);
         reads = ready .reads;
-        held = holds-job-kept s₀ s names (untouched-job figures s₀ s all) j (ready .held);
-        text-held = untouched-text figures s₀ s all text names j (ready .held .few-names) (ready .held .few-queries) (ready .text-held);
+        held = holds-job-but-index s₀ s names kept j (ready .held);
+        text-held = holds-text-kept s₀ s text names j (ready .held) kept (ready .text-held);
         fit = entered .fit;
         limit-fits = few;
         verdict = g .0;
@@ -133,9 +130,9 @@ finished figures s₀ s₁ s text names j atlas first limit v t ready e entered 
       },
     )
 
-pub ran-is : (figures : Room) (s₀ s₁ s : List ℕ) (text : Bytes) (names : List Bytes) (j : Job) (atlas : Atlas) (first : Standing) (limit : ℕ) (r : Ran)
-    → Ready s₀ text names figures j → EnterOnly figures s₀ s₁ → Entered s₁ text names j figures (j .queries) atlas first → RunOnly figures s₁ s
+pub ran-is : (figures : Room) (s₀ sᵢ s₁ s : List ℕ) (text : Bytes) (names : List Bytes) (j : Job) (atlas : Atlas) (first : Standing) (limit : ℕ) (r : Ran)
+    → Ready s₀ text names figures j → IndexOnly s₀ sᵢ → EnterOnly figures sᵢ s₁ → Entered s₁ text names j figures (j .queries) atlas first → RunOnly figures s₁ s
     → limit ≤ 1000000 → GoneOn s names j figures limit r → RanIs s₀ s text names j figures limit r
-ran-is figures s₀ s₁ s text names j atlas first limit (Ended v t) ready e entered r few g =
-    finished figures s₀ s₁ s text names j atlas first limit v t ready e entered r few g
-ran-is figures s₀ s₁ s text names j atlas first limit QueriesPassRoom ready e entered r few g = absurd g
+ran-is figures s₀ sᵢ s₁ s text names j atlas first limit (Ended v t) ready i e entered r few g =
+    finished figures s₀ sᵢ s₁ s text names j atlas first limit v t ready i e entered r few g
+ran-is figures s₀ sᵢ s₁ s text names j atlas first limit QueriesPassRoom ready i e entered r few g = absurd g

@@ -3,6 +3,7 @@ use crate::step::step;
 use run_between::stepped::Stepped;
 use run_enter::enter::enter_all;
 use run_enter::enter::fit;
+use run_index::build::build;
 use term::layout::Room;
 use term::state::Standing;
 use term::state::Verdict;
@@ -53,17 +54,18 @@ fn go_on(s: &mut [u64], room: Room, budget: usize, first: Standing) -> Ran
     }
 }
 
-// The loaded job with so many queries is run under a budget.
-pub fn run(s: &mut [u64], room: Room, budget: usize, queries: usize) -> Ran
+// The loaded job with so many clauses and queries is run under a budget.
+pub fn run(s: &mut [u64], room: Room, budget: usize, clauses: usize, queries: usize) -> Ran
     requires { ⌜ ((text : Bytes) × (names : List Bytes) × (j : Job) × Ready (now s) text names (figures room) j
-        × (budget ≤ 1000000) × (queries ≡ length (j .queries))) ⌝ }
+        × (budget ≤ 1000000) × (clauses ≡ length (j .clauses)) × (queries ≡ length (j .queries))) ⌝ }
     ensures { λ r. ⌜ ((text : Bytes) (names : List Bytes) (j : Job) → Ready (now (s .entry)) text names (figures room) j
-        → budget ≤ 1000000 → queries ≡ length (j .queries)
+        → budget ≤ 1000000 → clauses ≡ length (j .clauses) → queries ≡ length (j .queries)
         → RanIs (now (s .entry)) (now (s .exit)) text names j (figures room) budget r) ⌝ }
 {
     if !fit(s, room, queries) {
         return Ran::QueriesPassRoom;
     }
+    build(s, clauses);
     let t = enter_all(s, room, queries);
     go_on(s, room, budget, t)
 }

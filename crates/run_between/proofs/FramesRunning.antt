@@ -21,6 +21,7 @@ use Rattle.term.specs.States.{Atlas, setting-at, goal-word, ring, GoalStands, A
 use Rattle.term.specs.declared.state.Standing.{Standing}
 use Rattle.term.proofs.Chains.{chains-end}
 use Rattle.term.proofs.Jobs.{holds-job-kept}
+use Rattle.run_index.proofs.Kept.{indexed-kept}
 use Rattle.run_trial.specs.Choosing.{Trying, MarksBelow, TrialOnly}
 use Rattle.run_queues.specs.Log.{Slot}
 use Rattle.run_between.specs.Running.{RunOnly, AllEnds, Running, GroundMarks}
@@ -118,6 +119,7 @@ module _ (s : List ℕ) (text : Bytes) (names : List Bytes) (j : Job) (figures :
     fit = r .fit;
     few-steps = r .few-steps;
     held = holds-job-kept s s′ names job j (r .held);
+    indexed = indexed-kept s s′ names j (r .held) (holds-job-kept s s′ names job j (r .held)) (job .before) 0 (r .indexed);
     state = state-kept s s′ names figures (j .queries) atlas (run j limit figures .state) t (r .held .few-queries) few-units kept (r .state);
     log = log-kept s s′ (waiting-region figures) (waiters-region figures) (sets-region figures) (figures .pairs) slots (r .log) (kept .size)
         (λ k a b. own k a (omega arith))
@@ -258,6 +260,7 @@ trying s text names j figures limit atlas slots t stamp g others r front =
       reads = r .reads;
       front = front;
       held = r .held;
+      indexed = r .indexed;
       names-are = h .lies .names-are q;
       unit = h .units .unit q (goal .query);
       goal-held = goal .term;

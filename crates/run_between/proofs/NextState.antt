@@ -29,6 +29,7 @@ use Rattle.term.specs.declared.state.Standing.{Standing}
 use Rattle.term.proofs.Jobs.{holds-job-kept}
 use Rattle.term.specs.Words.{packed}
 use Rattle.term.specs.Goals.{goal-mark}
+use Rattle.run_index.proofs.Kept.{indexed-kept}
 use Rattle.run_compare.specs.Gifts.{Entry}
 use Rattle.run_trial.specs.Choosing.{template, MarksBelow}
 use Rattle.run_queues.specs.Log.{Slot, LogOk, present}
@@ -407,6 +408,8 @@ module _ (s s′ : List ℕ) (text : Bytes) (names : List Bytes) (j : Job) (figu
         fit = taken .running .fit;
         few-steps = omega (arith, after .steps, taken .more);
         held = holds-job-kept s s′ names job-kept j (taken .running .held);
+        indexed = indexed-kept s s′ names j (taken .running .held) (holds-job-kept s s′ names job-kept j (taken .running .held)) (job-kept .before) 0
+            (taken .running .indexed);
         state = rw next-is state-now;
         log = done .log;
         log-number = log-number-now;

@@ -1,5 +1,5 @@
--- The scratch between two steps of a run: it holds the state, the waiting goals' sets are chains through their pairs, later stamps are unused, and
--- the ends that are kept are right.
+-- The scratch between two steps of a run: it holds the state and the index of the clauses, the waiting goals' sets are chains through their pairs, later
+-- stamps are unused, and the ends that are kept are right.
 use Prim.Native.Nat.{ℕ, _+_, _*_, _≤_, _<_}
 use mathlib.Core.Path.{_≡_}
 use mathlib.Core.Bool.{true, false}
@@ -18,6 +18,7 @@ use Rattle.term.specs.Chains.{EndOf}
 use Rattle.term.specs.States.{Atlas, setting-at, goal-word, HoldsState}
 use Rattle.term.specs.declared.state.Standing.{Standing}
 use Rattle.run_circle.specs.Ground.{GroundAt}
+use Rattle.run_index.specs.Index.{Indexed}
 use Rattle.run_trial.specs.Choosing.{MarksBelow}
 use Rattle.run_queues.specs.Log.{Slot, waits, gathered, present, LogOk}
 use Rattle.run_between.specs.declared.stepped.Stepped.{Stepped}
@@ -63,6 +64,7 @@ pub record Running (s : List ℕ) (text : Bytes) (names : List Bytes) (j : Job) 
   pub fit : queries-fit figures (j .queries) ≡ true
   pub few-steps : t .steps ≤ 1000000
   pub held : HoldsJob s names j
+  pub indexed : Indexed s (length (j .clauses))
   pub state : HoldsState s names figures (j .queries) atlas (run j limit figures .state) t
   pub log : LogOk s (waiting-region figures) (waiters-region figures) (sets-region figures) (figures .pairs) slots
   pub log-number : t .log ≡ length slots

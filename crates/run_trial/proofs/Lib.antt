@@ -6,3 +6,6 @@ pub mod Once
 pub mod Staying
 pub mod Trials
 pub mod Asked
+pub mod OtherKind
+pub mod Results
+pub mod Idle

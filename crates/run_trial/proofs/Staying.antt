@@ -12,11 +12,11 @@ use Rattle.term.specs.Cells.{Places}
 use Rattle.term.specs.Chains.{end-place, EndsStand}
 use Rattle.term.specs.Frames.{Only}
 use Rattle.term.specs.Holds.{Holds}
-use Rattle.term.specs.Jobs.{ClauseAt, Linked, JobKept}
+use Rattle.term.specs.Jobs.{ClauseAt, HoldsJob, JobKept}
 use Rattle.term.specs.Setting.{Setting, Within, UnitTerm, UnitStands}
 use Rattle.term.specs.States.{setting}
 use Rattle.term.proofs.Holds.{holds-alike}
-use Rattle.term.proofs.Jobs.{holds-clause-kept, holds-job-kept, linked-map}
+use Rattle.term.proofs.Jobs.{holds-clause-kept, holds-job-kept}
 use Rattle.term.proofs.Units.{within-every, unit-stands-alike, ends-stand-alike}
 use Rattle.term.specs.Layout.{trial-region, compounds-region, gifts-part, gift-pair, gift-term, woken-part, clause-record, query-record, ends-after}
 use Rattle.run_circle.specs.Ground.{Ground, GroundAt, Grounds, NewGrounds}
@@ -27,6 +27,7 @@ use Rattle.run_chains.proofs.Followed.{followed-alike}
 use Rattle.run_readers.specs.Readers.{all-met, Readers}
 use Rattle.run_readers.proofs.Ranks.{listed-kept, readers-kept}
 use Rattle.run_asked.specs.Asking.{Joined}
+use Rattle.run_index.proofs.Kept.{indexed-kept}
 use Rattle.run_trial.specs.Choosing.{unit-of, Trying, ArgumentsStand, TrialOnly, NewMarks, MarksBelow, Candidate}
 
 -- Frames: nothing changed, one change after another, a wider region, more words behind the marks, a change of the trial's region, of marks.
@@ -178,11 +179,6 @@ module _ (marks pairs : ℕ) (s s′ : List ℕ) (o : TrialOnly compounds-region
             (λ i l m. low-stays i (omega arith)) (a .held);
       }
 
-  pub linked-stays : (names : List Bytes) (w : ℕ) (cs : List Clause) → Linked s (ClauseAt s names) w cs → Linked s′ (ClauseAt s′ names) w cs
-  linked-stays names w cs l =
-      linked-map s s′ (ClauseAt s names) (ClauseAt s′ names) w cs
-      (λ k c a. (clause-stays names k c a, low-stays (clause-record k) (omega (arith, a .number)))) l
-
 -- A clause of the goal's procedure.
 pub candidate-stays : {marks pairs : ℕ} {s s′ : List ℕ} {names : List Bytes} {j : Job} {g : Goal} {k : ℕ} {c : Clause}
     → TrialOnly compounds-region marks pairs s s′ → compounds-region ≤ marks → Candidate s names j g k c → Candidate s′ names j g k c
@@ -232,10 +228,12 @@ pub trying-stays : {s s′ : List ℕ} {text : Bytes} {names : List Bytes} {j : 
 trying-stays {s} {s′} {names = names} {j} {limit} {figures} {at} {g} {values = values} {marks} o new t =
     let x = setting figures at (unit-of j limit figures g) in
     let behind : compounds-region ≤ marks = omega (arith, t .values-behind, t .marks-behind) in
+    let held : HoldsJob s′ names j = holds-job-kept s s′ names (job-stays marks (3 * figures .pairs) s s′ o behind) j (t .held) in
     record {
       reads = t .reads;
       front = t .front;
-      held = holds-job-kept s s′ names (job-stays marks (3 * figures .pairs) s s′ o behind) j (t .held);
+      held = held;
+      indexed = indexed-kept s s′ names j (t .held) held (λ k h. low-stays marks (3 * figures .pairs) s s′ o behind k (omega arith)) 0 (t .indexed);
       names-are = t .names-are;
       unit = unit-stays marks (3 * figures .pairs) s s′ o behind x (compounds-apart t) values (t .values-behind) (t .marks-behind) (t .unit);
       goal-held = unit-term-stays marks (3 * figures .pairs) s s′ o behind x (compounds-apart t)

@@ -17,12 +17,13 @@ use Rattle.term.specs.Chains.{EndsStand}
 use Rattle.term.specs.Jobs.{GoalsNumbered, HoldsJob, ClauseAt}
 use Rattle.term.specs.Setting.{Setting, UnitTerm, UnitStands}
 use Rattle.term.specs.States.{setting, listed}
-use Rattle.term.specs.Layout.{trial-region, compounds-region, woken-part, ends-after, clause-record}
+use Rattle.term.specs.Layout.{trial-region, compounds-region, woken-part, ends-after}
 use Rattle.run_chains.specs.Follow.{FollowedAt}
 use Rattle.run_compare.specs.Compare.{Template, Gave}
 use Rattle.run_circle.specs.Ground.{GroundAt, Grounds}
 use Rattle.run_readers.specs.Readers.{Readers, all-met}
 use Rattle.run_asked.specs.Asking.{Joined, AllBelow}
+use Rattle.run_index.specs.Index.{Indexed}
 use Rattle.run_trial.specs.declared.choice.TrialResult.{TrialResult}
 use Rattle.run_trial.specs.declared.choice.TrialResult.the-variants.{Succeeds, Waits, Fails}
 use Rattle.run_trial.specs.declared.choice.ChoiceResult.{ChoiceResult}
@@ -39,6 +40,7 @@ pub record Trying (s : List ℕ) (text : Bytes) (names : List Bytes) (j : Job) (
   pub reads : reading text ≡ job j
   pub front : run j limit figures .state .goals .queue ≡ g ∷ others
   pub held : HoldsJob s names j
+  pub indexed : Indexed s (length (j .clauses))
   pub names-are : places .names ≡ names
   pub unit : UnitStands s (setting figures places (unit-of j limit figures g)) values
   pub goal-held : UnitTerm s (setting figures places (unit-of j limit figures g)) (as-term (g .goal))
@@ -108,12 +110,6 @@ TrialTold s s′ x k c list met o (Succeeds n) = (given : List Assignment) × (o
 TrialTold s s′ x k c list met o (Waits n) =
     (readers : List ℕ) × (o ≡ waits readers) × AllBelow (length (x .values)) readers × Joined s s′ list (x .pairs) met (map (λ p. x .places .pair p) readers) n
 TrialTold s s′ x k c list met o Fails = (o ≡ fails) × Joined s s′ list (x .pairs) met [] met
-
--- The clause to try behind clause k, by its number plus one, or 0 if there is none.
-abbrev pub clause-after : List ℕ → ℕ → TrialResult → ℕ
-clause-after s k (Succeeds n) = 0
-clause-after s k (Waits n) = getD s (clause-record k) 0
-clause-after s k Fails = getD s (clause-record k) 0
 
 -- The answer of a trial, in a step that has met so many readers, those on which the earlier clauses wait.
 pub record TrialIs (s s′ : List ℕ) (j : Job) (limit : ℕ) (figures : Room) (places : Places) (g : Goal) (marks met stamp k : ℕ) (c : Clause) (earlier : List ℕ)

@@ -5,11 +5,10 @@ use run_compare::compare::CompareResult;
 use run_compare::heads::head;
 use run_guards::guards::GuardResult;
 use run_guards::guards::guards;
+use run_index::leads::further;
+use run_index::leads::to_try;
 use run_readers::readers::asks;
 use run_readers::readers::meet_all;
-use term::layout::CLAUSE_NEXT;
-use term::layout::CLAUSE_STRIDE;
-use term::layout::CLAUSES;
 use term::layout::ITEM_WORDS;
 use term::layout::ITEMS;
 use term::layout::PROCEDURES;
@@ -26,9 +25,9 @@ ghost use Rattle.meaning.specs.Terms.{Clause, Job};
 ghost use Rattle.meaning.specs.State.{Room, Goal};
 ghost use Rattle.term.specs.Cells.{Places};
 ghost use Rattle.term.specs.Frames.{Only};
-ghost use Rattle.term.specs.Layout.{clauses-region, trial-region, compounds-region, gifts-part, procedure-slot, clause-record};
+ghost use Rattle.term.specs.Layout.{trial-region, compounds-region, gifts-part, procedure-slot};
 ghost use Rattle.run_readers.specs.Readers.{Readers};
-ghost use Rattle.run_trial.specs.Choosing.{Trying, ArgumentsStand, MarksBelow, Gathered, Candidate, clause-after, TrialIs, ChoiceIs};
+ghost use Rattle.run_trial.specs.Choosing.{Trying, ArgumentsStand, MarksBelow, Gathered, Candidate, TrialIs, ChoiceIs};
 
 // "Each trial of a clause gives one of three results": it succeeds, with so many of the goal's pairs given a term; it waits on readers, and the step
 // has met so many then; it fails.
@@ -111,28 +110,8 @@ fn first_clause(s: &[u64], goal: usize) -> usize
     index(word_at(s, PROCEDURES - 8, functor))
 }
 
-// The number of the next clause of the same procedure plus one, or 0.
-fn next_clause(s: &[u64], k: usize) -> usize
-    requires { ⌜ clause-record k < length (now s) ⌝ }
-    ensures { λ r. ⌜ r ≡ getD (now (s .entry)) (clause-record k) 0 ⌝ }
-{
-    index(word_at(s, CLAUSES + CLAUSE_STRIDE * k, CLAUSE_NEXT))
-}
-
-// The clause to try when clause k was tried, in the same way: the next, "also when an earlier one waits"; behind one that succeeds none.
-fn clause_after(s: &[u64], k: usize, t: TrialResult) -> usize
-    requires { ⌜ clause-record k < length (now s) ⌝ }
-    ensures { λ r. ⌜ r ≡ clause-after (now (s .entry)) k t ⌝ }
-{
-    let next = next_clause(s, k);
-    match t {
-        TrialResult::Succeeds(_) => 0,
-        TrialResult::Waits(_) => next,
-        TrialResult::Fails => next,
-    }
-}
-
-// "The first clause that succeeds is taken, also when an earlier one waits." Stamps from this one on are unused.
+// "The first clause that succeeds is taken, also when an earlier one waits." Tried are those that the index leaves, in text order: the others fail. Stamps from this
+// one on are unused.
 pub fn choice(
     s: &mut [u64],
     values: usize,
@@ -152,16 +131,16 @@ pub fn choice(
     let mut readers = 0;
     let mut stamp = first;
     follow_arguments(s, values, links, goal);
-    let mut next = first_clause(s, goal);
-    'clauses: while next != 0 {
-        let k = next - 1;
+    let mut left = to_try(s, word_at(s, goal, 0), first_clause(s, goal));
+    'clauses: while left.next != 0 {
+        let k = left.next - 1;
         let t = trial(s, values, marks, links, k, readers, stamp);
         let TrialResult::Succeeds(n) = t else {
             if let TrialResult::Waits(n) = t {
                 readers = n;
             }
             stamp += 256;
-            next = clause_after(s, k, t);
+            left = further(s, left);
             continue 'clauses;
         };
         return ChoiceResult::Reduces(k, n);

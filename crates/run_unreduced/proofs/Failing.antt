@@ -16,6 +16,7 @@ use Rattle.term.specs.Layout.{waiters-region, sets-region, marks-region, waitin
 use Rattle.term.specs.States.{Atlas, goal-word, listed}
 use Rattle.term.specs.declared.state.Standing.{Standing}
 use Rattle.term.proofs.Jobs.{holds-job-kept}
+use Rattle.run_index.proofs.Kept.{indexed-kept}
 use Rattle.run_trial.specs.Choosing.{MarksBelow}
 use Rattle.run_queues.specs.Log.{Slot, Failed}
 use Rattle.run_queues.specs.Ring.{Passed}
@@ -141,6 +142,7 @@ module _ (s s₁ s′ : List ℕ) (text : Bytes) (names : List Bytes) (j : Job) 
         fit = r .fit;
         few-steps = omega (arith, k .more);
         held = holds-job-kept s s′ names (join-job-kept figures (g .query) s s′ kept) j (r .held);
+        indexed = indexed-kept s s′ names j (r .held) (holds-job-kept s s′ names (join-job-kept figures (g .query) s s′ kept) j (r .held)) (kept .before) 0 (r .indexed);
         state = rw its-next
             (held-failed s s′ names figures (j .queries) atlas state t (r .state) (r .held .few-queries)
             (few-units s text names j figures limit atlas slots t (t .steps * 32768 + 32770) r) g others (k .front) kept front′ passed failed-words

@@ -16,6 +16,7 @@ use Rattle.term.specs.Layout.{waiters-region, sets-region, marks-region, waitin
 use Rattle.term.specs.States.{Atlas, goal-word, listed, logged}
 use Rattle.term.specs.declared.state.Standing.{Standing}
 use Rattle.term.proofs.Jobs.{holds-job-kept}
+use Rattle.run_index.proofs.Kept.{indexed-kept}
 use Rattle.run_readers.specs.Readers.{all-met}
 use Rattle.run_queues.specs.Log.{Slot, waits, gathered, present, Waits, LogNow}
 use Rattle.run_queues.specs.Ring.{Passed}
@@ -178,6 +179,7 @@ module _ (s s₁ : List ℕ) (text : Bytes) (names : List Bytes) (j : Job) (figu
             fit = r .fit;
             few-steps = omega (arith, k .more);
             held = holds-job-kept s s′ names (join-job-kept figures (g .query) s s′ kept) j (r .held);
+            indexed = indexed-kept s s′ names j (r .held) (holds-job-kept s s′ names (join-job-kept figures (g .query) s s′ kept) j (r .held)) (kept .before) 0 (r .indexed);
             state = rw its-next
                 (held-waiting s s′ names figures (j .queries) atlas state t (r .state) (r .held .few-queries)
                 (few-units s text names j figures limit atlas slots t (t .steps * 32768 + 32770) r) g others (k .front) kept front′ place readers passed

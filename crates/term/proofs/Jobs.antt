@@ -12,13 +12,13 @@ use Rattle.meaning.specs.Terms.{Named, Clause, Query, Job, as-term, count}
 use Rattle.meaning.specs.Trial.{procedure}
 use Rattle.term.specs.Cells.{Places, KnownName, number-of}
 use Rattle.term.specs.Frames.{Only}
-use Rattle.term.specs.Jobs.{places-from, GoalsNumbered, HoldsGoals, HoldsClause, HoldsQuery, EachFrom, Linked, procedure-place, ClauseAt, HoldsJob, JobKept}
+use Rattle.term.specs.Jobs.{places-from, GoalsNumbered, HoldsGoals, HoldsClause, HoldsQuery, EachFrom, Linked, procedure-place, ClauseAt, HoldsJob, JobKept, KeptButIndex}
 use Rattle.term.proofs.Cells.{numbered-order}
 use Rattle.term.proofs.Frames.{only-set}
 use Rattle.term.proofs.Holds.{holds-kept}
 use Rattle.term.proofs.KeptGuards.{guards-numbered-order, holds-guards-kept}
 use Rattle.term.proofs.Numbers.{number-below}
-use Rattle.term.specs.Layout.{trial-region, item-start, item-end, item-place, clause-record, clause-base, query-record, query-base, query-goals-from, clause-goals-from, clause-tests-from, clause-stride}
+use Rattle.term.specs.Layout.{trial-region, item-start, item-end, item-place, clause-record, clause-base, query-record, query-base, query-goals-from, clause-goals-from, clause-tests-from, index-from}
 
 -- Each of a list, one by one; a condition that follows for those below a bound.
 pub each-at : {A : Type 0} (P : ℕ → A → Type 0) (k i : ℕ) (l : List A) (d : A) → i < length l → EachFrom P k l → P (k + i) (getD l i d)
@@ -70,9 +70,9 @@ module _ (places : Places) (base : ℕ) (at : (n : ℕ) → places .compound n �
         holds-goals-kept place (i + 1) mid hi gs (λ j l m. own j (omega arith) (omega arith)) (λ j l m. cells j (omega arith) m) (k .2) (h .2),
       )
 
--- A clause stays held where the words of its record behind the first stay, and those of its compounds.
+-- A clause stays held where the words of its record behind the first and before the index stay, and those of its compounds.
 module _ (s s′ : List ℕ) (names : List Bytes) (k : ℕ) (size : length s ≤ length s′) where
-  pub holds-clause-kept : (c : Clause) → ((i : ℕ) → 1 ≤ i → i < clause-stride → getD s′ (clause-record k + i) 0 ≡ getD s (clause-record k + i) 0)
+  pub holds-clause-kept : (c : Clause) → ((i : ℕ) → 1 ≤ i → i < index-from → getD s′ (clause-record k + i) 0 ≡ getD s (clause-record k + i) 0)
       → ((i : ℕ) → item-start (clause-base k) ≤ i → i < item-end (clause-base k) → getD s′ i 0 ≡ getD s i 0)
       → HoldsClause s names k c → HoldsClause s′ names k c
   unfolding GoalsNumbered
@@ -124,10 +124,10 @@ module _ (s s′ : List ℕ) (names : List Bytes) (k : ℕ) (size : length s ≤
       }
 
 -- The whole job.
-module _ (s s′ : List ℕ) (names : List Bytes) (kept : JobKept s s′) where
+module _ (s s′ : List ℕ) (names : List Bytes) (kept : KeptButIndex s s′) where
   clause-stays : (k : ℕ) (c : Clause) → k < 128 → HoldsClause s names k c → HoldsClause s′ names k c
   clause-stays k c few h =
-      holds-clause-kept s s′ names k (kept .size) c (λ i l m. kept .before (clause-record k + i) (omega arith))
+      holds-clause-kept s s′ names k (kept .size) c (λ i l m. kept .clauses k i few m)
       (λ i l m. kept .items i (omega arith) (omega arith)) h
 
   query-stays : (k : ℕ) (q : Query) → k < 8 → HoldsQuery s names k q → HoldsQuery s′ names k q
@@ -135,17 +135,22 @@ module _ (s s′ : List ℕ) (names : List Bytes) (kept : JobKept s s′) where
       holds-query-kept s s′ names k (kept .size) q (λ i m a b. kept .records k i few (omega arith) a b)
       (λ i l m. kept .items i (omega arith) (omega arith)) h
 
+  link-stays : (k : ℕ) → k < 128 → getD s′ (clause-record k) 0 ≡ getD s (clause-record k) 0
+  link-stays k few =
+      let first : clause-record k + 0 ≡ clause-record k = omega arith in
+      rw first at (kept .clauses k 0 few (omega arith))
+
   procedure-stays : (job : Job) → HoldsJob s names job → (goal : Named) → KnownName names (goal .name) → count (goal .arguments) ≤ 6
       → Linked s′ (ClauseAt s′ names) (getD s′ (procedure-place names goal) 0) (procedure (job .clauses) goal)
   procedure-stays job h goal known few =
       let number : number-of (goal .name) names < length names = number-below (goal .name) names known in
       rw (kept .before (procedure-place names goal) (omega (arith, h .few-names)))
       (linked-map s s′ (ClauseAt s names) (ClauseAt s′ names) (getD s (procedure-place names goal) 0) (procedure (job .clauses) goal)
-      (λ k c a. (record { number = a .number; nth = a .nth; held = clause-stays k c (a .number) (a .held) }, kept .before (clause-record k) (omega (arith, a .number))))
+      (λ k c a. (record { number = a .number; nth = a .nth; held = clause-stays k c (a .number) (a .held) }, link-stays k (a .number)))
       (h .procedures goal known few))
 
-  pub holds-job-kept : (job : Job) → HoldsJob s names job → HoldsJob s′ names job
-  holds-job-kept job h =
+  pub holds-job-but-index : (job : Job) → HoldsJob s names job → HoldsJob s′ names job
+  holds-job-but-index job h =
       let clauses : length (job .clauses) ≤ 128 = h .few-clauses in
       let queries : length (job .queries) ≤ 8 = h .few-queries in
       record {
@@ -158,6 +163,18 @@ module _ (s s′ : List ℕ) (names : List Bytes) (kept : JobKept s s′) where
         procedures = λ goal known few. procedure-stays job h goal known few;
         queries = each-map (HoldsQuery s names) (HoldsQuery s′ names) 0 (job .queries) (λ k q l m. query-stays k q (omega arith)) (h .queries);
       }
+
+pub but-index : (s s′ : List ℕ) → JobKept s s′ → KeptButIndex s s′
+but-index s s′ kept = record {
+  size = kept .size;
+  before = λ k h. kept .before k (omega arith);
+  clauses = λ c i h m. kept .before (clause-record c + i) (omega arith);
+  records = kept .records;
+  items = kept .items;
+}
+
+pub holds-job-kept : (s s′ : List ℕ) (names : List Bytes) → JobKept s s′ → (job : Job) → HoldsJob s names job → HoldsJob s′ names job
+holds-job-kept s s′ names kept = holds-job-but-index s s′ names (but-index s s′ kept)
 
 -- Which changes keep it: none; one after another; those at or above the trial's region; of the words 3 and 4 of a query's record.
 pub job-kept-same : (s : List ℕ) → JobKept s s

@@ -6,7 +6,7 @@ use native.Mathlib.Omega.{arith}
 use lib.ListN.{length, getD}
 use Rattle.meaning.specs.Bytes.{Bytes}
 use Rattle.meaning.specs.Terms.{Job}
-use Rattle.term.specs.Jobs.{HoldsJob, JobKept}
+use Rattle.term.specs.Jobs.{HoldsJob, KeptButIndex}
 use Rattle.term.specs.Spellings.{SpelledAt, HoldsSpellings, HoldsVariables, HoldsText}
 use Rattle.term.proofs.Jobs.{each-map}
 use Rattle.term.specs.Layout.{query-record, query-variables-from, query-end}
@@ -31,7 +31,7 @@ holds-spelling-at s text place (suc n) (f ∷ fs) l h =
     let same : place + 2 * suc n ≡ place + 2 + 2 * n = omega arith in
     rw same (holds-spelling-at s text (place + 2) n fs (omega arith) (h .1))
 
-pub holds-text-kept : (s s′ : List ℕ) (text : Bytes) (names : List Bytes) (job : Job) → HoldsJob s names job → JobKept s s′
+pub holds-text-kept : (s s′ : List ℕ) (text : Bytes) (names : List Bytes) (job : Job) → HoldsJob s names job → KeptButIndex s s′
     → HoldsText s text names job → HoldsText s′ text names job
 holds-text-kept s s′ text names job held kept h =
     let few-names : length names ≤ 256 = held .few-names in

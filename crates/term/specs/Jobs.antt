@@ -12,7 +12,7 @@ use Rattle.meaning.specs.Trial.{procedure}
 use Rattle.term.specs.Cells.{Places, term-word, functor-word, Numbered, KnownName, Known}
 use Rattle.term.specs.Holds.{Holds}
 use Rattle.term.specs.Guards.{GuardsNumbered, GuardsKnown, HoldsGuards}
-use Rattle.term.specs.Layout.{queries-region, items-region, trial-region, compounds-region, item-place, procedure-slot, clause-record, clause-base, query-record, query-base, query-pairs-word, query-compounds-word, query-goals-from, clause-pairs-word, clause-compounds-word, clause-goals-word, clause-goals-from, clause-guards-word, clause-tests-from}
+use Rattle.term.specs.Layout.{clauses-region, queries-region, index-from, items-region, trial-region, compounds-region, item-place, procedure-slot, clause-record, clause-base, query-record, query-base, query-pairs-word, query-compounds-word, query-goals-from, clause-pairs-word, clause-compounds-word, clause-goals-word, clause-goals-from, clause-guards-word, clause-tests-from}
 
 -- An item's own places: pairs by their numbers, compounds from the item's first place on.
 abbrev pub places-from : List Bytes → ℕ → Places
@@ -115,5 +115,13 @@ pub record HoldsJob (s : List ℕ) (names : List Bytes) (job : Job) : Type 0 whe
 pub record JobKept (s s′ : List ℕ) : Type 0 where
   pub size : length s ≤ length s′
   pub before : (k : ℕ) → k < queries-region → getD s′ k 0 ≡ getD s k 0
+  pub records : (q i : ℕ) → q < 8 → i < 64 → i ≢ 3 → i ≢ 4 → getD s′ (query-record q + i) 0 ≡ getD s (query-record q + i) 0
+  pub items : (k : ℕ) → items-region ≤ k → k < trial-region → getD s′ k 0 ≡ getD s k 0
+
+-- The same, but for the index in the clauses' records.
+pub record KeptButIndex (s s′ : List ℕ) : Type 0 where
+  pub size : length s ≤ length s′
+  pub before : (k : ℕ) → k < clauses-region → getD s′ k 0 ≡ getD s k 0
+  pub clauses : (c i : ℕ) → c < 128 → i < index-from → getD s′ (clause-record c + i) 0 ≡ getD s (clause-record c + i) 0
   pub records : (q i : ℕ) → q < 8 → i < 64 → i ≢ 3 → i ≢ 4 → getD s′ (query-record q + i) 0 ≡ getD s (query-record q + i) 0
   pub items : (k : ℕ) → items-region ≤ k → k < trial-region → getD s′ k 0 ≡ getD s k 0

@@ -53,7 +53,7 @@ abbrev pub procedure-slot : ℕ → ℕ
 procedure-slot w = procedures-region - 8 + w
 
 -- The record of the clause k: the next clause of its procedure, plus one; its pairs, compounds, body goals and guards counted; the body goals' words,
--- and the guards'.
+-- and the guards'; the index.
 abbrev pub clause-record : ℕ → ℕ
 clause-record k = clauses-region + clause-stride * k
 
@@ -74,6 +74,33 @@ clause-guards-word k = clause-record k + 12
 
 abbrev pub clause-tests-from : ℕ → ℕ
 clause-tests-from k = clause-record k + 16
+
+-- The index of the clauses, in words of their records. Of clause k: its key; the next clause with the same key, plus one; the next one of its procedure
+-- that has a writer where the procedure is told apart, plus one; the next one in the same bucket, plus one. Of bucket k: the first clause in it, plus one. Of the
+-- procedure whose first clause is k: the argument by which it is told apart, or 0. Of clause k: how many clauses of its procedure begin with it, up to a few.
+abbrev pub index-from : ℕ
+index-from = 24
+
+abbrev pub clause-key-word : ℕ → ℕ
+clause-key-word k = clause-record k + 24
+
+abbrev pub clause-same-word : ℕ → ℕ
+clause-same-word k = clause-record k + 25
+
+abbrev pub clause-open-word : ℕ → ℕ
+clause-open-word k = clause-record k + 26
+
+abbrev pub clause-later-word : ℕ → ℕ
+clause-later-word k = clause-record k + 27
+
+abbrev pub bucket-word : ℕ → ℕ
+bucket-word k = clause-record k + 28
+
+abbrev pub told-word : ℕ → ℕ
+told-word k = clause-record k + 29
+
+abbrev pub many-word : ℕ → ℕ
+many-word k = clause-record k + 30
 
 abbrev pub clause-end : ℕ → ℕ
 clause-end k = clause-record k + clause-stride

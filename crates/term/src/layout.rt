@@ -6,7 +6,7 @@
 //    512  PROCEDURES  at 8 * name + arguments: the first clause of that procedure, plus one
 //   2560  CLAUSES     CLAUSE_STRIDE = 32 a clause, 128 clauses: at CLAUSE_NEXT the next clause of its procedure, plus one; at CLAUSE_PAIRS,
 //                     CLAUSE_COMPOUNDS, CLAUSE_GOALS and CLAUSE_GUARDS how many it has; at CLAUSE_BODY the body goals' words; at CLAUSE_TESTS the
-//                     guards' words
+//                     guards' words; from CLAUSE_KEY on what the run keeps to find clauses (crate `run_index`)
 //   6656  QUERIES     QUERY_STRIDE = 64 a query, 8 queries: at QUERY_GOALS, QUERY_PAIRS and QUERY_COMPOUNDS how many it has; at QUERY_FIRST_PAIR and
 //                     QUERY_TRIES what the run counts; at QUERY_BODY the goals' words; at QUERY_VARIABLES the variables' first bytes and lengths,
 //                     2 a variable
@@ -56,6 +56,20 @@ pub const CLAUSE_BODY: usize = 4;
 pub const CLAUSE_GUARDS: usize = 12;
 
 pub const CLAUSE_TESTS: usize = 16;
+
+pub const CLAUSE_KEY: usize = 24;
+
+pub const CLAUSE_SAME: usize = 25;
+
+pub const CLAUSE_OPEN: usize = 26;
+
+pub const CLAUSE_LATER: usize = 27;
+
+pub const CLAUSE_FIRST: usize = 28;
+
+pub const CLAUSE_TOLD: usize = 29;
+
+pub const CLAUSE_MANY: usize = 30;
 
 pub const QUERIES: usize = CLAUSES + 128 * CLAUSE_STRIDE;
 

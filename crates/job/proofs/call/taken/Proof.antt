@@ -8,8 +8,8 @@ use Rattle.job.proofs.call.taken.Tie as tie
 load-requires : tie.Need-load-requires
 load-requires c κs = search needs
 
-enum-known-queries : tie.Need-enum-known-queries
-enum-known-queries c = search needs
+enum-known-clauses : tie.Need-enum-known-clauses
+enum-known-clauses c = search needs
 
 loaded-requires : tie.Need-loaded-requires
 loaded-requires c κs =
@@ -17,8 +17,8 @@ loaded-requires c κs =
     let q = c .before .before .before .before .before .before .before .before .before .before .before .before .pre in
     let room = figures (a .room) in
     let t = c .before .before .before .before .before .before .before .load .last .1 .0 in
-    let got = rw (c .before .before .before .queries .given .1) at (c .before .before .before .before .before .before .before .load .ensures) in
-    (got .5, got .0, got .6, q .2, got .3, q .3)
+    let got = rw (c .before .before .before .clauses .given .1) at (c .before .before .before .before .before .before .before .load .ensures) in
+    (got .5, got .0, got .6, q .2, got .2, got .3, q .3)
 
 enum-known-why : tie.Need-enum-known-why
 enum-known-why c = search needs
@@ -35,10 +35,10 @@ returns c =
     let q = c .before .before .before .before .before .before .before .before .before .before .before .before .before .before .before .before .before .pre in
     let room = figures (a .room) in
     let t = c .before .before .before .before .before .before .before .before .before .before .before .before .load .last .1 .0 in
-    let got = rw (c .before .before .before .before .before .before .before .before .queries .given .1) at (c .before .before .before .before .before .before .before .before .before .before .before .before .load .ensures) in
+    let got = rw (c .before .before .before .before .before .before .before .before .clauses .given .1) at (c .before .before .before .before .before .before .before .before .before .before .before .before .load .ensures) in
     taken-job (need-of room) (a .text .now) (a .budget) room (got .0) (a .s .now) t (a .buffer .now) (got .1)
     (cleared-same (need-of room) (a .s .now) t (got .7 .size) (got .7 .above))
-    (c .before .before .before .before .loaded .ensures (got .5) (got .0) (got .6) (got .3) (q .3))
+    (c .before .before .before .before .loaded .ensures (got .5) (got .0) (got .6) (got .2) (got .3) (q .3))
 
 same-length-3 : tie.Need-same-length-3
 same-length-3 c = search needs
@@ -58,7 +58,7 @@ taken-spec =
     tie.close
     (tie.spec
     load-requires
-    enum-known-queries
+    enum-known-clauses
     loaded-requires
     enum-known-why
     same-length

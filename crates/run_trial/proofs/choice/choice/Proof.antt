@@ -1,53 +1,69 @@
--- `run_trial::choice::choice` meets its contract: the clauses of the procedure are tried in order, and the readers that they wait on are gathered.
+-- `run_trial::choice::choice` meets its contract: the clauses that are left to try are tried in order, and the readers that they wait on are gathered.
 use Prim.Native.Nat.{_+_, _-_}
-use mathlib.Core.Path.{_≡_, sym, ap, subst, _∙_}
+use mathlib.Core.Path.{_∙_}
 use mathlib.Core.Logic.{inl, inr, ⊎-elim}
 use native.Mathlib.Omega.{arith}
 use borrow.Author.Needs.{needs}
-use lib.ListN.{getD}
 use Rattle.meaning.specs.Terms.{named}
-use Rattle.term.specs.Layout.{clause-record}
 use Rattle.term.specs.States.{setting}
-use Rattle.run_trial.specs.Choosing.{unit-of, clause-after}
+use Rattle.run_trial.specs.Choosing.{unit-of}
 use Rattle.run_trial.proofs.Following as following
+use Rattle.run_trial.proofs.Idle as idle
 use Rattle.run_trial.proofs.Clauses as clauses
 use Rattle.run_trial.proofs.choice.choice.Statement.{statement}
 use Rattle.run_trial.proofs.choice.choice.Tie as tie
 
 abbrev Inv-clauses : tie.InvT-clauses
-Inv-clauses s₀ values marks links goal first readers₀ stamp₀ next₀ s readers stamp next =
-    clauses.Walking s₀ values marks links goal first s readers stamp next
+Inv-clauses s₀ values marks links goal first readers₀ stamp₀ left₀ s readers stamp left =
+    clauses.Walking s₀ values marks links goal first s readers stamp left
 
 abbrev μ-clauses : tie.MeasureT-clauses
-μ-clauses s₀ values marks links goal first readers₀ stamp₀ next₀ s readers stamp next = first + 32768 - stamp
+μ-clauses s₀ values marks links goal first readers₀ stamp₀ left₀ s readers stamp left = first + 32768 - stamp
 
 follow-arguments-requires : tie.Need-follow-arguments-requires Inv-clauses μ-clauses
 follow-arguments-requires c κs =
     let (text, names, j, limit, figures, at, g, others, trying, new, fit) = c .before .before .pre in
     (setting figures at (unit-of j limit figures g), g .goal .number, named (g .goal .name), g .goal .arguments, following.goal-follows trying)
 
+word-at-requires : tie.Need-word-at-requires Inv-clauses μ-clauses
+word-at-requires c κs =
+    let A = c .before .before .before in
+    let trying = following.ready (A .before .before .before .pre) (A .follow-arguments .ensures) .8 in
+    omega (arith, idle.goal-inside trying)
+
 first-clause-requires : tie.Need-first-clause-requires Inv-clauses μ-clauses
 first-clause-requires c κs =
-    let A = c .before .before .before in
+    let A = c .before .before .before .before in
+    let trying = following.ready (A .before .before .before .pre) (A .follow-arguments .ensures) .8 in
+    (idle.goal-inside trying, idle.procedure-inside trying)
+
+to-try-requires : tie.Need-to-try-requires Inv-clauses μ-clauses
+to-try-requires c κs =
+    let W = c .before in
+    let A = W .before .before .before .before in
     let (text, names, j, limit, figures, at, g, others, trying, stand, new, fit) = following.ready (A .before .before .before .pre) (A .follow-arguments .ensures) in
-    (clauses.goal-inside trying, clauses.procedure-inside trying)
+    (names, j, g .goal, idle.goal-sought trying stand (W .word-at .ensures) (c .first-clause .ensures))
 
 clauses-holds : tie.Need-clauses-holds Inv-clauses μ-clauses
 clauses-holds c =
-    let a = c .before .before .before .before .before .before .before .args in
-    λ text names j limit figures at g others trying stand new. clauses.walk-first trying (a .first) (c .first-clause .result) new (c .first-clause .ensures)
+    let C = c .before in
+    let W = C .before in
+    let a = W .before .before .before .before .before .before .before .args in
+    λ text names j limit figures at g others trying stand new.
+    clauses.walk-first trying (a .first) (c .to-try .result) new (W .word-at .ensures)
+    (c .to-try .ensures names j (g .goal) (idle.goal-sought trying stand (W .word-at .ensures) (C .first-clause .ensures)))
 
 sub-k : tie.Need-sub-k Inv-clauses μ-clauses
-sub-k c = let left = c .clauses-test .taken in omega arith
+sub-k c = let left = c .before .if1 .taken in omega arith
 
 trial-requires : tie.Need-trial-requires Inv-clauses μ-clauses
 trial-requires c κs =
-    let L = c .before .before in
-    let A = L .before .before .before .before .before in
+    let L = c .before .before .before .before in
+    let A = L .before .before .before .before .before .before .before in
     let S = A .before .before .before in
     let (text, names, j, limit, figures, at, g, others, trying, stand, new, fit) = following.ready (S .pre) (A .follow-arguments .ensures) in
     let w = L .clauses .inv text names j limit figures at g others trying stand new in
-    let left = c .before .clauses-test .taken in (
+    let left = c .before .before .if1 .taken in (
       text,
       names,
       j,
@@ -57,13 +73,13 @@ trial-requires c κs =
       g,
       others,
       S .args .goal,
-      clauses.turn trying w left .0,
-      clauses.walk-trying trying w,
-      clauses.walk-stand trying w stand,
-      clauses.turn-candidate trying w left,
+      clauses.turn-clause trying stand w left,
+      clauses.walk-trying trying stand w,
+      clauses.walk-stand trying stand w,
+      clauses.turn-candidate trying stand w left,
       w .marks-now,
       w .gathered .ok,
-      (omega (arith, w .stamp-is, fit .0), omega (arith, clauses.turn-stamp trying w left, fit .1)),
+      (omega (arith, w .stamp-from, fit .0), omega (arith, clauses.turn-stamp trying stand w left, fit .1)),
     )
 
 enum-known-t : tie.Need-enum-known-t Inv-clauses μ-clauses
@@ -75,72 +91,64 @@ enum-known-t-2 c = search needs
 add-stamp : tie.Need-add-stamp Inv-clauses μ-clauses
 add-stamp c =
     let T = c .before .before .before .before in
-    let L = T .before .before .before in
-    let A = L .before .before .before .before .before in
-    let n = clauses.turning (L .clauses .inv) (following.ready (A .before .before .before .pre) (A .follow-arguments .ensures)) (T .before .before .clauses-test .taken) in
+    let L = T .before .before .before .before .before in
+    let A = L .before .before .before .before .before .before .before in
+    let n = clauses.turning (L .clauses .inv) (following.ready (A .before .before .before .pre) (A .follow-arguments .ensures)) (T .before .before .before .if1 .taken) in
     record { fits = omega (arith, n .stamps, n .stamps-fit) }
 
-clause-after-requires : tie.Need-clause-after-requires Inv-clauses μ-clauses
-clause-after-requires c κs =
+further-requires : tie.Need-further-requires Inv-clauses μ-clauses
+further-requires c κs =
     let T = c .before .before .before .before .before in
-    let L = T .before .before .before in
-    let A = L .before .before .before .before .before in
-    let n = clauses.turning (L .clauses .inv) (following.ready (A .before .before .before .pre) (A .follow-arguments .ensures)) (T .before .before .clauses-test .taken) in
-    omega (arith, n .large, n .number, T .trial .kept .0)
+    let L = T .before .before .before .before .before in
+    let A = L .before .before .before .before .before .before .before in
+    let left = T .before .before .before .if1 .taken in
+    let n = clauses.turning (L .clauses .inv) (following.ready (A .before .before .before .pre) (A .follow-arguments .ensures)) left in
+    (left, omega (arith, n .large, n .number, n .link, T .trial .kept .0))
 
 clauses-less : tie.Need-clauses-less Inv-clauses μ-clauses
 clauses-less c =
     let T = c .before .before .before .before .before .before in
-    let L = T .before .before .before in
-    let A = L .before .before .before .before .before in
-    let n = clauses.turning (L .clauses .inv) (following.ready (A .before .before .before .pre) (A .follow-arguments .ensures)) (T .before .before .clauses-test .taken) in
+    let L = T .before .before .before .before .before in
+    let A = L .before .before .before .before .before .before .before in
+    let n = clauses.turning (L .clauses .inv) (following.ready (A .before .before .before .pre) (A .follow-arguments .ensures)) (T .before .before .before .if1 .taken) in
     omega (arith, n .stamps)
 
 clauses-again : tie.Need-clauses-again Inv-clauses μ-clauses
 clauses-again c =
     let J = c .before .before in
     let T = J .before .before .before .before in
-    let L = T .before .before .before in
-    let A = L .before .before .before .before .before in
+    let L = T .before .before .before .before .before in
+    let A = L .before .before .before .before .before .before .before in
     let S = A .before .before .before in
-    let left = T .before .before .clauses-test .taken in
+    let left = T .before .before .before .if1 .taken in
     let passed : clauses.Passed (L .clauses .readers) (T .trial .result) (J .match2 .readers) =
     ⊎-elim
     (λ w. inl (w .1 .given .0 .0, w .1 .given .1, w .3))
     (λ w. inr (clauses.neither (T .trial .result) (J .before .match .keys2) (w .0 .keys2), w .1))
     (J .match2 .came) in
-    let k = L .clauses .next - 1 in
-    let s′ = T .trial .last .0 in
-    let same : J .match2 .t ≡ T .trial .result = ⊎-elim {C = J .match2 .t ≡ T .trial .result} (λ w. w .4 ∙ sym (w .1 .given .1)) (λ w. w .2) (J .match2 .came) in
-    let told : c .clause-after .result ≡ clause-after s′ k (J .match2 .t) = c .clause-after .ensures in
-    let later : c .clause-after .result ≡ getD s′ (clause-record k) 0 =
-    told ∙ ap (clause-after s′ k) same ∙ clauses.goes-on s′ k (T .trial .result) (J .before .match .keys2) in
     λ text names j limit figures at g others trying stand new.
     let w = L .clauses .inv text names j limit figures at g others trying stand new in
-    subst (λ v. clauses.Walk (A .follow-arguments .last .0) s′ names j limit figures at g
-    (S .args .marks) (S .args .first) (J .match2 .readers) (L .clauses .stamp + 256) v)
-    (sym later)
-    (clauses.turn-passed trying w left
-    (T .trial .ensures text names j limit figures at g others (S .args .goal) (clauses.turn trying w left .0) (w .waiting) (clauses.walk-trying trying w)
-    (clauses.walk-stand trying w stand) (clauses.turn-candidate trying w left) (w .marks-now) (w .gathered))
-    (J .match2 .readers) passed)
+    clauses.turn-passed trying stand w left
+    (T .trial .ensures text names j limit figures at g others (S .args .goal) (clauses.turn-clause trying stand w left) (w .waiting)
+    (clauses.walk-trying trying stand w) (clauses.walk-stand trying stand w) (clauses.turn-candidate trying stand w left) (w .marks-now) (w .gathered))
+    (c .further .ensures) (J .match2 .readers) passed
 
 same-length : tie.Need-same-length Inv-clauses μ-clauses
 same-length c =
     let T = c .before .before .before .before .before in
-    let L = T .before .before .before in
-    let A = L .before .before .before .before .before in
-    let n = clauses.turning (L .clauses .inv) (following.ready (A .before .before .before .pre) (A .follow-arguments .ensures)) (T .before .before .clauses-test .taken) in
+    let L = T .before .before .before .before .before in
+    let A = L .before .before .before .before .before .before .before in
+    let n = clauses.turning (L .clauses .inv) (following.ready (A .before .before .before .pre) (A .follow-arguments .ensures)) (T .before .before .before .if1 .taken) in
     T .trial .kept .0 ∙ n .size ∙ A .follow-arguments .kept .0
 
 returns : tie.Need-returns Inv-clauses μ-clauses
 returns c =
     let W = c .before in
     let T = W .before .before .before .before in
-    let L = T .before .before .before in
-    let A = L .before .before .before .before .before in
+    let L = T .before .before .before .before .before in
+    let A = L .before .before .before .before .before .before .before in
     let S = A .before .before .before in
-    let left = T .before .before .clauses-test .taken in
+    let left = T .before .before .before .if1 .taken in
     let told = A .follow-arguments .ensures in
     let first = S .args .first in
     λ text names j limit figures at g others before new-before.
@@ -149,22 +157,22 @@ returns c =
     let new = following.marks-then before told first new-before in
     let w = L .clauses .inv text names j limit figures at g others trying stand new in
     following.choice-then before told
-    (clauses.turn-succeeds trying w left
-    (T .trial .ensures text names j limit figures at g others (S .args .goal) (clauses.turn trying w left .0) (w .waiting) (clauses.walk-trying trying w)
-    (clauses.walk-stand trying w stand) (clauses.turn-candidate trying w left) (w .marks-now) (w .gathered))
+    (clauses.turn-succeeds trying stand w left
+    (T .trial .ensures text names j limit figures at g others (S .args .goal) (clauses.turn-clause trying stand w left) (w .waiting)
+    (clauses.walk-trying trying stand w) (clauses.walk-stand trying stand w) (clauses.turn-candidate trying stand w left) (w .marks-now) (w .gathered))
     (W .t .given .0 .0) (W .t .given .1))
 
 same-length-2 : tie.Need-same-length-2 Inv-clauses μ-clauses
 same-length-2 c =
-    let L = c .before .before in
-    let A = L .before .before .before .before .before in
+    let L = c .before .before .before in
+    let A = L .before .before .before .before .before .before .before in
     let (text, names, j, limit, figures, at, g, others, trying, stand, new, fit) = following.ready (A .before .before .before .pre) (A .follow-arguments .ensures) in
     L .clauses .inv text names j limit figures at g others trying stand new .only .size ∙ A .follow-arguments .kept .0
 
 returns-2 : tie.Need-returns-2 Inv-clauses μ-clauses
 returns-2 c =
-    let L = c .before .before in
-    let A = L .before .before .before .before .before in
+    let L = c .before .before .before in
+    let A = L .before .before .before .before .before .before .before in
     let S = A .before .before .before in
     let told = A .follow-arguments .ensures in
     let first = S .args .first in
@@ -174,19 +182,19 @@ returns-2 c =
     let new = following.marks-then before told first new-before in
     let w = L .clauses .inv text names j limit figures at g others trying stand new in
     following.choice-then before told
-    (clauses.all-fail trying w (c .before .clauses-test .left) (c .if1 .taken))
+    (clauses.all-fail trying stand w (c .before .if1 .left) (c .if2 .taken))
 
 same-length-3 : tie.Need-same-length-3 Inv-clauses μ-clauses
 same-length-3 c =
-    let L = c .before .before in
-    let A = L .before .before .before .before .before in
+    let L = c .before .before .before in
+    let A = L .before .before .before .before .before .before .before in
     let (text, names, j, limit, figures, at, g, others, trying, stand, new, fit) = following.ready (A .before .before .before .pre) (A .follow-arguments .ensures) in
     L .clauses .inv text names j limit figures at g others trying stand new .only .size ∙ A .follow-arguments .kept .0
 
 returns-3 : tie.Need-returns-3 Inv-clauses μ-clauses
 returns-3 c =
-    let L = c .before .before in
-    let A = L .before .before .before .before .before in
+    let L = c .before .before .before in
+    let A = L .before .before .before .before .before .before .before in
     let S = A .before .before .before in
     let told = A .follow-arguments .ensures in
     let first = S .args .first in
@@ -196,7 +204,7 @@ returns-3 c =
     let new = following.marks-then before told first new-before in
     let w = L .clauses .inv text names j limit figures at g others trying stand new in
     following.choice-then before told
-    (clauses.some-wait trying w (c .before .clauses-test .left) (c .if1 .left))
+    (clauses.some-wait trying stand w (c .before .if1 .left) (c .if2 .left))
 
 pub choice-spec : {M : Type 1} → statement M
 choice-spec =
@@ -205,14 +213,16 @@ choice-spec =
     Inv-clauses
     μ-clauses
     follow-arguments-requires
+    word-at-requires
     first-clause-requires
+    to-try-requires
     clauses-holds
     sub-k
     trial-requires
     enum-known-t
     enum-known-t-2
     add-stamp
-    clause-after-requires
+    further-requires
     clauses-less
     clauses-again
     same-length

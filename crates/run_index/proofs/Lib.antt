@@ -1,0 +1,13 @@
+pub mod Building
+pub mod Chains
+pub mod First
+pub mod HeadsHeld
+pub mod HeldKinds
+pub mod Joining
+pub mod Kept
+pub mod Keyed
+pub mod Left
+pub mod Procedures
+pub mod Telling
+pub mod TermKinds
+pub mod ToTry
