@@ -40,19 +40,19 @@ pub changed-facts : (figures : Room) (s s′ : List ℕ) (text : Bytes) (x : Set
 changed-facts figures s s′ text x r e c =
     record {
       size = c .size;
-      counter = λ k h. c .others k (λ z. omega arith) (λ n l. ((λ z. omega arith), (λ z. omega arith), (λ z. omega arith)));
-      before = λ k l h. c .others k (λ z. omega arith) (λ n b. ((λ z. omega arith), (λ z. omega arith), (λ z. omega arith)));
+      counter = λ k h. c .others k (λ z. omega arith) (λ n l. ((λ z. omega arith), (λ z. omega arith), (λ z. omega arith), (λ z. omega arith)));
+      before = λ k l h. c .others k (λ z. omega arith) (λ n b. ((λ z. omega arith), (λ z. omega arith), (λ z. omega arith), (λ z. omega arith)));
       behind = λ k h. c .others k (λ z. omega arith)
-          (λ n l. let inside = r .stands .held .place n l in ((λ z. omega arith), (λ z. omega arith), (λ z. omega arith)));
+          (λ n l. let inside = r .stands .held .place n l in ((λ z. omega arith), (λ z. omega arith), (λ z. omega arith), (λ z. omega arith)));
     }
 
 -- The facts of a unit whose pairs are apart from those of the counted one are as they were.
 pub facts-apart : (s s′ : List ℕ) (x y : Setting) (facts : ℕ) → compounds-region ≤ facts → Changed s s′ x facts
     → ((a b : ℕ) → a < length (x .values) → b < length (y .values) → x .places .pair a ≡ y .places .pair b → ⊥)
-    → (n i k : ℕ) → n < length (y .values) → i < 3 → k ≡ fact-place y facts n + i → getD s′ k 0 ≡ getD s k 0
+    → (n i k : ℕ) → n < length (y .values) → i < 4 → k ≡ fact-place y facts n + i → getD s′ k 0 ≡ getD s k 0
 facts-apart s s′ x y facts low c apart n i k h l e =
     c .others k (λ z. omega arith)
-    (λ m b. ((λ z. apart m n b h (omega arith)), (λ z. apart m n b h (omega arith)), (λ z. apart m n b h (omega arith))))
+    (λ m b. ((λ z. apart m n b h (omega arith)), (λ z. apart m n b h (omega arith)), (λ z. apart m n b h (omega arith)), (λ z. apart m n b h (omega arith))))
 
 -- The lists of goals.
 own-same : (s s′ : List ℕ) (g : Group) (q : ℕ) → ((i : ℕ) → goal-in s′ g i ≡ goal-in s g i) → (n i : ℕ) → own-from s′ g q i n ≡ own-from s g q i n

@@ -1,6 +1,6 @@
 -- What `report` asks of its parts when the run has finished, and what it tells by theirs.
 use Prim.Native.Nat.{ℕ, _+_, _*_, _≤_, _<_, min}
-use mathlib.Core.Path.{_≡_, refl, ap, _∙_}
+use mathlib.Core.Path.{_≡_, refl, sym, ap, subst, _∙_}
 use mathlib.Core.Bool.{Bool, true, false, _&&_}
 use mathlib.Core.Logic.{_≢_}
 use mathlib.Core.List.{List, _++_}
@@ -21,6 +21,7 @@ use Rattle.term.specs.declared.state.Standing.{Standing}
 use Rattle.term.specs.declared.state.Verdict.{Verdict as Told}
 use Rattle.report_pairs.specs.Laid.{capped, laid, Puts}
 use Rattle.report_pairs.specs.Facts.{Cleared}
+use Rattle.report_leaves.specs.Fits.{Stored}
 use Rattle.report_sections.specs.Whole.{Uncounted, Numbers}
 use Rattle.report.specs.All.{Made, Sections, AllCounted, report-bytes, order-of, made-of}
 use Rattle.report_tallies.specs.Header.{run-line-of}
@@ -145,14 +146,21 @@ module _ (s s₁ s₂ : List ℕ) (text : Bytes) (names : List Bytes) (figures :
       numbered : (k : ℕ) → k < n → Numbers s₃ (making k .unit) (waiters-region figures) (order-of (making k))
       numbered = counted .numbers below
 
+      places : (k : ℕ) → k < n → Stored s₃ (making k .unit) (waiters-region figures) (order-of (making k)) (report-bytes s₃ figures v t making n)
+      places k b =
+          subst (Stored s₃ (making k .unit) (waiters-region figures) (order-of (making k))) (ap (_++_ (run-line-of v (t .steps))) (sym (counted .same)))
+          (counted .stored below k b)
+
       pub asked-to-write : (made : ℕ → Made) × Sections s₃ text figures t made n × (t .steps ≤ 1000000)
           × ((k : ℕ) → k < n → Numbers s₃ (made k .unit) (waiters-region figures) (order-of (made k)))
+          × ((k : ℕ) → k < n → Stored s₃ (made k .unit) (waiters-region figures) (order-of (made k)) (report-bytes s₃ figures v t made n))
           × (length (report-bytes s₃ figures v t made n) ≤ length buffer)
-      asked-to-write = (making, counted .sections, few-steps, numbered, fits-whole)
+      asked-to-write = (making, counted .sections, few-steps, numbered, places, fits-whole)
 
       pub written-whole : (buffer′ : Bytes) (r′ : ℕ)
           → ((made : ℕ → Made) → Sections s₃ text figures t made n → t .steps ≤ 1000000
           → ((k : ℕ) → k < n → Numbers s₃ (made k .unit) (waiters-region figures) (order-of (made k)))
+          → ((k : ℕ) → k < n → Stored s₃ (made k .unit) (waiters-region figures) (order-of (made k)) (report-bytes s₃ figures v t made n))
           → length (report-bytes s₃ figures v t made n) ≤ length buffer → Puts buffer buffer′ 0 r′ (report-bytes s₃ figures v t made n))
           → ReportIs s s₃ buffer buffer′ figures j limit r′
       written-whole buffer′ r′ writes =
@@ -170,7 +178,7 @@ module _ (s s₁ s₂ : List ℕ) (text : Bytes) (names : List Bytes) (figures :
           }
         where
           puts : Puts buffer buffer′ 0 r′ (report-bytes s₃ figures v t making n)
-          puts = writes making (counted .sections) few-steps numbered fits-whole
+          puts = writes making (counted .sections) few-steps numbered places fits-whole
 
           bs : Bytes
           bs = report (j .queries) (run j limit figures)

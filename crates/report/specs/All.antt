@@ -13,6 +13,7 @@ use Rattle.term.specs.declared.state.Standing.{Standing}
 use Rattle.term.specs.declared.state.Verdict.{Verdict as Told}
 use Rattle.report_pairs.specs.Threaded.{lines-seen}
 use Rattle.report_pairs.specs.Laid.{capped}
+use Rattle.report_leaves.specs.Fits.{Stored}
 use Rattle.report_tallies.specs.Header.{run-line-of}
 use Rattle.report_sections.specs.Whole.{section-bytes, SectionStands, Numbers, Uncounted}
 
@@ -56,13 +57,14 @@ pub record FactsOnly (figures : Room) (s s′ : List ℕ) : Type 0 where
   pub before : (k : ℕ) → trial-region < k → k < waiters-region figures → getD s′ k 0 ≡ getD s k 0
   pub behind : (k : ℕ) → waiters-region figures + pair-facts * figures .pairs ≤ k → getD s′ k 0 ≡ getD s k 0
 
--- The report is counted up to r; below the ceiling every section's pairs have their numbers.
+-- The report is counted up to r; below the ceiling every section's pairs have their numbers, and the report has the values kept at their places.
 pub record AllCounted (s s′ : List ℕ) (text : Bytes) (figures : Room) (v : Told) (t : Standing) (made : ℕ → Made) (n r : ℕ) : Type 0 where
   pub only : FactsOnly figures s s′
   pub sections : Sections s′ text figures t made n
   pub same : sections-bytes s′ figures t made n ≡ sections-bytes s figures t made n
   pub place : r ≡ capped (length (report-bytes s figures v t made n))
   pub numbers : r < 16777217 → (k : ℕ) → k < n → Numbers s′ (made k .unit) (waiters-region figures) (order-of (made k))
+  pub stored : r < 16777217 → (k : ℕ) → k < n → Stored s′ (made k .unit) (waiters-region figures) (order-of (made k)) (report-bytes s figures v t made n)
 
 -- The sections of a finished run: of each query its unit, its variables and its own goals.
 unfoldable pub no-query : Query

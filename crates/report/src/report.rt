@@ -20,6 +20,7 @@ ghost use Rattle.term.specs.Layout.{figures, compounds-region, pairs-told};
 ghost use Rattle.term.specs.States.{Finished};
 ghost use Rattle.term.specs.Layout.{waiters-region};
 ghost use Rattle.report_pairs.specs.Laid.{Puts};
+ghost use Rattle.report_leaves.specs.Fits.{Stored};
 ghost use Rattle.report_sections.specs.Whole.{Uncounted, Numbers};
 ghost use Rattle.report.specs.All.{Made, Sections, AllCounted, order-of, report-bytes};
 ghost use Rattle.report.specs.Promise.{ReportIs};
@@ -61,9 +62,13 @@ fn write_report(
 ) -> usize
     requires { ⌜ ((made : ℕ → Made) × Sections (now s) (now text) (figures room) t made queries × (t .steps ≤ 1000000)
         × ((k : ℕ) → k < queries → Numbers (now s) (made k .unit) (waiters-region (figures room)) (order-of (made k)))
+        × ((k : ℕ) → k < queries → Stored (now s) (made k .unit) (waiters-region (figures room)) (order-of (made k))
+        (report-bytes (now s) (figures room) verdict t made queries))
         × (length (report-bytes (now s) (figures room) verdict t made queries) ≤ length (now buffer))) ⌝ }
     ensures { λ r. ⌜ ((made : ℕ → Made) → Sections (now (s .entry)) (now (text .entry)) (figures room) t made queries → t .steps ≤ 1000000
         → ((k : ℕ) → k < queries → Numbers (now (s .entry)) (made k .unit) (waiters-region (figures room)) (order-of (made k)))
+        → ((k : ℕ) → k < queries → Stored (now (s .entry)) (made k .unit) (waiters-region (figures room)) (order-of (made k))
+        (report-bytes (now (s .entry)) (figures room) verdict t made queries))
         → length (report-bytes (now (s .entry)) (figures room) verdict t made queries) ≤ length (now (buffer .entry))
         → Puts (now (buffer .entry)) (now (buffer .exit)) 0 r (report-bytes (now (s .entry)) (figures room) verdict t made queries)) ⌝ }
 {

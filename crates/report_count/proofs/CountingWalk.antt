@@ -14,8 +14,8 @@ use Rattle.term.specs.Setting.{Setting}
 use Rattle.term.specs.declared.word.View.the-variants.{Compound}
 use Rattle.term.proofs.Holds.{holds-from-alike}
 use Rattle.report_pairs.specs.Threaded.{full, all-full, seen-after, seen-after-all, shown}
-use Rattle.report_pairs.specs.Laid.{capped}
-use Rattle.report_pairs.specs.Facts.{Readable, Shows, Led, Changed, Counting, Leads}
+use Rattle.report_pairs.specs.Laid.{capped, Has}
+use Rattle.report_pairs.specs.Facts.{Readable, Shows, Led, Changed, Counting, Placed, Leads}
 use Rattle.report_count.specs.Counts.{Counts, Counted, CountedTerm, LeadsTo, LeafCounted, LengthKnown, Known-now}
 use Rattle.report_pairs.specs.Pairs.{NoCompound}
 use Rattle.report_pairs.specs.Walk.{opening-bytes, StandsAt, after, rest, Position, Found}
@@ -23,6 +23,8 @@ use Rattle.report_pairs.specs.declared.cells.Next.the-variants.{Goes, Ends}
 use Rattle.report_pairs.proofs.Full.{full-compound, full-unassigned}
 use Rattle.report_pairs.proofs.Once.{seen-after-compound, seen-after-more, seen-after-all-keeps}
 use Rattle.report_pairs.proofs.Settled.{settled-in}
+use Rattle.report_pairs.proofs.Having.{has-front, has-behind, has-as}
+use Rattle.report_count.proofs.KeptLengths.{Kept}
 use Rattle.report_pairs.proofs.Again.{seen-again, shown-again}
 use Rattle.report_pairs.proofs.Told.{seen as look, seen-term, compound-told}
 use Rattle.report_pairs.proofs.Leaves.{opening-length, length-more}
@@ -64,11 +66,12 @@ position-kept s s′ text x facts r c p i j f u us a =
 abbrev pub order-of : Setting → List ℕ → Term → List ℕ
 order-of x seen t = seen-after seen (full (x .values) t)
 
-abbrev pub whole-of : Setting → List ℕ → Term → ℕ
-whole-of x seen t = length (shown seen alone (full (x .values) t))
+abbrev pub whole-of : Setting → List ℕ → Term → Bytes
+whole-of x seen t = shown seen alone (full (x .values) t)
 
--- The walk: so far it is counted up to a place below the ceiling; in the order of the whole what is left leads to the whole's end.
-pub record Walked (s₀ s : List ℕ) (text : Bytes) (x : Setting) (facts : ℕ) (order : List ℕ) (whole at p i to : ℕ) : Type 0 where
+-- The walk: so far it is counted up to a place below the ceiling; in the order of the whole what is left leads to the whole's end. A report that has the
+-- whole has there what is left, and the places kept are right in it.
+pub record Walked (s₀ s : List ℕ) (text : Bytes) (x : Setting) (facts : ℕ) (from order : List ℕ) (whole : Bytes) (at p i to : ℕ) : Type 0 where
   pub g : Functor
   pub j : ℕ
   pub u : Term
@@ -79,11 +82,13 @@ pub record Walked (s₀ s : List ℕ) (text : Bytes) (x : Setting) (facts : ℕ)
   pub counts : Counts s text x facts now to
   pub low : to < 16777217
   pub above : at < to
-  pub place : capped (to + length (rest (x .values) order g j u us)) ≡ capped (at + whole)
+  pub place : capped (to + length (rest (x .values) order g j u us)) ≡ capped (at + length whole)
   pub exact : seen-after-all now (all-full (x .values) (more u us)) ≡ order
+  pub there : (report : Bytes) → Has report at whole → Has report to (rest (x .values) order g j u us)
+  pub placed : (report : Bytes) → Has report at whole → Placed s₀ x facts from report → Placed s x facts now report
 
 -- The same behind the argument where it stood at another place.
-pub record Turned (s₀ s : List ℕ) (text : Bytes) (x : Setting) (facts : ℕ) (order : List ℕ) (whole at p i to r : ℕ) : Type 0 where
+pub record Turned (s₀ s : List ℕ) (text : Bytes) (x : Setting) (facts : ℕ) (from order : List ℕ) (whole : Bytes) (at p i to r : ℕ) : Type 0 where
   pub g : Functor
   pub j : ℕ
   pub u : Term
@@ -93,28 +98,33 @@ pub record Turned (s₀ s : List ℕ) (text : Bytes) (x : Setting) (facts : ℕ)
   pub now : List ℕ
   pub counts : Counts s text x facts now r
   pub above : (at < r) × (to ≤ r)
-  pub place : capped (r + length (after (x .values) order g j us)) ≡ capped (at + whole)
+  pub place : capped (r + length (after (x .values) order g j us)) ≡ capped (at + length whole)
   pub exact : r < 16777217 → seen-after-all now (all-full (x .values) us) ≡ order
+  pub there : r < 16777217 → (report : Bytes) → Has report at whole → Has report r (after (x .values) order g j us)
+  pub placed : r < 16777217 → (report : Bytes) → Has report at whole → Placed s₀ x facts from report → Placed s x facts now report
 
--- A compound's length is that of what stands before its first argument, and of the rest.
-opened : (x : Setting) (seen : List ℕ) (n : ℕ) (f : Functor) (u : Term) (us : Terms)
-    → whole-of x seen (Term.compound n f (more u us))
-    ≡ length (opening-bytes f) + length (rest (x .values) (order-of x seen (Term.compound n f (more u us))) f 0 u us)
+-- A compound is what stands before its first argument, and the rest.
+opened-is : (x : Setting) (seen : List ℕ) (n : ℕ) (f : Functor) (u : Term) (us : Terms)
+    → whole-of x seen (Term.compound n f (more u us)) ≡ opening-bytes f ++ rest (x .values) (order-of x seen (Term.compound n f (more u us))) f 0 u us
 unfolding shown
+opened-is x seen n f u us = whole-is x (order-of x seen (Term.compound n f (more u us))) n f u us
+
+opened : (x : Setting) (seen : List ℕ) (n : ℕ) (f : Functor) (u : Term) (us : Terms)
+    → length (whole-of x seen (Term.compound n f (more u us)))
+    ≡ length (opening-bytes f) + length (rest (x .values) (order-of x seen (Term.compound n f (more u us))) f 0 u us)
 opened x seen n f u us =
-    let order = order-of x seen (Term.compound n f (more u us)) in
-    ap length (whole-is x order n f u us) ∙ length-append (opening-bytes f) (rest (x .values) order f 0 u us)
+    ap length (opened-is x seen n f u us) ∙ length-append (opening-bytes f) (rest (x .values) (order-of x seen (Term.compound n f (more u us))) f 0 u us)
 
 module _ (s : List ℕ) (text : Bytes) (x : Setting) (facts : ℕ) (seen : List ℕ) (n : ℕ) (f : Functor) (ts : Terms) (at p to : ℕ)
     (C : Counts s text x facts seen at) (low : at < 16777217) (a : StandsAt s x n f ts p) (e : to ≡ capped (at + length (opening-bytes f))) where
   pub walk-first : to ≢ 16777217
-      → Walked s s text x facts (order-of x seen (Term.compound n f ts)) (whole-of x seen (Term.compound n f ts)) at p 1 to
+      → Walked s s text x facts seen (order-of x seen (Term.compound n f ts)) (whole-of x seen (Term.compound n f ts)) at p 1 to
   walk-first d = go (some-argument n f ts (a .sound))
     where
       go : (u : Term) × (us : Terms) × (ts ≡ more u us)
-          → Walked s s text x facts (order-of x seen (Term.compound n f ts)) (whole-of x seen (Term.compound n f ts)) at p 1 to
+          → Walked s s text x facts seen (order-of x seen (Term.compound n f ts)) (whole-of x seen (Term.compound n f ts)) at p 1 to
       go (u, us, z) =
-          let start : Walked s s text x facts (order-of x seen (Term.compound n f (more u us))) (whole-of x seen (Term.compound n f (more u us))) at p 1 to = record {
+          let start : Walked s s text x facts seen (order-of x seen (Term.compound n f (more u us))) (whole-of x seen (Term.compound n f (more u us))) at p 1 to = record {
             g = f;
             j = 0;
             u = u;
@@ -127,6 +137,9 @@ module _ (s : List ℕ) (text : Bytes) (x : Setting) (facts : ℕ) (seen : List 
             above = omega (arith, opening-length f);
             place = omega (arith, opened x seen n f u us);
             exact = sym (ap (seen-after seen) (full-compound (x .values) n f (more u us)) ∙ seen-after-compound seen n f (all-full (x .values) (more u us)));
+            there = λ report h. has-behind (opening-bytes f) (rest (x .values) (order-of x seen (Term.compound n f (more u us))) f 0 u us) report at to
+                (omega arith) (has-as report at (opened-is x seen n f u us) h);
+            placed = λ report h p. p;
           } in
           rw z start
 
@@ -140,10 +153,11 @@ module _ (s : List ℕ) (text : Bytes) (x : Setting) (facts : ℕ) (seen : List 
     few = omega (arith, C .few, C .low);
     place = go (some-argument n f ts (a .sound));
     exact = λ h. absurd (omega arith);
+    placed = λ h. absurd (omega arith);
   }
     where
-      go : (u : Term) × (us : Terms) × (ts ≡ more u us) → to ≡ capped (at + whole-of x seen (Term.compound n f ts))
-      go (u, us, z) = let there : to ≡ capped (at + whole-of x seen (Term.compound n f (more u us))) = omega (arith, opened x seen n f u us) in rw z there
+      go : (u : Term) × (us : Terms) × (ts ≡ more u us) → to ≡ capped (at + length (whole-of x seen (Term.compound n f ts)))
+      go (u, us, z) = let there : to ≡ capped (at + length (whole-of x seen (Term.compound n f (more u us)))) = omega (arith, opened x seen n f u us) in rw z there
 
 -- An argument in the order of the whole.
 argument-is : (x : Setting) (now order : List ℕ) (u : Term) (us : Terms) → seen-after-all now (all-full (x .values) (more u us)) ≡ order
@@ -159,10 +173,10 @@ unfolding all-full
 argument-seen x now order u us e = sym (seen-after-more now (full (x .values) u) (all-full (x .values) us)) ∙ e
 
 -- The argument where the walk stands is counted.
-pub walk-turn : (s₀ s : List ℕ) (text : Bytes) (x : Setting) (facts : ℕ) (order : List ℕ) (whole at p i to : ℕ)
-    (W : Walked s₀ s text x facts order whole at p i to) (s′ : List ℕ) (r : ℕ) → CountedTerm s s′ text x facts (W .now) (W .u) to r
-    → Turned s₀ s′ text x facts order whole at p i to r
-walk-turn s₀ s text x facts order whole at p i to W s′ r C = record {
+pub walk-turn : (s₀ s : List ℕ) (text : Bytes) (x : Setting) (facts : ℕ) (from order : List ℕ) (whole : Bytes) (at p i to : ℕ)
+    (W : Walked s₀ s text x facts from order whole at p i to) (s′ : List ℕ) (r : ℕ) → CountedTerm s s′ text x facts (W .now) (W .u) to r
+    → Turned s₀ s′ text x facts from order whole at p i to r
+walk-turn s₀ s text x facts from order whole at p i to W s′ r C = record {
   g = W .g;
   j = W .j;
   u = W .u;
@@ -184,12 +198,18 @@ walk-turn s₀ s text x facts order whole at p i to W s′ r C = record {
   exact = λ h.
       ap (λ (l : List ℕ). seen-after-all l (all-full (x .values) (W .us))) (C .exact h)
       ∙ argument-seen x (W .now) order (W .u) (W .us) (W .exact);
+  there = λ h report R.
+      let is = ap length (argument-is x (W .now) order (W .u) (W .us) (W .exact)) in
+      has-behind (written order alone (full (x .values) (W .u))) (after (x .values) order (W .g) (W .j) (W .us)) report to r (omega (arith, C .place, is)) (W .there report R);
+  placed = λ h report R P.
+      C .placed h report (has-as report to (argument-is x (W .now) order (W .u) (W .us) (W .exact))
+      (has-front (written order alone (full (x .values) (W .u))) (after (x .values) order (W .g) (W .j) (W .us)) report to (W .there report R))) (W .placed report R P);
 }
 
-module _ (s₀ s : List ℕ) (text : Bytes) (x : Setting) (facts : ℕ) (order : List ℕ) (whole at p i to r : ℕ)
-    (T : Turned s₀ s text x facts order whole at p i to r) where
+module _ (s₀ s : List ℕ) (text : Bytes) (x : Setting) (facts : ℕ) (from order : List ℕ) (whole : Bytes) (at p i to r : ℕ)
+    (T : Turned s₀ s text x facts from order whole at p i to r) where
   -- The next byte reaches the ceiling: the rest does not matter.
-  pub walk-stops : (b q k : ℕ) → Found s x (T .g) (T .j) (T .us) (Goes b q k) → 16777216 ≤ r → Counted s₀ s text x facts at whole order 16777217
+  pub walk-stops : (b q k : ℕ) → Found s x (T .g) (T .j) (T .us) (Goes b q k) → 16777216 ≤ r → Counted s₀ s text x facts at from whole order 16777217
   walk-stops b q k (j′, g′, v, vs, position, bytes-are, seen-are, stands-are) d =
       let size = ap length (bytes-are order) ∙ length-more b (rest (x .values) order g′ j′ v vs) in record {
         changed = T .changed;
@@ -199,9 +219,10 @@ module _ (s₀ s : List ℕ) (text : Bytes) (x : Setting) (facts : ℕ) (order :
         few = omega (arith, T .counts .few, T .counts .low);
         place = omega (arith, T .place, size);
         exact = λ h. absurd (omega arith);
+        placed = λ h. absurd (omega arith);
       }
 
-  pub walk-ends : (b r′ : ℕ) → Found s x (T .g) (T .j) (T .us) (Ends b) → r′ ≡ capped (r + 1) → Counted s₀ s text x facts at whole order r′
+  pub walk-ends : (b r′ : ℕ) → Found s x (T .g) (T .j) (T .us) (Ends b) → r′ ≡ capped (r + 1) → Counted s₀ s text x facts at from whole order r′
   walk-ends b r′ F e = record {
     changed = T .changed;
     readable = T .counts .readable;
@@ -213,10 +234,11 @@ module _ (s₀ s : List ℕ) (text : Bytes) (x : Setting) (facts : ℕ) (order :
         let none : length {A = ℕ} [] ≡ 0 = refl in
         omega (arith, T .place, one, none);
     exact = λ h. sym (F .1 (T .now)) ∙ T .exact (omega arith);
+    placed = λ h. T .placed (omega arith);
   }
 
   pub walk-on : (b q k : ℕ) → Found s x (T .g) (T .j) (T .us) (Goes b q k) → r < 16777216
-      → Walked s₀ s text x facts order whole at q k (r + 1)
+      → Walked s₀ s text x facts from order whole at q k (r + 1)
   walk-on b q k (j′, g′, v, vs, position, bytes-are, seen-are, stands-are) low =
       let size = ap length (bytes-are order) ∙ length-more b (rest (x .values) order g′ j′ v vs) in record {
         g = g′;
@@ -231,6 +253,9 @@ module _ (s₀ s : List ℕ) (text : Bytes) (x : Setting) (facts : ℕ) (order :
         above = omega (arith, T .above .0);
         place = omega (arith, T .place, size);
         exact = sym (seen-are (T .now)) ∙ T .exact (omega arith);
+        there = λ report R.
+            has-behind (b ∷ []) (rest (x .values) order g′ j′ v vs) report r (r + 1) refl (has-as report r (bytes-are order) (T .there (omega arith) report R));
+        placed = T .placed (omega arith);
       }
 
 -- A term at the ceiling.
@@ -244,6 +269,7 @@ count-ceiling s text x facts seen t at C e = record {
   few = C .few;
   place = omega arith;
   exact = λ h. absurd (omega arith);
+  placed = λ h. absurd (omega arith);
 }
 
 -- A term below the ceiling, led to its end: what is asked of a call for a compound or a leaf there, and what the call tells of the term.
@@ -283,6 +309,7 @@ module _ (s s₁ : List ℕ) (text : Bytes) (x : Setting) (facts : ℕ) (seen : 
         few = R .few;
         place = R .place;
         exact = R .exact;
+        placed = λ h report has p. R .placed h report has (L .placed seen report p);
       }
 
   pub leaf-asks : (text : Bytes) × (x : Setting) × (seen : List ℕ) × (t : Term) × Readable s₁ text x facts × Counting s₁ x facts seen
@@ -301,6 +328,7 @@ module _ (s s₁ : List ℕ) (text : Bytes) (x : Setting) (facts : ℕ) (seen : 
         few = omega (arith, F .few, C .few);
         place = q ∙ ap (λ (m : ℕ). capped (at + m)) (F .size);
         exact = λ h. refl;
+        placed = λ h report has p. F .placed report (L .placed seen report p);
       }
 
 -- A compound to which a term leads: its length is known, or it is counted by its arguments and kept.
@@ -316,6 +344,7 @@ module _ (s : List ℕ) (text : Bytes) (x : Setting) (facts : ℕ) (seen : List 
         few = omega (arith, C .few, C .low);
         place = e ∙ ap (λ (m : ℕ). capped (at + m)) (known .1);
         exact = λ h. sym (known .0);
+        placed = λ h report has p. p;
       }
 
   module _ (s₁ : List ℕ) (to : ℕ) (R : CountedTerm s s₁ text x facts seen (Term.compound (D .number) (D .functor) (D .terms)) at to) where
@@ -349,9 +378,11 @@ module _ (s : List ℕ) (text : Bytes) (x : Setting) (facts : ℕ) (seen : List 
           rw z (omega (arith, told-place, size, d));
     }
 
-    pub count-kept : (s₂ : List ℕ) → Changed s₁ s₂ x facts × Readable s₂ text x facts × Counting s₂ x facts (R .after)
-        → CountedTerm s s₂ text x facts seen t at to
-    count-kept s₂ (c, r, o) = record {
+    again : to < 16777217 → shown (R .after) alone (full (x .values) t) ≡ shown seen alone (full (x .values) t)
+    again h = ap (λ (l : List ℕ). shown l alone (full (x .values) t)) (told-exact h) ∙ shown-again seen alone (full (x .values) t)
+
+    pub count-kept : (s₂ : List ℕ) → Kept s₁ s₂ text x facts (R .after) t at → CountedTerm s s₂ text x facts seen t at to
+    count-kept s₂ (c, r, o, kept) = record {
       changed = changed-then s s₁ s₂ x facts (R .changed) c;
       readable = r;
       after = R .after;
@@ -359,4 +390,6 @@ module _ (s : List ℕ) (text : Bytes) (x : Setting) (facts : ℕ) (seen : List 
       few = R .few;
       place = told-place;
       exact = told-exact;
+      placed = λ h report has p.
+          kept report (has-as report at (sym (again h)) has) (R .placed h report (has-as report at (ap (shown seen alone) (D .same)) has) p);
     }

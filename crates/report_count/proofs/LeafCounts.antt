@@ -36,6 +36,7 @@ module _ (s s′ : List ℕ) (text : Bytes) (x : Setting) (facts : ℕ) (seen : 
         changed = T .0;
         readable = T .1;
         counting = rw e (T .2);
+        placed = λ whole p. rw e (T .4 whole p);
         size = rw e (omega (arith, size, is-digits));
         few = rw e (omega (arith, variable-few seen writer n));
       }
@@ -51,6 +52,7 @@ module _ (s s′ : List ℕ) (text : Bytes) (x : Setting) (facts : ℕ) (seen : 
         changed = T .0;
         readable = T .1;
         counting = rw e (T .2);
+        placed = λ whole p. rw e (T .4 whole p);
         size = rw e (omega (arith, size, one, is-digits));
         few = rw e (omega (arith, variable-few seen reader n));
       }
@@ -64,6 +66,7 @@ constant-counted s text x facts seen t c bs r R C e w q =
       changed = changed-none s x facts;
       readable = R;
       counting = rw same C;
+      placed = λ whole p. rw same p;
       size = q ∙ sym (ap (λ (u : Term). length (written (seen-after seen (full (x .values) t)) alone u)) e ∙ ap length (w (seen-after seen (full (x .values) t))));
       few = omega (arith, ap length same);
     }

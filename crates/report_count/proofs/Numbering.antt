@@ -17,7 +17,7 @@ use Rattle.meaning.specs.Report.{alone, number-in}
 use Rattle.term.specs.Setting.{Setting}
 use Rattle.term.specs.Layout.{trial-region, pair-facts}
 use Rattle.report_pairs.specs.Threaded.{full, seen-after, shown}
-use Rattle.report_pairs.specs.Facts.{fact-place, number-seen, Readable, Changed, Counting, LengthAt}
+use Rattle.report_pairs.specs.Facts.{fact-place, number-seen, Readable, Changed, Counting, LengthAt, PlaceAt, Placed}
 use Rattle.report_pairs.proofs.Once.{among-append, seen-after-known, seen-after-new, number-known, number-new, number-in-more, number-in-new}
 use Rattle.report_pairs.proofs.Again.{seen-still, shown-still}
 use Rattle.report_pairs.proofs.Chains.{fact-inside}
@@ -53,13 +53,14 @@ unseen-by n seen k e z = go (among n seen) refl e
 abbrev pub Told : List ℕ → List ℕ → Bytes → Setting → ℕ → List ℕ → ℕ → Half → ℕ → Type 0
 Told s s′ text x facts seen n h r = Changed s s′ x facts × Readable s′ text x facts × Counting s′ x facts (seen-after seen (Term.variable h n))
     × (r ≡ number-in n (seen-after seen (Term.variable h n)))
+    × ((whole : Bytes) → Placed s x facts seen whole → Placed s′ x facts (seen-after seen (Term.variable h n)) whole)
 
 pub number-had : (s : List ℕ) (text : Bytes) (x : Setting) (facts : ℕ) (seen : List ℕ) (n p k : ℕ) → Readable s text x facts → Counting s x facts seen
     → n < length (x .values) → p ≡ x .places .pair n → k ≡ getD s (facts + pair-facts * p + 2) 0 → k ≢ 0 → (h : Half) → Told s s text x facts seen n h k
 number-had s text x facts seen n p k r c b q e d h =
     let place : facts + pair-facts * p + 2 ≡ fact-place x facts n + 2 = omega arith in
     let S = seen-by n seen k (e ∙ ap (λ (m : ℕ). getD s m 0) place ∙ c .numbers n b) d in
-    (changed-none s x facts, r, rw (seen-after-known seen h n (S .0)) c, S .1 ∙ sym (number-known seen h n (S .0)))
+    (changed-none s x facts, r, rw (seen-after-known seen h n (S .0)) c, S .1 ∙ sym (number-known seen h n (S .0)), λ whole p. rw (seen-after-known seen h n (S .0)) p)
 
 module _ (s : List ℕ) (text : Bytes) (x : Setting) (facts : ℕ) (r : Readable s text x facts) (seen : List ℕ) (c : Counting s x facts seen)
     (n : ℕ) (b : n < length (x .values)) (new : among n seen ≡ false) where
@@ -124,8 +125,21 @@ module _ (s : List ℕ) (text : Bytes) (x : Setting) (facts : ℕ) (r : Readable
           other (fact-place x facts m + 2) (λ z. omega (arith, r .behind)) (λ z. eqb-false m n q (r .apart m n h b (omega arith)))
           ∙ c .numbers m h ∙ number-other m (eqb-false m n q)
 
+  places-on : (whole : Bytes) (m : ℕ) (v : Option Term) → getD s₂ (fact-place x facts m + 1) 0 ≡ getD s (fact-place x facts m + 1) 0
+      → getD s₂ (fact-place x facts m + 3) 0 ≡ getD s (fact-place x facts m + 3) 0
+      → LengthAt s x facts seen m v → PlaceAt s x facts seen whole m v → PlaceAt s₂ x facts (seen ++ (n ∷ [])) whole m v
+  places-on whole m none q f l a = tt
+  places-on whole m (some u) q f l a = λ d.
+      let there : getD s (fact-place x facts m + 1) 0 ≢ 0 = λ z. d (q ∙ z) in
+      rw (f, shown-still seen (n ∷ []) alone (full (x .values) u) (l there .0)) (a there)
+
+  new-placed : (whole : Bytes) → Placed s x facts seen whole → Placed s₂ x facts (seen ++ (n ∷ [])) whole
+  new-placed whole p m h = places-on whole m (value (x .values) m)
+      (other (fact-place x facts m + 1) (λ z. omega (arith, r .behind)) (λ z. omega arith))
+      (other (fact-place x facts m + 3) (λ z. omega (arith, r .behind)) (λ z. omega arith)) (c .lengths m h) (p m h)
+
   pub number-given : (h : Half) → Told s s₂ text x facts seen n h next
-  number-given h = (new-changed, new-readable, rw (after-is h) new-counting, sym (number-new seen h n new))
+  number-given h = (new-changed, new-readable, rw (after-is h) new-counting, sym (number-new seen h n new), λ whole p. rw (after-is h) (new-placed whole p))
 
 pub number-missing : (s : List ℕ) (x : Setting) (facts : ℕ) (seen : List ℕ) (n p k : ℕ) → Counting s x facts seen → n < length (x .values)
     → p ≡ x .places .pair n → k ≡ getD s (facts + pair-facts * p + 2) 0 → k ≡ 0 → among n seen ≡ false

@@ -11,8 +11,8 @@ use Rattle.meaning.specs.State.{value}
 use Rattle.meaning.specs.Report.{alone}
 use Rattle.term.specs.Setting.{Setting}
 use Rattle.report_pairs.specs.Threaded.{full, seen-after, shown}
-use Rattle.report_pairs.specs.Laid.{capped}
-use Rattle.report_pairs.specs.Facts.{Readable, Counting, Changed}
+use Rattle.report_pairs.specs.Laid.{capped, Has}
+use Rattle.report_pairs.specs.Facts.{Readable, Counting, Placed, Changed}
 use Rattle.report_pairs.specs.Walk.{StandsAt}
 
 -- The scratch where a section is counted, so many bytes behind.
@@ -22,20 +22,22 @@ pub record Counts (s : List ℕ) (text : Bytes) (x : Setting) (facts : ℕ) (see
   pub low : at ≤ 16777217
   pub few : length seen ≤ at
 
--- So many bytes, of which these pairs are the section's, were counted up to r.
-pub record Counted (s s′ : List ℕ) (text : Bytes) (x : Setting) (facts at size : ℕ) (seen : List ℕ) (r : ℕ) : Type 0 where
+-- Bytes from a place on, before which some pairs were seen, and after which these, were counted up to r. In a whole that has them there, the places kept
+-- are right afterwards if they were before.
+pub record Counted (s s′ : List ℕ) (text : Bytes) (x : Setting) (facts at : ℕ) (from : List ℕ) (bs : Bytes) (seen : List ℕ) (r : ℕ) : Type 0 where
   pub changed : Changed s s′ x facts
   pub readable : Readable s′ text x facts
   pub after : List ℕ
   pub counting : Counting s′ x facts after
   pub few : length after ≤ r
-  pub place : r ≡ capped (at + size)
+  pub place : r ≡ capped (at + length bs)
   pub exact : r < 16777217 → after ≡ seen
+  pub placed : r < 16777217 → (whole : Bytes) → Has whole at bs → Placed s x facts from whole → Placed s′ x facts after whole
 
 -- A term counted.
 abbrev pub CountedTerm : List ℕ → List ℕ → Bytes → Setting → ℕ → List ℕ → Term → ℕ → ℕ → Type 0
 CountedTerm s s′ text x facts seen t at r =
-    Counted s s′ text x facts at (length (shown seen alone (full (x .values) t))) (seen-after seen (full (x .values) t)) r
+    Counted s s′ text x facts at seen (shown seen alone (full (x .values) t)) (seen-after seen (full (x .values) t)) r
 
 -- A term leads to a compound at this place, with the same values applied.
 pub record LeadsTo (s : List ℕ) (x : Setting) (t : Term) (place : ℕ) : Type 0 where
@@ -50,6 +52,7 @@ pub record LeafCounted (s s′ : List ℕ) (text : Bytes) (x : Setting) (facts :
   pub changed : Changed s s′ x facts
   pub readable : Readable s′ text x facts
   pub counting : Counting s′ x facts (seen-after seen (full (x .values) t))
+  pub placed : (whole : Bytes) → Placed s x facts seen whole → Placed s′ x facts (seen-after seen (full (x .values) t)) whole
   pub size : r ≡ length (shown seen alone (full (x .values) t))
   pub few : length (seen-after seen (full (x .values) t)) ≤ length seen + min r 1
 

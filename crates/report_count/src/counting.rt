@@ -1,5 +1,5 @@
 // The length of a term written out with every assignment applied, and the numbers of its unassigned pairs: the pair's four words have the length of
-// its value where it was counted in the section, and its number. The section's numbers given so far stand in the trial's first word.
+// its value where it was counted in the section, where it begins there, and its number. The section's numbers given so far stand in the trial's first word.
 use report_pairs::cells::Next;
 use report_pairs::cells::behind;
 use report_pairs::cells::functor;
@@ -28,9 +28,9 @@ ghost use Rattle.term.specs.Cells.{bits};
 ghost use Rattle.term.specs.Words.{view, tag-in, rest-in};
 ghost use Rattle.term.specs.Setting.{Setting, RangedInteger};
 ghost use Rattle.report_pairs.specs.Threaded.{full, seen-after, shown};
-ghost use Rattle.report_pairs.specs.Facts.{Readable, Shows, Led, Counting, Changed};
+ghost use Rattle.report_pairs.specs.Facts.{Readable, Shows, Led, Counting, Placed, Changed};
 ghost use Rattle.report_count.specs.Counts.{Counts, CountedTerm, LeadsTo, LeafCounted, LengthKnown, Known-now};
-ghost use Rattle.report_pairs.specs.Laid.{capped};
+ghost use Rattle.report_pairs.specs.Laid.{capped, Has};
 ghost use Rattle.report_pairs.specs.Walk.{opening-bytes, Opens, StandsAt};
 ghost use Rattle.report_pairs.specs.Pairs.{NoCompound};
 
@@ -41,7 +41,8 @@ fn number(s: &mut [u64], facts: usize, p: usize) -> u64
     ensures { λ r. ⌜ ((text : Bytes) (x : Setting) (seen : List ℕ) (n : ℕ) → Readable (now (s .entry)) text x facts → Counting (now (s .entry)) x facts seen
         → n < length (x .values) → value (x .values) n ≡ none → p ≡ x .places .pair n → (h : Half)
         → Changed (now (s .entry)) (now (s .exit)) x facts × Readable (now (s .exit)) text x facts × Counting (now (s .exit)) x facts (seen-after seen (Term.variable h n))
-        × (r ≡ number-in n (seen-after seen (Term.variable h n)))) ⌝ }
+        × (r ≡ number-in n (seen-after seen (Term.variable h n)))
+        × ((whole : Bytes) → Placed (now (s .entry)) x facts seen whole → Placed (now (s .exit)) x facts (seen-after seen (Term.variable h n)) whole)) ⌝ }
 {
     let k = fact(s, facts, p, 2);
     if k != 0 {
@@ -102,12 +103,13 @@ fn counted(s: &[u64], facts: usize, w: u64) -> usize
     index(fact(s, facts, p - 1, 1))
 }
 
-// The length of a variable's value is kept, if it stays below the ceiling.
+// The length of a variable's value and where it begins are kept, if it stays below the ceiling.
 fn keep(s: &mut [u64], facts: usize, w: u64, at: usize, to: usize)
     requires { ⌜ ((text : Bytes) × (x : Setting) × (t : Term) × Readable (now s) text x facts × Shows (now s) x t w × (at ≤ to)) ⌝ }
     ensures { λ r. ⌜ ((text : Bytes) (x : Setting) (seen : List ℕ) (t : Term) → Readable (now (s .entry)) text x facts → Counting (now (s .entry)) x facts seen
         → Shows (now (s .entry)) x t w → Known-now x facts seen t at to
-        → Changed (now (s .entry)) (now (s .exit)) x facts × Readable (now (s .exit)) text x facts × Counting (now (s .exit)) x facts seen) ⌝ }
+        → Changed (now (s .entry)) (now (s .exit)) x facts × Readable (now (s .exit)) text x facts × Counting (now (s .exit)) x facts seen
+        × ((whole : Bytes) → Has whole at (shown seen alone (full (x .values) t)) → Placed (now (s .entry)) x facts seen whole → Placed (now (s .exit)) x facts seen whole)) ⌝ }
 {
     if to == CEILING {
         return;
@@ -115,6 +117,7 @@ fn keep(s: &mut [u64], facts: usize, w: u64, at: usize, to: usize)
     let p = pair(w);
     if p != 0 {
         set_fact(s, facts, p - 1, 1, (to - at) as u64);
+        set_fact(s, facts, p - 1, 3, at as u64);
     }
 }
 

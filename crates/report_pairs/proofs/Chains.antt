@@ -27,7 +27,7 @@ use Rattle.report_pairs.specs.Pairs.{pair-seen}
 use Rattle.report_pairs.specs.Facts.{fact-place, Led, EndAt, Readable, Shows, To, LeadsOn, Changed, Leads, Counting, LengthAt}
 use Rattle.report_pairs.proofs.Full.{full-constant, full-compound, full-unassigned, full-assigned}
 use Rattle.report_pairs.proofs.Told.{seen, pair-told, no-pair-told, no-variable-value}
-use Rattle.report_pairs.proofs.Keeping.{changed-none, readable-kept, ends-kept, led-kept, unit-kept}
+use Rattle.report_pairs.proofs.Keeping.{changed-none, readable-kept, ends-kept, led-kept, unit-kept, placed-kept}
 
 some-none : (u : Term) → _≡_ {A = Option Term} (some u) none → ⊥
 some-none u e = let z : _≡_ {A = ℕ} 0 1 = cc in omega arith
@@ -174,7 +174,7 @@ unassigned-leads s x h n w e l =
 -- Kept for the next time.
 module _ (s : List ℕ) (text : Bytes) (x : Setting) (facts : ℕ) (r : Readable s text x facts) where
   pub lead-same : (t : Term) (w : ℕ) → Led s x t w → Leads s s text x facts t w
-  lead-same t w l = record { changed = changed-none s x facts; readable = r; counting = λ seen c. c; led = l }
+  lead-same t w l = record { changed = changed-none s x facts; readable = r; counting = λ seen c. c; placed = λ seen whole p. p; led = l }
 
   abbrev now : ℕ → ℕ → List ℕ
   now n e = set s (fact-place x facts n) e
@@ -237,6 +237,7 @@ module _ (s : List ℕ) (text : Bytes) (x : Setting) (facts : ℕ) (r : Readable
             changed = c;
             readable = readable-kept s (now n e) text x facts r c (now-end n e b (from h n b there (λ z. o (unassigned-leads s x h n e z l′ ∙ sym (k′ .word)))));
             counting = now-counting n e b;
+            placed = placed-kept s (now n e) x facts (λ m h. now-other n e (fact-place x facts m + 1) (λ z. omega arith)) (λ m h. now-other n e (fact-place x facts m + 3) (λ z. omega arith));
             led = there;
           })
         where

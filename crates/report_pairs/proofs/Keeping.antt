@@ -16,10 +16,23 @@ use Rattle.term.proofs.Holds.{holds-alike, holds-from-alike, holds-values-alike
 use Rattle.term.proofs.Spellings.{holds-spellings-kept}
 use Rattle.term.proofs.Units.{within-every}
 use Rattle.term.specs.Layout.{trial-region, pairs-told}
-use Rattle.report_pairs.specs.Facts.{fact-place, Led, EndAt, Readable, Shows, Changed, Counting, LengthAt}
+use Rattle.report_pairs.specs.Facts.{fact-place, Led, EndAt, Readable, Shows, Changed, PlaceAt, Placed}
 
 pub changed-none : (s : List ℕ) (x : Setting) (facts : ℕ) → Changed s s x facts
 changed-none s x facts = record { size = refl; others = λ k a b. refl }
+
+-- The places of pairs whose lengths and places stay.
+pub place-kept : (s s′ : List ℕ) (x : Setting) (facts : ℕ) (seen : List ℕ) (whole : Bytes) (n : ℕ) (v : Option Term)
+    → getD s′ (fact-place x facts n + 1) 0 ≡ getD s (fact-place x facts n + 1) 0 → getD s′ (fact-place x facts n + 3) 0 ≡ getD s (fact-place x facts n + 3) 0
+    → PlaceAt s x facts seen whole n v → PlaceAt s′ x facts seen whole n v
+place-kept s s′ x facts seen whole n none e f a = tt
+place-kept s s′ x facts seen whole n (some u) e f a = λ d. rw f (a (λ z. d (e ∙ z)))
+
+pub placed-kept : (s s′ : List ℕ) (x : Setting) (facts : ℕ)
+    → ((n : ℕ) → n < length (x .values) → getD s′ (fact-place x facts n + 1) 0 ≡ getD s (fact-place x facts n + 1) 0)
+    → ((n : ℕ) → n < length (x .values) → getD s′ (fact-place x facts n + 3) 0 ≡ getD s (fact-place x facts n + 3) 0)
+    → (seen : List ℕ) (whole : Bytes) → Placed s x facts seen whole → Placed s′ x facts seen whole
+placed-kept s s′ x facts e f seen whole p n h = place-kept s s′ x facts seen whole n (value (x .values) n) (e n h) (f n h) (p n h)
 
 pub changed-then : (s t u : List ℕ) (x : Setting) (facts : ℕ) → Changed s t x facts → Changed t u x facts → Changed s u x facts
 changed-then s t u x facts a b = record { size = b .size ∙ a .size; others = λ k d e. b .others k d e ∙ a .others k d e }
@@ -27,10 +40,11 @@ changed-then s t u x facts a b = record { size = b .size ∙ a .size; others = �
 module _ (s s′ : List ℕ) (text : Bytes) (x : Setting) (facts : ℕ) (r : Readable s text x facts) (c : Changed s s′ x facts) where
   -- The words below the trial's region, the compounds' words, the values' words.
   pub before-kept : (k : ℕ) → k < trial-region → getD s′ k 0 ≡ getD s k 0
-  before-kept k h = c .others k (λ e. omega arith) (λ n l. (λ e. omega (arith, r .behind), λ e. omega (arith, r .behind), λ e. omega (arith, r .behind)))
+  before-kept k h = c .others k (λ e. omega arith)
+      (λ n l. (λ e. omega (arith, r .behind), λ e. omega (arith, r .behind), λ e. omega (arith, r .behind), λ e. omega (arith, r .behind)))
 
   pub front-kept : (k : ℕ) → pairs-told ≤ k → k < facts → getD s′ k 0 ≡ getD s k 0
-  front-kept k l h = c .others k (λ e. omega arith) (λ n b. (λ e. omega arith, λ e. omega arith, λ e. omega arith))
+  front-kept k l h = c .others k (λ e. omega arith) (λ n b. (λ e. omega arith, λ e. omega arith, λ e. omega arith, λ e. omega arith))
 
   compound-kept : (n : ℕ) → n < x .compounds → (k : ℕ) → x .places .compound n ≤ k → k < x .places .compound n + x .places .width n → getD s′ k 0 ≡ getD s k 0
   compound-kept n h k l b = front-kept k (omega (arith, r .compound-behind n h)) (omega (arith, r .compound-before n h))

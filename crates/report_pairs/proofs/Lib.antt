@@ -4,6 +4,7 @@ pub mod Chains
 pub mod Decimals
 pub mod Forgetting
 pub mod Full
+pub mod Having
 pub mod Keeping
 pub mod Laid
 pub mod Leaves

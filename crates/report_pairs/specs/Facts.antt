@@ -1,5 +1,5 @@
 -- What the report keeps of each pair, four words a pair from a place on: the word of the end of its chain, or 0; the length of its value where it was
--- counted in the section, or 0; its number in the section, or 0; the fourth word is not used. The trial's first word
+-- counted in the section, or 0; its number in the section, or 0; where its value begins in the report, if its length is kept. The trial's first word
 -- has how many numbers were given.
 use Prim.Native.Nat.{ℕ, _+_, _-_, _*_, _≤_, _<_}
 use mathlib.Core.Path.{_≡_}
@@ -21,6 +21,7 @@ use Rattle.term.specs.Setting.{Setting, UnitTerm, UnitStands}
 use Rattle.term.specs.Spellings.{HoldsSpellings}
 use Rattle.term.specs.Layout.{trial-region, compounds-region, pairs-told, pair-facts}
 use Rattle.report_pairs.specs.Threaded.{full, seen-after, shown}
+use Rattle.report_pairs.specs.Laid.{Has}
 use Rattle.report_pairs.specs.Sound.{Sound, SoundValues}
 
 abbrev pub fact-place : Setting → ℕ → ℕ → ℕ
@@ -91,11 +92,20 @@ pub record Counting (s : List ℕ) (x : Setting) (facts : ℕ) (seen : List ℕ)
   pub numbers : (n : ℕ) → n < length (x .values) → getD s (fact-place x facts n + 2) 0 ≡ number-seen n seen
   pub lengths : (n : ℕ) → n < length (x .values) → LengthAt s x facts seen n (value (x .values) n)
 
+-- A whole has the value of a pair whose length is kept from the place on that is kept of it.
+abbrev pub PlaceAt : List ℕ → Setting → ℕ → List ℕ → Bytes → ℕ → Option Term → Type 0
+PlaceAt s x facts seen whole n none = Unit {0}
+PlaceAt s x facts seen whole n (some u) = getD s (fact-place x facts n + 1) 0 ≢ 0 → Has whole (getD s (fact-place x facts n + 3) 0) (shown seen alone (full (x .values) u))
+
+abbrev pub Placed : List ℕ → Setting → ℕ → List ℕ → Bytes → Type 0
+Placed s x facts seen whole = (n : ℕ) → n < length (x .values) → PlaceAt s x facts seen whole n (value (x .values) n)
+
 -- Only what is kept of the unit's pairs has changed, and how many numbers were given.
 pub record Changed (s s′ : List ℕ) (x : Setting) (facts : ℕ) : Type 0 where
   pub size : length s′ ≡ length s
   pub others : (k : ℕ) → k ≢ trial-region
-      → ((n : ℕ) → n < length (x .values) → (k ≢ fact-place x facts n) × (k ≢ fact-place x facts n + 1) × (k ≢ fact-place x facts n + 2))
+      → ((n : ℕ) → n < length (x .values)
+      → (k ≢ fact-place x facts n) × (k ≢ fact-place x facts n + 1) × (k ≢ fact-place x facts n + 2) × (k ≢ fact-place x facts n + 3))
       → getD s′ k 0 ≡ getD s k 0
 
 -- A term led to its end, which is kept.
@@ -103,6 +113,7 @@ pub record Leads (s s′ : List ℕ) (text : Bytes) (x : Setting) (facts : ℕ) 
   pub changed : Changed s s′ x facts
   pub readable : Readable s′ text x facts
   pub counting : (seen : List ℕ) → Counting s x facts seen → Counting s′ x facts seen
+  pub placed : (seen : List ℕ) (whole : Bytes) → Placed s x facts seen whole → Placed s′ x facts seen whole
   pub led : Led s′ x t r
 
 -- So many pairs have nothing kept: all four words of each are 0.

@@ -1,8 +1,8 @@
 -- Bytes put one behind the other into the buffer, and lengths up to the ceiling.
-use Prim.Native.Nat.{ℕ, _+_, min}
+use Prim.Native.Nat.{ℕ, _+_, _<_, min}
 use mathlib.Core.Path.{_≡_}
 use mathlib.Core.List.{List, [], _∷_}
-use lib.ListN.{length, set}
+use lib.ListN.{length, getD, set}
 use Rattle.meaning.specs.Bytes.{Bytes}
 
 -- "The smaller of its length and 16,777,217".
@@ -17,3 +17,7 @@ laid buffer at (b ∷ bs) = laid (set buffer at b) (at + 1) bs
 pub record Puts (before after : List ℕ) (at to : ℕ) (bs : Bytes) : Type 0 where
   pub place : to ≡ at + length bs
   pub laid-there : after ≡ laid before at bs
+
+-- These bytes stand in others from a place on.
+abbrev pub Has : Bytes → ℕ → Bytes → Type 0
+Has whole at bs = (k : ℕ) → k < length bs → getD whole (at + k) 0 ≡ getD bs k 0

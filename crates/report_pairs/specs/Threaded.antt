@@ -80,16 +80,7 @@ shown-groups query part =
     ++ (shown-goals values seen₁ (bytes "active ") active
     ++ (shown-goals values seen₂ (bytes "waiting ") waiting ++ shown-goals values seen₃ (bytes "failed ") (part .goals .failed)))
 
--- How long the lines of a section are behind its header, and what was seen after them.
-unfoldable pub lines-length : Values → List Bytes → List Goal → List Goal → List Goal → ℕ
-lines-length values xs actives ws fs =
-    let seen₁ = seen-after-values values [] 0 xs in
-    let seen₂ = seen-after-goals values seen₁ actives in
-    let seen₃ = seen-after-goals values seen₂ ws in
-    length (shown-values values [] 0 xs)
-    + (length (shown-goals values seen₁ (bytes "active ") actives)
-    + (length (shown-goals values seen₂ (bytes "waiting ") ws) + length (shown-goals values seen₃ (bytes "failed ") fs)))
-
+-- What was seen after the lines of a section.
 unfoldable pub lines-seen : Values → List Bytes → List Goal → List Goal → List Goal → List ℕ
 lines-seen values xs actives ws fs =
     seen-after-goals values (seen-after-goals values (seen-after-goals values (seen-after-values values [] 0 xs) actives) ws) fs

@@ -1,5 +1,5 @@
 // What the report keeps of each pair of the run, in four words a pair behind the values: the end of the chain of values that begins with it, the
-// length of its value where it was counted in the section, its number in the section; the fourth word is not used.
+// length of its value where it was counted in the section, its number in the section, and where its value begins in the report, if its length is kept.
 use term::layout::PAIR_FACTS;
 use term::layout::TRIAL;
 use term::word::View;
@@ -31,7 +31,7 @@ pub fn set_fact(s: &mut [u64], facts: usize, p: usize, i: usize, w: u64)
     s[facts + PAIR_FACTS * p + i] = w;
 }
 
-// No pair has an end, a length or a number. All four words are set, which the compiler does as one block.
+// No pair has an end, a length, a number or a place. All four words are set, which the compiler does as one block.
 pub fn forget(s: &mut [u64], facts: usize, pairs: usize)
     requires { ⌜ facts + pair-facts * pairs ≤ length (now s) ⌝ }
     ensures { λ r. ⌜ Cleared (now (s .entry)) (now (s .exit)) facts pairs ⌝ }

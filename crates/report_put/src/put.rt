@@ -5,8 +5,8 @@ ghost use mathlib.Core.List.{[], _∷_};
 ghost use Prim.Native.Nat.{_+_, _≤_, _<_, _%_};
 ghost use lib.ListN.{length, set};
 ghost use lib.Seq.{slice};
-ghost use Rattle.meaning.specs.Bytes.{decimal as in-decimal};
-ghost use Rattle.report_pairs.specs.Laid.{Puts};
+ghost use Rattle.meaning.specs.Bytes.{Bytes, decimal as in-decimal};
+ghost use Rattle.report_pairs.specs.Laid.{Puts, Has};
 
 // One byte.
 pub fn put(buffer: &mut [u8], at: usize, b: u8) -> usize
@@ -29,6 +29,19 @@ pub fn words(buffer: &mut [u8], at: usize, bytes: &[u8]) -> usize
         i += 1;
     }
     to
+}
+
+// So many bytes that stand in the buffer before this place, from one on, are put again.
+pub fn again(buffer: &mut [u8], at: usize, from: usize, n: usize) -> usize
+    requires { ⌜ (at + n ≤ length (now buffer)) × (from + n ≤ at) ⌝ }
+    ensures { λ r. ⌜ ((bs : Bytes) → n ≡ length bs → Has (now (buffer .entry)) from bs → Puts (now (buffer .entry)) (now (buffer .exit)) at r bs) ⌝ }
+{
+    let mut i = 0;
+    while i < n {
+        buffer[at + i] = buffer[from + i];
+        i += 1;
+    }
+    at + n
 }
 
 // So many bytes of the text from one on.

@@ -80,7 +80,7 @@ pub record Progress (s₀ s : List ℕ) (text : Bytes) (x : Setting) (facts at :
   pub left : List Goal
   pub split : gs ≡ done ++ left
   pub words : own-from s₀ g q i (g .count - i) ≡ map (word-of x q) left
-  pub counted : Counted s₀ s text x facts at (length (shown-goals (x .values) seen word done)) (seen-after-goals (x .values) seen done) to
+  pub counted : Counted s₀ s text x facts at seen (shown-goals (x .values) seen word done) (seen-after-goals (x .values) seen done) to
 
 -- The goal that is left first.
 pub first-fits : (done : List Goal) (h : Goal) (left : List Goal) → Each (λ g. OriginFits (g .origin)) (done ++ (h ∷ left)) → OriginFits (h .origin)
@@ -97,7 +97,7 @@ pub record Next (s₀ s : List ℕ) (text : Bytes) (x : Setting) (facts at : ℕ
   pub left : List Goal
   pub split : gs ≡ done ++ (goal-is ∷ left)
   pub words : own-from s₀ g q (i + 1) (g .count - (i + 1)) ≡ map (word-of x q) left
-  pub counted : Counted s₀ s text x facts at (length (shown-goals (x .values) seen word done)) (seen-after-goals (x .values) seen done) to
+  pub counted : Counted s₀ s text x facts at seen (shown-goals (x .values) seen word done) (seen-after-goals (x .values) seen done) to
   pub shows : Shows s x (as-term (goal-is .goal)) (compound-word (place-in goal))
   pub origin : origin-of goal ≡ origin-bytes (goal-is .origin)
 
@@ -126,14 +126,14 @@ module _ (s₀ s : List ℕ) (text : Bytes) (x : Setting) (facts at : ℕ) (seen
       }
 
   pub progress-end : (to i : ℕ) → g .count ≤ i → Progress s₀ s text x facts at seen g q gs word to i
-      → Counted s₀ s text x facts at (length (shown-goals (x .values) seen word gs)) (seen-after-goals (x .values) seen gs) to
+      → Counted s₀ s text x facts at seen (shown-goals (x .values) seen word gs) (seen-after-goals (x .values) seen gs) to
   progress-end to i h p = go (p .left) (p .split) (sym (p .words) ∙ own-end s₀ g q i (g .count) h)
     where
       go : (left : List Goal) → gs ≡ p .done ++ left → map (word-of x q) left ≡ []
-          → Counted s₀ s text x facts at (length (shown-goals (x .values) seen word gs)) (seen-after-goals (x .values) seen gs) to
+          → Counted s₀ s text x facts at seen (shown-goals (x .values) seen word gs) (seen-after-goals (x .values) seen gs) to
       go [] e f =
           let same : p .done ≡ gs = sym (e ∙ append-nil (p .done)) in
-          counted-as s₀ s text x facts at _ _ _ _ to (ap (λ (l : List Goal). length (shown-goals (x .values) seen word l)) same)
+          counted-as s₀ s text x facts at seen _ _ _ _ to (ap (shown-goals (x .values) seen word) same)
           (ap (seen-after-goals (x .values) seen) same) (p .counted)
       go (a ∷ left) e f = let z : _≡_ {A = ℕ} 0 1 = cc in absurd (omega arith)
 
@@ -171,17 +171,16 @@ module _ (values : Values) (seen : List ℕ) (word : Bytes) (done : List Goal) (
   abbrev seen-done : List ℕ
   seen-done = seen-after-goals values seen done
 
-  last-line : (l : List ℕ) → length (shown-goals values l word (a ∷ []))
-      ≡ length word + (length (shown l alone (full values (as-term (a .goal)))) + (length (origin-bytes (a .origin)) + 1))
-  unfolding shown-goals bytes
-  last-line l = simp (length-append, append-nil) (omega arith)
+  abbrev pub line : List ℕ → Bytes
+  line l = word ++ (shown l alone (full values (as-term (a .goal))) ++ (origin-bytes (a .origin) ++ bytes "\n"))
 
-  pub goals-size : length (shown-goals values seen word (done ++ (a ∷ [])))
-      ≡ length (shown-goals values seen word done) + (length word + (length (shown seen-done alone (full values (as-term (a .goal)))) + (length (origin-bytes (a .origin)) + 1)))
-  goals-size =
-      ap length (shown-goals-append values word done (a ∷ []) seen)
-      ∙ length-append (shown-goals values seen word done) (shown-goals values seen-done word (a ∷ []))
-      ∙ ap (λ (n : ℕ). length (shown-goals values seen word done) + n) (last-line seen-done)
+  last-line : (l : List ℕ) → shown-goals values l word (a ∷ []) ≡ line l
+  unfolding shown-goals
+  last-line l = append-nil (line l)
+
+  pub goals-bytes : shown-goals values seen word (done ++ (a ∷ [])) ≡ shown-goals values seen word done ++ line seen-done
+  goals-bytes =
+      shown-goals-append values word done (a ∷ []) seen ∙ ap (_++_ (shown-goals values seen word done)) (last-line seen-done)
 
   last-seen : (l : List ℕ) → seen-after-goals values l (a ∷ []) ≡ seen-after l (full values (as-term (a .goal)))
   unfolding seen-after-goals
@@ -192,8 +191,8 @@ module _ (values : Values) (seen : List ℕ) (word : Bytes) (done : List Goal) (
 
 pub progress-taken : (s₀ s s′ : List ℕ) (text : Bytes) (x : Setting) (facts at : ℕ) (seen : List ℕ) (g : Group) (q : ℕ) (gs : List Goal) (word : Bytes) (to i goal r : ℕ)
     → (n : Next s₀ s text x facts at seen g q gs word to i goal)
-    → Counted s s′ text x facts to
-    (length word + (length (shown (n .counted .after) alone (full (x .values) (as-term (n .goal-is .goal)))) + (length (origin-bytes (n .goal-is .origin)) + 1)))
+    → Counted s s′ text x facts to (n .counted .after)
+    (word ++ (shown (n .counted .after) alone (full (x .values) (as-term (n .goal-is .goal))) ++ (origin-bytes (n .goal-is .origin) ++ bytes "\n")))
     (seen-after (n .counted .after) (full (x .values) (as-term (n .goal-is .goal)))) r
     → Progress s₀ s′ text x facts at seen g q gs word r (i + 1)
 progress-taken s₀ s s′ text x facts at seen g q gs word to i goal r n d =
@@ -203,10 +202,10 @@ progress-taken s₀ s s′ text x facts at seen g q gs word to i goal r n d =
       split = n .split ∙ sym (append-assoc (n .done) (n .goal-is ∷ []) (n .left));
       words = n .words;
       counted =
-          counted-as s₀ s′ text x facts at _ _ _ _ r (sym (goals-size (x .values) seen word (n .done) (n .goal-is)))
+          counted-as s₀ s′ text x facts at seen _ _ _ _ r (sym (goals-bytes (x .values) seen word (n .done) (n .goal-is)))
           (sym (goals-seen-more (x .values) seen word (n .done) (n .goal-is)))
-          (counted-then s₀ s s′ text x facts at _ _ to r
-          (λ l. length word + (length (shown l alone (full (x .values) (as-term (n .goal-is .goal)))) + (length (origin-bytes (n .goal-is .origin)) + 1)))
+          (counted-then s₀ s s′ text x facts at seen _ _ to r
+          (λ l. word ++ (shown l alone (full (x .values) (as-term (n .goal-is .goal))) ++ (origin-bytes (n .goal-is .origin) ++ bytes "\n")))
           (λ l. seen-after l (full (x .values) (as-term (n .goal-is .goal)))) (n .counted) d);
     }
 
@@ -221,7 +220,7 @@ goal-asks s₀ s text x facts at seen g q gs word to i h c l p = go (own q (goal
     same = goal-kept s₀ s text x facts g i (c .readable) (p .counted .changed) (l .behind)
 
     ready : Counts s text x facts (p .counted .after) to
-    ready = counts-on s₀ s text x facts at _ _ to (p .counted)
+    ready = counts-on s₀ s text x facts at seen _ _ to (p .counted)
 
     inside : GroupInside s g
     inside = inside-kept s₀ s x facts g (p .counted .changed) (l .inside)
@@ -238,8 +237,8 @@ goal-asks s₀ s text x facts at seen g q gs word to i h c l p = go (own q (goal
 pub goal-told : (s₀ s s′ : List ℕ) (text : Bytes) (x : Setting) (facts at : ℕ) (seen : List ℕ) (g : Group) (q : ℕ) (gs : List Goal) (word : Bytes) (label to i r : ℕ) → i < g .count
     → Counts s₀ text x facts seen at → Listed s₀ x facts g q gs → label ≡ length word → Progress s₀ s text x facts at seen g q gs word to i
     → (own q (goal-in s g i) ≡ false → (r ≡ to) × (s′ ≡ s))
-    → ((seen′ : List ℕ) (t : Term) → own q (goal-in s g i) ≡ true → Counts s text x facts seen′ to → Shows s x t (compound-word (place-in (goal-in s g i)))
-    → Counted s s′ text x facts to (label + (length (shown seen′ alone (full (x .values) t)) + (length (origin-of (goal-in s g i)) + 1)))
+    → ((seen′ : List ℕ) (t : Term) (word : Bytes) → own q (goal-in s g i) ≡ true → Counts s text x facts seen′ to → Shows s x t (compound-word (place-in (goal-in s g i)))
+    → label ≡ length word → Counted s s′ text x facts to seen′ (word ++ (shown seen′ alone (full (x .values) t) ++ (origin-of (goal-in s g i) ++ bytes "\n")))
     (seen-after seen′ (full (x .values) t)) r)
     → Progress s₀ s′ text x facts at seen g q gs word r (i + 1)
 goal-told s₀ s s′ text x facts at seen g q gs word label to i r h c l e p out into = go (own q (goal-in s g i)) refl
@@ -250,8 +249,8 @@ goal-told s₀ s s′ text x facts at seen g q gs word label to i r h c l e p ou
     go : (b : Bool) → own q (goal-in s g i) ≡ b → Progress s₀ s′ text x facts at seen g q gs word r (i + 1)
     go true f =
         let n = progress-next s₀ s text x facts at seen g q gs word to i (goal-in s g i) h (c .readable) l same (ap (own q) (sym same) ∙ f) p in
-        let d = into (n .counted .after) (as-term (n .goal-is .goal)) f (counts-on s₀ s text x facts at _ _ to (n .counted)) (n .shows) in
-        progress-taken s₀ s s′ text x facts at seen g q gs word to i (goal-in s g i) r n (rw (e, n .origin) at d)
+        let d = into (n .counted .after) (as-term (n .goal-is .goal)) word f (counts-on s₀ s text x facts at seen _ _ to (n .counted)) (n .shows) e in
+        progress-taken s₀ s s′ text x facts at seen g q gs word to i (goal-in s g i) r n (rw (n .origin) at d)
     go false f =
         let (a, b) = out f in
         rw (a, b) (progress-skip s₀ s text x facts at seen g q gs word to i h (ap (own q) (sym same) ∙ f) p)

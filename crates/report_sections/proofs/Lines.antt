@@ -3,7 +3,7 @@ use Prim.Native.Nat.{ℕ, zero, suc, _+_}
 use mathlib.Core.Path.{_≡_, refl, sym, ap, ap₂, _∙_}
 use mathlib.Core.List.{List, [], _∷_, _++_, map, append-assoc, append-nil}
 use native.Mathlib.Omega.{arith}
-use lib.ListN.{length, length-append}
+use lib.ListN.{length}
 use Rattle.meaning.specs.Bytes.{Bytes, bytes, joined}
 use Rattle.meaning.specs.Terms.{writer, Term, variable, Query, as-term}
 use Rattle.meaning.specs.State.{Values, Goal, Part}
@@ -35,7 +35,6 @@ use Rattle.report_pairs.specs.Threaded.{
   shown-goals,
   seen-after-goals,
   shown-groups,
-  lines-length,
 }
 use Rattle.report_pairs.proofs.Once.{seen-after-lines-keeps, unassigned-pairs-seen}
 use Rattle.report_pairs.proofs.Settled.{settled-in}
@@ -212,10 +211,3 @@ seen-after-values-append values (x ∷ xs) ys p seen =
     let next : suc p + length xs ≡ p + suc (length xs) = omega arith in
     seen-after-values-append values xs ys (suc p) (seen-after seen (full values (variable writer p)))
     ∙ ap (λ (n : ℕ). seen-after-values values (seen-after-values values (seen-after seen (full values (variable writer p))) (suc p) xs) n ys) next
-
--- The lines of a section are as long as they were counted.
-pub groups-length : (query : Query) (part : Part)
-    → length (shown-groups query part)
-    ≡ lines-length (part .unit .values) (query .variables) (part .goals .queue) (map (λ w. w .goal) (part .goals .waiting)) (part .goals .failed)
-unfolding shown-groups lines-length
-groups-length query part = simp length-append

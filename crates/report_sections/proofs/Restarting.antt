@@ -1,20 +1,23 @@
 -- A section is counted from no number given on: the counter is 0, and nothing is kept of its pairs' lengths and numbers.
 use Prim.Native.Nat.{ℕ, _+_, _≤_}
 use mathlib.Core.Path.{_≡_, refl, sym, ap, subst, _∙_}
-use mathlib.Core.List.{List, []}
+use mathlib.Core.List.{List, [], _++_}
 use mathlib.Core.Option.{Option, none, some}
 use native.Mathlib.Omega.{arith}
-use lib.ListN.{length, getD, set, length-set, length-append}
+use lib.ListN.{length, getD, set, length-set}
 use lib.Seq.{getD-set-same, getD-set-other}
 use Rattle.meaning.specs.Bytes.{Bytes, among, if_then_else_}
 use Rattle.meaning.specs.Terms.{Term}
 use Rattle.meaning.specs.State.{Room, Values, Goal, value}
+use Rattle.meaning.specs.Report.{alone, written}
 use Rattle.term.specs.Layout.{waiters-region, trial-region, compounds-region, query-tries-word}
 use Rattle.term.specs.Setting.{Setting}
 use Rattle.term.specs.declared.state.Standing.{Standing}
-use Rattle.report_pairs.specs.Threaded.{lines-length, lines-seen}
+use Rattle.report_pairs.specs.Threaded.{full, seen-after, shown, lines-seen}
 use Rattle.report_pairs.specs.Laid.{capped}
-use Rattle.report_pairs.specs.Facts.{fact-place, LengthAt, Readable, Counting, Changed}
+use Rattle.report_pairs.specs.Facts.{fact-place, LengthAt, Readable, Counting, PlaceAt, Placed, Changed}
+use Rattle.report_leaves.specs.Fits.{StoredAt, Stored}
+use Rattle.report_pairs.proofs.Having.{has-as}
 use Rattle.report_count.specs.Counts.{Counts, Counted}
 use Rattle.report_tallies.specs.Groups.{own-from, active-group, waiting-group, failed-group}
 use Rattle.report_tallies.specs.Header.{tallies-of, header-of}
@@ -50,11 +53,25 @@ tallies-same s s′ text x facts figures t q xs actives ws fs e a b =
     b .failed .words ∙ sym (a .failed .words) in
     rw (e, active, waiting, failed)
 
--- The length of a section.
-pub section-length : (s : List ℕ) (figures : Room) (t : Standing) (values : Values) (q : ℕ) (xs : List Bytes) (actives ws fs : List Goal)
-    → length (section-bytes s figures t values q xs actives ws fs) ≡ length (header-of q (tallies-of s figures q t)) + lines-length values xs actives ws fs
-unfolding section-bytes lines-shown lines-length
-section-length s figures t values q xs actives ws fs = simp length-append refl
+-- The bytes of a section by its counts.
+section-alike : (s s′ : List ℕ) (figures : Room) (t : Standing) (values : Values) (q : ℕ) (xs : List Bytes) (actives ws fs : List Goal)
+    → tallies-of s′ figures q t ≡ tallies-of s figures q t
+    → section-bytes s′ figures t values q xs actives ws fs ≡ section-bytes s figures t values q xs actives ws fs
+unfolding section-bytes
+section-alike s s′ figures t values q xs actives ws fs e = ap (λ c. header-of q c ++ lines-shown values xs actives ws fs) e
+
+-- Lengths and places that are kept of values whose pairs were all seen are those in the order.
+stored-at : (s : List ℕ) (x : Setting) (facts : ℕ) (order : List ℕ) (whole : Bytes) (n : ℕ) (v : Option Term) → LengthAt s x facts order n v
+    → PlaceAt s x facts order whole n v → StoredAt s x facts order whole n v
+unfolding shown
+stored-at s x facts order whole n none l p = l
+stored-at s x facts order whole n (some u) l p = λ d.
+    let all = ap (λ (o : List ℕ). written o alone (full (x .values) u)) (l d .0) in
+    (l d .1 ∙ ap length all, has-as whole _ all (p d))
+
+pub stored-all : (s : List ℕ) (x : Setting) (facts : ℕ) (order : List ℕ) (whole : Bytes) → Counting s x facts order → Placed s x facts order whole
+    → Stored s x facts order whole
+stored-all s x facts order whole c p n h = stored-at s x facts order whole n (value (x .values) n) (c .lengths n h) (p n h)
 
 -- The counter set to 0.
 module _ (s : List ℕ) (text : Bytes) (x : Setting) (figures : Room) (t : Standing) (q : ℕ) (xs : List Bytes) (actives ws fs : List Goal)
@@ -93,6 +110,13 @@ module _ (s : List ℕ) (text : Bytes) (x : Setting) (figures : Room) (t : Stand
         lengths = λ n h. no-length n (value (x .values) n) (fact-stays n 1 ∙ u .lengths n h);
       }
 
+  no-place : (whole : Bytes) (n : ℕ) (v : Option Term) → getD s₀ (fact-place x facts n + 1) 0 ≡ 0 → PlaceAt s₀ x facts [] whole n v
+  no-place whole n none e = tt
+  no-place whole n (some w) e = λ d. absurd (d e)
+
+  none-placed : (whole : Bytes) → Placed s₀ x facts [] whole
+  none-placed whole n h = no-place whole n (value (x .values) n) (fact-stays n 1 ∙ u .lengths n h)
+
   pub restarted : (at : ℕ) → at ≤ 16777217 → Counts s₀ text x facts [] at
   restarted at low = record { readable = readable₀; counting = counting₀; low = low; few = omega arith }
 
@@ -105,19 +129,19 @@ module _ (s : List ℕ) (text : Bytes) (x : Setting) (figures : Room) (t : Stand
       (getD-set-other s trial-region (query-tries-word q) 0 0 (λ e. omega (arith, st .here .variables .small))) (st .here) section-restarted
 
   pub section-told : (s′ : List ℕ) (at r : ℕ)
-      → Counted s₀ s′ text x facts at (length (header-of q (tallies-of s₀ figures q t)) + lines-length (x .values) xs actives ws fs)
+      → Counted s₀ s′ text x facts at [] (section-bytes s₀ figures t (x .values) q xs actives ws fs)
       (lines-seen (x .values) xs actives ws fs) r
       → SectionCounted s s′ text x figures t q xs actives ws fs at r
   section-told s′ at r c =
-      let size : length (header-of q (tallies-of s₀ figures q t)) + lines-length (x .values) xs actives ws fs
-      ≡ length (section-bytes s figures t (x .values) q xs actives ws fs) =
-      ap (λ c′. length (header-of q c′) + lines-length (x .values) xs actives ws fs) tallies₀
-      ∙ sym (section-length s figures t (x .values) q xs actives ws fs) in
+      let same = section-alike s s₀ figures t (x .values) q xs actives ws fs tallies₀ in
       record {
         changed = changed-then s s₀ s′ x facts changed₀ (c .changed);
         readable = c .readable;
-        place = c .place ∙ ap (λ (n : ℕ). capped (at + n)) size;
+        place = c .place ∙ ap (λ (l : Bytes). capped (at + length l)) same;
         numbers = λ h. subst (Numbers s′ x facts) (c .exact h) (c .counting .numbers);
+        stored = λ h whole has.
+            subst (λ (l : List ℕ). Stored s′ x facts l whole) (c .exact h)
+            (stored-all s′ x facts (c .after) whole (c .counting) (c .placed h whole (has-as whole at (sym same) has) (none-placed whole)));
       }
 
   pub long-enough : compounds-region ≤ length s
@@ -136,7 +160,7 @@ module _ (s : List ℕ) (text : Bytes) (x : Setting) (figures : Room) (t : Stand
 
     abbrev Told : List ℕ → ℕ → List ℕ → ℕ → Type 0
     Told s′ r l k =
-        Counted l s′ text x k at (length (header-of q (tallies-of l figures q t)) + lines-length (x .values) xs actives ws fs)
+        Counted l s′ text x k at [] (section-bytes l figures t (x .values) q xs actives ws fs)
         (lines-seen (x .values) xs actives ws fs) r
 
     pub count-told : (s′ : List ℕ) (r : ℕ) → Told s′ r s₁ from → SectionCounted s s′ text x figures t q xs actives ws fs at r

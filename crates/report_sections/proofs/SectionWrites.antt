@@ -4,7 +4,7 @@ use mathlib.Core.Path.{_≡_, refl, sym, ap, ap₂, _∙_}
 use mathlib.Core.Bool.{Bool, true, false}
 use mathlib.Core.List.{List, [], _∷_, _++_, append-assoc, append-nil}
 use native.Mathlib.Omega.{arith}
-use lib.ListN.{length, length-append}
+use lib.ListN.{length}
 use Rattle.meaning.specs.Bytes.{Bytes, bytes, among}
 use Rattle.meaning.specs.Terms.{writer, Term, variable, as-term}
 use Rattle.meaning.specs.State.{Room, Values, Goal}
@@ -18,7 +18,9 @@ use Rattle.report_pairs.specs.Threaded.{full, seen-after, shown, shown-values, 
 use Rattle.report_pairs.specs.Laid.{Puts}
 use Rattle.report_tallies.specs.Header.{header-of, tallies-of}
 use Rattle.report_pairs.specs.Facts.{Readable}
+use Rattle.report_leaves.specs.Fits.{Fits}
 use Rattle.report_leaves.specs.Writes.{Numbered}
+use Rattle.report_leaves.proofs.Copying.{fits-front, fits-behind, fits-as}
 use Rattle.report_tallies.specs.declared.groups.Group.{Group}
 use Rattle.report_sections.specs.Sections.{Listed}
 use Rattle.report_sections.specs.Whole.{AllIn, Numbers, SectionStands, lines-shown, section-bytes}
@@ -167,14 +169,41 @@ module _ (values : Values) (xs : List Bytes) (actives ws fs : List Goal) where
   unfolding section-bytes
   section-is s figures t q = ap (_++_ (header-of q (tallies-of s figures q t))) lines-are
 
-  -- It fits when all its parts do.
-  pub section-size : (s : List ℕ) (figures : Room) (t : Standing) (q : ℕ)
-      → length (section-bytes s figures t values q xs actives ws fs)
-      ≡ length (header-of q (tallies-of s figures q t)) + (length part₁ + (length part₂ + (length part₃ + length part₄)))
-  section-size s figures t q = ap length (sym (section-is s figures t q)) ∙ five (header-of q (tallies-of s figures q t)) part₁ part₂ part₃ part₄
-    where
-      five : (a b c d e : Bytes) → length (a ++ (b ++ (c ++ (d ++ e)))) ≡ length a + (length b + (length c + (length d + length e)))
-      five a b c d e = simp length-append
+  -- Each part fits where those before it were put.
+  module _ {l : List ℕ} {x : Setting} {facts at : ℕ} {b : List ℕ} (s : List ℕ) (figures : Room) (t : Standing) (q : ℕ)
+      (F : Fits l x facts order-of at b (section-bytes s figures t values q xs actives ws fs)) where
+    abbrev head : Bytes
+    head = header-of q (tallies-of s figures q t)
+
+    fits₀ : Fits l x facts order-of at b (head ++ (part₁ ++ (part₂ ++ (part₃ ++ part₄))))
+    fits₀ = fits-as (sym (section-is s figures t q)) F
+
+    pub head-fits : at + length head ≤ length b
+    head-fits = fits-front head (part₁ ++ (part₂ ++ (part₃ ++ part₄))) fits₀ .room
+
+    module _ {b₁ : List ℕ} {m₁ : ℕ} (p₁ : Puts b b₁ at m₁ head) where
+      fits₁ : Fits l x facts order-of m₁ b₁ (part₁ ++ (part₂ ++ (part₃ ++ part₄)))
+      fits₁ = fits-behind head (part₁ ++ (part₂ ++ (part₃ ++ part₄))) fits₀ p₁
+
+      pub values-fit : Fits l x facts order-of m₁ b₁ part₁
+      values-fit = fits-front part₁ (part₂ ++ (part₃ ++ part₄)) fits₁
+
+      module _ {b₂ : List ℕ} {m₂ : ℕ} (p₂ : Puts b₁ b₂ m₁ m₂ part₁) where
+        fits₂ : Fits l x facts order-of m₂ b₂ (part₂ ++ (part₃ ++ part₄))
+        fits₂ = fits-behind part₁ (part₂ ++ (part₃ ++ part₄)) fits₁ p₂
+
+        pub actives-fit : Fits l x facts order-of m₂ b₂ part₂
+        actives-fit = fits-front part₂ (part₃ ++ part₄) fits₂
+
+        module _ {b₃ : List ℕ} {m₃ : ℕ} (p₃ : Puts b₂ b₃ m₂ m₃ part₂) where
+          fits₃ : Fits l x facts order-of m₃ b₃ (part₃ ++ part₄)
+          fits₃ = fits-behind part₂ (part₃ ++ part₄) fits₂ p₃
+
+          pub waits-fit : Fits l x facts order-of m₃ b₃ part₃
+          waits-fit = fits-front part₃ part₄ fits₃
+
+          pub fails-fit : {b₄ : List ℕ} {m₄ : ℕ} → Puts b₃ b₄ m₃ m₄ part₃ → Fits l x facts order-of m₄ b₄ part₄
+          fails-fit p₄ = fits-behind part₃ part₄ fits₃ p₄
 
   pub section-puts : (s : List ℕ) (figures : Room) (t : Standing) (q : ℕ) (b₀ b₁ b₂ b₃ b₄ b₅ : List ℕ) (at m₁ m₂ m₃ m₄ to : ℕ)
       → Puts b₀ b₁ at m₁ (header-of q (tallies-of s figures q t)) → Puts b₁ b₂ m₁ m₂ part₁ → Puts b₂ b₃ m₂ m₃ part₂ → Puts b₃ b₄ m₃ m₄ part₃ → Puts b₄ b₅ m₄ to part₄
@@ -203,3 +232,8 @@ pub goals-ready : (s : List ℕ) (text : Bytes) (x : Setting) (facts facts′ : 
     → Readable s text x facts → Listed s x facts g q gs → Numbers s x facts order
     → Readable s text x facts′ × Listed s x facts′ g′ q gs × Numbers s x facts′ order
 goals-ready s text x facts facts′ g g′ q gs order e f readable listed numbers = rw (e, f) (readable, listed, numbers)
+
+-- The facts begin at the place by another equation.
+pub fits-from : {s : List ℕ} {x : Setting} {facts facts′ : ℕ} {order : List ℕ} {at : ℕ} {b : List ℕ} {bs : Bytes} → facts′ ≡ facts → Fits s x facts order at b bs
+    → Fits s x facts′ order at b bs
+fits-from e F = rw e F

@@ -4,7 +4,7 @@ use mathlib.Core.Path.{_≡_, refl, sym, ap, ap₂, _∙_}
 use mathlib.Core.List.{List, [], _∷_, _++_, append-nil}
 use native.Mathlib.Numerals.{add-one}
 use native.Mathlib.Omega.{arith}
-use lib.ListN.{length, getD, take, length-take, length-append}
+use lib.ListN.{length, getD, take, length-take}
 use lib.Seq.{slice, take-suc}
 use Rattle.meaning.specs.Bytes.{Bytes, bytes}
 use Rattle.meaning.specs.Terms.{writer, Term}
@@ -62,7 +62,7 @@ name-size s text x q xs v vs h =
     let none : query-variables-from q + 2 * v + 0 ≡ query-variables-from q + 2 * v = omega arith in
     rw none (holds-spelling-at s text (query-variables-from q) v xs h (vs .spelled))
 
--- The lengths and the pairs of one line more.
+-- The bytes and the pairs of one line more.
 module _ (values : Values) (seen : List ℕ) (xs : List Bytes) (v : ℕ) (h : v < length xs) where
   one-more : take (v + 1) xs ≡ take v xs ++ (getD xs v [] ∷ [])
   one-more = ap (λ (n : ℕ). take n xs) (add-one v) ∙ take-suc xs v [] h
@@ -73,19 +73,19 @@ module _ (values : Values) (seen : List ℕ) (xs : List Bytes) (v : ℕ) (h : v 
   abbrev seen-v : List ℕ
   seen-v = seen-after-values values seen 0 (take v xs)
 
-  last-line : (p : ℕ) (l : List ℕ) → length (shown-values values l p (getD xs v [] ∷ []))
-      ≡ length (getD xs v []) + 3 + (length (shown l alone (full values (Term.variable writer p))) + 1)
-  unfolding shown-values bytes
-  last-line p l = simp (length-append, append-nil) (omega arith)
+  abbrev pub line : ℕ → List ℕ → Bytes
+  line p l = (getD xs v [] ++ bytes " = ") ++ (shown l alone (full values (Term.variable writer p)) ++ bytes "\n")
 
-  pub values-size : length (shown-values values seen 0 (take (v + 1) xs))
-      ≡ length (shown-values values seen 0 (take v xs)) + (length (getD xs v []) + 3 + (length (shown seen-v alone (full values (Term.variable writer v))) + 1))
-  values-size =
-      ap (λ (l : List Bytes). length (shown-values values seen 0 l)) one-more
-      ∙ ap length (shown-values-append values (take v xs) (getD xs v [] ∷ []) 0 seen)
-      ∙ length-append (shown-values values seen 0 (take v xs)) (shown-values values seen-v (0 + length (take v xs)) (getD xs v [] ∷ []))
-      ∙ ap (λ (p : ℕ). length (shown-values values seen 0 (take v xs)) + length (shown-values values seen-v p (getD xs v [] ∷ []))) place-of
-      ∙ ap (λ (n : ℕ). length (shown-values values seen 0 (take v xs)) + n) (last-line v seen-v)
+  last-line : (p : ℕ) (l : List ℕ) → shown-values values l p (getD xs v [] ∷ []) ≡ line p l
+  unfolding shown-values
+  last-line p l = append-nil (line p l)
+
+  pub values-bytes : shown-values values seen 0 (take (v + 1) xs) ≡ shown-values values seen 0 (take v xs) ++ line v seen-v
+  values-bytes =
+      ap (shown-values values seen 0) one-more
+      ∙ shown-values-append values (take v xs) (getD xs v [] ∷ []) 0 seen
+      ∙ ap (λ (p : ℕ). shown-values values seen 0 (take v xs) ++ shown-values values seen-v p (getD xs v [] ∷ [])) place-of
+      ∙ ap (_++_ (shown-values values seen 0 (take v xs))) (last-line v seen-v)
 
   last-seen : (p : ℕ) (l : List ℕ) → seen-after-values values l p (getD xs v [] ∷ []) ≡ seen-after l (full values (Term.variable writer p))
   unfolding seen-after-values
@@ -100,19 +100,19 @@ module _ (values : Values) (seen : List ℕ) (xs : List Bytes) (v : ℕ) (h : v 
 
 -- One line more counted.
 pub value-counted : (s s₁ s₂ : List ℕ) (text : Bytes) (x : Setting) (facts at : ℕ) (seen : List ℕ) (xs : List Bytes) (v r₁ r₂ : ℕ) → v < length xs
-    → (c : Counted s s₁ text x facts at (length (shown-values (x .values) seen 0 (take v xs))) (seen-after-values (x .values) seen 0 (take v xs)) r₁)
-    → Counted s₁ s₂ text x facts r₁ (length (getD xs v []) + 3 + (length (shown (c .after) alone (full (x .values) (Term.variable writer v))) + 1))
+    → (c : Counted s s₁ text x facts at seen (shown-values (x .values) seen 0 (take v xs)) (seen-after-values (x .values) seen 0 (take v xs)) r₁)
+    → Counted s₁ s₂ text x facts r₁ (c .after) ((getD xs v [] ++ bytes " = ") ++ (shown (c .after) alone (full (x .values) (Term.variable writer v)) ++ bytes "\n"))
     (seen-after (c .after) (full (x .values) (Term.variable writer v))) r₂
-    → Counted s s₂ text x facts at (length (shown-values (x .values) seen 0 (take (v + 1) xs))) (seen-after-values (x .values) seen 0 (take (v + 1) xs)) r₂
+    → Counted s s₂ text x facts at seen (shown-values (x .values) seen 0 (take (v + 1) xs)) (seen-after-values (x .values) seen 0 (take (v + 1) xs)) r₂
 value-counted s s₁ s₂ text x facts at seen xs v r₁ r₂ h c d =
-    counted-as s s₂ text x facts at _ _ _ _ r₂ (sym (values-size (x .values) seen xs v h)) (sym (values-seen-more (x .values) seen xs v h))
-    (counted-then s s₁ s₂ text x facts at _ _ r₁ r₂
-    (λ l. length (getD xs v []) + 3 + (length (shown l alone (full (x .values) (Term.variable writer v))) + 1))
+    counted-as s s₂ text x facts at seen _ _ _ _ r₂ (sym (values-bytes (x .values) seen xs v h)) (sym (values-seen-more (x .values) seen xs v h))
+    (counted-then s s₁ s₂ text x facts at seen _ _ r₁ r₂
+    (λ l. (getD xs v [] ++ bytes " = ") ++ (shown l alone (full (x .values) (Term.variable writer v)) ++ bytes "\n"))
     (λ l. seen-after l (full (x .values) (Term.variable writer v))) c d)
 
 -- No line.
 pub no-values : (s : List ℕ) (text : Bytes) (x : Setting) (facts : ℕ) (seen : List ℕ) (at : ℕ) (xs : List Bytes) → Counts s text x facts seen at
-    → Counted s s text x facts at (length (shown-values (x .values) seen 0 (take 0 xs))) (seen-after-values (x .values) seen 0 (take 0 xs)) at
+    → Counted s s text x facts at seen (shown-values (x .values) seen 0 (take 0 xs)) (seen-after-values (x .values) seen 0 (take 0 xs)) at
 unfolding shown-values seen-after-values
 no-values s text x facts seen at xs c = counted-none s text x facts seen at c
 

@@ -16,7 +16,9 @@ use Rattle.term.specs.Goals.{place-in}
 use Rattle.report_pairs.specs.Threaded.{full, written-goals}
 use Rattle.report_pairs.specs.Laid.{Puts}
 use Rattle.report_pairs.specs.Facts.{Readable, Shows}
+use Rattle.report_leaves.specs.Fits.{Fits}
 use Rattle.report_leaves.specs.Writes.{Numbered, Writes}
+use Rattle.report_leaves.proofs.Copying.{fits-front, fits-behind, fits-as}
 use Rattle.report_tallies.specs.Groups.{goal-in, own, own-from}
 use Rattle.report_tallies.specs.declared.groups.Group.{Group}
 use Rattle.report_tallies.specs.Origins.{origin-of}
@@ -60,15 +62,23 @@ pub goals-more : (values : Values) (order : List ℕ) (word : Bytes) (done : Lis
 goals-more values order word done a =
     sym (written-goals-append values order word done (a ∷ []) ∙ ap (_++_ (written-goals values order word done)) (one-goal values order word a))
 
--- What is written with this line is no longer than the whole.
-pub goals-fit : (values : Values) (order : List ℕ) (word : Bytes) (gs done left : List Goal) (a : Goal) → gs ≡ done ++ (a ∷ left)
-    → length (written-goals values order word done) + length (goal-line values order word a) ≤ length (written-goals values order word gs)
-goals-fit values order word gs done left a e =
-    let all : length (written-goals values order word gs) ≡ length (written-goals values order word (done ++ (a ∷ []))) + length (written-goals values order word left) =
-    ap (λ (l : List Goal). length (written-goals values order word l)) (e ∙ sym (append-assoc done (a ∷ []) left))
-    ∙ ap length (written-goals-append values order word (done ++ (a ∷ [])) left)
-    ∙ length-append (written-goals values order word (done ++ (a ∷ []))) (written-goals values order word left) in
-    omega (arith, length-append (written-goals values order word done) (goal-line values order word a), ap length (goals-more values order word done a))
+-- The lines before this one, this one, and those behind it.
+goals-split : (values : Values) (order : List ℕ) (word : Bytes) (gs done left : List Goal) (a : Goal) → gs ≡ done ++ (a ∷ left)
+    → written-goals values order word gs ≡ written-goals values order word done ++ (goal-line values order word a ++ written-goals values order word left)
+goals-split values order word gs done left a e =
+    ap (written-goals values order word) (e ∙ sym (append-assoc done (a ∷ []) left))
+    ∙ written-goals-append values order word (done ++ (a ∷ [])) left
+    ∙ ap (λ (l : Bytes). l ++ written-goals values order word left) (sym (goals-more values order word done a))
+    ∙ append-assoc (written-goals values order word done) (goal-line values order word a) (written-goals values order word left)
+
+-- So this one fits where those before it were put.
+goal-fits : {s : List ℕ} {x : Setting} {facts at to : ℕ} {b b′ : List ℕ} (values : Values) (order : List ℕ) (word : Bytes) (gs done left : List Goal) (a : Goal)
+    → gs ≡ done ++ (a ∷ left) → Fits s x facts order at b (written-goals values order word gs) → Puts b b′ at to (written-goals values order word done)
+    → Fits s x facts order to b′ (goal-line values order word a)
+goal-fits values order word gs done left a e F p =
+    fits-front (goal-line values order word a) (written-goals values order word left)
+    (fits-behind (written-goals values order word done) (goal-line values order word a ++ written-goals values order word left)
+    (fits-as (goals-split values order word gs done left a e) F) p)
 
 -- The goals written, and those left.
 pub record Wrote (s : List ℕ) (x : Setting) (order : List ℕ) (buffer₀ buffer : List ℕ) (at : ℕ) (g : Group) (q : ℕ) (gs : List Goal) (word : Bytes) (to i : ℕ) : Type 0 where
@@ -87,7 +97,7 @@ pub record NextLine (s : List ℕ) (text : Bytes) (x : Setting) (facts : ℕ) (o
   pub term : Term
   pub writes : Writes s text x facts order term (to + length word) (length buffer)
   pub shows : Shows s x term (compound-word (place-in goal))
-  pub fits : to + length word + length (written order alone (full (x .values) term)) + length (origin-of goal) + 1 ≤ length buffer
+  pub fits : Fits s x facts order to buffer (word ++ (written order alone (full (x .values) term) ++ (origin-of goal ++ bytes "\n")))
   pub gives : (c : List ℕ) (r : ℕ) → Puts buffer c to r (word ++ (written order alone (full (x .values) term) ++ (origin-of goal ++ bytes "\n")))
       → Wrote s x order buffer₀ c at g q gs word r (i + 1)
 
@@ -135,11 +145,11 @@ module _ (s : List ℕ) (text : Bytes) (x : Setting) (facts : ℕ) (order : List
 
   -- The list's next goal of the query is the first that is left.
   pub next-line : (to i goal : ℕ) → i < g .count → Readable s text x facts → Listed s x facts g q gs → Numbers s x facts order → AllIn (x .values) order gs
-      → at + length (written-goals (x .values) order word gs) ≤ length buffer₀ → length buffer ≡ length buffer₀
+      → Fits s x facts order at buffer₀ (written-goals (x .values) order word gs)
       → goal ≡ goal-in s g i → own q (goal-in s g i) ≡ true
       → Wrote s x order buffer₀ buffer at g q gs word to i → NextLine s text x facts order buffer₀ buffer at g q gs word to i goal
   unfolding as-term
-  next-line to i goal h r l numbers all fits same e o p = go (p .left) (p .split) (sym (own-in s g q i (g .count) h o) ∙ p .words)
+  next-line to i goal h r l numbers all fits e o p = go (p .left) (p .split) (sym (own-in s g q i (g .count) h o) ∙ p .words)
     where
       go : (left : List Goal) → gs ≡ p .done ++ left → goal-in s g i ∷ own-from s g q (i + 1) (g .count - (i + 1)) ≡ map (word-of x q) left
           → NextLine s text x facts order buffer₀ buffer at g q gs word to i goal
@@ -149,18 +159,17 @@ module _ (s : List ℕ) (text : Bytes) (x : Setting) (facts : ℕ) (order : List
           let tail : own-from s g q (i + 1) (g .count - (i + 1)) ≡ map (word-of x q) left = cc in
           let (held, sound) = first-held s x (p .done) a left (rw f at (l .held)) in
           let said = word-said s text x facts q a goal r (l .small) (l .low) held (first-fits (p .done) a left (rw f at (l .origins))) (e ∙ head) in
-          let behind : length (origin-of goal) ≡ length (origin-bytes (a .origin)) = ap length (said .origin) in
-          let fit = goals-fit (x .values) order word gs (p .done) left a f in
+          let fit = goal-fits (x .values) order word gs (p .done) left a f fits (p .puts) in
           let size = goal-line-size (x .values) order word a in
           record {
             term = as-term (a .goal);
             writes = record {
               readable = r;
               numbered = numbered-in s x facts order (full (x .values) (as-term (a .goal))) numbers (first-in (x .values) order (p .done) a left (rw f at all));
-              fits = omega (arith, fit, size, fits, same, p .puts .place);
+              fits = omega (arith, fit .room, size);
             };
             shows = record { term = held; sound = sound; word = said .place };
-            fits = omega (arith, fit, size, behind, fits, same, p .puts .place);
+            fits = rw (said .origin) fit;
             gives = λ c to′ more. record {
               done = p .done ++ (a ∷ []);
               left = left;

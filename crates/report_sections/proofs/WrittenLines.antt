@@ -12,6 +12,9 @@ use Rattle.meaning.specs.State.{Values}
 use Rattle.meaning.specs.Report.{alone, written}
 use Rattle.report_pairs.specs.Threaded.{full, written-values}
 use Rattle.report_pairs.specs.Laid.{Puts}
+use Rattle.term.specs.Setting.{Setting}
+use Rattle.report_leaves.specs.Fits.{Fits}
+use Rattle.report_leaves.proofs.Copying.{fits-front, fits-behind, fits-as}
 use Rattle.report_pairs.proofs.Laid.{puts-behind, puts-as}
 
 pub written-values-append : (values : Values) (order : List ℕ) (xs ys : List Bytes) (p : ℕ)
@@ -43,14 +46,23 @@ module _ (values : Values) (order : List ℕ) (xs : List Bytes) (v : ℕ) (h : v
       ∙ ap (λ (p : ℕ). written-values values order 0 (take v xs) ++ written-values values order p (getD xs v [] ∷ [])) place
       ∙ ap (_++_ (written-values values order 0 (take v xs))) (last-line v))
 
-  -- What is written with this line is no longer than the whole.
-  pub values-fit : length (written-values values order 0 (take v xs)) + length value-line ≤ length (written-values values order 0 xs)
-  values-fit =
-      let all : length (written-values values order 0 xs) ≡ length (written-values values order 0 (take (v + 1) xs)) + length (written-values values order (0 + length (take (v + 1) xs)) (drop (v + 1) xs)) =
-      ap (λ (l : List Bytes). length (written-values values order 0 l)) (sym (take-append-drop (v + 1) xs))
-      ∙ ap length (written-values-append values order (take (v + 1) xs) (drop (v + 1) xs) 0)
-      ∙ length-append (written-values values order 0 (take (v + 1) xs)) (written-values values order (0 + length (take (v + 1) xs)) (drop (v + 1) xs)) in
-      omega (arith, length-append (written-values values order 0 (take v xs)) value-line, ap length values-more)
+  -- The lines before this one, this one, and those behind it.
+  pub others : Bytes
+  others = written-values values order (0 + length (take (v + 1) xs)) (drop (v + 1) xs)
+
+  pub values-split : written-values values order 0 xs ≡ written-values values order 0 (take v xs) ++ (value-line ++ others)
+  unfolding others
+  values-split =
+      ap (written-values values order 0) (sym (take-append-drop (v + 1) xs))
+      ∙ written-values-append values order (take (v + 1) xs) (drop (v + 1) xs) 0
+      ∙ ap (λ (l : Bytes). l ++ others) (sym values-more)
+      ∙ append-assoc (written-values values order 0 (take v xs)) value-line others
+
+  -- So this one fits where those before it were put.
+  pub value-fits : {s : List ℕ} {x : Setting} {facts at to : ℕ} {b b′ : List ℕ} → Fits s x facts order at b (written-values values order 0 xs)
+      → Puts b b′ at to (written-values values order 0 (take v xs)) → Fits s x facts order to b′ value-line
+  value-fits F p =
+      fits-front value-line others (fits-behind (written-values values order 0 (take v xs)) (value-line ++ others) (fits-as values-split F) p)
 
   pub value-line-size : length value-line ≡ length (getD xs v []) + 3 + length (written order alone (full values (Term.variable writer v))) + 1
   unfolding bytes
@@ -59,3 +71,8 @@ module _ (values : Values) (order : List ℕ) (xs : List Bytes) (v : ℕ) (h : v
 pub no-values-written : (values : Values) (order : List ℕ) (xs : List Bytes) → [] ≡ written-values values order 0 (take 0 xs)
 unfolding written-values
 no-values-written values order xs = refl
+
+-- There is room for a line's end.
+pub line-room : {s : List ℕ} {x : Setting} {facts : ℕ} {order : List ℕ} {at : ℕ} {b : List ℕ} → Fits s x facts order at b (bytes "\n") → at < length b
+unfolding bytes
+line-room F = omega (arith, F .room)

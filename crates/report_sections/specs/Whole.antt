@@ -12,8 +12,9 @@ use Rattle.term.specs.Layout.{waiters-region}
 use Rattle.term.specs.Setting.{Setting}
 use Rattle.term.specs.declared.state.Standing.{Standing}
 use Rattle.report_pairs.specs.Threaded.{full, shown-values, seen-after-values, shown-goals, seen-after-goals, lines-seen}
-use Rattle.report_pairs.specs.Laid.{capped}
+use Rattle.report_pairs.specs.Laid.{capped, Has}
 use Rattle.report_pairs.specs.Facts.{fact-place, number-seen, Readable, Changed}
+use Rattle.report_leaves.specs.Fits.{Stored}
 use Rattle.report_tallies.specs.Header.{tallies-of, header-of}
 use Rattle.report_sections.specs.Sections.{SectionAt}
 
@@ -49,9 +50,11 @@ pub record Uncounted (s : List ℕ) (x : Setting) (facts : ℕ) : Type 0 where
   pub lengths : (n : ℕ) → n < length (x .values) → getD s (fact-place x facts n + 1) 0 ≡ 0
   pub numbers : (n : ℕ) → n < length (x .values) → getD s (fact-place x facts n + 2) 0 ≡ 0
 
--- The section is counted up to r; below the ceiling its pairs have their numbers.
+-- The section is counted up to r; below the ceiling its pairs have their numbers, and a whole that has the section has the values kept at their places.
 pub record SectionCounted (s s′ : List ℕ) (text : Bytes) (x : Setting) (figures : Room) (t : Standing) (q : ℕ) (xs : List Bytes) (actives ws fs : List Goal) (at r : ℕ) : Type 0 where
   pub changed : Changed s s′ x (waiters-region figures)
   pub readable : Readable s′ text x (waiters-region figures)
   pub place : r ≡ capped (at + length (section-bytes s figures t (x .values) q xs actives ws fs))
   pub numbers : r < 16777217 → Numbers s′ x (waiters-region figures) (lines-seen (x .values) xs actives ws fs)
+  pub stored : r < 16777217 → (whole : Bytes) → Has whole at (section-bytes s figures t (x .values) q xs actives ws fs)
+      → Stored s′ x (waiters-region figures) (lines-seen (x .values) xs actives ws fs) whole

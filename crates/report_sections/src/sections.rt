@@ -12,11 +12,12 @@ ghost use Rattle.report_pairs.specs.Threaded.{full, seen-after, shown, shown-va
 ghost use Rattle.report_pairs.specs.Laid.{Puts};
 ghost use Rattle.report_pairs.specs.Facts.{Readable, Shows};
 ghost use Rattle.report_count.specs.Counts.{Counts, Counted};
+ghost use Rattle.report_leaves.specs.Fits.{Fits};
 ghost use Rattle.report_leaves.specs.Writes.{Numbered, Writes};
 ghost use Rattle.report_tallies.specs.Groups.{goal-in, GroupInside, own as own-word};
 ghost use Rattle.term.specs.Layout.{figures, items-region, trial-region, compounds-region, query-pairs-word, query-first-pair-word, query-variables-from};
 ghost use Rattle.report_tallies.specs.Header.{header-of, tallies-of};
-ghost use Rattle.report_pairs.specs.Threaded.{written-values, lines-length, lines-seen};
+ghost use Rattle.report_pairs.specs.Threaded.{written-values, lines-seen};
 ghost use Rattle.report_sections.specs.Sections.{Variables, Listed, SectionAt};
 ghost use Rattle.report_pairs.specs.Threaded.{written-goals};
 ghost use Rattle.report_sections.specs.Whole.{SectionStands, Uncounted, Numbers, SectionCounted, section-bytes, AllIn};
@@ -61,8 +62,9 @@ use term::word::index;
 // A line: so many bytes, a term and so many bytes.
 fn count_line(s: &mut [u64], facts: usize, at: usize, before: usize, w: u64, behind: usize) -> usize
     requires { ⌜ ((text : Bytes) × (x : Setting) × (seen : List ℕ) × (t : Term) × Counts (now s) text x facts seen at × Shows (now s) x t w) ⌝ }
-    ensures { λ r. ⌜ ((text : Bytes) (x : Setting) (seen : List ℕ) (t : Term) → Counts (now (s .entry)) text x facts seen at → Shows (now (s .entry)) x t w
-        → Counted (now (s .entry)) (now (s .exit)) text x facts at (before + (length (shown seen alone (full (x .values) t)) + behind))
+    ensures { λ r. ⌜ ((text : Bytes) (x : Setting) (seen : List ℕ) (t : Term) (front back : Bytes) → Counts (now (s .entry)) text x facts seen at
+        → Shows (now (s .entry)) x t w → before ≡ length front → behind ≡ length back
+        → Counted (now (s .entry)) (now (s .exit)) text x facts at seen (front ++ (shown seen alone (full (x .values) t) ++ back))
         (seen-after seen (full (x .values) t)) r) ⌝ }
 {
     let from = further(at, before);
@@ -73,10 +75,10 @@ fn count_line(s: &mut [u64], facts: usize, at: usize, before: usize, w: u64, beh
 // A term and an LF.
 fn write_line(text: &[u8], s: &[u64], facts: usize, buffer: &mut [u8], at: usize, w: u64) -> usize
     requires { ⌜ ((x : Setting) × (order : List ℕ) × (t : Term) × Writes (now s) (now text) x facts order t at (length (now buffer)) × Shows (now s) x t w
-        × (at + length (written order alone (full (x .values) t)) + 1 ≤ length (now buffer))) ⌝ }
+        × Fits (now s) x facts order at (now buffer) (written order alone (full (x .values) t) ++ bytes "\n")) ⌝ }
     ensures { λ r. ⌜ ((x : Setting) (order : List ℕ) (t : Term) → Writes (now (s .entry)) (now (text .entry)) x facts order t at (length (now (buffer .entry)))
-        → Shows (now (s .entry)) x t w
-        → Puts (now (buffer .entry)) (now (buffer .exit)) at r (written order alone (full (x .values) t) ++ (10 ∷ []))) ⌝ }
+        → Shows (now (s .entry)) x t w → Fits (now (s .entry)) x facts order at (now (buffer .entry)) (written order alone (full (x .values) t) ++ bytes "\n")
+        → Puts (now (buffer .entry)) (now (buffer .exit)) at r (written order alone (full (x .values) t) ++ bytes "\n")) ⌝ }
 {
     let to = write_term(text, s, facts, buffer, at, w);
     put(buffer, to, b'\n')
@@ -112,8 +114,8 @@ fn count_value(s: &mut [u64], facts: usize, at: usize, q: usize, v: usize) -> us
         × (v < length xs)) ⌝ }
     ensures { λ r. ⌜ ((text : Bytes) (x : Setting) (seen : List ℕ) (xs : List Bytes) → Counts (now (s .entry)) text x facts seen at → Variables (now (s .entry)) text x q xs
         → v < length xs
-        → Counted (now (s .entry)) (now (s .exit)) text x facts at
-        (length (getD xs v []) + 3 + (length (shown seen alone (full (x .values) (Term.variable writer v))) + 1))
+        → Counted (now (s .entry)) (now (s .exit)) text x facts at seen
+        ((getD xs v [] ++ bytes " = ") ++ (shown seen alone (full (x .values) (Term.variable writer v)) ++ bytes "\n"))
         (seen-after seen (full (x .values) (Term.variable writer v))) r) ⌝ }
 {
     let n = spelled(s, q, v, 1);
@@ -124,7 +126,7 @@ fn count_value(s: &mut [u64], facts: usize, at: usize, q: usize, v: usize) -> us
 fn count_values(s: &mut [u64], facts: usize, at: usize, q: usize) -> usize
     requires { ⌜ ((text : Bytes) × (x : Setting) × (seen : List ℕ) × (xs : List Bytes) × Counts (now s) text x facts seen at × Variables (now s) text x q xs) ⌝ }
     ensures { λ r. ⌜ ((text : Bytes) (x : Setting) (seen : List ℕ) (xs : List Bytes) → Counts (now (s .entry)) text x facts seen at → Variables (now (s .entry)) text x q xs
-        → Counted (now (s .entry)) (now (s .exit)) text x facts at (length (shown-values (x .values) seen 0 xs)) (seen-after-values (x .values) seen 0 xs) r) ⌝ }
+        → Counted (now (s .entry)) (now (s .exit)) text x facts at seen (shown-values (x .values) seen 0 xs) (seen-after-values (x .values) seen 0 xs) r) ⌝ }
 {
     let k = variables(s, q);
     let mut to = at;
@@ -156,10 +158,10 @@ fn count_goal(
     requires { ⌜ ((text : Bytes) × (x : Setting) × (seen : List ℕ) × (t : Term) × Counts (now s) text x facts seen at × GroupInside (now s) g × (i < g .count)
         × (own-word q (goal-in (now s) g i) ≡ true → Shows (now s) x t (compound-word (place-in (goal-in (now s) g i))))) ⌝ }
     ensures { λ r. ⌜ (own-word q (goal-in (now (s .entry)) g i) ≡ false → (r ≡ at) × (now (s .exit) ≡ now (s .entry)))
-        × ((text : Bytes) (x : Setting) (seen : List ℕ) (t : Term) → own-word q (goal-in (now (s .entry)) g i) ≡ true → Counts (now (s .entry)) text x facts seen at
-        → Shows (now (s .entry)) x t (compound-word (place-in (goal-in (now (s .entry)) g i)))
-        → Counted (now (s .entry)) (now (s .exit)) text x facts at
-        (label + (length (shown seen alone (full (x .values) t)) + (length (origin-of (goal-in (now (s .entry)) g i)) + 1)))
+        × ((text : Bytes) (x : Setting) (seen : List ℕ) (t : Term) (word : Bytes) → own-word q (goal-in (now (s .entry)) g i) ≡ true
+        → Counts (now (s .entry)) text x facts seen at → Shows (now (s .entry)) x t (compound-word (place-in (goal-in (now (s .entry)) g i))) → label ≡ length word
+        → Counted (now (s .entry)) (now (s .exit)) text x facts at seen
+        (word ++ (shown seen alone (full (x .values) t) ++ (origin-of (goal-in (now (s .entry)) g i) ++ bytes "\n")))
         (seen-after seen (full (x .values) t)) r) ⌝ }
 {
     let goal = goal_at(s, g, i);
@@ -177,7 +179,7 @@ fn count_goals(s: &mut [u64], facts: usize, at: usize, label: usize, g: Group, q
         × Listed (now s) x facts g q gs × (label ≡ length word)) ⌝ }
     ensures { λ r. ⌜ ((text : Bytes) (x : Setting) (seen : List ℕ) (gs : List Goal) (word : Bytes) → Counts (now (s .entry)) text x facts seen at
         → Listed (now (s .entry)) x facts g q gs → label ≡ length word
-        → Counted (now (s .entry)) (now (s .exit)) text x facts at (length (shown-goals (x .values) seen word gs)) (seen-after-goals (x .values) seen gs) r) ⌝ }
+        → Counted (now (s .entry)) (now (s .exit)) text x facts at seen (shown-goals (x .values) seen word gs) (seen-after-goals (x .values) seen gs) r) ⌝ }
 {
     let mut to = at;
     let mut i = 0;
@@ -200,9 +202,12 @@ fn write_value(
 ) -> usize
     requires { ⌜ ((x : Setting) × (order : List ℕ) × (xs : List Bytes) × Variables (now s) (now text) x q xs × (v < length xs)
         × Writes (now s) (now text) x facts order (Term.variable writer v) (at + length (getD xs v []) + 3) (length (now buffer))
-        × (at + length (getD xs v []) + 3 + length (written order alone (full (x .values) (Term.variable writer v))) + 1 ≤ length (now buffer))) ⌝ }
+        × Fits (now s) x facts order at (now buffer)
+        ((getD xs v [] ++ bytes " = ") ++ (written order alone (full (x .values) (Term.variable writer v)) ++ bytes "\n"))) ⌝ }
     ensures { λ r. ⌜ ((x : Setting) (order : List ℕ) (xs : List Bytes) → Variables (now (s .entry)) (now (text .entry)) x q xs → v < length xs
         → Writes (now (s .entry)) (now (text .entry)) x facts order (Term.variable writer v) (at + length (getD xs v []) + 3) (length (now (buffer .entry)))
+        → Fits (now (s .entry)) x facts order at (now (buffer .entry))
+        ((getD xs v [] ++ bytes " = ") ++ (written order alone (full (x .values) (Term.variable writer v)) ++ bytes "\n"))
         → Puts (now (buffer .entry)) (now (buffer .exit)) at r
         ((getD xs v [] ++ bytes " = ") ++ (written order alone (full (x .values) (Term.variable writer v)) ++ bytes "\n"))) ⌝ }
 {
@@ -224,10 +229,10 @@ fn write_values(
 ) -> usize
     requires { ⌜ ((x : Setting) × (order : List ℕ) × (xs : List Bytes) × Readable (now s) (now text) x facts × Variables (now s) (now text) x q xs
         × ((n : ℕ) → n < length xs → Numbered (now s) x facts order (full (x .values) (Term.variable writer n)))
-        × (at + length (written-values (x .values) order 0 xs) ≤ length (now buffer))) ⌝ }
+        × Fits (now s) x facts order at (now buffer) (written-values (x .values) order 0 xs)) ⌝ }
     ensures { λ r. ⌜ ((x : Setting) (order : List ℕ) (xs : List Bytes) → Readable (now (s .entry)) (now (text .entry)) x facts → Variables (now (s .entry)) (now (text .entry)) x q xs
         → ((n : ℕ) → n < length xs → Numbered (now (s .entry)) x facts order (full (x .values) (Term.variable writer n)))
-        → at + length (written-values (x .values) order 0 xs) ≤ length (now (buffer .entry))
+        → Fits (now (s .entry)) x facts order at (now (buffer .entry)) (written-values (x .values) order 0 xs)
         → Puts (now (buffer .entry)) (now (buffer .exit)) at r (written-values (x .values) order 0 xs)) ⌝ }
 {
     let k = variables(s, q);
@@ -252,10 +257,12 @@ fn write_goal(
 ) -> usize
     requires { ⌜ ((x : Setting) × (order : List ℕ) × (t : Term) × Writes (now s) (now text) x facts order t (at + length (now label)) (length (now buffer))
         × Shows (now s) x t (compound-word (place-in goal))
-        × (at + length (now label) + length (written order alone (full (x .values) t)) + length (origin-of goal) + 1 ≤ length (now buffer))) ⌝ }
+        × Fits (now s) x facts order at (now buffer) (now label ++ (written order alone (full (x .values) t) ++ (origin-of goal ++ bytes "\n")))) ⌝ }
     ensures { λ r. ⌜ ((x : Setting) (order : List ℕ) (t : Term)
         → Writes (now (s .entry)) (now (text .entry)) x facts order t (at + length (now (label .entry))) (length (now (buffer .entry)))
         → Shows (now (s .entry)) x t (compound-word (place-in goal))
+        → Fits (now (s .entry)) x facts order at (now (buffer .entry))
+        (now (label .entry) ++ (written order alone (full (x .values) t) ++ (origin-of goal ++ bytes "\n")))
         → Puts (now (buffer .entry)) (now (buffer .exit)) at r
         (now (label .entry) ++ (written order alone (full (x .values) t) ++ (origin-of goal ++ bytes "\n")))) ⌝ }
 {
@@ -272,8 +279,7 @@ fn count_lines(s: &mut [u64], room: Room, facts: usize, at: usize, q: usize, t: 
         × SectionAt (now s) text x facts (figures room) t q xs actives ws fs) ⌝ }
     ensures { λ r. ⌜ ((text : Bytes) (x : Setting) (xs : List Bytes) (actives ws fs : List Goal) → Counts (now (s .entry)) text x facts [] at
         → SectionAt (now (s .entry)) text x facts (figures room) t q xs actives ws fs
-        → Counted (now (s .entry)) (now (s .exit)) text x facts at
-        (length (header-of q (tallies-of (now (s .entry)) (figures room) q t)) + lines-length (x .values) xs actives ws fs)
+        → Counted (now (s .entry)) (now (s .exit)) text x facts at [] (section-bytes (now (s .entry)) (figures room) t (x .values) q xs actives ws fs)
         (lines-seen (x .values) xs actives ws fs) r) ⌝ }
 {
     let c = tally(s, room, q, t);
@@ -297,10 +303,10 @@ fn write_goals(
 ) -> usize
     requires { ⌜ ((x : Setting) × (order : List ℕ) × (gs : List Goal) × Readable (now s) (now text) x facts × Listed (now s) x facts g q gs
         × Numbers (now s) x facts order × AllIn (x .values) order gs
-        × (at + length (written-goals (x .values) order (now label) gs) ≤ length (now buffer))) ⌝ }
+        × Fits (now s) x facts order at (now buffer) (written-goals (x .values) order (now label) gs)) ⌝ }
     ensures { λ r. ⌜ ((x : Setting) (order : List ℕ) (gs : List Goal) → Readable (now (s .entry)) (now (text .entry)) x facts
         → Listed (now (s .entry)) x facts g q gs → Numbers (now (s .entry)) x facts order → AllIn (x .values) order gs
-        → at + length (written-goals (x .values) order (now (label .entry)) gs) ≤ length (now (buffer .entry))
+        → Fits (now (s .entry)) x facts order at (now (buffer .entry)) (written-goals (x .values) order (now (label .entry)) gs)
         → Puts (now (buffer .entry)) (now (buffer .exit)) at r (written-goals (x .values) order (now (label .entry)) gs)) ⌝ }
 {
     let mut to = at;
@@ -348,11 +354,13 @@ pub fn write_section(
     requires { ⌜ ((x : Setting) × (xs : List Bytes) × (actives : List Goal) × (ws : List Goal) × (fs : List Goal)
         × SectionStands (now s) (now text) x (figures room) t q xs actives ws fs
         × Numbers (now s) x (waiters-region (figures room)) (lines-seen (x .values) xs actives ws fs)
-        × (at + length (section-bytes (now s) (figures room) t (x .values) q xs actives ws fs) ≤ length (now buffer))) ⌝ }
+        × Fits (now s) x (waiters-region (figures room)) (lines-seen (x .values) xs actives ws fs) at (now buffer)
+        (section-bytes (now s) (figures room) t (x .values) q xs actives ws fs)) ⌝ }
     ensures { λ r. ⌜ ((x : Setting) (xs : List Bytes) (actives ws fs : List Goal)
         → SectionStands (now (s .entry)) (now (text .entry)) x (figures room) t q xs actives ws fs
         → Numbers (now (s .entry)) x (waiters-region (figures room)) (lines-seen (x .values) xs actives ws fs)
-        → at + length (section-bytes (now (s .entry)) (figures room) t (x .values) q xs actives ws fs) ≤ length (now (buffer .entry))
+        → Fits (now (s .entry)) x (waiters-region (figures room)) (lines-seen (x .values) xs actives ws fs) at (now (buffer .entry))
+        (section-bytes (now (s .entry)) (figures room) t (x .values) q xs actives ws fs)
         → Puts (now (buffer .entry)) (now (buffer .exit)) at r (section-bytes (now (s .entry)) (figures room) t (x .values) q xs actives ws fs)) ⌝ }
 {
     let facts = layout::waiters(room);

@@ -1,7 +1,7 @@
 -- Writing a term: a compound's opening, and the walk over its arguments.
 use Prim.Native.Nat.{ℕ, zero, suc, _+_, _*_, _/_, _%_, _≤_, _<_}
 use mathlib.Core.Path.{_≡_, refl, _∙_, sym, ap}
-use mathlib.Core.Logic.{inl, inr}
+use mathlib.Core.Logic.{_≢_, inl, inr}
 use mathlib.Core.List.{List, [], _++_, append-assoc, append-nil}
 use native.Mathlib.Omega.{arith}
 use native.Mathlib.Numerals.{add-one}
@@ -17,7 +17,9 @@ use Rattle.report_pairs.specs.Threaded.{full, all-full}
 use Rattle.report_pairs.specs.Laid.{Puts}
 use Rattle.report_pairs.specs.Facts.{Readable, Shows, Led}
 use Rattle.report_pairs.specs.Walk.{opening-bytes, Opens, StandsAt, after, rest}
+use Rattle.report_leaves.specs.Fits.{Fits, Copied}
 use Rattle.report_leaves.specs.Writes.{Numbered, Writes}
+use Rattle.report_leaves.proofs.Copying.{fits-front, fits-behind, fits-as}
 use Rattle.report_write.specs.Frames.{Behind, Before, Nothing, Frames, Rose}
 use Rattle.report_write.specs.declared.rising.Risen.the-variants.{Goes as Onward, Ends as Done}
 use Rattle.report_pairs.proofs.Full.{full-compound}
@@ -57,7 +59,7 @@ opened s x facts order n f ts p N a = go (some-argument n f ts (a .sound))
         stands-compound m n f ts k = k
 
 -- A compound at the end of the chain: its opening, and what stands behind it.
-module _ (s : List ℕ) (text : Bytes) (x : Setting) (facts : ℕ) (order : List ℕ) (t : Term) (at size w : ℕ)
+module _ {s : List ℕ} {text : Bytes} {x : Setting} {facts : ℕ} {order : List ℕ} {t : Term} {at size w : ℕ}
     (W : Writes s text x facts order t at size) (l : Led s x t w) where
   pub record Within-it (q : ℕ) : Type 0 where
     pub functor : Functor
@@ -91,15 +93,15 @@ module _ (s : List ℕ) (text : Bytes) (x : Setting) (facts : ℕ) (order : List
     pub into-fits : at + length (opening-bytes (within .functor)) ≤ size
     into-fits = omega (arith, into-sizes, W .fits)
 
-    module _ (b b₁ : List ℕ) (to : ℕ) (P : Puts b b₁ at to (opening-bytes (within .functor))) where
+    module _ {b b₁ : List ℕ} {to : ℕ} (P : Puts b b₁ at to (opening-bytes (within .functor))) where
       pub into-falls : at < to
       into-falls = omega (arith, P .place, opening-length (within .functor))
 
-      pub into-room : length b ≡ size → to + length (within .later) ≤ length b₁
-      into-room e = omega (arith, into-sizes, W .fits, P .place, puts-length P)
+      pub into-room : Fits s x facts order at b (written order alone (full (x .values) t)) → Fits s x facts order to b₁ (within .later)
+      into-room F = fits-behind (opening-bytes (within .functor)) (within .later) (fits-as (sym into-here) F) P
 
-      pub into-whole : (b₂ : List ℕ) (to₂ : ℕ) → Puts b₁ b₂ to to₂ (within .later) → Puts b b₂ at to₂ (written order alone (full (x .values) t))
-      into-whole b₂ to₂ P₂ = puts-is into-here (puts-two P P₂)
+      pub into-whole : {b₂ : List ℕ} {to₂ : ℕ} → Puts b₁ b₂ to to₂ (within .later) → Puts b b₂ at to₂ (written order alone (full (x .values) t))
+      into-whole P₂ = puts-is into-here (puts-two P P₂)
 
 -- Where nothing stands outside, something does.
 pub before-within : (Outside : Bytes → Type 0) (s : List ℕ) (x : Setting) (facts : ℕ) (order : List ℕ) (p i : ℕ) (bs outer : Bytes)
@@ -178,8 +180,8 @@ going-first frames s x facts order whole b at p size B = record {
   size = size;
 }
 
-module _ (frames s : List ℕ) (text : Bytes) (x : Setting) (facts : ℕ) (order : List ℕ) (whole : Bytes) (b₀ b : List ℕ) (at p i d to : ℕ)
-    (r : Readable s text x facts) (fit : at + length whole ≤ length b₀) (G : Going frames s x facts order whole b₀ b at p i d to) where
+module _ {frames s : List ℕ} {text : Bytes} {x : Setting} {facts : ℕ} {order : List ℕ} {whole : Bytes} {b₀ b : List ℕ} {at p i d to : ℕ}
+    (r : Readable s text x facts) (F : Fits s x facts order at b₀ whole) (G : Going frames s x facts order whole b₀ b at p i d to) where
   abbrev B : Before (Frames frames s x facts order d) s x facts order p i (G .left)
   B = G .before
 
@@ -204,8 +206,14 @@ module _ (frames s : List ℕ) (text : Bytes) (x : Setting) (facts : ℕ) (order
   going-writes = record {
     readable = r;
     numbered = λ m k st. B .numbered m k (inl st);
-    fits = omega (arith, sizes, fit, G .puts .place, puts-length (G .puts));
+    fits = omega (arith, sizes, F .room, G .puts .place, puts-length (G .puts));
   }
+
+  -- The argument fits there, and may be copied.
+  pub going-room : Fits s x facts order to b here
+  going-room =
+      let left : Fits s x facts order to b (G .left) = fits-behind (G .done) (G .left) (fits-as (sym (G .is)) F) (G .puts) in
+      fits-front here later-bytes (fits-as (sym (B .is) ∙ append-assoc here (after (x .values) order (B .f) (B .j) (B .us)) (B .outer)) left)
 
   pub going-inside : p + i < length s
   going-inside = position-inside s x p i (B .j) (B .f) (B .u) (B .us) (B .position)
@@ -214,7 +222,7 @@ module _ (frames s : List ℕ) (text : Bytes) (x : Setting) (facts : ℕ) (order
   going-shows = position-shows s x p i (B .j) (B .f) (B .u) (B .us) (B .position)
 
   pub going-falls : (to < length b₀ + 1) × (at ≤ to)
-  going-falls = (omega (arith, sizes, fit, G .puts .place), omega (arith, G .puts .place))
+  going-falls = (omega (arith, sizes, F .room, G .puts .place), omega (arith, G .puts .place))
 
   small : i < 8
   unfolding count
@@ -237,16 +245,16 @@ module _ (frames s : List ℕ) (text : Bytes) (x : Setting) (facts : ℕ) (order
   }
 
   -- The argument is written.
-  module _ (b₁ : List ℕ) (to₁ : ℕ) (P : Puts b b₁ to to₁ here) where
+  module _ {b₁ : List ℕ} {to₁ : ℕ} (P : Puts b b₁ to to₁ here) where
     pub going-fits : to₁ + length later-bytes ≤ length b₁
-    going-fits = omega (arith, sizes, fit, G .puts .place, P .place, puts-length (G .puts), puts-length P)
+    going-fits = omega (arith, sizes, F .room, G .puts .place, P .place, puts-length (G .puts), puts-length P)
 
-    pub going-ends : (b₂ : List ℕ) (to₂ : ℕ) → Rose frames s x facts order b₁ b₂ to₁ d later-bytes (Done to₂) → Puts b₀ b₂ at to₂ whole
-    going-ends b₂ to₂ R = puts-is whole-here (puts-two (puts-two (G .puts) P) R)
+    pub going-ends : {b₂ : List ℕ} {to₂ : ℕ} → Rose frames s x facts order b₁ b₂ to₁ d later-bytes (Done to₂) → Puts b₀ b₂ at to₂ whole
+    going-ends R = puts-is whole-here (puts-two (puts-two (G .puts) P) R)
 
-    pub going-on : (b₂ : List ℕ) (to₂ p₂ i₂ d₂ : ℕ) → Rose frames s x facts order b₁ b₂ to₁ d later-bytes (Onward to₂ p₂ i₂ d₂)
+    pub going-on : {b₂ : List ℕ} {to₂ p₂ i₂ d₂ : ℕ} → Rose frames s x facts order b₁ b₂ to₁ d later-bytes (Onward to₂ p₂ i₂ d₂)
         → Going frames s x facts order whole b₀ b₂ at p₂ i₂ d₂ to₂
-    going-on b₂ to₂ p₂ i₂ d₂ (done₂, left₂, P₂, is₂, before₂, rises, low) = record {
+    going-on (done₂, left₂, P₂, is₂, before₂, rises, low) = record {
       done = (G .done ++ here) ++ done₂;
       left = left₂;
       puts = puts-two (puts-two (G .puts) P) P₂;
@@ -257,13 +265,13 @@ module _ (frames s : List ℕ) (text : Bytes) (x : Setting) (facts : ℕ) (order
     }
 
   -- The argument is a compound, and its opening is written.
-  module _ (w q : ℕ) (l : Led s x (B .u) w) (z : seen w ≡ Compound q) (b₁ : List ℕ) (to₁ : ℕ)
-      (P : Puts b b₁ to to₁ (opening-bytes (within s text x facts order (B .u) to (length b) w going-writes l q z .functor))) where
+  module _ {w : ℕ} (l : Led s x (B .u) w) (q : ℕ) (z : seen w ≡ Compound q) {b₁ : List ℕ} {to₁ : ℕ}
+      (P : Puts b b₁ to to₁ (opening-bytes (within going-writes l q z .functor))) where
     pub going-into : d < 16 → Going (set frames d (8 * p + i)) s x facts order whole b₀ b₁ at q 1 (d + 1) to₁
     going-into h =
-        let D = within s text x facts order (B .u) to (length b) w going-writes l q z in
+        let D = within going-writes l q z in
         let first = opening-bytes (D .functor) in
-        let is-here = into-here s text x facts order (B .u) to (length b) w going-writes l q z in
+        let is-here = into-here going-writes l q z in
         let outside : Frames (set frames d (8 * p + i)) s x facts order (d + 1) later-bytes =
         rw (add-one d) (frame-set frames s x facts order d p i later-bytes (omega (arith, G .size)) small going-behind) in record {
           done = G .done ++ first;
@@ -280,3 +288,25 @@ module _ (frames s : List ℕ) (text : Bytes) (x : Setting) (facts : ℕ) (order
 
 pub puts-moved : {xs : Bytes} {b c c′ : List ℕ} {at to to′ : ℕ} → c′ ≡ c → to′ ≡ to → Puts b c at to xs → Puts b c′ at to′ xs
 puts-moved e f p = rw (e, f) p
+
+-- Nothing was copied: the walk stands as it did.
+pub puts-yet : {xs ys : Bytes} {b₀ b c : List ℕ} {at m to : ℕ} → Copied b c to m xs → m ≡ to → Puts b₀ b at to ys → Puts b₀ c at to ys
+puts-yet k e P = rw (k .none-put e) P
+
+unfoldable pub going-still : {frames s : List ℕ} {x : Setting} {facts : ℕ} {order : List ℕ} {whole xs : Bytes} {b₀ b c : List ℕ} {at p i d to m : ℕ} → Copied b c to m xs
+    → m ≡ to → Going frames s x facts order whole b₀ b at p i d to → Going frames s x facts order whole b₀ c at p i d to
+going-still k e G = record { done = G .done; left = G .left; puts = puts-yet k e (G .puts); is = G .is; before = G .before; few = G .few; size = G .size }
+
+pub fits-still : {s : List ℕ} {x : Setting} {facts : ℕ} {order : List ℕ} {xs ys : Bytes} {b c : List ℕ} {at m : ℕ} → Copied b c at m xs → m ≡ at
+    → Fits s x facts order at b ys → Fits s x facts order at c ys
+fits-still k e F = rw (k .none-put e) F
+
+pub puts-still : {xs ys : Bytes} {b c d : List ℕ} {at m to : ℕ} → Copied b c at m xs → m ≡ at → Puts c d at to ys → Puts b d at to ys
+puts-still k e P = rw (k .none-put e) at P
+
+pub writes-still : {s : List ℕ} {text : Bytes} {x : Setting} {facts : ℕ} {order : List ℕ} {t : Term} {xs : Bytes} {b c : List ℕ} {at m : ℕ} → Copied b c at m xs
+    → m ≡ at → Writes s text x facts order t at (length b) → Writes s text x facts order t at (length c)
+writes-still k e W = rw (k .none-put e) W
+
+pub still-length : {xs : Bytes} {b c : List ℕ} {at m : ℕ} → Copied b c at m xs → m ≡ at → length c ≡ length b
+still-length k e = rw (k .none-put e)

@@ -2,6 +2,7 @@
 // numbers.
 use crate::rising::Risen;
 use crate::rising::rise;
+use report_leaves::copy::copied;
 use report_leaves::leaf::leaf;
 use report_leaves::leaf::opening;
 use report_pairs::ends::end;
@@ -18,12 +19,13 @@ ghost use Rattle.term.specs.Setting.{Setting};
 ghost use Rattle.report_pairs.specs.Threaded.{full};
 ghost use Rattle.report_pairs.specs.Laid.{Puts};
 ghost use Rattle.report_pairs.specs.Facts.{Readable, Shows};
+ghost use Rattle.report_leaves.specs.Fits.{Fits};
 ghost use Rattle.report_leaves.specs.Writes.{Writes};
 ghost use Rattle.report_write.specs.Frames.{Before, Nothing};
 
 // What stands behind a compound's opening; "lists as `[a,b]` or `[a|T]`": a list goes on with the cell that is its tail. A term and its argument list
 // alternate: `write_term` calls this function, and this function calls `write_term`, each time with fewer bytes of the buffer left. The places of up to 16
-// compounds, one in the other, are kept in the frames, so only a compound deeper in is such a call.
+// compounds, one in the other, are kept in the frames, so only a compound deeper in is such a call. A value that stands in the buffer already is copied.
 fn write_arguments(
     text: &[u8],
     s: &[u64],
@@ -33,9 +35,9 @@ fn write_arguments(
     first: usize,
 ) -> usize
     requires { ⌜ ((x : Setting) × (order : List ℕ) × (bs : Bytes) × Readable (now s) (now text) x facts
-        × Before Nothing (now s) x facts order first 1 bs × (at + length bs ≤ length (now buffer))) ⌝ }
+        × Before Nothing (now s) x facts order first 1 bs × Fits (now s) x facts order at (now buffer) bs) ⌝ }
     ensures { λ r. ⌜ ((x : Setting) (order : List ℕ) (bs : Bytes) → Readable (now (s .entry)) (now (text .entry)) x facts
-        → Before Nothing (now (s .entry)) x facts order first 1 bs → at + length bs ≤ length (now (buffer .entry))
+        → Before Nothing (now (s .entry)) x facts order first 1 bs → Fits (now (s .entry)) x facts order at (now (buffer .entry)) bs
         → Puts (now (buffer .entry)) (now (buffer .exit)) at r bs) ⌝ }
 {
     let mut frames = [0usize; 16];
@@ -49,14 +51,19 @@ fn write_arguments(
         match look(e) {
             View::Compound(q) => {
                 if depth < 16 {
-                    to = opening(text, s, buffer, to, q);
-                    frames[depth] = 8 * p + i;
-                    depth += 1;
-                    p = q;
-                    i = 1;
-                    continue;
+                    let behind = copied(s, facts, buffer, to, a);
+                    if behind == to {
+                        to = opening(text, s, buffer, to, q);
+                        frames[depth] = 8 * p + i;
+                        depth += 1;
+                        p = q;
+                        i = 1;
+                        continue;
+                    }
+                    to = behind;
+                } else {
+                    to = write_term(text, s, facts, buffer, to, a);
                 }
-                to = write_term(text, s, facts, buffer, to, a);
             }
             _ => {
                 to = leaf(text, s, facts, buffer, to, e);
@@ -85,13 +92,19 @@ pub fn write_term(
     at: usize,
     w: u64,
 ) -> usize
-    requires { ⌜ ((x : Setting) × (order : List ℕ) × (t : Term) × Writes (now s) (now text) x facts order t at (length (now buffer)) × Shows (now s) x t w) ⌝ }
+    requires { ⌜ ((x : Setting) × (order : List ℕ) × (t : Term) × Writes (now s) (now text) x facts order t at (length (now buffer)) × Shows (now s) x t w
+        × Fits (now s) x facts order at (now buffer) (written order alone (full (x .values) t))) ⌝ }
     ensures { λ r. ⌜ ((x : Setting) (order : List ℕ) (t : Term) → Writes (now (s .entry)) (now (text .entry)) x facts order t at (length (now (buffer .entry)))
-        → Shows (now (s .entry)) x t w → Puts (now (buffer .entry)) (now (buffer .exit)) at r (written order alone (full (x .values) t))) ⌝ }
+        → Shows (now (s .entry)) x t w → Fits (now (s .entry)) x facts order at (now (buffer .entry)) (written order alone (full (x .values) t))
+        → Puts (now (buffer .entry)) (now (buffer .exit)) at r (written order alone (full (x .values) t))) ⌝ }
 {
     let e = end(s, facts, w);
     match look(e) {
         View::Compound(q) => {
+            let behind = copied(s, facts, buffer, at, w);
+            if behind != at {
+                return behind;
+            }
             let to = opening(text, s, buffer, at, q);
             write_arguments(text, s, facts, buffer, to, q)
         }

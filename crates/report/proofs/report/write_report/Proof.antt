@@ -9,7 +9,7 @@ use Rattle.report_tallies.specs.Header.{run-line-of}
 use Rattle.report_sections.specs.Whole.{Numbers}
 use Rattle.report.specs.All.{Made, Sections, order-of, sections-bytes}
 use Rattle.report_pairs.proofs.Laid.{puts-behind, puts-as}
-use Rattle.report.proofs.Sectionwise.{sections-fit, none-put, more-put}
+use Rattle.report.proofs.Sectionwise.{Ahead, ahead-first, section-ahead, none-put, more-put}
 use Rattle.report.proofs.report.write_report.Statement.{statement}
 use Rattle.report.proofs.report.write_report.Tie as tie
 use Rattle.report.proofs.report.write_report.Reads as reads
@@ -21,7 +21,7 @@ abbrev Inv-loop : tie.InvT-loop
 Inv-loop text s room buffer₀ queries t to₀ q₀ buffer to q =
     (q ≤ queries) × (length buffer ≡ length buffer₀) × ((made : ℕ → Made) → Sections s text (figures room) t made queries
     → ((k : ℕ) → k < queries → Numbers s (made k .unit) (waiters-region (figures room)) (order-of (made k)))
-    → to₀ + length (sections-bytes s (figures room) t made queries) ≤ length buffer₀
+    → Ahead s (figures room) t made queries to₀ buffer₀
     → Puts buffer₀ buffer to₀ to (sections-bytes s (figures room) t made q))
 
 abbrev μ-loop : tie.MeasureT-loop
@@ -32,7 +32,7 @@ run-line-requires : tie.Need-run-line-requires Inv-loop μ-loop
 run-line-requires c κs =
     let start = c .before .before .before .before in
     let a = start .args in
-    let (made, sections, steps, numbers, fits) = start .pre in
+    let (made, sections, steps, numbers, stored, fits) = start .pre in
     omega (arith, fits, length-append (run-line-of (a .verdict) (a .t .steps)) (sections-bytes (a .s .now) (figures (a .room)) (a .t) made (a .queries)))
 
 -- src/report.rt:72:5
@@ -40,7 +40,7 @@ loop-holds : tie.Need-loop-holds Inv-loop μ-loop
 loop-holds c =
     let a = c .before .before .before .before .before .before .before .args in
     let first = c .before .before .run-line in
-    (omega arith, refl, λ made sections numbers fits. none-put (first .last .0) (first .result) (a .s .now) (figures (a .room)) (a .t) made)
+    (omega arith, refl, λ made sections numbers ahead. none-put (first .last .0) (first .result) (a .s .now) (figures (a .room)) (a .t) made)
 
 -- src/report.rt:73:9
 write-section-requires : tie.Need-write-section-requires Inv-loop μ-loop
@@ -49,12 +49,11 @@ write-section-requires c κs =
     let a = start .args in
     let l = c .before .before .loop in
     let first = c .before .before .before .before .before .run-line in
-    let (made, sections, steps, numbers, fits) = start .pre in
-    let whole = length-append (run-line-of (a .verdict) (a .t .steps)) (sections-bytes (a .s .now) (figures (a .room)) (a .t) made (a .queries)) in
-    let p = l .inv .2 made sections numbers (omega (arith, fits, whole, first .ensures .place, first .kept .0)) in
+    let (made, sections, steps, numbers, stored, fits) = start .pre in
+    let ahead = ahead-first (a .s .now) (figures (a .room)) (a .verdict) (a .t) made (a .queries) (first .result) (a .buffer .now) (first .last .0) stored fits (first .ensures) in
+    let p = l .inv .2 made sections numbers ahead in
     let m = made (l .q) in
-    let h : l .q < a .queries = omega arith in
-    let fit = sections-fit (a .s .now) (figures (a .room)) (a .t) made (l .q) (a .queries) h in (
+    let h : l .q < a .queries = omega arith in (
       m .unit,
       m .variables,
       m .actives,
@@ -62,7 +61,7 @@ write-section-requires c κs =
       m .fails,
       sections .stands (l .q) h,
       numbers (l .q) h,
-      omega (arith, fits, whole, fit, p .place, first .ensures .place, first .kept .0, l .inv .1),
+      section-ahead ahead (l .q) h p,
     )
 
 -- src/report.rt:74:9
@@ -82,14 +81,13 @@ loop-again c =
     let r = c .before .before .write-section in (
       omega arith,
       r .kept .1 .1 .1 .0 ∙ l .inv .1,
-      λ made sections numbers fits.
-          let p = l .inv .2 made sections numbers fits in
+      λ made sections numbers ahead.
+          let p = l .inv .2 made sections numbers ahead in
           let m = made (l .q) in
           let h : l .q < a .queries = omega arith in
-          let fit = sections-fit (a .s .now) (figures (a .room)) (a .t) made (l .q) (a .queries) h in
           more-put (first .last .0) (l .buffer) (r .last .1 .1 .1 .0) (first .result) (l .to) (r .result) (a .s .now) (figures (a .room)) (a .t) made (l .q) p
           (r .ensures (m .unit) (m .variables) (m .actives) (m .waits) (m .fails) (sections .stands (l .q) h) (numbers (l .q) h)
-          (omega (arith, fits, fit, p .place, l .inv .1))),
+          (section-ahead ahead (l .q) h p)),
     )
 
 -- src/report.rt:53:1
@@ -102,9 +100,10 @@ returns c =
     let a = c .before .before .before .before .before .before .before .before .before .args in
     let first = c .before .before .before .before .run-line in
     let l = c .before .loop in
-    λ made sections steps numbers fits.
-    let whole = length-append (run-line-of (a .verdict) (a .t .steps)) (sections-bytes (a .s .now) (figures (a .room)) (a .t) made (a .queries)) in
-    let p = l .inv .2 made sections numbers (omega (arith, fits, whole, first .ensures .place, first .kept .0)) in
+    λ made sections steps numbers stored fits.
+    let ahead =
+    ahead-first (a .s .now) (figures (a .room)) (a .verdict) (a .t) made (a .queries) (first .result) (a .buffer .now) (first .last .0) stored fits (first .ensures) in
+    let p = l .inv .2 made sections numbers ahead in
     let all : l .q ≡ a .queries = omega arith in
     puts-behind _ _ (a .buffer .now) (first .last .0) (l .buffer) 0 (first .result) (l .to) (first .ensures)
     (puts-as _ _ (first .last .0) (l .buffer) (first .result) (l .to) (ap (sections-bytes (a .s .now) (figures (a .room)) (a .t) made) all) p)

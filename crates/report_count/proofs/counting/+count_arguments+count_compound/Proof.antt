@@ -80,7 +80,7 @@ calls t = (
 abbrev Inv : count-arguments-lts.InvT-loop
 Inv s₀ facts at first to₀ p₀ i₀ s to p i =
     (text : Bytes) (x : Setting) (seen : List ℕ) (n : ℕ) (f : Functor) (ts : Terms) → Counts s₀ text x facts seen at → at < 16777217 → StandsAt s₀ x n f ts first
-    → walk.Walked s₀ s text x facts (walk.order-of x seen (Term.compound n f ts)) (walk.whole-of x seen (Term.compound n f ts)) at p i to
+    → walk.Walked s₀ s text x facts seen (walk.order-of x seen (Term.compound n f ts)) (walk.whole-of x seen (Term.compound n f ts)) at p i to
 
 abbrev μ-loop : count-arguments-lts.MeasureT-loop
 μ-loop s₀ facts at first to₀ p₀ i₀ s to p i = 16777217 - to
@@ -123,7 +123,7 @@ asked t c =
 
 -- What the walk knows at the loop's head, and of the argument there.
 walked : (t : ℕ) (c : Head t) (o : Counted-there t c)
-    → walk.Walked (start t c .args .s .now) (c .loop .s) (o .text) (o .x) (start t c .args .facts) (walk.order-of (o .x) (o .seen) (Term.compound (o .n) (o .f) (o .ts)))
+    → walk.Walked (start t c .args .s .now) (c .loop .s) (o .text) (o .x) (start t c .args .facts) (o .seen) (walk.order-of (o .x) (o .seen) (Term.compound (o .n) (o .f) (o .ts)))
     (walk.whole-of (o .x) (o .seen) (Term.compound (o .n) (o .f) (o .ts))) (start t c .args .at) (c .loop .p) (c .loop .i) (c .loop .to)
 walked t c o = c .loop .inv (o .text) (o .x) (o .seen) (o .n) (o .f) (o .ts) (o .counts) (o .low) (o .stands)
 
@@ -143,13 +143,13 @@ leads t c o =
 -- The argument is counted, as a compound or as a leaf.
 turn : (t : ℕ) (c : Turn t) (o : Counted-there t (c .before .before .before .before .before .before .before .before))
     → walk.Turned (start t (c .before .before .before .before .before .before .before .before) .args .s .now) (c .match .s) (o .text) (o .x) (start t (c .before .before .before .before .before .before .before .before) .args .facts)
-    (walk.order-of (o .x) (o .seen) (Term.compound (o .n) (o .f) (o .ts))) (walk.whole-of (o .x) (o .seen) (Term.compound (o .n) (o .f) (o .ts)))
+    (o .seen) (walk.order-of (o .x) (o .seen) (Term.compound (o .n) (o .f) (o .ts))) (walk.whole-of (o .x) (o .seen) (Term.compound (o .n) (o .f) (o .ts)))
     (start t (c .before .before .before .before .before .before .before .before) .args .at) (c .before .before .before .before .before .before .before .before .loop .p) (c .before .before .before .before .before .before .before .before .loop .i) (c .before .before .before .before .before .before .before .before .loop .to) (c .match .to)
 turn t c o =
     let h = c .before .before .before .before .before .before .before .before in let l = h .loop in let S = start t h in let M = c .match in
     let W = walked t h o in let k = shows t (c .before .before .before .before .before .before) o in let L = leads t (c .before) o in
     let led = c .before .before .before .before .lead in let w = c .before .before .before .before .before .before .word-at .result in
-    walk.walk-turn (S .args .s .now) (l .s) (o .text) (o .x) (S .args .facts) (walk.order-of (o .x) (o .seen) (Term.compound (o .n) (o .f) (o .ts)))
+    walk.walk-turn (S .args .s .now) (l .s) (o .text) (o .x) (S .args .facts) (o .seen) (walk.order-of (o .x) (o .seen) (Term.compound (o .n) (o .f) (o .ts)))
     (walk.whole-of (o .x) (o .seen) (Term.compound (o .n) (o .f) (o .ts))) (S .args .at) (l .p) (l .i) (l .to) W (M .s) (M .to)
     (⊎-elim
     (λ v.
@@ -226,13 +226,13 @@ pub +count-arguments+count-compound-spec : {M : Type 1} → statement M
     (λ c text x seen n f ts C low a.
     let o : Counted-there t (c .before .before .before .before .before .before .before .before .before .before .before .before .before .before) = record { text = text; x = x; seen = seen; n = n; f = f; ts = ts; counts = C; low = low; stands = a } in
     let goes = rw (c .before .before .q2 .given .1) at (found t (c .before .before .before .before) o) in
-    walk.walk-stops _ _ text x _ _ _ _ _ _ _ _ (turn t (c .before .before .before .before .before .before) o) _ _ _ goes (c .if2 .taken))
+    walk.walk-stops _ _ text x _ _ _ _ _ _ _ _ _ (turn t (c .before .before .before .before .before .before) o) _ _ _ goes (c .if2 .taken))
     (λ c. omega (arith, c .before .if2 .left))
     (λ c. omega (arith, c .before .if2 .left, turn t (c .before .before .before .before .before .before .before) (asked t (c .before .before .before .before .before .before .before .before .before .before .before .before .before .before .before)) .above .1))
     (λ c text x seen n f ts C low a.
     let o : Counted-there t (c .before .before .before .before .before .before .before .before .before .before .before .before .before .before .before) = record { text = text; x = x; seen = seen; n = n; f = f; ts = ts; counts = C; low = low; stands = a } in
     let goes = rw (c .before .before .before .q2 .given .1) at (found t (c .before .before .before .before .before) o) in
-    walk.walk-on _ _ text x _ _ _ _ _ _ _ _ (turn t (c .before .before .before .before .before .before .before) o) _ _ _ goes (c .before .if2 .left))
+    walk.walk-on _ _ text x _ _ _ _ _ _ _ _ _ (turn t (c .before .before .before .before .before .before .before) o) _ _ _ goes (c .before .if2 .left))
     -- the last one
     (λ c. c .match2 .keys2)
     (λ c κs. turn t (c .before .before .before .before) (asked t (c .before .before .before .before .before .before .before .before .before .before .before .before)) .counts .low)
@@ -240,7 +240,7 @@ pub +count-arguments+count-compound-spec : {M : Type 1} → statement M
     (λ c text x seen n f ts C low a.
     let o : Counted-there t (c .before .before .before .before .before .before .before .before .before .before .before .before .before) = record { text = text; x = x; seen = seen; n = n; f = f; ts = ts; counts = C; low = low; stands = a } in
     let ends = rw (c .before .enum-told .given .1) at (found t (c .before .before .before) o) in
-    walk.walk-ends _ _ text x _ _ _ _ _ _ _ _ (turn t (c .before .before .before .before .before) o) _ _ ends (c .further2 .ensures)))
+    walk.walk-ends _ _ text x _ _ _ _ _ _ _ _ _ (turn t (c .before .before .before .before .before) o) _ _ ends (c .further2 .ensures)))
     (λ t. count-compound-lts.spec (
       counted-reads.Asked,
       counted-reads.Learnt,

@@ -3,15 +3,14 @@ use Prim.Native.Nat.{ℕ, _+_, _*_, _/_}
 use mathlib.Core.Path.{_≡_, refl, sym, ap, _∙_}
 use mathlib.Core.Bool.{Bool, true, false}
 use native.Mathlib.Omega.{arith}
-use lib.ListN.{length}
+use mathlib.Core.List.{_++_}
+use lib.ListN.{length, length-append}
 use Rattle.laws.proofs.Lists.Tests.{false-not-true}
 use Rattle.term.specs.Words.{compound-word}
 use Rattle.term.specs.Goals.{place-in}
 use Rattle.report_tallies.specs.Groups.{goal-in, own}
-use Rattle.meaning.specs.Report.{alone}
-use Rattle.report_pairs.specs.Threaded.{full, shown}
+use Rattle.meaning.specs.Bytes.{Bytes, bytes}
 use Rattle.report_tallies.specs.Origins.{origin-of}
-use Rattle.report_count.proofs.Lengths.{counted-as}
 use borrow.Author.Needs.{needs}
 use Rattle.report_sections.proofs.sections.count_goal.Statement.{statement}
 use Rattle.report_sections.proofs.sections.count_goal.Tie as tie
@@ -23,8 +22,9 @@ use Rattle.report_tallies.proofs.origin.origin_length.Reads as origin-length-re
 use Rattle.report_sections.proofs.sections.count_line.Reads as count-line-reads
 use Rattle.report_sections.proofs.sections.goal_term.Reads as goal-term-reads
 
-one-more : {n m : ℕ} (a b : ℕ) → n ≡ m → a + (b + (n + 1)) ≡ a + (b + (m + 1))
-one-more a b e = ap (λ (k : ℕ). a + (b + (k + 1))) e
+one-more : {n : ℕ} (origin : Bytes) → n ≡ length origin → n + 1 ≡ length (origin ++ bytes "\n")
+unfolding bytes
+one-more origin e = simp length-append (omega arith)
 
 -- src/sections.rt:128:9
 goal-at-requires : tie.Need-goal-at-requires
@@ -77,10 +77,9 @@ returns c =
     term .ensures ∙ ap (λ (w : ℕ). compound-word (place-in w)) (at .ensures) in
     let behind = c .before .before .before .before .origin-length .ensures .0 ∙ ap (λ (w : ℕ). length (origin-of w)) (at .ensures) in (
       λ e. absurd (false-not-true _ e is),
-      λ text x seen t e counts shows.
-          counted-as (a .s .now) (line .last .0) text x (a .facts) (a .at) _ _ _ _ (line .result)
-          (one-more (a .label) (length (shown seen alone (full (x .values) t))) behind) refl
-          (line .ensures text x seen t counts (rw word shows)),
+      λ text x seen t label e counts shows labelled.
+          line .ensures text x seen t label (origin-of (goal-in (a .s .now) (a .g) (a .i)) ++ bytes "\n") counts (rw word shows) labelled
+          (one-more (origin-of (goal-in (a .s .now) (a .g) (a .i))) behind),
     )
 
 -- src/sections.rt:119:1
@@ -92,7 +91,7 @@ returns-2 : tie.Need-returns-2
 returns-2 c =
     let is : own (c .before .before .before .before .before .args .q) (goal-in (c .before .before .before .before .before .args .s .now) (c .before .before .before .before .before .args .g) (c .before .before .before .before .before .args .i)) ≡ false =
     sym (ap (own (c .before .before .before .before .before .args .q)) (c .before .before .goal-at .ensures)) ∙ sym (c .before .own .ensures) ∙ c .if1 .left in
-    (λ e. (refl, refl), λ text x seen t e counts shows. absurd (false-not-true _ is e))
+    (λ e. (refl, refl), λ text x seen t label e counts shows labelled. absurd (false-not-true _ is e))
 
 pub count-goal-spec : {M : Type 1} → statement M
 count-goal-spec =

@@ -63,7 +63,7 @@ loop-again c =
       r .kept .0 ∙ l .inv .1,
       λ text x seen gs word counts listed e.
           goal-told (a .s .now) (l .s) (r .last .0) text x (a .facts) (a .at) seen (a .g) (a .q) gs word (a .label) (l .to) (l .i) (r .result) (omega arith) counts listed e
-          (l .inv .2 text x seen gs word counts listed e) (r .ensures .0) (λ seen′ t. r .ensures .1 text x seen′ t),
+          (l .inv .2 text x seen gs word counts listed e) (r .ensures .0) (λ seen′ t label. r .ensures .1 text x seen′ t label),
     )
 
 -- src/sections.rt:137:1

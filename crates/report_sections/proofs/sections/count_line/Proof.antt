@@ -1,5 +1,8 @@
 -- `report_sections::sections::count_line` meets its contract: bytes, a term, bytes.
+use Prim.Native.Nat.{ℕ, _+_}
+use mathlib.Core.Path.{ap, _∙_}
 use native.Mathlib.Omega.{arith}
+use Rattle.report_pairs.specs.Laid.{capped}
 use Rattle.report_count.proofs.Lengths.{counts-further, counted-line}
 use borrow.Author.Needs.{needs}
 use Rattle.report_sections.proofs.sections.count_line.Statement.{statement}
@@ -33,9 +36,13 @@ same-length c = search needs
 returns : tie.Need-returns
 returns c =
     let a = c .before .before .before .before .before .before .before .args in
-    λ text x seen t counts shows.
-    counted-line (a .s .now) (c .before .before .before .count-term .last .0) text x (a .facts) _ (a .at) (a .before) (c .before .before .before .before .before .further .result) _ (c .before .before .before .count-term .result) (a .behind) (c .further2 .result) (counts .low) (c .before .before .before .before .before .further .ensures)
-    (c .before .before .before .count-term .ensures text x seen t (counts-further _ text x _ seen _ _ _ counts (c .before .before .before .before .before .further .ensures)) shows) (c .further2 .ensures)
+    let first = c .before .before .before .before .before .further in
+    let term = c .before .before .before .count-term in
+    λ text x seen t front back counts shows e f.
+    counted-line (a .s .now) (term .last .0) text x (a .facts) seen _ (a .at) (first .result) front _ back (term .result) (c .further2 .result) (counts .low)
+    (first .ensures ∙ ap (λ (n : ℕ). capped (a .at + n)) e)
+    (term .ensures text x seen t (counts-further _ text x _ seen _ _ _ counts (first .ensures)) shows)
+    (c .further2 .ensures ∙ ap (λ (n : ℕ). capped (term .result + n)) f)
 
 pub count-line-spec : {M : Type 1} → statement M
 count-line-spec =

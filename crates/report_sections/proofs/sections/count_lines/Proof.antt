@@ -5,7 +5,9 @@ use Prim.Native.Nat.{ℕ, _+_}
 use native.Mathlib.Omega.{arith}
 use lib.ListN.{length}
 use Rattle.meaning.specs.Bytes.{bytes}
+use Rattle.term.specs.Layout.{figures}
 use Rattle.report_pairs.specs.Laid.{capped}
+use Rattle.report_sections.specs.Whole.{section-bytes}
 use Rattle.report_tallies.specs.Header.{header-of, tallies-of}
 use Rattle.report_count.proofs.Lengths.{counts-further, counts-on, changed-then}
 use Rattle.report_sections.proofs.SectionCounts.{listed-kept, listed-as, section-counted}
@@ -56,7 +58,7 @@ count-goals-requires c κs =
     let counts₀ = counts-further (a .s .now) text x (a .facts) [] (a .at) _ _ counts (c .before .before .before .before .before .before .further .ensures) in
     let v = c .before .before .before .before .count-values in
     let c₁ = v .ensures text x [] xs counts₀ (sec .variables) in
-    let counts₁ = counts-on (a .s .now) (v .last .0) text x (a .facts) _ _ _ (v .result) c₁ in
+    let counts₁ = counts-on (a .s .now) (v .last .0) text x (a .facts) _ _ _ _ (v .result) c₁ in
     let listed₁ = listed-as (v .last .0) x (a .facts) _ _ (a .q) _ (c .active .ensures) (listed-kept (a .s .now) (v .last .0) text x (a .facts) _ (a .q) actives (counts .readable) (c₁ .changed) (sec .active)) in
     (text, x, c₁ .after, actives, bytes "active ", counts₁, listed₁, refl)
 
@@ -73,11 +75,11 @@ count-goals-requires-2 c κs =
     let counts₀ = counts-further (a .s .now) text x (a .facts) [] (a .at) _ _ counts (c .before .before .before .before .before .before .before .before .before .before .before .further .ensures) in
     let v = c .before .before .before .before .before .before .before .before .before .count-values in
     let c₁ = v .ensures text x [] xs counts₀ (sec .variables) in
-    let counts₁ = counts-on (a .s .now) (v .last .0) text x (a .facts) _ _ _ (v .result) c₁ in
+    let counts₁ = counts-on (a .s .now) (v .last .0) text x (a .facts) _ _ _ _ (v .result) c₁ in
     let listed₁ = listed-as (v .last .0) x (a .facts) _ _ (a .q) _ (c .before .before .before .before .before .active .ensures) (listed-kept (a .s .now) (v .last .0) text x (a .facts) _ (a .q) actives (counts .readable) (c₁ .changed) (sec .active)) in
     let g₁ = c .before .before .before .before .count-goals in
     let c₂ = g₁ .ensures text x (c₁ .after) actives (bytes "active ") counts₁ listed₁ refl in
-    let counts₂ = counts-on (v .last .0) (g₁ .last .0) text x (a .facts) _ _ _ (g₁ .result) c₂ in
+    let counts₂ = counts-on (v .last .0) (g₁ .last .0) text x (a .facts) _ _ _ _ (g₁ .result) c₂ in
     let changed₂ = changed-then (a .s .now) (v .last .0) (g₁ .last .0) x (a .facts) (c₁ .changed) (c₂ .changed) in
     let listed₂ = listed-as (g₁ .last .0) x (a .facts) _ _ (a .q) _ (c .waiting .ensures) (listed-kept (a .s .now) (g₁ .last .0) text x (a .facts) _ (a .q) ws (counts .readable) changed₂ (sec .waiting)) in
     (text, x, c₂ .after, ws, bytes "waiting ", counts₂, listed₂, refl)
@@ -98,16 +100,16 @@ count-goals-requires-3 c κs =
     let counts₀ = counts-further (a .s .now) text x (a .facts) [] (a .at) _ _ counts (c .before .before .before .before .before .before .before .before .before .before .before .before .before .before .before .before .further .ensures) in
     let v = c .before .before .before .before .before .before .before .before .before .before .before .before .before .before .count-values in
     let c₁ = v .ensures text x [] xs counts₀ (sec .variables) in
-    let counts₁ = counts-on (a .s .now) (v .last .0) text x (a .facts) _ _ _ (v .result) c₁ in
+    let counts₁ = counts-on (a .s .now) (v .last .0) text x (a .facts) _ _ _ _ (v .result) c₁ in
     let listed₁ = listed-as (v .last .0) x (a .facts) _ _ (a .q) _ (c .before .before .before .before .before .before .before .before .before .before .active .ensures) (listed-kept (a .s .now) (v .last .0) text x (a .facts) _ (a .q) actives (counts .readable) (c₁ .changed) (sec .active)) in
     let g₁ = c .before .before .before .before .before .before .before .before .before .count-goals in
     let c₂ = g₁ .ensures text x (c₁ .after) actives (bytes "active ") counts₁ listed₁ refl in
-    let counts₂ = counts-on (v .last .0) (g₁ .last .0) text x (a .facts) _ _ _ (g₁ .result) c₂ in
+    let counts₂ = counts-on (v .last .0) (g₁ .last .0) text x (a .facts) _ _ _ _ (g₁ .result) c₂ in
     let changed₂ = changed-then (a .s .now) (v .last .0) (g₁ .last .0) x (a .facts) (c₁ .changed) (c₂ .changed) in
     let listed₂ = listed-as (g₁ .last .0) x (a .facts) _ _ (a .q) _ (c .before .before .before .before .before .waiting .ensures) (listed-kept (a .s .now) (g₁ .last .0) text x (a .facts) _ (a .q) ws (counts .readable) changed₂ (sec .waiting)) in
     let g₂ = c .before .before .before .before .count-goals2 in
     let c₃ = g₂ .ensures text x (c₂ .after) ws (bytes "waiting ") counts₂ listed₂ refl in
-    let counts₃ = counts-on (g₁ .last .0) (g₂ .last .0) text x (a .facts) _ _ _ (g₂ .result) c₃ in
+    let counts₃ = counts-on (g₁ .last .0) (g₂ .last .0) text x (a .facts) _ _ _ _ (g₂ .result) c₃ in
     let changed₃ = changed-then (a .s .now) (g₁ .last .0) (g₂ .last .0) x (a .facts) changed₂ (c₃ .changed) in
     let listed₃ = listed-as (g₂ .last .0) x (a .facts) _ _ (a .q) _ (c .failed .ensures) (listed-kept (a .s .now) (g₂ .last .0) text x (a .facts) _ (a .q) fs (counts .readable) changed₃ (sec .failed)) in
     (text, x, c₃ .after, fs, bytes "failed ", counts₃, listed₃, refl)
@@ -118,28 +120,30 @@ same-length c = search needs
 
 -- src/sections.rt:182:1
 returns : tie.Need-returns
-unfolding bytes
+unfolding bytes section-bytes
 returns c =
     let a = c .before .before .before .before .before .before .before .before .before .before .before .before .before .before .before .before .before .before .before .before .before .before .before .before .args in
     λ text x xs actives ws fs counts sec.
     let counts₀ = counts-further (a .s .now) text x (a .facts) [] (a .at) _ _ counts (c .before .before .before .before .before .before .before .before .before .before .before .before .before .before .before .before .before .before .before .further .ensures) in
     let v = c .before .before .before .before .before .before .before .before .before .before .before .before .before .before .before .before .before .count-values in
     let c₁ = v .ensures text x [] xs counts₀ (sec .variables) in
-    let counts₁ = counts-on (a .s .now) (v .last .0) text x (a .facts) _ _ _ (v .result) c₁ in
+    let counts₁ = counts-on (a .s .now) (v .last .0) text x (a .facts) _ _ _ _ (v .result) c₁ in
     let listed₁ = listed-as (v .last .0) x (a .facts) _ _ (a .q) _ (c .before .before .before .before .before .before .before .before .before .before .before .before .before .active .ensures) (listed-kept (a .s .now) (v .last .0) text x (a .facts) _ (a .q) actives (counts .readable) (c₁ .changed) (sec .active)) in
     let g₁ = c .before .before .before .before .before .before .before .before .before .before .before .before .count-goals in
     let c₂ = g₁ .ensures text x (c₁ .after) actives (bytes "active ") counts₁ listed₁ refl in
-    let counts₂ = counts-on (v .last .0) (g₁ .last .0) text x (a .facts) _ _ _ (g₁ .result) c₂ in
+    let counts₂ = counts-on (v .last .0) (g₁ .last .0) text x (a .facts) _ _ _ _ (g₁ .result) c₂ in
     let changed₂ = changed-then (a .s .now) (v .last .0) (g₁ .last .0) x (a .facts) (c₁ .changed) (c₂ .changed) in
     let listed₂ = listed-as (g₁ .last .0) x (a .facts) _ _ (a .q) _ (c .before .before .before .before .before .before .before .before .waiting .ensures) (listed-kept (a .s .now) (g₁ .last .0) text x (a .facts) _ (a .q) ws (counts .readable) changed₂ (sec .waiting)) in
     let g₂ = c .before .before .before .before .before .before .before .count-goals2 in
     let c₃ = g₂ .ensures text x (c₂ .after) ws (bytes "waiting ") counts₂ listed₂ refl in
-    let counts₃ = counts-on (g₁ .last .0) (g₂ .last .0) text x (a .facts) _ _ _ (g₂ .result) c₃ in
+    let counts₃ = counts-on (g₁ .last .0) (g₂ .last .0) text x (a .facts) _ _ _ _ (g₂ .result) c₃ in
     let changed₃ = changed-then (a .s .now) (g₁ .last .0) (g₂ .last .0) x (a .facts) changed₂ (c₃ .changed) in
     let listed₃ = listed-as (g₂ .last .0) x (a .facts) _ _ (a .q) _ (c .before .before .before .failed .ensures) (listed-kept (a .s .now) (g₂ .last .0) text x (a .facts) _ (a .q) fs (counts .readable) changed₃ (sec .failed)) in
     let size : c .before .before .before .before .before .before .before .before .before .before .before .before .before .before .before .before .before .before .before .before .header-length .result ≡ length (header-of (a .q) _) = c .before .before .before .before .before .before .before .before .before .before .before .before .before .before .before .before .before .before .before .before .header-length .ensures ∙ ap (λ c′. length (header-of (a .q) c′)) (c .before .before .before .before .before .before .before .before .before .before .before .before .before .before .before .before .before .before .before .before .before .tally .ensures) in
     let first = c .before .before .before .before .before .before .before .before .before .before .before .before .before .before .before .before .before .before .before .further .ensures ∙ ap (λ (n : ℕ). capped (a .at + n)) size in
-    section-counted (a .s .now) (v .last .0) (g₁ .last .0) (g₂ .last .0) (c .before .before .count-goals3 .last .0) text x (a .facts) (a .at) _ (c .before .before .before .before .before .before .before .before .before .before .before .before .before .before .before .before .before .before .before .further .result) (v .result) (g₁ .result) (g₂ .result) (c .before .before .count-goals3 .result) xs actives ws fs counts first c₁ c₂ c₃
+    let head = header-of (a .q) (tallies-of (a .s .now) (figures (a .room)) (a .q) (a .t)) in
+    section-counted (a .s .now) (v .last .0) (g₁ .last .0) (g₂ .last .0) (c .before .before .count-goals3 .last .0) text x (a .facts) (a .at) head
+    (c .before .before .before .before .before .before .before .before .before .before .before .before .before .before .before .before .before .before .before .further .result) (v .result) (g₁ .result) (g₂ .result) (c .before .before .count-goals3 .result) xs actives ws fs counts first c₁ c₂ c₃
     (c .before .before .count-goals3 .ensures text x (c₃ .after) fs (bytes "failed ") counts₃ listed₃ refl)
 
 pub count-lines-spec : {M : Type 1} → statement M

@@ -1,12 +1,10 @@
 -- `report_sections::sections::count_value` meets its contract: the name, three bytes, the value.
 use Prim.Native.Nat.{ℕ, _+_}
-use mathlib.Core.Path.{_≡_, refl, ap, _∙_}
+use mathlib.Core.Path.{_≡_, refl, _∙_}
 use native.Mathlib.Omega.{arith}
-use lib.ListN.{length}
-use Rattle.meaning.specs.Terms.{writer, Term}
-use Rattle.meaning.specs.Report.{alone}
-use Rattle.report_pairs.specs.Threaded.{full, shown}
-use Rattle.report_count.proofs.Lengths.{counted-as}
+use mathlib.Core.List.{[], _++_}
+use lib.ListN.{length, length-append, getD}
+use Rattle.meaning.specs.Bytes.{Bytes, bytes}
 use Rattle.report_sections.proofs.ValueLines.{shows-variable, name-size}
 use borrow.Author.Needs.{needs}
 use Rattle.report_sections.proofs.sections.count_value.Statement.{statement}
@@ -17,8 +15,13 @@ use Rattle.report_sections.proofs.sections.count_line.Reads as count-li
 use Rattle.report_sections.proofs.sections.spelled.Reads as spelled-reads
 use Rattle.report_sections.proofs.sections.variable.Reads as variable-reads
 
-three-more : {n m : ℕ} (k : ℕ) → n ≡ m → n + 3 + k ≡ m + 3 + k
-three-more k e = ap (λ (l : ℕ). l + 3 + k) e
+three-more : {n : ℕ} (name : Bytes) → n ≡ length name → n + 3 ≡ length (name ++ bytes " = ")
+unfolding bytes
+three-more name e = simp length-append (omega arith)
+
+one : 1 ≡ length (bytes "\n")
+unfolding bytes
+one = refl
 
 -- src/sections.rt:89:9
 spelled-requires : tie.Need-spelled-requires
@@ -56,9 +59,9 @@ returns c =
     let a = c .before .before .before .before .before .before .before .before .before .args in
     λ text x seen xs counts vs h.
     let spelled = name-size (a .s .now) text x (a .q) xs (a .v) vs h in
-    counted-as (a .s .now) (c .before .before .count-line .last .0) text x (a .facts) (a .at) _ _ _ _ (c .before .before .count-line .result)
-    (three-more (length (shown seen alone (full (x .values) (Term.variable writer (a .v)))) + 1) (c .before .before .before .before .before .before .spelled .ensures ∙ spelled .sized)) refl
-    (c .before .before .count-line .ensures text x seen _ counts (shows-variable (a .s .now) text x (a .q) xs (a .v) _ vs h (c .before .before .before .before .variable .ensures)))
+    c .before .before .count-line .ensures text x seen _ (getD xs (a .v) [] ++ bytes " = ") (bytes "\n") counts
+    (shows-variable (a .s .now) text x (a .q) xs (a .v) _ vs h (c .before .before .before .before .variable .ensures))
+    (three-more (getD xs (a .v) []) (c .before .before .before .before .before .before .spelled .ensures ∙ spelled .sized)) one
 
 pub count-value-spec : {M : Type 1} → statement M
 count-value-spec =

@@ -22,7 +22,7 @@ use Rattle.report_sections.proofs.sections.variables.Reads as variables
 abbrev Inv-loop : tie.InvT-loop
 Inv-loop s₀ facts at q k to₀ v₀ s to v =
     (v ≤ k) × (length s ≡ length s₀) × ((text : Bytes) (x : Setting) (seen : List ℕ) (xs : List Bytes) → Counts s₀ text x facts seen at → Variables s₀ text x q xs
-    → (k ≡ length xs) × Counted s₀ s text x facts at (length (shown-values (x .values) seen 0 (take v xs))) (seen-after-values (x .values) seen 0 (take v xs)) to)
+    → (k ≡ length xs) × Counted s₀ s text x facts at seen (shown-values (x .values) seen 0 (take v xs)) (seen-after-values (x .values) seen 0 (take v xs)) to)
 
 abbrev μ-loop : tie.MeasureT-loop
 μ-loop s₀ facts at q k to₀ v₀ s to v = k - v
@@ -46,7 +46,8 @@ count-value-requires c κs =
     let l = c .before .before .loop in
     let (text, x, seen, xs, counts, vs) = c .before .before .before .before .before .before .pre in
     let (all, counted) = l .inv .2 text x seen xs counts vs in
-    (text, x, counted .after, xs, counts-on (a .s .now) (l .s) text x (a .facts) (a .at) _ _ (l .to) counted, variables-kept (a .s .now) (l .s) text x (a .facts) (a .q) xs (counts .readable) (counted .changed) vs, omega arith)
+    let ready = counts-on (a .s .now) (l .s) text x (a .facts) (a .at) seen _ _ (l .to) counted in
+    (text, x, counted .after, xs, ready, variables-kept (a .s .now) (l .s) text x (a .facts) (a .q) xs (counts .readable) (counted .changed) vs, omega arith)
 
 -- src/sections.rt:104:9
 add-v : tie.Need-add-v Inv-loop μ-loop
@@ -68,7 +69,7 @@ loop-again c =
           let (all, counted) = l .inv .2 text x seen xs counts vs in (
             all,
             value-counted (a .s .now) (l .s) (r .last .0) text x (a .facts) (a .at) seen xs (l .v) (l .to) (r .result) (omega arith) counted
-                (r .ensures text x (counted .after) xs (counts-on (a .s .now) (l .s) text x (a .facts) (a .at) _ _ (l .to) counted)
+                (r .ensures text x (counted .after) xs (counts-on (a .s .now) (l .s) text x (a .facts) (a .at) seen _ _ (l .to) counted)
                 (variables-kept (a .s .now) (l .s) text x (a .facts) (a .q) xs (counts .readable) (counted .changed) vs) (omega arith)),
           ),
     )
@@ -85,7 +86,7 @@ returns c =
     λ text x seen xs counts vs.
     let (all, counted) = l .inv .2 text x seen xs counts vs in
     let whole : take (l .v) xs ≡ xs = take-all (l .v) xs (omega arith) in
-    counted-as (a .s .now) (l .s) text x (a .facts) (a .at) _ _ _ _ (l .to) (ap (λ (ys : List Bytes). length (shown-values (x .values) seen 0 ys)) whole)
+    counted-as (a .s .now) (l .s) text x (a .facts) (a .at) seen _ _ _ _ (l .to) (ap (shown-values (x .values) seen 0) whole)
     (ap (seen-after-values (x .values) seen 0) whole) counted
 
 pub count-values-spec : {M : Type 1} → statement M

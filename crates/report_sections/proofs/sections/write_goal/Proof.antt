@@ -1,9 +1,11 @@
 -- `report_sections::sections::write_goal` meets its contract: the word, the goal, its origin, one byte.
 use mathlib.Core.Path.{sym}
-use native.Mathlib.Omega.{arith}
 use Rattle.meaning.specs.Bytes.{bytes}
+use Rattle.report_tallies.specs.Origins.{origin-of}
 use Rattle.report_pairs.proofs.Laid.{puts-behind}
+use Rattle.report_leaves.proofs.Copying.{fits-front, fits-behind}
 use Rattle.report_sections.proofs.ValueLines.{writes-as}
+use Rattle.report_sections.proofs.WrittenLines.{line-room}
 use borrow.Author.Needs.{needs}
 use Rattle.report_sections.proofs.sections.write_goal.Statement.{statement}
 use Rattle.report_sections.proofs.sections.write_goal.Tie as tie
@@ -17,7 +19,9 @@ use Rattle.report_write.proofs.terms.write_term.Reads as write-term-reads
 
 -- src/sections.rt:210:9
 words-requires : tie.Need-words-requires
-words-requires c κs = search needs
+words-requires c κs =
+    let (x, order, t, writes, shows, fits) = c .before .before .before .before .before .pre in
+    fits-front (c .before .before .before .before .before .args .label .now) _ fits .room
 
 -- src/sections.rt:211:9
 goal-term-requires : tie.Need-goal-term-requires
@@ -31,7 +35,9 @@ write-term-requires c κs =
     let term = c .before .goal-term in
     let label = c .before .before .before .before .words in
     let (x, order, t, writes, shows, fits) = S .pre in
-    (x, order, t, writes-as (a .s .now) (a .text .now) x (a .facts) order t _ _ _ _ (sym (label .ensures .place)) (sym (label .kept .0)) writes, rw (term .ensures) shows)
+    let first = fits-behind (a .label .now) _ fits (label .ensures) in
+    let ready = writes-as (a .s .now) (a .text .now) x (a .facts) order t _ _ _ _ (sym (label .ensures .place)) (sym (label .kept .0)) writes in
+    (x, order, t, ready, rw (term .ensures) shows, fits-front _ _ first)
 
 -- src/sections.rt:250:5
 origin-requires : tie.Need-origin-requires
@@ -40,10 +46,12 @@ origin-requires c κs =
     let a = S .args in
     let term = c .before .before .before .before .before .goal-term in
     let label = c .before .before .before .before .before .before .before .before .words in
-    let (x, order, t, writes, shows, fits) = S .pre in
     let shown = c .before .before .before .write-term in
-    let puts = shown .ensures x order t (writes-as (a .s .now) (a .text .now) x (a .facts) order t _ _ _ _ (sym (label .ensures .place)) (sym (label .kept .0)) writes) (rw (term .ensures) shows) in
-    omega (arith, fits, label .kept .0, label .ensures .place, shown .kept .1 .1 .1 .0, puts .place)
+    let (x, order, t, writes, shows, fits) = S .pre in
+    let first = fits-behind (a .label .now) _ fits (label .ensures) in
+    let ready = writes-as (a .s .now) (a .text .now) x (a .facts) order t _ _ _ _ (sym (label .ensures .place)) (sym (label .kept .0)) writes in
+    let puts = shown .ensures x order t ready (rw (term .ensures) shows) (fits-front _ _ first) in
+    fits-front (origin-of (a .goal)) (bytes "\n") (fits-behind _ _ first puts) .room
 
 -- src/sections.rt:251:5
 put-requires : tie.Need-put-requires
@@ -52,11 +60,12 @@ put-requires c κs =
     let a = S .args in
     let term = c .before .before .before .before .before .before .before .before .before .goal-term in
     let label = c .before .before .before .before .before .before .before .before .before .before .before .before .words in
-    let (x, order, t, writes, shows, fits) = S .pre in
     let shown = c .before .before .before .before .before .before .before .write-term in
-    let puts = shown .ensures x order t (writes-as (a .s .now) (a .text .now) x (a .facts) order t _ _ _ _ (sym (label .ensures .place)) (sym (label .kept .0)) writes) (rw (term .ensures) shows) in
-    let behind = c .before .before .before .origin in
-    omega (arith, fits, label .kept .0, label .ensures .place, shown .kept .1 .1 .1 .0, puts .place, behind .kept .0, behind .ensures .place)
+    let (x, order, t, writes, shows, fits) = S .pre in
+    let first = fits-behind (a .label .now) _ fits (label .ensures) in
+    let ready = writes-as (a .s .now) (a .text .now) x (a .facts) order t _ _ _ _ (sym (label .ensures .place)) (sym (label .kept .0)) writes in
+    let puts = shown .ensures x order t ready (rw (term .ensures) shows) (fits-front _ _ first) in
+    line-room (fits-behind _ _ (fits-behind _ _ first puts) (c .before .before .before .origin .ensures))
 
 -- src/sections.rt:201:1
 same-length : tie.Need-same-length
@@ -71,11 +80,12 @@ returns c =
     let term = c .before .before .before .before .before .before .before .before .before .before .before .before .goal-term in
     let label = c .before .before .before .before .before .before .before .before .before .before .before .before .before .before .before .words in
     let shown = c .before .before .before .before .before .before .before .before .before .before .write-term in
-    let behind = c .before .before .before .before .before .before .origin in
-    λ x order t writes shows.
+    λ x order t writes shows fits.
+    let first = fits-behind (a .label .now) _ fits (label .ensures) in
+    let ready = writes-as (a .s .now) (a .text .now) x (a .facts) order t _ _ _ _ (sym (label .ensures .place)) (sym (label .kept .0)) writes in
+    let puts = shown .ensures x order t ready (rw (term .ensures) shows) (fits-front _ _ first) in
     puts-behind _ _ _ _ _ _ _ _ (label .ensures)
-    (puts-behind _ _ _ _ _ _ _ _ (shown .ensures x order t (writes-as (a .s .now) (a .text .now) x (a .facts) order t _ _ _ _ (sym (label .ensures .place)) (sym (label .kept .0)) writes) (rw (term .ensures) shows))
-    (puts-behind _ _ _ _ _ _ _ _ (behind .ensures) (c .before .before .put .ensures)))
+    (puts-behind _ _ _ _ _ _ _ _ puts (puts-behind _ _ _ _ _ _ _ _ (c .before .before .before .before .before .before .origin .ensures) (c .before .before .put .ensures)))
 
 pub write-goal-spec : {M : Type 1} → statement M
 write-goal-spec =

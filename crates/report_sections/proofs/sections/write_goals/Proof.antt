@@ -10,6 +10,7 @@ use Rattle.meaning.specs.State.{Goal}
 use Rattle.term.specs.Setting.{Setting}
 use Rattle.report_pairs.specs.Threaded.{written-goals}
 use Rattle.report_pairs.specs.Facts.{Readable}
+use Rattle.report_leaves.specs.Fits.{Fits}
 use Rattle.report_tallies.specs.Groups.{goal-in, own}
 use Rattle.report_sections.specs.Sections.{Listed}
 use Rattle.report_sections.specs.Whole.{Numbers, AllIn}
@@ -25,7 +26,7 @@ use Rattle.report_sections.proofs.sections.write_goal.Reads as write-go
 abbrev Inv-loop : tie.InvT-loop
 Inv-loop text s facts buffer₀ at label g q to₀ i₀ buffer to i =
     (i ≤ g .count) × (length buffer ≡ length buffer₀) × ((x : Setting) (order : List ℕ) (gs : List Goal) → Readable s text x facts → Listed s x facts g q gs
-    → Numbers s x facts order → AllIn (x .values) order gs → at + length (written-goals (x .values) order label gs) ≤ length buffer₀
+    → Numbers s x facts order → AllIn (x .values) order gs → Fits s x facts order at buffer₀ (written-goals (x .values) order label gs)
     → Wrote s x order buffer₀ buffer at g q gs label to i)
 
 abbrev μ-loop : tie.MeasureT-loop
@@ -61,7 +62,8 @@ write-goal-requires c κs =
     let (x, order, gs, readable, listed, numbers, all, fits) = S .pre in
     let is : own (a .q) (goal-in (a .s .now) (a .g) (l .i)) ≡ true =
     ap (own (a .q)) (sym (goal .ensures)) ∙ sym (c .before .before .own .ensures) ∙ c .before .if2 .taken in
-    let n = next-line (a .s .now) (a .text .now) x (a .facts) order (a .buffer .now) (l .buffer) (a .at) (a .g) (a .q) gs (a .label .now) (l .to) (l .i) (goal .result) (omega arith) readable listed numbers all fits (l .inv .1) (goal .ensures) is (l .inv .2 x order gs readable listed numbers all fits) in
+    let n = next-line (a .s .now) (a .text .now) x (a .facts) order (a .buffer .now) (l .buffer) (a .at) (a .g) (a .q) gs (a .label .now) (l .to) (l .i) (goal .result)
+    (omega arith) readable listed numbers all fits (goal .ensures) is (l .inv .2 x order gs readable listed numbers all fits) in
     (x, order, n .term, n .writes, n .shows, n .fits)
 
 -- src/sections.rt:296:9
@@ -87,9 +89,10 @@ loop-again c =
       omega arith,
       ap length (w .5) ∙ w .2 .kept .1 .1 .1 .0 ∙ l .inv .1,
       λ x order gs readable listed numbers all fits.
-          let n = next-line (a .s .now) (a .text .now) x (a .facts) order (a .buffer .now) (l .buffer) (a .at) (a .g) (a .q) gs (a .label .now) (l .to) (l .i) (goal .result) inside readable listed numbers all fits (l .inv .1) (goal .ensures) (same ∙ w .0 .taken) (l .inv .2 x order gs readable listed numbers all fits) in
+          let n = next-line (a .s .now) (a .text .now) x (a .facts) order (a .buffer .now) (l .buffer) (a .at) (a .g) (a .q) gs (a .label .now) (l .to) (l .i) (goal .result)
+          inside readable listed numbers all fits (goal .ensures) (same ∙ w .0 .taken) (l .inv .2 x order gs readable listed numbers all fits) in
           wrote-as (a .s .now) x order (a .buffer .now) _ _ (a .at) (a .g) (a .q) gs (a .label .now) _ _ (l .i + 1) (w .5) (w .6)
-          (n .gives (w .2 .last .1 .1 .1 .0) (w .2 .result) (w .2 .ensures x order (n .term) (n .writes) (n .shows))),
+          (n .gives (w .2 .last .1 .1 .1 .0) (w .2 .result) (w .2 .ensures x order (n .term) (n .writes) (n .shows) (n .fits))),
     ))
     (λ w. (
       omega arith,

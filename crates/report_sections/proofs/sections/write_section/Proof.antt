@@ -10,7 +10,20 @@ use Rattle.report_tallies.specs.Groups.{active-group, waiting-group, failed-gro
 use Rattle.report_pairs.specs.Threaded.{lines-seen}
 use Rattle.report_tallies.specs.Header.{header-of, tallies-of}
 use Rattle.report_pairs.proofs.Laid.{puts-as}
-use Rattle.report_sections.proofs.SectionWrites.{section-actives-in, section-waits-in, section-fails-in, section-size, section-puts, values-ready, goals-ready}
+use Rattle.report_sections.proofs.SectionWrites.{
+  section-actives-in,
+  section-waits-in,
+  section-fails-in,
+  head-fits,
+  values-fit,
+  actives-fit,
+  waits-fit,
+  fails-fit,
+  section-puts,
+  values-ready,
+  goals-ready,
+  fits-from,
+}
 use borrow.Author.Needs.{needs}
 use Rattle.report_sections.proofs.sections.write_section.Statement.{statement}
 use Rattle.report_sections.proofs.sections.write_section.Tie as tie
@@ -39,10 +52,9 @@ header-requires c κs =
     let S = c .before .before .before .before .before .before in
     let a = S .args in
     let (x, xs, actives, ws, fs, stands, numbers, fits) = S .pre in
-    let size = section-size (x .values) xs actives ws fs (a .s .now) (figures (a .room)) (a .t) (a .q) in
     let tallied = c .tally in
     let head = ap (λ c′. length (header-of (a .q) c′)) (tallied .ensures) in
-    (stands .here .variables .small, omega (arith, fits, size, head))
+    (stands .here .variables .small, omega (arith, head-fits (x .values) xs actives ws fs (a .s .now) (figures (a .room)) (a .t) (a .q) fits, head))
 
 -- src/sections.rt:343:10
 write-values-requires : tie.Need-write-values-requires
@@ -51,13 +63,13 @@ write-values-requires c κs =
     let a = S .args in
     let (x, xs, actives, ws, fs, stands, numbers, fits) = S .pre in
     let order = lines-seen (x .values) xs actives ws fs in
-    let size = section-size (x .values) xs actives ws fs (a .s .now) (figures (a .room)) (a .t) (a .q) in
     let tallied = c .before .before .before .before .tally in
-    let head = ap (λ c′. length (header-of (a .q) c′)) (tallied .ensures) in
     let h = c .before .before .before .header in
+    let p₀ = puts-as _ _ (a .buffer .now) (h .last .0) (a .at) (h .result) (ap (header-of (a .q)) (tallied .ensures)) (h .ensures) in
     let w = c .before .before .before .before .before .before .waiters in
     let (readable, numbered) = values-ready (a .s .now) (a .text .now) x (figures (a .room)) (a .t) (a .q) xs actives ws fs (w .result) (w .ensures) stands numbers in
-    (x, order, xs, readable, stands .here .variables, numbered, omega (arith, fits, size, head, h .ensures .place, h .kept .0))
+    let values-fits = fits-from (w .ensures) (values-fit (x .values) xs actives ws fs (a .s .now) (figures (a .room)) (a .t) (a .q) fits p₀) in
+    (x, order, xs, readable, stands .here .variables, numbered, values-fits)
 
 -- src/sections.rt:344:50
 slice-aggregate-write-goals : tie.Need-slice-aggregate-write-goals
@@ -75,18 +87,19 @@ write-goals-requires c κs =
     let a = S .args in
     let (x, xs, actives, ws, fs, stands, numbers, fits) = S .pre in
     let order = lines-seen (x .values) xs actives ws fs in
-    let size = section-size (x .values) xs actives ws fs (a .s .now) (figures (a .room)) (a .t) (a .q) in
     let tallied = c .before .before .before .before .before .before .before .before .before .before .tally in
-    let head = ap (λ c′. length (header-of (a .q) c′)) (tallied .ensures) in
     let h = c .before .before .before .before .before .before .before .before .before .header in
+    let p₀ = puts-as _ _ (a .buffer .now) (h .last .0) (a .at) (h .result) (ap (header-of (a .q)) (tallied .ensures)) (h .ensures) in
     let w = c .before .before .before .before .before .before .before .before .before .before .before .before .waiters in
     let (readable, numbered) = values-ready (a .s .now) (a .text .now) x (figures (a .room)) (a .t) (a .q) xs actives ws fs (w .result) (w .ensures) stands numbers in
     let v = c .before .before .before .before .before .write-values in
-    let p₁ = v .ensures x order xs readable (stands .here .variables) numbered (omega (arith, fits, size, head, h .ensures .place, h .kept .0)) in
+    let values-fits = fits-from (w .ensures) (values-fit (x .values) xs actives ws fs (a .s .now) (figures (a .room)) (a .t) (a .q) fits p₀) in
+    let p₁ = v .ensures x order xs readable (stands .here .variables) numbered values-fits in
     let one = c .active in
     let (one-r, one-l, one-n) = goals-ready (a .s .now) (a .text .now) x (waiters-region (figures (a .room))) (w .result) (active-group (figures (a .room)) (a .t)) (one .result) (a .q) actives order
     (w .ensures) (one .ensures) (stands .readable) (stands .here .active) numbers in
-    (x, order, actives, one-r, one-l, one-n, section-actives-in (x .values) xs actives ws fs, omega (arith, fits, size, head, h .ensures .place, h .kept .0, p₁ .place, v .kept .1 .1 .1 .0))
+    let actives-fits = fits-from (w .ensures) (actives-fit (x .values) xs actives ws fs (a .s .now) (figures (a .room)) (a .t) (a .q) fits p₀ p₁) in
+    (x, order, actives, one-r, one-l, one-n, section-actives-in (x .values) xs actives ws fs, actives-fits)
 
 -- src/sections.rt:345:50
 slice-aggregate-write-goals-2 : tie.Need-slice-aggregate-write-goals-2
@@ -108,23 +121,25 @@ write-goals-requires-2 c κs =
     let a = S .args in
     let (x, xs, actives, ws, fs, stands, numbers, fits) = S .pre in
     let order = lines-seen (x .values) xs actives ws fs in
-    let size = section-size (x .values) xs actives ws fs (a .s .now) (figures (a .room)) (a .t) (a .q) in
     let tallied = c .before .before .before .before .before .before .before .before .before .before .before .before .before .before .before .before .tally in
-    let head = ap (λ c′. length (header-of (a .q) c′)) (tallied .ensures) in
     let h = c .before .before .before .before .before .before .before .before .before .before .before .before .before .before .before .header in
+    let p₀ = puts-as _ _ (a .buffer .now) (h .last .0) (a .at) (h .result) (ap (header-of (a .q)) (tallied .ensures)) (h .ensures) in
     let w = c .before .before .before .before .before .before .before .before .before .before .before .before .before .before .before .before .before .before .waiters in
     let (readable, numbered) = values-ready (a .s .now) (a .text .now) x (figures (a .room)) (a .t) (a .q) xs actives ws fs (w .result) (w .ensures) stands numbers in
     let v = c .before .before .before .before .before .before .before .before .before .before .before .write-values in
-    let p₁ = v .ensures x order xs readable (stands .here .variables) numbered (omega (arith, fits, size, head, h .ensures .place, h .kept .0)) in
+    let values-fits = fits-from (w .ensures) (values-fit (x .values) xs actives ws fs (a .s .now) (figures (a .room)) (a .t) (a .q) fits p₀) in
+    let p₁ = v .ensures x order xs readable (stands .here .variables) numbered values-fits in
     let one = c .before .before .before .before .before .before .active in
     let (one-r, one-l, one-n) = goals-ready (a .s .now) (a .text .now) x (waiters-region (figures (a .room))) (w .result) (active-group (figures (a .room)) (a .t)) (one .result) (a .q) actives order
     (w .ensures) (one .ensures) (stands .readable) (stands .here .active) numbers in
     let g₁ = c .before .before .before .before .before .write-goals in
-    let p₂ = g₁ .ensures x order actives one-r one-l one-n (section-actives-in (x .values) xs actives ws fs) (omega (arith, fits, size, head, h .ensures .place, h .kept .0, p₁ .place, v .kept .1 .1 .1 .0)) in
+    let actives-fits = fits-from (w .ensures) (actives-fit (x .values) xs actives ws fs (a .s .now) (figures (a .room)) (a .t) (a .q) fits p₀ p₁) in
+    let p₂ = g₁ .ensures x order actives one-r one-l one-n (section-actives-in (x .values) xs actives ws fs) actives-fits in
     let two = c .waiting in
     let (two-r, two-l, two-n) = goals-ready (a .s .now) (a .text .now) x (waiters-region (figures (a .room))) (w .result) (waiting-group (figures (a .room)) (a .t)) (two .result) (a .q) ws order
     (w .ensures) (two .ensures) (stands .readable) (stands .here .waiting) numbers in
-    (x, order, ws, two-r, two-l, two-n, section-waits-in (x .values) xs actives ws fs, omega (arith, fits, size, head, h .ensures .place, h .kept .0, p₁ .place, v .kept .1 .1 .1 .0, p₂ .place, g₁ .kept .1 .1 .1 .0))
+    let waits-fits = fits-from (w .ensures) (waits-fit (x .values) xs actives ws fs (a .s .now) (figures (a .room)) (a .t) (a .q) fits p₀ p₁ p₂) in
+    (x, order, ws, two-r, two-l, two-n, section-waits-in (x .values) xs actives ws fs, waits-fits)
 
 -- src/sections.rt:346:45
 slice-aggregate-write-goals-3 : tie.Need-slice-aggregate-write-goals-3
@@ -146,28 +161,31 @@ write-goals-requires-3 c κs =
     let a = S .args in
     let (x, xs, actives, ws, fs, stands, numbers, fits) = S .pre in
     let order = lines-seen (x .values) xs actives ws fs in
-    let size = section-size (x .values) xs actives ws fs (a .s .now) (figures (a .room)) (a .t) (a .q) in
     let tallied = c .before .before .before .before .before .before .before .before .before .before .before .before .before .before .before .before .before .before .before .before .before .before .tally in
-    let head = ap (λ c′. length (header-of (a .q) c′)) (tallied .ensures) in
     let h = c .before .before .before .before .before .before .before .before .before .before .before .before .before .before .before .before .before .before .before .before .before .header in
+    let p₀ = puts-as _ _ (a .buffer .now) (h .last .0) (a .at) (h .result) (ap (header-of (a .q)) (tallied .ensures)) (h .ensures) in
     let w = c .before .before .before .before .before .before .before .before .before .before .before .before .before .before .before .before .before .before .before .before .before .before .before .before .waiters in
     let (readable, numbered) = values-ready (a .s .now) (a .text .now) x (figures (a .room)) (a .t) (a .q) xs actives ws fs (w .result) (w .ensures) stands numbers in
     let v = c .before .before .before .before .before .before .before .before .before .before .before .before .before .before .before .before .before .write-values in
-    let p₁ = v .ensures x order xs readable (stands .here .variables) numbered (omega (arith, fits, size, head, h .ensures .place, h .kept .0)) in
+    let values-fits = fits-from (w .ensures) (values-fit (x .values) xs actives ws fs (a .s .now) (figures (a .room)) (a .t) (a .q) fits p₀) in
+    let p₁ = v .ensures x order xs readable (stands .here .variables) numbered values-fits in
     let one = c .before .before .before .before .before .before .before .before .before .before .before .before .active in
     let (one-r, one-l, one-n) = goals-ready (a .s .now) (a .text .now) x (waiters-region (figures (a .room))) (w .result) (active-group (figures (a .room)) (a .t)) (one .result) (a .q) actives order
     (w .ensures) (one .ensures) (stands .readable) (stands .here .active) numbers in
     let g₁ = c .before .before .before .before .before .before .before .before .before .before .before .write-goals in
-    let p₂ = g₁ .ensures x order actives one-r one-l one-n (section-actives-in (x .values) xs actives ws fs) (omega (arith, fits, size, head, h .ensures .place, h .kept .0, p₁ .place, v .kept .1 .1 .1 .0)) in
+    let actives-fits = fits-from (w .ensures) (actives-fit (x .values) xs actives ws fs (a .s .now) (figures (a .room)) (a .t) (a .q) fits p₀ p₁) in
+    let p₂ = g₁ .ensures x order actives one-r one-l one-n (section-actives-in (x .values) xs actives ws fs) actives-fits in
     let two = c .before .before .before .before .before .before .waiting in
     let (two-r, two-l, two-n) = goals-ready (a .s .now) (a .text .now) x (waiters-region (figures (a .room))) (w .result) (waiting-group (figures (a .room)) (a .t)) (two .result) (a .q) ws order
     (w .ensures) (two .ensures) (stands .readable) (stands .here .waiting) numbers in
     let g₂ = c .before .before .before .before .before .write-goals2 in
-    let p₃ = g₂ .ensures x order ws two-r two-l two-n (section-waits-in (x .values) xs actives ws fs) (omega (arith, fits, size, head, h .ensures .place, h .kept .0, p₁ .place, v .kept .1 .1 .1 .0, p₂ .place, g₁ .kept .1 .1 .1 .0)) in
+    let waits-fits = fits-from (w .ensures) (waits-fit (x .values) xs actives ws fs (a .s .now) (figures (a .room)) (a .t) (a .q) fits p₀ p₁ p₂) in
+    let p₃ = g₂ .ensures x order ws two-r two-l two-n (section-waits-in (x .values) xs actives ws fs) waits-fits in
     let three = c .failed in
     let (three-r, three-l, three-n) = goals-ready (a .s .now) (a .text .now) x (waiters-region (figures (a .room))) (w .result) (failed-group (figures (a .room)) (a .t)) (three .result) (a .q) fs order
     (w .ensures) (three .ensures) (stands .readable) (stands .here .failed) numbers in
-    (x, order, fs, three-r, three-l, three-n, section-fails-in (x .values) xs actives ws fs, omega (arith, fits, size, head, h .ensures .place, h .kept .0, p₁ .place, v .kept .1 .1 .1 .0, p₂ .place, g₁ .kept .1 .1 .1 .0, p₃ .place, g₂ .kept .1 .1 .1 .0))
+    let fails-fits = fits-from (w .ensures) (fails-fit (x .values) xs actives ws fs (a .s .now) (figures (a .room)) (a .t) (a .q) fits p₀ p₁ p₂ p₃) in
+    (x, order, fs, three-r, three-l, three-n, section-fails-in (x .values) xs actives ws fs, fails-fits)
 
 -- src/sections.rt:322:1
 same-length : tie.Need-same-length
@@ -187,33 +205,36 @@ returns c =
     let a = S .args in
     λ x xs actives ws fs stands numbers fits.
     let order = lines-seen (x .values) xs actives ws fs in
-    let size = section-size (x .values) xs actives ws fs (a .s .now) (figures (a .room)) (a .t) (a .q) in
     let tallied = c .before .before .before .before .before .before .before .before .before .before .before .before .before .before .before .before .before .before .before .before .before .before .before .before .before .tally in
-    let head = ap (λ c′. length (header-of (a .q) c′)) (tallied .ensures) in
     let h = c .before .before .before .before .before .before .before .before .before .before .before .before .before .before .before .before .before .before .before .before .before .before .before .before .header in
+    let p₀ = puts-as _ _ (a .buffer .now) (h .last .0) (a .at) (h .result) (ap (header-of (a .q)) (tallied .ensures)) (h .ensures) in
     let w = c .before .before .before .before .before .before .before .before .before .before .before .before .before .before .before .before .before .before .before .before .before .before .before .before .before .before .before .waiters in
     let (readable, numbered) = values-ready (a .s .now) (a .text .now) x (figures (a .room)) (a .t) (a .q) xs actives ws fs (w .result) (w .ensures) stands numbers in
     let v = c .before .before .before .before .before .before .before .before .before .before .before .before .before .before .before .before .before .before .before .before .write-values in
-    let p₁ = v .ensures x order xs readable (stands .here .variables) numbered (omega (arith, fits, size, head, h .ensures .place, h .kept .0)) in
+    let values-fits = fits-from (w .ensures) (values-fit (x .values) xs actives ws fs (a .s .now) (figures (a .room)) (a .t) (a .q) fits p₀) in
+    let p₁ = v .ensures x order xs readable (stands .here .variables) numbered values-fits in
     let one = c .before .before .before .before .before .before .before .before .before .before .before .before .before .before .before .active in
     let (one-r, one-l, one-n) = goals-ready (a .s .now) (a .text .now) x (waiters-region (figures (a .room))) (w .result) (active-group (figures (a .room)) (a .t)) (one .result) (a .q) actives order
     (w .ensures) (one .ensures) (stands .readable) (stands .here .active) numbers in
     let g₁ = c .before .before .before .before .before .before .before .before .before .before .before .before .before .before .write-goals in
-    let p₂ = g₁ .ensures x order actives one-r one-l one-n (section-actives-in (x .values) xs actives ws fs) (omega (arith, fits, size, head, h .ensures .place, h .kept .0, p₁ .place, v .kept .1 .1 .1 .0)) in
+    let actives-fits = fits-from (w .ensures) (actives-fit (x .values) xs actives ws fs (a .s .now) (figures (a .room)) (a .t) (a .q) fits p₀ p₁) in
+    let p₂ = g₁ .ensures x order actives one-r one-l one-n (section-actives-in (x .values) xs actives ws fs) actives-fits in
     let two = c .before .before .before .before .before .before .before .before .before .waiting in
     let (two-r, two-l, two-n) = goals-ready (a .s .now) (a .text .now) x (waiters-region (figures (a .room))) (w .result) (waiting-group (figures (a .room)) (a .t)) (two .result) (a .q) ws order
     (w .ensures) (two .ensures) (stands .readable) (stands .here .waiting) numbers in
     let g₂ = c .before .before .before .before .before .before .before .before .write-goals2 in
-    let p₃ = g₂ .ensures x order ws two-r two-l two-n (section-waits-in (x .values) xs actives ws fs) (omega (arith, fits, size, head, h .ensures .place, h .kept .0, p₁ .place, v .kept .1 .1 .1 .0, p₂ .place, g₁ .kept .1 .1 .1 .0)) in
+    let waits-fits = fits-from (w .ensures) (waits-fit (x .values) xs actives ws fs (a .s .now) (figures (a .room)) (a .t) (a .q) fits p₀ p₁ p₂) in
+    let p₃ = g₂ .ensures x order ws two-r two-l two-n (section-waits-in (x .values) xs actives ws fs) waits-fits in
     let three = c .before .before .before .failed in
     let (three-r, three-l, three-n) = goals-ready (a .s .now) (a .text .now) x (waiters-region (figures (a .room))) (w .result) (failed-group (figures (a .room)) (a .t)) (three .result) (a .q) fs order
     (w .ensures) (three .ensures) (stands .readable) (stands .here .failed) numbers in
     let g₃ = c .before .before .write-goals3 in
-    let p₄ = g₃ .ensures x order fs three-r three-l three-n (section-fails-in (x .values) xs actives ws fs) (omega (arith, fits, size, head, h .ensures .place, h .kept .0, p₁ .place, v .kept .1 .1 .1 .0, p₂ .place, g₁ .kept .1 .1 .1 .0, p₃ .place, g₂ .kept .1 .1 .1 .0)) in
+    let fails-fits = fits-from (w .ensures) (fails-fit (x .values) xs actives ws fs (a .s .now) (figures (a .room)) (a .t) (a .q) fits p₀ p₁ p₂ p₃) in
+    let p₄ = g₃ .ensures x order fs three-r three-l three-n (section-fails-in (x .values) xs actives ws fs) fails-fits in
     section-puts (x .values) xs actives ws fs (a .s .now) (figures (a .room)) (a .t) (a .q)
     (a .buffer .now) (h .last .0) (v .last .1 .1 .1 .0) (g₁ .last .1 .1 .1 .0) (g₂ .last .1 .1 .1 .0) (g₃ .last .1 .1 .1 .0)
     (a .at) (h .result) (v .result) (g₁ .result) (g₂ .result) (g₃ .result)
-    (puts-as _ _ (a .buffer .now) (h .last .0) (a .at) (h .result) (ap (header-of (a .q)) (tallied .ensures)) (h .ensures)) p₁ p₂ p₃ p₄
+    p₀ p₁ p₂ p₃ p₄
 
 pub write-section-spec : {M : Type 1} → statement M
 write-section-spec =

@@ -6,7 +6,9 @@ use native.Mathlib.Omega.{arith}
 use lib.ListN.{length, getD}
 use Rattle.meaning.specs.Bytes.{bytes}
 use Rattle.report_pairs.proofs.Laid.{puts-behind}
+use Rattle.report_leaves.proofs.Copying.{fits-behind}
 use Rattle.report_sections.proofs.ValueLines.{shows-variable, name-size, puts-name, writes-as}
+use Rattle.report_sections.proofs.WrittenLines.{value-line-size}
 use borrow.Author.Needs.{needs}
 use Rattle.report_sections.proofs.sections.write_value.Statement.{statement}
 use Rattle.report_sections.proofs.sections.write_value.Tie as tie
@@ -32,7 +34,8 @@ spelling-requires c κs =
     let a = c .before .before .before .before .before .before .args in
     let (x, order, xs, vs, h, writes, fits) = c .before .before .before .before .before .before .pre in
     let spelled = name-size (a .s .now) (a .text .now) x (a .q) xs (a .v) vs h in
-    omega (arith, fits, spelled .sized, spelled .inside, c .before .spelled2 .ensures, c .before .before .spelled .ensures)
+    let size = value-line-size (x .values) order xs (a .v) h in
+    omega (arith, fits .room, size, spelled .sized, spelled .inside, c .before .spelled2 .ensures, c .before .before .spelled .ensures)
 
 -- src/sections.rt:166:28
 slice-aggregate-words : tie.Need-slice-aggregate-words
@@ -44,7 +47,8 @@ words-requires c κs =
     let a = c .before .before .before .before .before .before .before .before .before .before .before .args in
     let (x, order, xs, vs, h, writes, fits) = c .before .before .before .before .before .before .before .before .before .before .before .pre in
     let spelled = name-size (a .s .now) (a .text .now) x (a .q) xs (a .v) vs h in
-    omega (arith, fits, spelled .sized, c .before .before .before .before .before .before .spelled2 .ensures, c .before .before .before .before .spelling .kept .1 .0, puts-name (a .text .now) _ _ _ _ _ _ _ _ _ (c .before .before .before .before .before .before .before .spelled .ensures) (c .before .before .before .before .before .before .spelled2 .ensures) spelled (c .before .before .before .before .spelling .ensures) .place)
+    let size = value-line-size (x .values) order xs (a .v) h in
+    omega (arith, fits .room, size, spelled .sized, c .before .before .before .before .before .before .spelled2 .ensures, c .before .before .before .before .spelling .kept .1 .0, puts-name (a .text .now) _ _ _ _ _ _ _ _ _ (c .before .before .before .before .before .before .before .spelled .ensures) (c .before .before .before .before .before .before .spelled2 .ensures) spelled (c .before .before .before .before .spelling .ensures) .place)
 
 -- src/sections.rt:167:9
 variable-requires : tie.Need-variable-requires
@@ -56,6 +60,7 @@ variable-requires c κs =
 
 -- src/sections.rt:168:5
 write-line-requires : tie.Need-write-line-requires
+unfolding bytes
 write-line-requires c κs =
     let a = c .before .before .before .before .before .before .before .before .before .before .before .before .before .before .before .before .args in
     let (x, order, xs, vs, h, writes, fits) = c .before .before .before .before .before .before .before .before .before .before .before .before .before .before .before .before .pre in
@@ -67,7 +72,7 @@ write-line-requires c κs =
       _,
       writes-as (a .s .now) (a .text .now) x (a .facts) order _ _ _ _ _ (omega (arith, name .place, c .before .before .before .before .words .ensures .place)) (sym same) writes,
       shows-variable (a .s .now) (a .text .now) x (a .q) xs (a .v) _ vs h (c .before .variable .ensures),
-      omega (arith, fits, same, name .place, c .before .before .before .before .words .ensures .place),
+      fits-behind (getD xs (a .v) [] ++ bytes " = ") _ fits (puts-behind _ _ _ _ _ _ _ _ name (c .before .before .before .before .words .ensures)),
     )
 
 -- src/sections.rt:154:1
@@ -79,13 +84,15 @@ returns : tie.Need-returns
 unfolding bytes
 returns c =
     let a = c .before .before .before .before .before .before .before .before .before .before .before .before .before .before .before .before .before .before .before .args in
-    λ x order xs vs h writes.
+    λ x order xs vs h writes fits.
     let spelled = name-size (a .s .now) (a .text .now) x (a .q) xs (a .v) vs h in
     let name = puts-name (a .text .now) _ _ _ _ _ _ _ _ _ (c .before .before .before .before .before .before .before .before .before .before .before .before .before .before .before .spelled .ensures) (c .before .before .before .before .before .before .before .before .before .before .before .before .before .before .spelled2 .ensures) spelled (c .before .before .before .before .before .before .before .before .before .before .before .before .spelling .ensures) in
     let same = c .before .before .before .before .before .before .before .words .kept .0 ∙ c .before .before .before .before .before .before .before .before .before .before .before .before .spelling .kept .1 .0 in
-    puts-behind _ _ _ _ _ _ _ _ (puts-behind _ _ _ _ _ _ _ _ name (c .before .before .before .before .before .before .before .words .ensures))
+    let first = puts-behind _ _ _ _ _ _ _ _ name (c .before .before .before .before .before .before .before .words .ensures) in
+    puts-behind _ _ _ _ _ _ _ _ first
     (c .before .before .write-line .ensures x order _ (writes-as (a .s .now) (a .text .now) x (a .facts) order _ _ _ _ _ (omega (arith, name .place, c .before .before .before .before .before .before .before .words .ensures .place)) (sym same) writes)
-    (shows-variable (a .s .now) (a .text .now) x (a .q) xs (a .v) _ vs h (c .before .before .before .before .variable .ensures)))
+    (shows-variable (a .s .now) (a .text .now) x (a .q) xs (a .v) _ vs h (c .before .before .before .before .variable .ensures))
+    (fits-behind (getD xs (a .v) [] ++ bytes " = ") _ fits first))
 
 pub write-value-spec : {M : Type 1} → statement M
 write-value-spec =

@@ -11,10 +11,11 @@ use Rattle.term.specs.Setting.{Setting}
 use Rattle.report_pairs.specs.Threaded.{full, written-values}
 use Rattle.report_pairs.specs.Laid.{Puts}
 use Rattle.report_pairs.specs.Facts.{Readable}
+use Rattle.report_leaves.specs.Fits.{Fits}
 use Rattle.report_leaves.specs.Writes.{Numbered, Writes}
 use Rattle.report_sections.specs.Sections.{Variables}
 use Rattle.report_pairs.proofs.Laid.{puts-none, puts-behind, puts-as}
-use Rattle.report_sections.proofs.WrittenLines.{values-more, values-fit, value-line-size, no-values-written}
+use Rattle.report_sections.proofs.WrittenLines.{values-more, value-fits, value-line-size, no-values-written}
 use Rattle.report_sections.proofs.sections.write_values.Statement.{statement}
 use Rattle.report_sections.proofs.sections.write_values.Tie as tie
 use Rattle.report_sections.proofs.sections.write_values.Reads as reads
@@ -26,7 +27,7 @@ abbrev Inv-loop : tie.InvT-loop
 Inv-loop text s facts buffer₀ at q k to₀ v₀ buffer to v =
     (v ≤ k) × (length buffer ≡ length buffer₀) × ((x : Setting) (order : List ℕ) (xs : List Bytes) → Readable s text x facts → Variables s text x q xs
     → ((n : ℕ) → n < length xs → Numbered s x facts order (full (x .values) (Term.variable writer n)))
-    → at + length (written-values (x .values) order 0 xs) ≤ length buffer₀
+    → Fits s x facts order at buffer₀ (written-values (x .values) order 0 xs)
     → (k ≡ length xs) × Puts buffer₀ buffer at to (written-values (x .values) order 0 (take v xs)))
 
 abbrev μ-loop : tie.MeasureT-loop
@@ -56,11 +57,11 @@ write-value-requires c κs =
     let (x, order, xs, readable, vs, numbered, fits) = c .before .before .before .before .before .before .before .pre in
     let (all, puts) = l .inv .2 x order xs readable vs numbered fits in
     let h : l .v < length xs = omega arith in
-    let fit = values-fit (x .values) order xs (l .v) h in
+    let fit = value-fits (x .values) order xs (l .v) h fits puts in
     let size = value-line-size (x .values) order xs (l .v) h in
     let writes : Writes (a .s .now) (a .text .now) x (a .facts) order (Term.variable writer (l .v)) (l .to + length (getD xs (l .v) []) + 3) (length (l .buffer)) =
-    record { readable = readable; numbered = numbered (l .v) h; fits = omega (arith, fit, size, fits, puts .place, l .inv .1) } in
-    (x, order, xs, vs, h, writes, omega (arith, fit, size, fits, puts .place, l .inv .1))
+    record { readable = readable; numbered = numbered (l .v) h; fits = omega (arith, fit .room, size) } in
+    (x, order, xs, vs, h, writes, fit)
 
 -- src/sections.rt:195:9
 add-v : tie.Need-add-v Inv-loop μ-loop
@@ -81,13 +82,13 @@ loop-again c =
       λ x order xs readable vs numbered fits.
           let (all, puts) = l .inv .2 x order xs readable vs numbered fits in
           let h : l .v < length xs = omega arith in
-          let fit = values-fit (x .values) order xs (l .v) h in
+          let fit = value-fits (x .values) order xs (l .v) h fits puts in
           let size = value-line-size (x .values) order xs (l .v) h in
           let writes : Writes (a .s .now) (a .text .now) x (a .facts) order (Term.variable writer (l .v)) (l .to + length (getD xs (l .v) []) + 3) (length (l .buffer)) =
-          record { readable = readable; numbered = numbered (l .v) h; fits = omega (arith, fit, size, fits, puts .place, l .inv .1) } in (
+          record { readable = readable; numbered = numbered (l .v) h; fits = omega (arith, fit .room, size) } in (
             all,
             puts-as _ _ (a .buffer .now) (r .last .1 .1 .1 .0) (a .at) (r .result) (values-more (x .values) order xs (l .v) h)
-                (puts-behind _ _ (a .buffer .now) (l .buffer) (r .last .1 .1 .1 .0) (a .at) (l .to) (r .result) puts (r .ensures x order xs vs h writes)),
+                (puts-behind _ _ (a .buffer .now) (l .buffer) (r .last .1 .1 .1 .0) (a .at) (l .to) (r .result) puts (r .ensures x order xs vs h writes fit)),
           ),
     )
 
