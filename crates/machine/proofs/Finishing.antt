@@ -22,6 +22,7 @@ use Rattle.run_index.specs.Index.{Indexed, IndexOnly}
 use Rattle.run_index.proofs.Kept.{indexed-kept}
 use Rattle.run_enter.specs.Entering.{EnterOnly, Entered}
 use Rattle.run_between.specs.Running.{RunOnly, Running}
+use Rattle.run_between.proofs.GroundMarks.{grounds-none}
 use Rattle.machine.specs.Ending.{Untouched, GoneOn, RanIs}
 use Rattle.machine.specs.declared.run.Ran.{Ran}
 use Rattle.machine.specs.declared.run.Ran.the-variants.{Ended, QueriesPassRoom}
@@ -55,7 +56,7 @@ entered-running s text names j figures atlas t indexed e =
         waiting = rw (run-starts j figures) refl;
         marks = λ k l m. omega (arith, e .room-zero k (omega arith) (omega arith));
         ends = λ p l d. absurd (d (e .room-zero (ends-region figures + p) (omega arith) (omega arith)));
-        grounds = λ p l one. absurd (omega (arith, one, e .room-zero (marks-region figures + p) (omega arith) (omega arith)));
+        grounds = grounds-none s figures atlas (run j 0 figures .state .units) (λ p l. e .room-zero (marks-region figures + p) (omega arith) (omega arith));
       },
       none,
     )

@@ -1,5 +1,5 @@
 -- The goal in front: what the step reads of it, what it hands to the choice, and what each answer of the choice is to the rest of the step.
-use Prim.Native.Nat.{ℕ, _+_, _*_, _/_, _%_, _<_, _^_}
+use Prim.Native.Nat.{ℕ, _+_, _*_, _/_, _%_, _<_}
 use mathlib.Core.Path.{_≡_, sym, ap, _∙_}
 use mathlib.Core.List.{List, _∷_}
 use native.Mathlib.Omega.{arith}
@@ -77,7 +77,7 @@ module _ (s : List ℕ) (text : Bytes) (names : List Bytes) (j : Job) (figures :
   pub choice-marks : MarksBelow s marks (figures .pairs) (steps * 32768 + 2)
   choice-marks = rw (f .marks-is, f .steps-are) (r .marks)
 
-  pub choice-stamps : (1 < steps * 32768 + 2) × (steps * 32768 + 2 + 32768 < 2 ^ 64)
+  pub choice-stamps : (1 < steps * 32768 + 2) × (steps * 32768 + 2 + 32768 < 1099511627776)
   choice-stamps = (omega arith, omega (arith, f .steps-are))
 
   -- The choice is made.

@@ -1,6 +1,6 @@
 -- What a guard is asked in: "`X?` is read as what the head gave X, all else as before the step". The unit's values, marks, readers with their ranks and ends
 -- stand behind its compounds; the clause's own terms are the item's.
-use Prim.Native.Nat.{ℕ, _+_, _*_, _≤_, _<_, _^_}
+use Prim.Native.Nat.{ℕ, _+_, _*_, _≤_, _<_}
 use mathlib.Core.Path.{_≡_}
 use mathlib.Core.Logic.{_≢_}
 use mathlib.Core.Bool.{false}
@@ -17,7 +17,7 @@ use Rattle.term.specs.States.{listed}
 use Rattle.term.specs.Layout.{trial-region, compounds-region, ends-after}
 use Rattle.run_chains.specs.Follow.{Chained}
 use Rattle.run_compare.specs.Compare.{Template, HeadTerm, item}
-use Rattle.run_circle.specs.Ground.{Grounds, NewGrounds}
+use Rattle.run_circle.specs.Ground.{stamp-in, Grounds}
 use Rattle.run_readers.specs.Readers.{Readers, all-met}
 
 -- What the head gave the clause's variable m: its word among those of the head's writers, 0 for nothing.
@@ -61,7 +61,7 @@ out x given ts = written-out given (x .values) (length (x .values)) ts
 
 -- Stamps from this one on are unused.
 abbrev pub StampsFrom : List ℕ → ℕ → ℕ → ℕ → Type 0
-StampsFrom s marks pairs stamp = (k : ℕ) → marks ≤ k → k < marks + pairs → getD s k 0 < stamp
+StampsFrom s marks pairs stamp = (k : ℕ) → marks ≤ k → k < marks + pairs → stamp-in (getD s k 0) < stamp
 
 -- The pairs ps have joined the set of readers that had n: it has m now.
 pub record Joined (s s′ : List ℕ) (at pairs n : ℕ) (ps : List ℕ) (m : ℕ) : Type 0 where

@@ -1,9 +1,9 @@
--- Marks of ground pairs between the steps: what they say of one query's unit, and why they stay true.
+-- Marks between the steps: what they tell of one query's unit, and why it stays so.
 use Prim.Native.Nat.{ℕ, _+_, _≤_, _<_}
-use mathlib.Core.Path.{_≡_, refl, sym, ap, subst, _∙_}
+use mathlib.Core.Path.{_≡_, refl, ap, subst, _∙_}
 use mathlib.Core.Logic.{⊎-elim}
 use mathlib.Core.List.{List}
-use mathlib.Core.Option.{some}
+use mathlib.Core.Option.{Option, none, some}
 use native.Mathlib.Omega.{arith}
 use lib.ListN.{length, getD}
 use Rattle.meaning.specs.Bytes.{Bytes}
@@ -11,8 +11,8 @@ use Rattle.meaning.specs.Terms.{Term}
 use Rattle.meaning.specs.State.{Room, QueryUnit, value, unit-at}
 use Rattle.term.specs.Layout.{marks-region}
 use Rattle.term.specs.States.{Atlas, Lies}
-use Rattle.run_circle.specs.Ground.{Ground, Grounds}
-use Rattle.run_circle.proofs.Grounds.{ground-stays}
+use Rattle.run_circle.specs.Ground.{Tells, IsSo, Grounds}
+use Rattle.run_circle.proofs.Grounds.{so-pair, so-grows}
 use Rattle.run_trial.specs.Choosing.{NewMarks}
 use Rattle.run_between.specs.Running.{GroundMarks}
 use Rattle.run_between.proofs.Frames.{UnitsAlike}
@@ -21,15 +21,25 @@ use Rattle.run_between.proofs.Frames.{UnitsAlike}
 pub grounds-of : (s : List ℕ) (names : List Bytes) (figures : Room) (atlas : Atlas) (units : List QueryUnit) (pairs compounds cells : ℕ)
     → Lies names figures atlas units pairs compounds cells → GroundMarks s figures atlas units
     → (q : ℕ) → q < length units → Grounds (atlas q) (unit-at q units .values) (marks-region figures) s
-grounds-of s names figures atlas units pairs compounds cells lies all q inside n h e =
-    let (k, there, g) = all (atlas q .pair n) (omega (arith, lies .pair-below q n inside h, lies .pairs-fit)) e in
-    let (query, pair) = lies .pair-apart k q (g .pair) n there inside (g .below) h (g .place) in
-    subst (Ground (unit-at q units .values)) pair (subst (λ i. Ground (unit-at i units .values) (g .pair)) query (g .ground))
+grounds-of s names figures atlas units pairs compounds cells lies all q inside o n h e =
+    let (k, there, so) = all o (atlas q .pair n) (omega (arith, lies .pair-below q n inside h, lies .pairs-fit)) e in
+    let (m, below, place) = so-pair (atlas k) (unit-at k units .values) o (atlas q .pair n) so in
+    let (query, pair) = lies .pair-apart k q m n there inside below h place in
+    subst (λ i. IsSo (atlas i) (unit-at i units .values) o (atlas q .pair n)) query so
+
+-- Where all marks are 0 they tell nothing.
+pub grounds-none : (s : List ℕ) (figures : Room) (atlas : Atlas) (units : List QueryUnit)
+    → ((p : ℕ) → p < figures .pairs → getD s (marks-region figures + p) 0 ≡ 0) → GroundMarks s figures atlas units
+grounds-none s figures atlas units zeros o p l e = absurd (silent o (subst (Tells o) (zeros p l) e))
+  where
+    silent : (o : Option ℕ) → Tells o 0 → ⊥
+    silent none e = omega arith
+    silent (some q) e = omega arith
 
 -- After a choice for a goal of query q.
 pub grounds-tried : (s s′ : List ℕ) (figures : Room) (atlas : Atlas) (units : List QueryUnit) (q : ℕ) → q < length units
     → NewMarks (atlas q) (unit-at q units .values) (marks-region figures) (figures .pairs) s s′ → GroundMarks s figures atlas units → GroundMarks s′ figures atlas units
-grounds-tried s s′ figures atlas units q inside new all p l e = ⊎-elim (all p l) (λ g. (q, inside, g)) (new p l e)
+grounds-tried s s′ figures atlas units q inside new all o p l e = ⊎-elim (all o p l) (λ g. (q, inside, g)) (new o p l e)
 
 -- Where units have grown and values have stayed.
 pub grounds-grow : (s s′ : List ℕ) (figures : Room) (atlas atlas′ : Atlas) (units units′ : List QueryUnit)
@@ -39,16 +49,11 @@ pub grounds-grow : (s s′ : List ℕ) (figures : Room) (atlas atlas′ : Atlas)
     → ((k n : ℕ) → k < length units → n < length (unit-at k units .values) → atlas′ k .pair n ≡ atlas k .pair n)
     → ((k : ℕ) → k < length units → (n : ℕ) (t : Term) → value (unit-at k units .values) n ≡ some t → value (unit-at k units′ .values) n ≡ some t)
     → GroundMarks s figures atlas units → GroundMarks s′ figures atlas′ units′
-grounds-grow s s′ figures atlas atlas′ units units′ same more longer places stays all p l e =
-    let (k, there, g) = all p l (sym (same (marks-region figures + p) (omega arith) (omega arith)) ∙ e) in (
+grounds-grow s s′ figures atlas atlas′ units units′ same more longer places stays all o p l e =
+    let (k, there, so) = all o p l (subst (Tells o) (same (marks-region figures + p) (omega arith) (omega arith)) e) in (
       k,
       omega arith,
-      record {
-        pair = g .pair;
-        below = omega (arith, g .below, longer k there);
-        place = places k (g .pair) there (g .below) ∙ g .place;
-        ground = ground-stays (unit-at k units .values) (unit-at k units′ .values) (stays k there) (g .ground);
-      },
+      so-grows (atlas k) (atlas′ k) (unit-at k units .values) (unit-at k units′ .values) (longer k there) (λ n h. places k n there h) (stays k there) o p so,
     )
 
 pub grounds-alike : (s s′ : List ℕ) (figures : Room) (atlas : Atlas) (units units′ : List QueryUnit)

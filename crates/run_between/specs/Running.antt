@@ -5,6 +5,7 @@ use mathlib.Core.Path.{_≡_}
 use mathlib.Core.Bool.{true, false}
 use mathlib.Core.Logic.{_≢_}
 use mathlib.Core.List.{List, [], _∷_, map}
+use mathlib.Core.Option.{Option}
 use lib.ListN.{length, getD}
 use Rattle.meaning.specs.Bytes.{Bytes}
 use Rattle.meaning.specs.Terms.{Job}
@@ -17,7 +18,7 @@ use Rattle.term.specs.Layout.{values-region, waiters-region, sets-region, marks
 use Rattle.term.specs.Chains.{EndOf}
 use Rattle.term.specs.States.{Atlas, setting-at, goal-word, HoldsState}
 use Rattle.term.specs.declared.state.Standing.{Standing}
-use Rattle.run_circle.specs.Ground.{GroundAt}
+use Rattle.run_circle.specs.Ground.{Tells, IsSo}
 use Rattle.run_index.specs.Index.{Indexed}
 use Rattle.run_trial.specs.Choosing.{MarksBelow}
 use Rattle.run_queues.specs.Log.{Slot, waits, gathered, present, LogOk}
@@ -50,10 +51,10 @@ abbrev pub AllEnds : List ℕ → Room → Atlas → List QueryUnit → Type 0
 AllEnds s figures atlas units =
     (p : ℕ) → p < figures .pairs → getD s (ends-region figures + p) 0 ≢ 0 → EndAt s figures atlas units p (getD s (ends-region figures + p) 0)
 
--- A pair that is marked as ground is so, in the unit of some query.
+-- What a mark tells is so, in the unit of some query.
 abbrev pub GroundMarks : List ℕ → Room → Atlas → List QueryUnit → Type 0
-GroundMarks s figures atlas units = (p : ℕ) → p < figures .pairs → getD s (marks-region figures + p) 0 ≡ 1
-    → (k : ℕ) × (k < length units) × GroundAt (atlas k) (unit-at k units .values) p
+GroundMarks s figures atlas units = (o : Option ℕ) (p : ℕ) → p < figures .pairs → Tells o (getD s (marks-region figures + p) 0)
+    → (k : ℕ) × (k < length units) × IsSo (atlas k) (unit-at k units .values) o p
 
 -- The job's run after `limit` steps; the stamps from one on are unused.
 pub record Running (s : List ℕ) (text : Bytes) (names : List Bytes) (j : Job) (figures : Room) (limit : ℕ) (atlas : Atlas) (slots : List Slot) (t : Standing)

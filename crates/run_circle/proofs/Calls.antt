@@ -6,16 +6,16 @@ use mathlib.Core.Logic.{inl, ⊎-elim}
 use mathlib.Core.Bool.{Bool, true, false, true≢false}
 use mathlib.Core.List.{List}
 use mathlib.Core.Option.{Option}
-use native.Mathlib.Decide.{decLt}
 use native.Mathlib.Omega.{arith}
 use lib.Dec.{eqb}
-use lib.ListN.{length, getD, set, length-set}
+use lib.ListN.{length, getD}
 use borrow.Author.Tests.{ne-eqb}
 use Rattle.meaning.specs.Terms.{Term}
 use Rattle.meaning.specs.State.{value}
 use Rattle.term.specs.Layout.{trial-region, gift-term}
 use Rattle.term.specs.Words.{tag-in, rest-in}
-use Rattle.run_circle.specs.Ground.{Ground, GroundAt}
+use Rattle.laws.proofs.Circle.Leaning.{links-join}
+use Rattle.run_circle.specs.Ground.{Ground, there, stamp-in}
 use Rattle.run_circle.specs.Search.{
   Scene,
   side,
@@ -35,9 +35,24 @@ use Rattle.run_circle.specs.Search.{
   SinceIs,
   Names,
   Settled,
+  Visiting,
+  Visits,
 }
-use Rattle.run_circle.proofs.Stamps.{visited-stamp, visited-ground, not-visited, stamped-same, stamped-then, searching-on, whole-length}
-use Rattle.run_circle.proofs.Measure.{term-weight, falls-to-pair, falls-to-given, falls-to-value, falls-to-argument, fewer-unseen}
+use Rattle.run_circle.proofs.Grounds.{marked-ground, leads-via}
+use Rattle.run_circle.proofs.Stamps.{
+  visited-stamp,
+  visited-ground,
+  not-visited,
+  stamped-same,
+  stamped-then,
+  searching-on,
+  front-length,
+  front-word,
+  whole-length,
+}
+use Rattle.run_circle.proofs.Unseen.{unseen-new}
+use Rattle.run_circle.proofs.Keeping.{keeps-first, keeps-open, keeps-on, since-keeps}
+use Rattle.run_circle.proofs.Measure.{term-weight, falls-to-pair, falls-to-given, falls-to-visited, falls-to-argument, fewer-unseen}
 use Rattle.run_circle.proofs.Settle.{settled-answer}
 use Rattle.run_circle.proofs.Visit.{
   given-inside,
@@ -46,21 +61,14 @@ use Rattle.run_circle.proofs.Visit.{
   goal-answer,
   mark-inside,
   marked-answer,
-  marking,
-  value-inside,
-  unit-told,
-  unit-same,
-  head-inside,
-  head-told,
-  new-answer,
   Variable,
   variable-of,
-  ground-of,
 }
 use Rattle.run_circle.proofs.Walk.{
   Walked,
   none-at,
-  grounds,
+  all-at,
+  all-stand,
   enter,
   no-pairs,
   idle-firm,
@@ -90,68 +98,56 @@ module _ (s : List ℕ) (values marks place stamp : ℕ) where
   TermTells b w s′ r = (x : Scene) (goal : ℕ) (v : Option Term) → Searching s x values marks place stamp goal → Told x b w v
       → SearchedFrom s s′ x marks stamp goal v r
 
--- What the state says at the beginning, and after a pair that may not be ground.
-keeps-first : (x : Scene) (b : Bool) (v : Option Term) → Keeps x (begun-state b) b v v
-keeps-first x true v = record { firm = λ e. absurd (omega arith); since = λ p e. absurd (omega arith) }
-keeps-first x false v = record { firm = λ e. (refl, λ f. f); since = λ p e. absurd (omega arith) }
+-- The same with the state of the search, which has come there from a value.
+abbrev pub StateAsks : List ℕ → ℕ → ℕ → ℕ → ℕ → Bool → ℕ → ℕ → Type 0
+StateAsks s values marks place stamp b w state =
+    (x : Scene) × (goal : ℕ) × (v : Option Term) × (o : Option Term) × Searching s x values marks place stamp goal × Told x b w v × Keeps x state b o v
 
-keeps-open : (x : Scene) (state : ℕ) (b : Bool) (u v : Option Term) → state ≡ 1 → Keeps x state b u v
-keeps-open x state b u v e = record { firm = λ f. absurd (omega arith); since = λ p f. absurd (omega arith) }
+-- The answers 1 (OPEN) and 2 (REACHED) do not tell that the term is firm.
+pub open-not-firm : _≡_ {A = ℕ} 1 0 → ⊥
+open-not-firm e = omega arith
 
--- What is left is as firm as what was, and the side is the same.
-keeps-on : (x : Scene) (first state : ℕ) (b : Bool) (u v now : Option Term) → state ≡ first → (Firm x now → Firm x v) → Keeps x first b u v
-    → Keeps x state b u now
-keeps-on x first state b u v now e f k = record {
-  firm = λ o. let (side, all) = k .firm (rw e at o) in (side, λ g. all (f g));
-  since = λ p o. let (side, all) = k .since p (rw e at o) in (side, λ g. all (f g));
-}
-
--- A pair of the unit is visited, which is ground if its value is firm.
-since-keeps : (x : Scene) (state state′ p : ℕ) (u v now : Option Term) → SinceIs state p state′ → (Firm x now → Firm x v)
-    → (Firm x now → GroundAt (x .unit) (x .before) p) → Keeps x state false u v → Keeps x state′ false u now
-since-keeps x state state′ p u v now since all known k = go (decLt 1 state)
-  where
-    go : Dec (1 < state) → Keeps x state′ false u now
-    go (yes l) = keeps-on x state state′ false u v now (since .kept l) all k
-    go (no l) =
-        let is : state′ ≡ state + 2 * p + 2 = since .new (omega arith) in
-        record {
-          firm = λ o. (refl, λ f. k .firm (omega arith) .1 (all f));
-          since = λ q o. (refl, λ f. subst (GroundAt (x .unit) (x .before)) (same is q o) (known f));
-        }
-      where
-        same : state′ ≡ state + 2 * p + 2 → (q : ℕ) → state′ / 2 ≡ q + 1 → p ≡ q
-        same is q o = omega arith
+pub reached-not-firm : _≡_ {A = ℕ} 2 0 → ⊥
+reached-not-firm e = omega arith
 
 -- The search has gone on from a value to another.
-pub record GoneOn (s s′ : List ℕ) (x : Scene) (marks stamp z : ℕ) (v : Option Term) (b : Bool) (state : ℕ) (b′ : Bool) (w′ state′ : ℕ) : Type 0 where
+pub record GoneOn (s s′ : List ℕ) (x : Scene) (marks stamp z : ℕ) (v o : Option Term) (b′ : Bool) (w′ state′ : ℕ) : Type 0 where
   pub now : Option Term
   pub told : Told x b′ w′ now
   pub stamped : Stamped x marks stamp s s′
   pub answer : (s″ : List ℕ) (r : Bool) → Searched s′ s″ x marks stamp z (λ j. StandsAt j now) r
       → Searched s s″ x marks stamp z (λ j. StandsAt j v) r
-  pub keeps : (u : Option Term) → Keeps x state b u v → Keeps x state′ b′ u now
+  pub keeps : Keeps x state′ b′ o now
 
 module _ (s : List ℕ) (values marks place stamp : ℕ) (b : Bool) (w state : ℕ) where
   abbrev pub Going : List ℕ → Bool → ℕ → ℕ → Type 0
-  Going s′ b′ w′ state′ = (x : Scene) (z : ℕ) (v : Option Term) → Searching s x values marks place stamp z → Told x b w v
-      → GoneOn s s′ x marks stamp z v b state b′ w′ state′
+  Going s′ b′ w′ state′ = (x : Scene) (z : ℕ) (v o : Option Term) → Searching s x values marks place stamp z → Told x b w v → Keeps x state b o v
+      → GoneOn s s′ x marks stamp z v o b′ w′ state′
 
   pub going-first : Going s b w state
-  going-first x z v h told =
-      record { now = v; told = told; stamped = stamped-same x marks stamp s; answer = λ s″ r a. a; keeps = λ u k. k }
+  going-first x z v o h told k =
+      record { now = v; told = told; stamped = stamped-same x marks stamp s; answer = λ s″ r a. a; keeps = k }
 
-  module _ (s′ : List ℕ) (b′ : Bool) (w′ state′ : ℕ) (going : Going s′ b′ w′ state′) where
+  module _ (s′ : List ℕ) (b′ : Bool) (w′ state′ : ℕ) (going : Going s′ b′ w′ state′) (begun : state ≡ begun-state b) where
+    gone : (x : Scene) (z : ℕ) (v : Option Term) → Searching s x values marks place stamp z → Told x b w v
+        → GoneOn s s′ x marks stamp z v v b′ w′ state′
+    gone x z v h told = going x z v v h told (subst (λ n. Keeps x n b v v) (sym begun) (keeps-first x b v))
+
     pub going-asks : TermAsks s values marks place stamp b w → TermAsks s′ values marks place stamp b′ w′
     going-asks (x, z, v, h, told) =
-        let g = going x z v h told in
+        let g = gone x z v h told in
         (x, z, g .now, searching-on x marks stamp z s s′ (g .stamped) values place h, g .told)
+
+    pub going-keeps : TermAsks s values marks place stamp b w → StateAsks s′ values marks place stamp b′ w′ state′
+    going-keeps (x, z, v, h, told) =
+        let g = gone x z v h told in
+        (x, z, g .now, v, searching-on x marks stamp z s s′ (g .stamped) values place h, g .told, g .keeps)
 
     -- It ends: found, or not all is ground.
     pub going-tells : (s″ : List ℕ) (r : ℕ) (f : Bool) → eqb r 2 ≡ f → (r ≡ 0 → ⊥) → TermFinds s′ values marks place stamp b′ w′ s″ f
         → TermTells s values marks place stamp b w s″ r
     going-tells s″ r f e unfirm tell x z v h told =
-        let g = going x z v h told in
+        let g = gone x z v h told in
         let a = g .answer s″ f (tell x z (g .now) (searching-on x marks stamp z s s′ (g .stamped) values place h) (g .told)) in
         record {
           searched = rw e a;
@@ -159,49 +155,47 @@ module _ (s : List ℕ) (values marks place stamp : ℕ) (b : Bool) (w state : �
         }
 
     -- Or all that was left is ground.
-    module _ (begun : state ≡ begun-state b) (firm : TermFirm s′ values marks place stamp b′ w′) where
-      kept : (x : Scene) (z : ℕ) (v : Option Term) (h : Searching s x values marks place stamp z) (told : Told x b w v)
-          → Keeps x state′ b′ v (going x z v h told .now)
-      kept x z v h told = going x z v h told .keeps v (subst (λ n. Keeps x n b v v) (sym begun) (keeps-first x b v))
-
-      left : (x : Scene) (z : ℕ) (v : Option Term) (h : Searching s x values marks place stamp z) (told : Told x b w v) → Firm x (going x z v h told .now)
+    module _ (firm : TermFirm s′ values marks place stamp b′ w′) where
+      left : (x : Scene) (z : ℕ) (v : Option Term) (h : Searching s x values marks place stamp z) (told : Told x b w v) → Firm x (gone x z v h told .now)
       left x z v h told =
-          let g = going x z v h told in
+          let g = gone x z v h told in
           firm x z (g .now) (searching-on x marks stamp z s s′ (g .stamped) values place h) (g .told)
 
       names : (x : Scene) (z : ℕ) (v : Option Term) (h : Searching s x values marks place stamp z) (told : Told x b w v) → Names x state′
-      names x z v h told p e = kept x z v h told .since p e .1 (left x z v h told)
+      names x z v h told p e =
+          let f = gone x z v h told .keeps .since p e .1 in
+          record { pair = f .pair; below = f .below; place = f .place; ground = f .stems .firm (left x z v h told) }
 
       pub ended-asks : TermAsks s values marks place stamp b w
           → (x : Scene) × (at : ℕ) × (goal : ℕ) × Searching s′ x values marks at stamp goal × Names x state′
       ended-asks (x, z, v, h, told) =
-          (x, place, z, searching-on x marks stamp z s s′ (going x z v h told .stamped) values place h, names x z v h told)
+          (x, place, z, searching-on x marks stamp z s s′ (gone x z v h told .stamped) values place h, names x z v h told)
 
       pub ended-tells : TermFinds s′ values marks place stamp b′ w′ s′ false → (s″ : List ℕ) (r : ℕ)
           → ((x : Scene) (at goal : ℕ) → Searching s′ x values marks at stamp goal → Names x state′ → Settled x marks stamp s′ s″)
           → r ≡ state′ % 2 → TermTells s values marks place stamp b w s″ r
       ended-tells finds s″ r settle parity x z v h told =
-          let g = going x z v h told in
+          let g = gone x z v h told in
           let here = searching-on x marks stamp z s s′ (g .stamped) values place h in
           let all = settled-answer x marks stamp z (λ j. StandsAt j (g .now)) s′ s′ s″ (finds x z (g .now) here (g .told))
           (settle x place z here (names x z v h told)) in
           record {
             searched = rw (ne-eqb r 2 (λ e. omega arith)) (g .answer s″ false all);
-            firm = λ o. kept x z v h told .firm (sym parity ∙ o) .1 (left x z v h told);
+            firm = λ o. gone x z v h told .keeps .firm (sym parity ∙ o) .1 (left x z v h told);
           }
 
 pub going-on : (s : List ℕ) (values marks place stamp : ℕ) (b : Bool) (w state : ℕ) (s′ : List ℕ) (b′ : Bool) (w′ state′ : ℕ)
     → Going s values marks place stamp b w state s′ b′ w′ state′ → (s″ : List ℕ) (b″ : Bool) (w″ state″ : ℕ)
     → Going s′ values marks place stamp b′ w′ state′ s″ b″ w″ state″ → Going s values marks place stamp b w state s″ b″ w″ state″
-going-on s values marks place stamp b w state s′ b′ w′ state′ first s″ b″ w″ state″ next x z v h told =
-    let g = first x z v h told in
-    let g′ = next x z (g .now) (searching-on x marks stamp z s s′ (g .stamped) values place h) (g .told) in
+going-on s values marks place stamp b w state s′ b′ w′ state′ first s″ b″ w″ state″ next x z v o h told k =
+    let g = first x z v o h told k in
+    let g′ = next x z (g .now) o (searching-on x marks stamp z s s′ (g .stamped) values place h) (g .told) (g .keeps) in
     record {
       now = g′ .now;
       told = g′ .told;
       stamped = stamped-then x marks stamp s s′ s″ (g .stamped) (g′ .stamped);
       answer = λ u r a. g .answer u r (g′ .answer u r a);
-      keeps = λ u k. g′ .keeps u (g .keeps u k);
+      keeps = g′ .keeps;
     }
 
 -- At a compound: its arguments from left to right.
@@ -274,12 +268,12 @@ module _ (s₀ : List ℕ) (values marks place stamp : ℕ) (b : Bool) (w first 
           let c = walking x z v h told in
           let t = later-tells s′ r tell x z v h told in
           walk-next x values marks place stamp z b s₀ s w v h told q k i later first state c a reads le leads s′ r out
-          (rw (ne-eqb r 2 found) at (t .searched)) (λ e. grounds x (c .argument .value) (t .firm e)) joined
+          (rw (ne-eqb r 2 found) at (t .searched)) (λ e. all-at (Ground (x .before)) (c .argument .value) (t .firm e)) joined
 
     -- Behind all arguments the search goes on to that one.
     module _ (done : k < i) where
       pub later-going : Going s₀ values marks place stamp b w first s b later state
-      later-going x z v h told =
+      later-going x z v o h told k′ =
           let c = walking x z v h told in
           let now = c .argument .value in
           record {
@@ -287,7 +281,7 @@ module _ (s₀ : List ℕ) (values marks place stamp : ℕ) (b : Bool) (w first 
             told = c .argument .told;
             stamped = c .stamped;
             answer = walk-last x values marks place stamp z b s₀ s w v h told q k i later first state c done;
-            keeps = λ o k′. ⊎-elim (keeps-open x state b o now) (λ (same, all). keeps-on x first state b o v now same all k′)
+            keeps = ⊎-elim (keeps-open x state b o now) (λ (same, on). keeps-on x first state b o v now same on k′)
                 (walk-firm x values marks place stamp z b s₀ s w v h told q k i later first state c done);
           }
 
@@ -309,7 +303,7 @@ module _ (s₀ : List ℕ) (values marks place stamp : ℕ) (b : Bool) (w first 
         pub idle-is-firm : TermFirm s values marks place stamp b w
         idle-is-firm = rw (idle-same .0) (λ x z v h told.
             let c = walking x z v h told in
-            c .rest .firm-of
+            all-stand (Ground (x .before)) v (c .rest .assigned)
             (λ j r. absurd (walk-idle x values marks place stamp z b s₀ s w v h told q k i later first state c done e j r)))
 
   pub nothing-finds : LeadsIs w false → TermFinds s₀ values marks place stamp b w s₀ false
@@ -335,14 +329,14 @@ module _ (s : List ℕ) (values marks place stamp w p : ℕ) (at : p ≡ rest-in
       omega (arith, falls-to-given x values marks place stamp z s h (visited stamp) w′, falls-to-pair s marks (visited stamp) true w)
 
   pub given-going : (w′ state : ℕ) → w′ ≡ getD s (trial-region + p) 0 → Going s values marks place stamp true w state s false w′ state
-  given-going w′ state reads x z v h told =
+  given-going w′ state reads x z v o h told k =
       let u = pair-of x z true v told in
       record {
         now = value (x .after) (u .pair);
         told = rw reads (given-told x values marks place stamp z s h (u .pair) p (u .on) (at ∙ u .place));
         stamped = stamped-same x marks stamp s;
         answer = λ s″ r a. u .answer s s″ r (given-answer x values marks place stamp z s h (u .pair) (u .on) s″ r a);
-        keeps = λ o k. record {
+        keeps = record {
           firm = λ e. absurd (true≢false (k .firm e .0));
           since = λ q e. absurd (true≢false (k .since q e .0));
         };
@@ -364,8 +358,8 @@ module _ (s : List ℕ) (values marks place stamp w p : ℕ) (at : p ≡ rest-in
       let u = pair-of x z false v told in
       u .answer s s false (marked-answer x values marks place stamp z s h (u .pair) p (u .on) (at ∙ u .place) other m)
 
-  pub stamp-finds : (p ≡ place → ⊥) → getD s (marks + p) 0 ≡ stamp → TermFinds s values marks place stamp false w s false
-  stamp-finds other m = marked-finds other (rw m (visited-stamp stamp))
+  pub stamp-finds : (p ≡ place → ⊥) → stamp-in (getD s (marks + p) 0) ≡ stamp → TermFinds s values marks place stamp false w s false
+  stamp-finds other m = marked-finds other (visited-stamp stamp (getD s (marks + p) 0) m)
 
   pub ground-finds : (p ≡ place → ⊥) → getD s (marks + p) 0 ≡ 1 → TermFinds s values marks place stamp false w s false
   ground-finds other m = marked-finds other (rw m (visited-ground stamp))
@@ -373,76 +367,109 @@ module _ (s : List ℕ) (values marks place stamp w p : ℕ) (at : p ≡ rest-in
   pub ground-is-firm : getD s (marks + p) 0 ≡ 1 → TermFirm s values marks place stamp false w
   ground-is-firm m x z v h told =
       let u = pair-of x z false v told in
-      u .firm (h .grounds (u .pair) (omega (arith, u .on, h .shown .old-is)) (ap (λ k. getD s (marks + k) 0) (sym (at ∙ u .place)) ∙ m))
+      u .firm (marked-ground (x .unit) (x .before) marks (λ i j a b. h .shown .apart i j (rw (h .shown .old-is) a) (rw (h .shown .old-is) b)) s (h .grounds)
+      (u .pair) (omega (arith, u .on, h .shown .old-is)) (ap (λ k. getD s (marks + k) 0) (sym (at ∙ u .place)) ∙ m))
 
-  module _ (s₁ : List ℕ) (marked : s₁ ≡ set s (marks + p) stamp) where
-    pub value-at : TermAsks s values marks place stamp false w → values + p < length s₁
-    value-at (x, z, v, h, told) =
+  -- A new one is visited.
+  module _ (m state : ℕ) (mark : m ≡ getD s (marks + p) 0) (other : p ≡ place → ⊥) (unfirm : m ≡ 1 → ⊥) (fresh : stamp-in m ≡ stamp → ⊥) where
+    visiting : (x : Scene) (z : ℕ) (v o : Option Term) → Searching s x values marks place stamp z → (told : Told x false w v) → Keeps x state false o v
+        → Visiting s x values marks place stamp z state p m (pair-of x z false v told .pair)
+    visiting x z v o h told k =
         let u = pair-of x z false v told in
-        omega (
-          arith,
-          value-inside x values marks place stamp z s h (u .pair) p (u .on) (at ∙ u .place),
-          ap length marked ∙ length-set s (marks + p) stamp,
-        )
+        record {
+          searching = h;
+          of-unit = u .on;
+          at = at ∙ u .place;
+          other = other;
+          mark = mark;
+          unfirm = unfirm;
+          fresh = fresh;
+          leading = λ q e.
+              let f = k .since q e .1 in
+              record {
+                pair = f .pair;
+                below = f .below;
+                place = f .place;
+                end = u .pair;
+                end-below = omega (arith, u .on, h .shown .old-is);
+                end-place = sym (at ∙ u .place);
+                leads = f .stems .via (u .pair) (u .via (u .pair) (there refl));
+                path = f .stems .reaches (u .pair) (u .stands);
+              };
+        }
 
-    pub new-lighter : TermAsks s values marks place stamp false w → (getD s (marks + p) 0 ≡ 1 → ⊥) → (getD s (marks + p) 0 ≡ stamp → ⊥)
-        → (b′ : Bool) (w′ : ℕ) → term-weight s₁ marks (visited stamp) b′ w′ < term-weight s marks (visited stamp) false w
-    new-lighter (x, z, v, h, told) unfirm new b′ w′ =
-        let u = pair-of x z false v told in
-        let inside = mark-inside x values marks place stamp z s h (u .pair) p (u .on) (at ∙ u .place) in
-        rw marked (omega (
-          arith,
-          falls-to-value x values marks place stamp z s h (visited stamp) p stamp inside (not-visited stamp (getD s (marks + p) 0) unfirm new)
-              (visited-stamp stamp) b′ w′,
-          falls-to-pair s marks (visited stamp) false w,
-        ))
+    pub visit-asks : StateAsks s values marks place stamp false w state
+        → (x : Scene) × (at′ : ℕ) × (goal : ℕ) × (n : ℕ) × Visiting s x values marks at′ stamp goal state p m n
+    visit-asks (x, z, v, o, h, told, k) = (x, place, z, pair-of x z false v told .pair, visiting x z v o h told k)
 
-    module _ (v : ℕ) (reads : v ≡ getD s₁ (values + p) 0) where
-      read : v ≡ getD (set s (marks + p) stamp) (values + p) 0
-      read = reads ∙ ap (λ l. getD l (values + p) 0) marked
+    module _ (s₁ : List ℕ) (r : ℕ)
+        (visits : (x : Scene) (at′ goal n : ℕ) → Visiting s x values marks at′ stamp goal state p m n → Visits s s₁ x marks stamp goal n r) where
+      visited-now : (x : Scene) (z : ℕ) (v o : Option Term) → Searching s x values marks place stamp z → (told : Told x false w v)
+          → Keeps x state false o v → Visits s s₁ x marks stamp z (pair-of x z false v told .pair) r
+      visited-now x z v o h told k = visits x place z (pair-of x z false v told .pair) (visiting x z v o h told k)
 
-      pub head-at : (i : ℕ) → i ≡ rest-in v → tag-in v ≡ 7 → TermAsks s values marks place stamp false w → gift-term i < length s₁
-      head-at i number seven (x, z, o, h, told) =
-          let u = pair-of x z false o told in
+      pub visit-lighter : StateAsks s values marks place stamp false w state
+          → (b′ : Bool) (w′ : ℕ) → term-weight s₁ marks (visited stamp) b′ w′ < term-weight s marks (visited stamp) false w
+      visit-lighter (x, z, v, o, h, told, k) b′ w′ =
+          let u = pair-of x z false v told in
+          let c = visited-now x z v o h told k in
+          let inside = mark-inside x values marks place stamp z s h (u .pair) p (u .on) (at ∙ u .place) in
+          let now-visited : Visited stamp (getD s₁ (marks + p) 0) = subst (λ q. Visited stamp (getD s₁ (marks + q) 0)) (sym (at ∙ u .place)) (c .marked) in
+          let not-yet : visited stamp (getD s (marks + p) 0) ≡ false =
+          not-visited stamp (getD s (marks + p) 0) (λ e. unfirm (mark ∙ e)) (λ e. fresh (ap (λ a. stamp-in a) mark ∙ e)) in
           omega (
             arith,
-            head-inside x values marks place stamp z s h (u .pair) p (u .on) (at ∙ u .place) v i read seven number,
-            ap length marked ∙ length-set s (marks + p) stamp,
+            falls-to-visited x values marks place stamp z s h (visited stamp) s₁ (c .stamped .front) (c .stamped .size)
+                (unseen-new (visited stamp) s s₁ (marks + p) (c .stamped .size) inside not-yet now-visited (c .stamped .others)) b′ w′,
+            falls-to-pair s marks (visited stamp) false w,
           )
 
-      module _ (other : p ≡ place → ⊥) (unfirm : getD s (marks + p) 0 ≡ 1 → ⊥) (fresh : getD s (marks + p) 0 ≡ stamp → ⊥) where
-        new : Visited stamp (getD s (marks + p) 0) → ⊥
-        new e = true≢false (sym e ∙ not-visited stamp (getD s (marks + p) 0) unfirm fresh)
+      -- On from a value of the unit, its own or that of the pair through which all ways go.
+      pub unit-going : (tag-in r ≡ 7 → ⊥) → (state′ : ℕ) → SinceIs state p state′ → Going s values marks place stamp false w state s₁ false r state′
+      unit-going seven state′ since x z v o h told k =
+          let u = pair-of x z false v told in
+          let c = visited-now x z v o h told k in
+          let st = c .stems seven in
+          record {
+            now = c .now;
+            told = c .told seven;
+            stamped = c .stamped;
+            answer = λ s″ f a. u .answer s s″ f (c .answer s″ f a);
+            keeps = since-keeps x state state′ p o v (c .now) since (record {
+              firm = λ f. u .firm (st .firm f);
+              stems = λ n before. record {
+                reaches = λ j q. links-join (before .reaches (u .pair) (u .stands)) (st .reaches j q);
+                firm = λ f. before .firm (u .firm (st .firm f));
+                via = λ e f. before .via e (u .via e (leads-via (x .before) e (u .pair) (st .via e f)));
+              };
+            }) (record {
+              pair = u .pair;
+              below = omega (arith, u .on, h .shown .old-is);
+              place = sym (at ∙ u .place);
+              stems = st;
+            }) k;
+          }
 
-        pub unit-going : (tag-in v ≡ 7 → ⊥) → (state state′ : ℕ) → SinceIs state p state′
-            → Going s values marks place stamp false w state s₁ false v state′
-        unit-going seven state state′ since x z o h told =
-            let u = pair-of x z false o told in
-            let firm-pair : Firm x (value (x .after) (u .pair)) → Ground (x .before) (u .pair) =
-            ground-of x (u .pair) (unit-same x values marks place stamp z s h (u .pair) p (u .on) (at ∙ u .place) v read seven) in
-            rw marked (record {
-              now = value (x .after) (u .pair);
-              told = unit-told x values marks place stamp z s h (u .pair) p (u .on) (at ∙ u .place) v read seven;
-              stamped = marking x values marks place stamp z s h (u .pair) p (u .on) (at ∙ u .place);
-              answer = λ s″ r a. u .answer s s″ r (new-answer x values marks place stamp z s h (u .pair) p (u .on) (at ∙ u .place) other new s″ r a);
-              keeps = λ y k. since-keeps x state state′ p y o (value (x .after) (u .pair)) since (λ f. u .firm (firm-pair f))
-                  (λ f. record {
-                    pair = u .pair;
-                    below = omega (arith, u .on, h .shown .old-is);
-                    place = sym (at ∙ u .place);
-                    ground = firm-pair f;
-                  }) k;
-            })
+      -- Or from the head's term that the trial gives it.
+      module _ (i : ℕ) (number : i ≡ rest-in r) (seven : tag-in r ≡ 7) where
+        pub head-at : StateAsks s values marks place stamp false w state → gift-term i < length s₁
+        head-at (x, z, v, o, h, told, k) =
+            let c = visited-now x z v o h told k in
+            let g = c .given seven in
+            omega (arith, g .word, g .inside, front-length s x values marks place stamp z h, h .room, c .stamped .size)
 
-        pub head-going : (i w′ : ℕ) → i ≡ rest-in v → w′ ≡ getD s₁ (gift-term i) 0 → tag-in v ≡ 7 → (state : ℕ)
-            → Going s values marks place stamp false w state s₁ true w′ 1
-        head-going i w′ number gives seven state x z o h told =
-            let u = pair-of x z false o told in
-            let word : w′ ≡ getD (set s (marks + p) stamp) (gift-term i) 0 = gives ∙ ap (λ l. getD l (gift-term i) 0) marked in
-            rw marked (record {
-              now = value (x .after) (u .pair);
-              told = rw word (head-told x values marks place stamp z s h (u .pair) p (u .on) (at ∙ u .place) v i read seven number);
-              stamped = marking x values marks place stamp z s h (u .pair) p (u .on) (at ∙ u .place);
-              answer = λ s″ r a. u .answer s s″ r (new-answer x values marks place stamp z s h (u .pair) p (u .on) (at ∙ u .place) other new s″ r a);
-              keeps = λ y k. keeps-open x 1 true y (value (x .after) (u .pair)) refl;
-            })
+        pub head-going : (w′ : ℕ) → w′ ≡ getD s₁ (gift-term i) 0 → Going s values marks place stamp false w state s₁ true w′ 1
+        head-going w′ gives x z v o h told k =
+            let u = pair-of x z false v told in
+            let c = visited-now x z v o h told k in
+            let g = c .given seven in
+            let is : i ≡ g .number = omega (arith, g .word) in
+            let words : getD s₁ (gift-term (g .number)) 0 ≡ getD (x .front) (gift-term (g .number)) 0 =
+            front-word s₁ x values marks place stamp z (searching-on x marks stamp z s s₁ (c .stamped) values place h) (gift-term (g .number)) (g .inside) in
+            record {
+              now = c .now;
+              told = rw (gives ∙ ap (λ n. getD s₁ (gift-term n) 0) is ∙ words) (g .told);
+              stamped = c .stamped;
+              answer = λ s″ f a. u .answer s s″ f (c .answer s″ f a);
+              keeps = keeps-open x 1 true o (c .now) refl;
+            }

@@ -2,6 +2,7 @@ pub mod Calls
 pub mod Depth
 pub mod Entries
 pub mod Grounds
+pub mod Keeping
 pub mod Lasts
 pub mod Measure
 pub mod Parts
@@ -13,4 +14,5 @@ pub mod Starts
 pub mod Through
 pub mod Unseen
 pub mod Visit
+pub mod Visiting
 pub mod Walk

@@ -44,19 +44,23 @@ module _ (x : Scene) (values marks place stamp z : ℕ) (s : List ℕ) (h : Sear
   falls-to-given marked w = omega (arith, height-short w)
 
   -- A new mark outweighs any term.
-  pub falls-to-value : (marked : ℕ → Bool) (p m : ℕ) → marks + p < length s → marked (getD s (marks + p) 0) ≡ false → marked m ≡ true
-      → (b : Bool) (w : ℕ) → term-weight (set s (marks + p) m) marks marked b w < pair-weight s marked false
+  pub falls-to-visited : (marked : ℕ → Bool) (s₁ : List ℕ) → take marks s₁ ≡ take marks s → length s₁ ≡ length s
+      → unseen marked s₁ + 1 ≤ unseen marked s → (b : Bool) (w : ℕ) → term-weight s₁ marks marked b w < pair-weight s marked false
   unfolding term-weight pair-weight
-  falls-to-value marked p m inside d e b w =
-      let left = unseen marked (set s (marks + p) m) in
-      let less : left + 1 ≤ unseen marked s = unseen-set marked s (marks + p) m inside d e in
+  falls-to-visited marked s₁ front size less b w =
+      let left = unseen marked s₁ in
       let times : (left + 1) * (2 * length s + 5) ≤ unseen marked s * (2 * length s + 5) = mul-le-mul-right (2 * length s + 5) less in
       let one-more : (left + 1) * (2 * length s + 5) ≡ left * (2 * length s + 5) + (2 * length s + 5) = plus-one left (2 * length s + 5) in
-      rw (take-set-le marks s (marks + p) m (omega arith), length-set s (marks + p) m)
-      (omega (arith, height-short w, lift-within (length s) b))
+      rw (front, size) (omega (arith, height-short w, lift-within (length s) b))
     where
       plus-one : (a n : ℕ) → (a + 1) * n ≡ a * n + n
       plus-one a n = rw (add-one a) (suc-mul a n)
+
+  pub falls-to-value : (marked : ℕ → Bool) (p m : ℕ) → marks + p < length s → marked (getD s (marks + p) 0) ≡ false → marked m ≡ true
+      → (b : Bool) (w : ℕ) → term-weight (set s (marks + p) m) marks marked b w < pair-weight s marked false
+  falls-to-value marked p m inside d e =
+      falls-to-visited marked (set s (marks + p) m) (take-set-le marks s (marks + p) m (omega arith)) (length-set s (marks + p) m)
+      (unseen-set marked s (marks + p) m inside d e)
 
   -- The depth that a word tells is that of its term.
   told-height : (b : Bool) (w : ℕ) (v : Option Term) → Told x b w v → height (length s) (filled (take marks s) (length s)) w ≡ value-depth v

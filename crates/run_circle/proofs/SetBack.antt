@@ -9,6 +9,7 @@ use lib.ListN.{getD}
 use Rattle.term.specs.Holds.{value-word}
 use Rattle.term.specs.Layout.{gift-pair}
 use Rattle.run_circle.specs.Circle.{entry-pair, Entries, Held, Trial, Tried, Answered, Tested}
+use Rattle.run_circle.specs.Ground.{stamp-in}
 use Rattle.run_circle.proofs.Grounds.{new-then, new-same}
 use Rattle.run_circle.proofs.Through.{one-or-none}
 
@@ -68,7 +69,7 @@ module _ (s₀ : List ℕ) (y : Trial) (values marks n stamp : ℕ) (tried : Tri
           above = λ k l.
               unheld k (behind k (omega arith)) ∙ answered .only .above k l ∙ held .others k (behind k (omega arith));
         };
-        stamps-new = λ k l h. omega (arith, unheld k (behind k l), answered .stamps-new k l h);
+        stamps-new = λ k l h. omega (arith, ap (λ m. stamp-in m) (unheld k (behind k l)), answered .stamps-new k l h);
         grounds =
             new-then (y .unit .places) (y .unit .values) marks s₀ s₁ s₃
             (new-same (y .unit .places) (y .unit .values) marks s₀ s₁ (λ p. held .others (marks + p) (behind (marks + p) (omega arith))))

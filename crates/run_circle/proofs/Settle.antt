@@ -3,8 +3,8 @@ use Prim.Native.Nat.{ℕ, _+_, _*_, _/_, _%_, _<_}
 use mathlib.Core.Path.{_≡_, refl, sym, ap, _∙_}
 use mathlib.Core.Bool.{Bool, true, false, true≢false}
 use mathlib.Core.List.{List}
-use mathlib.Core.Logic.{⊎-elim}
-use mathlib.Core.Option.{Option, some}
+use mathlib.Core.Logic.{_⊎_, inr, ⊎-elim}
+use mathlib.Core.Option.{Option, none, some}
 use native.Mathlib.Decide.{ℕ-discrete}
 use native.Mathlib.Omega.{arith}
 use lib.Dec.{eqb}
@@ -16,7 +16,7 @@ use Rattle.meaning.specs.State.{value}
 use Rattle.laws.proofs.Terms.Standing.{Stands}
 use Rattle.term.specs.Holds.{Holds}
 use Rattle.term.specs.Words.{tag-in, rest-in}
-use Rattle.run_circle.specs.Ground.{Ground, ground, GroundAt}
+use Rattle.run_circle.specs.Ground.{Ground, ground, GroundAt, stamp-in, Tells, IsSo}
 use Rattle.run_circle.specs.Search.{Scene, Told, StandsAt, LeadsIs, LastLeads, Searching, visited, Searched, Settled}
 use Rattle.run_circle.proofs.Grounds.{ground-value, ground-leans}
 use Rattle.run_circle.proofs.Measure.{term-weight, falls-to-pair, falls-to-value, falls-to-argument}
@@ -44,15 +44,20 @@ module _ (x : Scene) (marks stamp : ℕ) where
     same = λ k. b .same k ∙ a .same k;
   }
 
-  settled-set : (s : List ℕ) (p : ℕ) → p < x .pairs → marks + p < length s → getD s (marks + p) 0 ≡ stamp → GroundAt (x .unit) (x .before) p
+  settled-set : (s : List ℕ) (p : ℕ) → p < x .pairs → marks + p < length s → stamp-in (getD s (marks + p) 0) ≡ stamp → GroundAt (x .unit) (x .before) p
       → Settled x marks stamp s (set s (marks + p) 1)
   settled-set s p h inside m known = record {
-    stamped = stamped-set x marks stamp s p 1 h inside (visited-ground stamp) (λ e. known);
+    stamped = stamped-set x marks stamp s p 1 h inside (visited-ground stamp) so;
     same = λ k. go k (ℕ-discrete k (marks + p));
   }
     where
+      so : (o : Option ℕ) → Tells o 1 → Tells o (getD s (marks + p) 0) ⊎ IsSo (x .unit) (x .before) o p
+      so none e = inr known
+      so (some q) e = absurd (omega arith)
+
       go : (k : ℕ) → Dec (k ≡ marks + p) → visited stamp (getD (set s (marks + p) 1) k 0) ≡ visited stamp (getD s k 0)
-      go k (yes e) = rw (e, getD-set-same s (marks + p) 1 0 inside, m) (visited-ground stamp ∙ sym (visited-stamp stamp))
+      go k (yes e) =
+          rw (e, getD-set-same s (marks + p) 1 0 inside) (visited-ground stamp ∙ sym (visited-stamp stamp (getD s (marks + p) 0) m))
       go k (no d) = ap (visited stamp) (getD-set-other s (marks + p) k 1 0 d)
 
   -- What a search that did not find its pair has told.
@@ -162,7 +167,7 @@ module _ (s₀ : List ℕ) (values marks stamp pair : ℕ) where
           let u = settle-pair x place goal h g in
           mark-inside x values marks place stamp goal s (here x place goal h g) (u .pair) p (u .on) (at ∙ u .place)
 
-      module _ (m : getD s (marks + p) 0 ≡ stamp) (s₁ : List ℕ) (set-now : s₁ ≡ set s (marks + p) 1) where
+      module _ (m : stamp-in (getD s (marks + p) 0) ≡ stamp) (s₁ : List ℕ) (set-now : s₁ ≡ set s (marks + p) 1) where
         pub settle-value : SettleAsks → values + p < length s₁
         settle-value (x, place, goal, h, g) =
             let u = settle-pair x place goal h g in

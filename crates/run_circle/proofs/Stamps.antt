@@ -1,9 +1,10 @@
 -- Marks only grow: what one part of a search visited and closed stays so in the next.
-use Prim.Native.Nat.{ℕ, _+_, _-_, _<_}
+use Prim.Native.Nat.{ℕ, _+_, _-_, _%_, _/_, _<_}
 use mathlib.Core.Path.{_≡_, refl, sym, ap, subst, _∙_}
-use mathlib.Core.Logic.{_⊎_, inl, inr}
+use mathlib.Core.Logic.{_⊎_, inl}
 use mathlib.Core.Bool.{Bool, true, false, true≢false}
 use mathlib.Core.List.{List}
+use mathlib.Core.Option.{Option}
 use native.Mathlib.Decide.{ℕ-discrete, decLt}
 use native.Mathlib.Omega.{arith}
 use lib.Dec.{eqb}
@@ -12,36 +13,33 @@ use lib.Seq.{getD-set-same, getD-set-other, getD-append-add, take-set-le, getD-t
 use borrow.Author.Tests.{eq-eqb, ne-eqb}
 use Rattle.meaning.specs.Bytes.{if_then_else_}
 use Rattle.laws.proofs.Circle.Leaning.{Leans}
-use Rattle.run_circle.specs.Ground.{GroundAt}
+use Rattle.run_circle.specs.Ground.{stamp-in, Tells, IsSo}
 use Rattle.run_circle.specs.Search.{Scene, whole, Searching, visited, Visited, Stamped, Marked, Seen, Closed}
 use Rattle.run_circle.proofs.Grounds.{new-none, new-then, grounds-on}
 
 -- The marks of visited pairs.
-pub visited-stamp : (stamp : ℕ) → Visited stamp stamp
+pub visited-stamp : (stamp m : ℕ) → stamp-in m ≡ stamp → Visited stamp m
 unfolding visited if_then_else_
-visited-stamp stamp = go (eqb stamp 1)
+visited-stamp stamp m e = go (eqb m 1)
   where
-    go : (b : Bool) → (if b then true else eqb stamp stamp) ≡ true
+    go : (b : Bool) → (if b then true else eqb (stamp-in m) stamp) ≡ true
     go true = refl
-    go false = eq-eqb stamp stamp refl
+    go false = eq-eqb (stamp-in m) stamp e
 
 pub visited-ground : (stamp : ℕ) → Visited stamp 1
 unfolding visited if_then_else_
 visited-ground stamp = refl
 
-pub not-visited : (stamp m : ℕ) → (m ≡ 1 → ⊥) → (m ≡ stamp → ⊥) → visited stamp m ≡ false
+pub not-visited : (stamp m : ℕ) → (m ≡ 1 → ⊥) → (stamp-in m ≡ stamp → ⊥) → visited stamp m ≡ false
 unfolding visited if_then_else_
-not-visited stamp m d e = rw (ne-eqb m 1 d) (ne-eqb m stamp e)
+not-visited stamp m d e = rw (ne-eqb m 1 d) (ne-eqb (stamp-in m) stamp e)
 
-pub visited-below : (stamp m : ℕ) → m < stamp → Visited stamp m → m ≡ 1
-unfolding visited if_then_else_
+pub visited-below : (stamp m : ℕ) → stamp-in m < stamp → Visited stamp m → m ≡ 1
 visited-below stamp m l v = go (ℕ-discrete m 1)
   where
     go : Dec (m ≡ 1) → m ≡ 1
     go (yes e) = e
-    go (no d) =
-        let none : (if eqb m 1 then true else eqb m stamp) ≡ false = rw (ne-eqb m 1 d) (ne-eqb m stamp (λ e. omega arith)) in
-        absurd (true≢false (sym v ∙ none))
+    go (no d) = absurd (true≢false (sym v ∙ not-visited stamp m d (λ e. omega arith)))
 
 pub or-visited : (stamp m : ℕ) → Dec (Visited stamp m)
 or-visited stamp m = go (visited stamp m) refl
@@ -64,15 +62,15 @@ module _ (x : Scene) (marks stamp : ℕ) where
     grounds = new-then (x .unit) (x .before) marks s t u (a .grounds) (b .grounds);
   }
 
-  -- A mark is set: the stamp's, or that of a ground pair.
+  -- A mark is set to one of a visited pair, and what it tells was told or is so.
   pub stamped-set : (s : List ℕ) (p w : ℕ) → p < x .pairs → marks + p < length s → Visited stamp w
-      → (w ≡ 1 → GroundAt (x .unit) (x .before) p) → Stamped x marks stamp s (set s (marks + p) w)
+      → ((o : Option ℕ) → Tells o w → Tells o (getD s (marks + p) 0) ⊎ IsSo (x .unit) (x .before) o p) → Stamped x marks stamp s (set s (marks + p) w)
   stamped-set s p w h inside v known = record {
     size = length-set s (marks + p) w;
     front = take-set-le marks s (marks + p) w (omega arith);
     above = λ k l. getD-set-other s (marks + p) k w 0 (λ e. omega arith);
     others = λ k d. go k d (ℕ-discrete k (marks + p));
-    grounds = λ q e. new q e (ℕ-discrete q p);
+    grounds = λ o q e. new o q e (ℕ-discrete q p);
   }
     where
       go : (k : ℕ) → (Visited stamp (getD (set s (marks + p) w) k 0) → ⊥) → Dec (k ≡ marks + p)
@@ -80,12 +78,14 @@ module _ (x : Scene) (marks stamp : ℕ) where
       go k d (yes e) = absurd (d (rw (e, getD-set-same s (marks + p) w 0 inside) v))
       go k d (no e) = getD-set-other s (marks + p) k w 0 e
 
-      new : (q : ℕ) → getD (set s (marks + p) w) (marks + q) 0 ≡ 1 → Dec (q ≡ p)
-          → (getD s (marks + q) 0 ≡ 1) ⊎ GroundAt (x .unit) (x .before) q
-      new q e (yes f) =
-          inr (subst (GroundAt (x .unit) (x .before)) (sym f)
-          (known (sym (getD-set-same s (marks + p) w 0 inside) ∙ ap (λ k. getD (set s (marks + p) w) (marks + k) 0) (sym f) ∙ e)))
-      new q e (no d) = inl (sym (getD-set-other s (marks + p) (marks + q) w 0 (λ f. d (omega arith))) ∙ e)
+      here : (q : ℕ) → q ≡ p → getD (set s (marks + p) w) (marks + q) 0 ≡ w
+      here q f = ap (λ k. getD (set s (marks + p) w) (marks + k) 0) f ∙ getD-set-same s (marks + p) w 0 inside
+
+      new : (o : Option ℕ) (q : ℕ) → Tells o (getD (set s (marks + p) w) (marks + q) 0) → Dec (q ≡ p)
+          → Tells o (getD s (marks + q) 0) ⊎ IsSo (x .unit) (x .before) o q
+      new o q e (yes f) =
+          subst (λ k. Tells o (getD s (marks + k) 0) ⊎ IsSo (x .unit) (x .before) o k) (sym f) (known o (subst (Tells o) (here q f) e))
+      new o q e (no d) = inl (subst (Tells o) (getD-set-other s (marks + p) (marks + q) w 0 (λ f. d (omega arith))) e)
 
   -- A mark stays.
   pub stamp-stays : (s t : List ℕ) → Stamped x marks stamp s t → (k : ℕ) → Visited stamp (getD s k 0) → Visited stamp (getD t k 0)
@@ -107,14 +107,17 @@ module _ (x : Scene) (marks stamp z : ℕ) (s t : List ℕ) (a : Stamped x marks
     place-at = h .place-at;
     unassigned = h .unassigned;
     stamp-above = h .stamp-above;
-    grounds =
-        grounds-on (x .unit) (x .before) marks (λ i j l m. h .shown .apart i j (rw (h .shown .old-is) l) (rw (h .shown .old-is) m)) s t
-        (a .grounds) (h .grounds);
+    stamp-below = h .stamp-below;
+    few = h .few;
+    grounds = grounds-on (x .unit) (x .before) marks s t (a .grounds) (h .grounds);
   }
 
   pub marked-on : (j : ℕ) → Marked s x marks stamp z j → Marked t x marks stamp z j
   marked-on j m = record {
-    stamped = stamp-stays x marks stamp s t a (marks + x .unit .pair j) (m .stamped);
+    end = m .end;
+    of-unit = m .of-unit;
+    via = m .via;
+    stamped = stamp-stays x marks stamp s t a (marks + x .unit .pair (m .end)) (m .stamped);
     other = m .other;
   }
 

@@ -1,5 +1,5 @@
 -- The searches from the entries' terms, one after the other, each with a stamp of its own: no circle through the entries passed.
-use Prim.Native.Nat.{ℕ, _+_, _*_, _≤_, _<_, _^_}
+use Prim.Native.Nat.{ℕ, _+_, _*_, _%_, _≤_, _<_, _^_}
 use mathlib.Core.Path.{_≡_, refl, sym, ap, subst, _∙_}
 use mathlib.Core.Bool.{Bool, true, false, true≢false}
 use mathlib.Core.List.{List}
@@ -15,10 +15,10 @@ use Rattle.laws.proofs.Circle.Search.{circle-says, no-circle-says}
 use Rattle.term.specs.Frames.{Only}
 use Rattle.term.specs.Layout.{gift-pair, gift-term}
 use Rattle.run_circle.specs.Circle.{entry-pair, entry-term, Held, Trial, old, Tried, Answered}
-use Rattle.run_circle.specs.Ground.{Ground, Grounds, NewGrounds}
+use Rattle.run_circle.specs.Ground.{Ground, stamp-in, Grounds, NewGrounds}
 use Rattle.run_circle.specs.Search.{Scene, Told, StandsAt, Searching, Visited, Stamped, Searched}
 use Rattle.run_circle.proofs.Calls.{TermAsks, TermTells}
-use Rattle.run_circle.proofs.Grounds.{new-none, new-then, new-same, grounds-on}
+use Rattle.run_circle.proofs.Grounds.{new-none, new-then, new-same, grounds-on, marked-ground}
 use Rattle.run_circle.proofs.Stamps.{not-visited, visited-below}
 use Rattle.run_circle.proofs.Scenes.{scene, shown, entry-told, before-same}
 use Rattle.run_circle.proofs.Through.{circle-on-entry, not-around}
@@ -29,7 +29,7 @@ pub record Passed (s₀ s₁ s : List ℕ) (y : Trial) (marks stamp i : ℕ) : T
   pub size : length s ≡ length s₁
   pub front : take marks s ≡ take marks s₁
   pub above : (k : ℕ) → marks + y .unit .pairs ≤ k → getD s k 0 ≡ getD s₁ k 0
-  pub stamps : (k : ℕ) → marks ≤ k → k < marks + y .unit .pairs → getD s k 0 < stamp + i
+  pub stamps : (k : ℕ) → marks ≤ k → k < marks + y .unit .pairs → stamp-in (getD s k 0) < stamp + i
   pub grounds : NewGrounds (y .unit .places) (y .unit .values) marks s₁ s
   pub clear : (j z : ℕ) → j < i → z < old y → y .unit .places .pair z ≡ entry-pair s₀ j → Links (y .after) z z → ⊥
 
@@ -46,8 +46,8 @@ module _ (s₀ s₁ : List ℕ) (y : Trial) (values marks n stamp : ℕ) (tried 
         omega (
           arith,
           tried .stamps-new k l h,
-          held .others k (λ i m e.
-              omega (arith, tried .entry i m .place, tried .unit .held .place (tried .entry i m .pair) (tried .entry i m .of-unit), tried .marks-behind)),
+          ap (λ m. stamp-in m) (held .others k (λ i m e.
+              omega (arith, tried .entry i m .place, tried .unit .held .place (tried .entry i m .pair) (tried .entry i m .of-unit), tried .marks-behind))),
         );
     grounds = new-none (y .unit .places) (y .unit .values) marks s₁;
     clear = λ j z h. absurd (omega arith);
@@ -56,7 +56,7 @@ module _ (s₀ s₁ : List ℕ) (y : Trial) (values marks n stamp : ℕ) (tried 
   -- The scratch with the entries' pairs held has the marks that it had.
   held-grounds : Grounds (y .unit .places) (y .unit .values) marks s₁
   held-grounds =
-      grounds-on (y .unit .places) (y .unit .values) marks (tried .unit-apart) s₀ s₁
+      grounds-on (y .unit .places) (y .unit .values) marks s₀ s₁
       (new-same (y .unit .places) (y .unit .values) marks s₀ s₁ (λ p. held .others (marks + p) (λ i m e.
       omega (arith, tried .entry i m .place, tried .unit .held .place (tried .entry i m .pair) (tried .entry i m .of-unit), tried .marks-behind))))
       (tried .grounds)
@@ -95,7 +95,7 @@ module _ (s₀ s₁ : List ℕ) (y : Trial) (values marks n stamp : ℕ) (tried 
       entry-inside = omega (arith, tried .entries-before, tried .marks-behind, tried .room, held .size, passed .size)
 
       grounds-now : Grounds (y .unit .places) (y .unit .values) marks s
-      grounds-now = grounds-on (y .unit .places) (y .unit .values) marks (tried .unit-apart) s₁ s (passed .grounds) held-grounds
+      grounds-now = grounds-on (y .unit .places) (y .unit .values) marks s₁ s (passed .grounds) held-grounds
 
       pub searching : Searching s x values marks (entry-pair s i) (stamp + i) goal
       searching = record {
@@ -108,6 +108,8 @@ module _ (s₀ s₁ : List ℕ) (y : Trial) (values marks n stamp : ℕ) (tried 
         place-at = region (gift-pair i) (omega (arith, tried .entries-before)) ∙ tried .entry i h .place;
         unassigned = tried .entry i h .unassigned;
         stamp-above = omega (arith, tried .stamp-above);
+        stamp-below = omega (arith, tried .stamps-fit);
+        few = tried .few-pairs;
         grounds = grounds-now;
       }
 
@@ -119,14 +121,18 @@ module _ (s₀ s₁ : List ℕ) (y : Trial) (values marks n stamp : ℕ) (tried 
           rw words (entry-told s₀ s₁ y values marks n stamp tried held i h)
 
       module _ (s′ : List ℕ) (stamped : Stamped x marks (stamp + i) s s′) where
-        new-stamp : (k : ℕ) → marks ≤ k → k < marks + y .unit .pairs → getD s′ k 0 < stamp + (i + 1)
-        new-stamp k b l = go (ℕ-discrete (getD s′ k 0) (stamp + i)) (ℕ-discrete (getD s′ k 0) 1)
+        new-stamp : (k : ℕ) → marks ≤ k → k < marks + y .unit .pairs → stamp-in (getD s′ k 0) < stamp + (i + 1)
+        new-stamp k b l = go (ℕ-discrete (stamp-in (getD s′ k 0)) (stamp + i)) (ℕ-discrete (getD s′ k 0) 1)
           where
-            go : Dec (getD s′ k 0 ≡ stamp + i) → Dec (getD s′ k 0 ≡ 1) → getD s′ k 0 < stamp + (i + 1)
+            go : Dec (stamp-in (getD s′ k 0) ≡ stamp + i) → Dec (getD s′ k 0 ≡ 1) → stamp-in (getD s′ k 0) < stamp + (i + 1)
             go (yes e) f = omega arith
             go (no d) (yes e) = omega (arith, tried .stamp-above)
             go (no d) (no e) =
-                omega (arith, stamped .others k (λ v. true≢false (sym v ∙ not-visited (stamp + i) (getD s′ k 0) e d)), passed .stamps k b l)
+                omega (
+                  arith,
+                  ap (λ m. stamp-in m) (stamped .others k (λ v. true≢false (sym v ∙ not-visited (stamp + i) (getD s′ k 0) e d))),
+                  passed .stamps k b l,
+                )
 
       pub entry-found : (s′ : List ℕ) → Searched s s′ x marks (stamp + i) goal (λ j. StandsAt j (value (y .after) goal)) true
           → Answered s₀ s₁ s′ y marks n stamp true
@@ -158,7 +164,7 @@ module _ (s₀ s₁ : List ℕ) (y : Trial) (values marks n stamp : ℕ) (tried 
           fresh : (j : ℕ) → j < old y → Visited (stamp + i) (getD s (marks + y .unit .places .pair j) 0) → Ground (y .unit .values) j
           fresh j l v =
               let low = passed .stamps (marks + y .unit .places .pair j) (omega arith) (omega (arith, tried .unit .held .place j l)) in
-              grounds-now j l (visited-below (stamp + i) (getD s (marks + y .unit .places .pair j) 0) low v)
+              marked-ground (y .unit .places) (y .unit .values) marks (tried .unit-apart) s grounds-now j l (visited-below (stamp + i) (getD s (marks + y .unit .places .pair j) 0) low v)
 
           not-here : Links (y .after) goal goal → ⊥
           not-here = not-around x marks (stamp + i) goal s s′ (shown s₀ s₁ y values marks n stamp tried held) (tried .entry i h .of-unit)

@@ -12,10 +12,11 @@ use lib.ListN.{length, getD}
 use Rattle.meaning.specs.State.{value}
 use Rattle.laws.proofs.Circle.Leaning.{Leans, Links, one, first, links-join}
 use Rattle.laws.proofs.Circle.Search.{no-circle-says, leaning-below}
+use Rattle.laws.proofs.Trial.Values.{assigned-below}
 use Rattle.run_circle.specs.Circle.{entry-pair, Trial, old, Tried}
-use Rattle.run_circle.specs.Ground.{Ground}
-use Rattle.run_circle.specs.Search.{Scene, On, StandsAt, Shown, Visited, Seen, Searched}
-use Rattle.run_circle.proofs.Grounds.{ground-reaches}
+use Rattle.run_circle.specs.Ground.{Ground, Via, there, through}
+use Rattle.run_circle.specs.Search.{Scene, On, StandsAt, Shown, Visited, Marked, Seen, Searched}
+use Rattle.run_circle.proofs.Grounds.{ground-reaches, via-leans, via-unassigned}
 use Rattle.run_circle.proofs.Stamps.{or-visited}
 use Rattle.run_circle.proofs.Visit.{stands-of}
 use Rattle.run_circle.proofs.Parts.{within-stands}
@@ -121,15 +122,35 @@ module _ (s : List ℕ) (y : Trial) (values marks n stamp : ℕ) (tried : Tried 
 module _ (x : Scene) (marks stamp z : ℕ) (s s′ : List ℕ) (shown : Shown x) (unit-pair : z < x .old) (unassigned : value (x .before) z ≡ none)
     (fresh : (j : ℕ) → j < x .old → Visited stamp (getD s (marks + x .unit .pair j) 0) → Ground (x .before) j)
     (searched : Searched s s′ x marks stamp z (λ j. StandsAt j (value (x .after) z)) false) where
+  via-below : {u n : ℕ} → Via (x .before) u n → u < x .old → n < x .old
+  via-below (there e) b = rw e b
+  via-below (through {n = n} t e all) b = omega (arith, assigned-below (x .before) n t e, shown .old-is)
+
+  -- A pair from which all ways go through a marked one leans on such pairs, on visited ones, or is ground.
+  marked-leans : (j k : ℕ) → j < x .old → Marked s′ x marks stamp z j → Leans (x .after) j k → Ground (x .before) j ⊎ Seen s′ x marks stamp z k
+  marked-leans j k h m l = go (via-leans (x .before) (x .after) (shown .stays) (m .via))
+    where
+      unit : (e : j ≡ m .end) → Dec (Visited stamp (getD s (marks + x .unit .pair j) 0)) → Ground (x .before) j ⊎ Seen s′ x marks stamp z k
+      unit e (yes v) = inl (fresh j h v)
+      unit e (no d) =
+          inr (searched .closed refl .new j h d
+          (subst (λ n. Visited stamp (getD s′ (marks + x .unit .pair n) 0)) (sym e) (m .stamped)) k l)
+
+      further : Via (x .before) (m .end) k → Ground (x .before) j ⊎ Seen s′ x marks stamp z k
+      further v = inr (record {
+        unit = λ b. record { end = m .end; of-unit = m .of-unit; via = v; stamped = m .stamped; other = m .other };
+        clause = λ b. absurd (omega (arith, via-below v (m .of-unit)));
+      })
+
+      go : (j ≡ m .end) ⊎ ((i : ℕ) → Leans (x .after) j i → Via (x .before) (m .end) i) → Ground (x .before) j ⊎ Seen s′ x marks stamp z k
+      go (inl e) = unit e (or-visited stamp (getD s (marks + x .unit .pair j) 0))
+      go (inr all) = further (all k l)
+
   seen-on-seen : (j k : ℕ) → Seen s′ x marks stamp z j → Leans (x .after) j k → Ground (x .before) j ⊎ Seen s′ x marks stamp z k
   seen-on-seen j k seen l = go (decLt j (x .old))
     where
-      unit : (h : j < x .old) → Dec (Visited stamp (getD s (marks + x .unit .pair j) 0)) → Ground (x .before) j ⊎ Seen s′ x marks stamp z k
-      unit h (yes v) = inl (fresh j h v)
-      unit h (no d) = inr (searched .closed refl .new j h d (seen .unit h .stamped) k l)
-
       go : Dec (j < x .old) → Ground (x .before) j ⊎ Seen s′ x marks stamp z k
-      go (yes h) = unit h (or-visited stamp (getD s (marks + x .unit .pair j) 0))
+      go (yes h) = marked-leans j k h (seen .unit h) l
       go (no d) =
           let on : On x true j = (omega arith, leaning-below (x .after) j k l) in
           let low : k < x .old = shown .clause-value j on .pairs k (stands-of (x .after) k j l) in
@@ -138,9 +159,11 @@ module _ (x : Scene) (marks stamp z : ℕ) (s s′ : List ℕ) (shown : Shown x)
   from-ground : {j : ℕ} → Ground (x .before) j → Links (x .after) j z → ⊥
   from-ground g p = ground-reaches (x .before) (x .after) (shown .stays) g p unassigned
 
+  not-seen : Seen s′ x marks stamp z z → ⊥
+  not-seen seen = let m = seen .unit unit-pair in m .other (sym (via-unassigned (x .before) (m .via) unassigned))
+
   not-from-seen : {j : ℕ} → Seen s′ x marks stamp z j → Links (x .after) j z → ⊥
-  not-from-seen {j} seen (one l) =
-      ⊎-elim (λ g. from-ground g (one l)) (λ next. next .unit unit-pair .other refl) (seen-on-seen j z seen l)
+  not-from-seen {j} seen (one l) = ⊎-elim (λ g. from-ground g (one l)) not-seen (seen-on-seen j z seen l)
   not-from-seen {j} seen (first {j = k} l p) = further (seen-on-seen j k seen l) (λ next. not-from-seen next p)
     where
       further : Ground (x .before) j ⊎ Seen s′ x marks stamp z k → (Seen s′ x marks stamp z k → ⊥) → ⊥
@@ -148,5 +171,5 @@ module _ (x : Scene) (marks stamp z : ℕ) (s s′ : List ℕ) (shown : Shown x)
       further (inr next) rest = rest next
 
   pub not-around : Links (x .after) z z → ⊥
-  not-around (one l) = searched .visited refl z (stands-of (x .after) z z l) .unit unit-pair .other refl
+  not-around (one l) = not-seen (searched .visited refl z (stands-of (x .after) z z l))
   not-around (first {j = k} l p) = not-from-seen (searched .visited refl k (stands-of (x .after) k z l)) p

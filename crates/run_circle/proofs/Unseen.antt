@@ -1,10 +1,11 @@
 -- How many words have not a mark: a new mark takes one away, and marks never add any.
 use Prim.Native.Nat.{ℕ, zero, suc, _+_, _≤_, _<_}
-use mathlib.Core.Path.{_≡_, refl, sym, _∙_}
+use mathlib.Core.Path.{_≡_, refl, sym, ap, _∙_}
 use mathlib.Core.Bool.{Bool, true, false, true≢false}
 use mathlib.Core.List.{List, [], _∷_}
 use native.Mathlib.Omega.{arith}
-use lib.ListN.{length, getD, set}
+use lib.ListN.{length, getD, set, length-set}
+use lib.Seq.{getD-set-other}
 use Rattle.meaning.specs.Bytes.{if_then_else_}
 
 unfoldable pub unseen : (ℕ → Bool) → List ℕ → ℕ
@@ -37,3 +38,13 @@ unseen-less marked [] (m ∷ ms) e others = absurd (omega arith)
 unseen-less marked (n ∷ ns) [] e others = absurd (omega arith)
 unseen-less marked (n ∷ ns) (m ∷ ms) e others =
     omega (arith, one-seen marked m n (others 0), unseen-less marked ns ms (omega arith) (λ k. others (suc k)))
+
+-- Where one word is newly marked.
+pub unseen-new : (marked : ℕ → Bool) (s s′ : List ℕ) (i : ℕ) → length s′ ≡ length s → i < length s → marked (getD s i 0) ≡ false
+    → marked (getD s′ i 0) ≡ true → ((k : ℕ) → (marked (getD s′ k 0) ≡ true → ⊥) → getD s′ k 0 ≡ getD s k 0)
+    → unseen marked s′ + 1 ≤ unseen marked s
+unseen-new marked s s′ i size inside d e others =
+    omega (arith, unseen-less marked (set s i (getD s′ i 0)) s′ (size ∙ sym (length-set s i (getD s′ i 0))) same, unseen-set marked s i (getD s′ i 0) inside d e)
+  where
+    same : (k : ℕ) → (marked (getD s′ k 0) ≡ true → ⊥) → getD s′ k 0 ≡ getD (set s i (getD s′ i 0)) k 0
+    same k n = others k n ∙ sym (getD-set-other s i k (getD s′ i 0) 0 (λ f. n (ap (λ l. marked (getD s′ l 0)) f ∙ e)))

@@ -7,21 +7,36 @@ use mathlib.Core.List.{List}
 use mathlib.Core.Option.{Option, none, some}
 use native.Mathlib.Decide.{ℕ-discrete}
 use native.Mathlib.Omega.{arith}
-use lib.ListN.{length, getD, set}
-use lib.Seq.{getD-set-same, getD-set-other}
+use lib.ListN.{length, getD}
 use Rattle.meaning.specs.Terms.{writer, reader, Constant, Term}
 use Rattle.meaning.specs.State.{Values, value}
 use Rattle.laws.proofs.Terms.Standing.{Stands}
-use Rattle.laws.proofs.Circle.Leaning.{Leans, Links, one, first}
-use Rattle.term.specs.Layout.{trial-region, gift-term}
+use Rattle.laws.proofs.Circle.Leaning.{Leans, Links, one, first, links-join}
+use Rattle.term.specs.Layout.{trial-region}
 use Rattle.term.specs.Words.{tag-in, rest-in}
-use Rattle.run_circle.specs.Ground.{Ground, ground}
-use Rattle.run_circle.specs.Search.{Scene, side, On, Told, Given, StandsAt, Searching, visited, Visited, Stamped, Seen, Reaches, Searched, Firm}
+use Rattle.run_circle.specs.Ground.{Ground, ground, Via, there, LeadsVia}
+use Rattle.run_circle.specs.Search.{
+  Scene,
+  side,
+  On,
+  Told,
+  Given,
+  StandsAt,
+  AllStand,
+  Searching,
+  visited,
+  Visited,
+  Stamped,
+  Seen,
+  Reaches,
+  Searched,
+  Firm,
+  Stems,
+}
+use Rattle.run_circle.proofs.Grounds.{links-stay, leans-stands, via-ground, via-via, leads-via}
 use Rattle.run_circle.proofs.Stamps.{
-  visited-stamp,
   stamped-same,
   stamped-then,
-  stamped-set,
   stamp-stays,
   searching-on,
   closed-same,
@@ -54,28 +69,60 @@ pub record Variable (x : Scene) (marks stamp z : ℕ) (b : Bool) (w : ℕ) (v : 
   pub answer : (s s′ : List ℕ) (r : Bool) → Searched s s′ x marks stamp z (λ i. i ≡ pair) r
       → Searched s s′ x marks stamp z (λ j. StandsAt j v) r
   pub firm : Ground (x .before) pair → Firm x v
+  pub via : (u : ℕ) → Via (x .before) u pair → AllStand (Via (x .before) u) v
   pub stands : StandsAt pair v
 
 pub variable-of : (x : Scene) (marks stamp z : ℕ) (b : Bool) (w : ℕ) (v : Option Term) → Told x b w v
     → (tag-in w ≡ 6 → ⊥) → (tag-in w ≡ 0 → ⊥) → tag-in w ≤ 2 → Variable x marks stamp z b w v
 unfolding Stands
 variable-of x marks stamp z b w none told c d le = absurd (d (omega (arith, told .word)))
-variable-of x marks stamp z b w (some (Term.variable writer n)) told c d le =
-    record { pair = n; on = told .pairs n refl; place = omega (arith, told .word); answer = λ s s′ r a. a; firm = λ g j e. subst (Ground (x .before)) (sym e) g; stands = refl }
-variable-of x marks stamp z b w (some (Term.variable reader n)) told c d le =
-    record { pair = n; on = told .pairs n refl; place = omega (arith, told .word); answer = λ s s′ r a. a; firm = λ g j e. subst (Ground (x .before)) (sym e) g; stands = refl }
+variable-of x marks stamp z b w (some (Term.variable writer n)) told c d le = record {
+  pair = n;
+  on = told .pairs n refl;
+  place = omega (arith, told .word);
+  answer = λ s s′ r a. a;
+  firm = λ g j e. subst (Ground (x .before)) (sym e) g;
+  via = λ u g j e. subst (Via (x .before) u) (sym e) g;
+  stands = refl;
+}
+variable-of x marks stamp z b w (some (Term.variable reader n)) told c d le = record {
+  pair = n;
+  on = told .pairs n refl;
+  place = omega (arith, told .word);
+  answer = λ s s′ r a. a;
+  firm = λ g j e. subst (Ground (x .before)) (sym e) g;
+  via = λ u g j e. subst (Via (x .before) u) (sym e) g;
+  stands = refl;
+}
 variable-of x marks stamp z b w (some (Term.constant (Constant.integer i))) told c d le = absurd (omega (arith, told .word))
 variable-of x marks stamp z b w (some (Term.constant (Constant.name f))) told c d le = absurd (omega (arith, told .word))
 variable-of x marks stamp z b w (some (Term.constant Constant.empty)) told c d le = absurd (omega (arith, told .word))
 variable-of x marks stamp z b w (some (Term.compound n f ts)) told c d le = absurd (omega (arith, told .word))
 
--- A pair whose value is firm is ground.
-pub ground-of : (x : Scene) (n : ℕ) → value (x .after) n ≡ value (x .before) n → Firm x (value (x .after) n) → Ground (x .before) n
-ground-of x n same firm = go (value (x .before) n) refl (rw same at firm)
+-- From a pair a search comes to the value that it had before the trial.
+pub value-stems : (x : Scene) (n : ℕ) → value (x .after) n ≡ value (x .before) n → Stems x n (value (x .after) n)
+value-stems x n same = rw same (record {
+  reaches = λ j r. one (leans-of (x .before) j n r);
+  firm = λ f. firm (value (x .before) n) refl f;
+  via = λ u f. via u (value (x .before) n) refl f;
+})
   where
-    go : (v : Option Term) → value (x .before) n ≡ v → Firm x v → Ground (x .before) n
-    go none e f = absurd f
-    go (some t) e f = ground t e f
+    firm : (v : Option Term) → value (x .before) n ≡ v → Firm x v → Ground (x .before) n
+    firm none e f = absurd f
+    firm (some t) e f = ground t e f
+
+    via : (u : ℕ) (v : Option Term) → value (x .before) n ≡ v → AllStand (Via (x .before) u) v → LeadsVia (x .before) u n
+    via u none e f = absurd f
+    via u (some t) e f = (t, e, f)
+
+-- Or to the pair through which all ways go.
+pub via-stems : (x : Scene) (n u : ℕ) → LeadsVia (x .before) u n → Links (x .before) n u → Stems x n (some (Term.variable writer u))
+unfolding Stands
+via-stems x n u (t, e, all) path = record {
+  reaches = λ j r. subst (Links (x .before) n) (sym r) path;
+  firm = λ f. via-ground (x .before) (leads-via (x .before) u n (t, e, all)) (f u refl);
+  via = λ w f. (t, e, λ j r. via-via (x .before) (all j r) (f u refl));
+}
 
 -- No term's word has the tag 7.
 pub told-tag : (x : Scene) (b : Bool) (w : ℕ) (v : Option Term) → Told x b w v → tag-in w ≡ 7 → ⊥
@@ -133,7 +180,7 @@ module _ (x : Scene) (values marks place stamp z : ℕ) (s : List ℕ) (h : Sear
 
     seen-unit : (s′ : List ℕ) → (p ≡ place → ⊥) → Visited stamp (getD s′ (marks + p) 0) → (i : ℕ) → i ≡ j → Seen s′ x marks stamp z i
     seen-unit s′ d m i f = subst (Seen s′ x marks stamp z) (sym f) (record {
-      unit = λ l. record { stamped = rw e at m; other = other d };
+      unit = λ l. record { end = j; of-unit = on; via = there refl; stamped = rw e at m; other = other d };
       clause = λ l. absurd (omega arith);
     })
 
@@ -146,68 +193,88 @@ module _ (x : Scene) (values marks place stamp z : ℕ) (s : List ℕ) (h : Sear
       closed = λ f. closed-same x marks stamp z s;
     }
 
-    pub marking : Stamped x marks stamp s (set s (marks + p) stamp)
-    marking = stamped-set x marks stamp s p stamp (omega (arith, h .shown .place j on)) mark-inside (visited-stamp stamp)
-        (λ f. absurd (omega (arith, h .stamp-above)))
-
-    pub marked-searching : Searching (set s (marks + p) stamp) x values marks place stamp z
-    marked-searching = searching-on x marks stamp z s (set s (marks + p) stamp) marking values place h
-
     pub value-inside : values + p < length s
     value-inside =
         omega (arith, h .shown .room, h .shown .place j on, h .values-at, front-length s x values marks place stamp z h, h .room)
 
-    value-word-at : getD (set s (marks + p) stamp) (values + p) 0 ≡ getD (x .front) (x .values + x .unit .pair j) 0
-    value-word-at =
-        let words : getD (set s (marks + p) stamp) (values + p) 0 ≡ getD (x .front) (values + p) 0 =
-        front-word (set s (marks + p) stamp) x values marks place stamp z marked-searching (values + p)
-        (omega (arith, h .shown .room, h .shown .place j on, h .values-at)) in
-        words ∙ ap (λ k. getD (x .front) k 0) (omega (arith, h .values-at))
+    -- When it is marked.
+    module _ (s₁ : List ℕ) (st : Stamped x marks stamp s s₁) where
+      value-word-at : getD s₁ (values + p) 0 ≡ getD (x .front) (x .values + x .unit .pair j) 0
+      value-word-at =
+          front-word s₁ x values marks place stamp z (searching-on x marks stamp z s s₁ st values place h) (values + p)
+          (omega (arith, h .shown .room, h .shown .place j on, h .values-at))
+          ∙ ap (λ k. getD (x .front) k 0) (omega (arith, h .values-at))
 
-    -- Its value, a term of the unit or one of the head.
-    pub unit-told : (v : ℕ) → v ≡ getD (set s (marks + p) stamp) (values + p) 0 → (tag-in v ≡ 7 → ⊥) → Told x false v (value (x .after) j)
-    unit-told v f d = ⊎-elim (λ (same, t). rw (f ∙ value-word-at) t)
-        (λ (none-before, g). absurd (d (omega (arith, g .word, f ∙ value-word-at)))) (h .shown .unit-value j on)
+      -- Its value, a term of the unit or one of the head.
+      pub unit-told : (v : ℕ) → v ≡ getD s₁ (values + p) 0 → (tag-in v ≡ 7 → ⊥) → Told x false v (value (x .after) j)
+      unit-told v f d = ⊎-elim (λ (same, t). rw (f ∙ value-word-at) t)
+          (λ (none-before, g). absurd (d (omega (arith, g .word, f ∙ value-word-at)))) (h .shown .unit-value j on)
 
-    head-given : (v : ℕ) → v ≡ getD (set s (marks + p) stamp) (values + p) 0 → tag-in v ≡ 7 → Given x v (value (x .after) j)
-    head-given v f d = ⊎-elim (λ (same, t). absurd (told-tag x false v (value (x .after) j) (rw (f ∙ value-word-at) t) d))
-        (λ (none-before, g). rw (f ∙ value-word-at) g) (h .shown .unit-value j on)
+      pub head-given : (v : ℕ) → v ≡ getD s₁ (values + p) 0 → tag-in v ≡ 7 → Given x v (value (x .after) j)
+      head-given v f d = ⊎-elim (λ (same, t). absurd (told-tag x false v (value (x .after) j) (rw (f ∙ value-word-at) t) d))
+          (λ (none-before, g). rw (f ∙ value-word-at) g) (h .shown .unit-value j on)
 
-    pub head-inside : (v i : ℕ) → v ≡ getD (set s (marks + p) stamp) (values + p) 0 → tag-in v ≡ 7 → i ≡ rest-in v → gift-term i < length s
-    head-inside v i f d at =
-        let g = head-given v f d in
-        omega (arith, g .word, g .inside, front-length s x values marks place stamp z h, h .room)
+      -- A pair whose value is a term of the unit had it before the trial.
+      pub unit-same : (v : ℕ) → v ≡ getD s₁ (values + p) 0 → (tag-in v ≡ 7 → ⊥) → value (x .after) j ≡ value (x .before) j
+      unit-same v f d = ⊎-elim (λ (same, t). same)
+          (λ (none-before, g). absurd (d (omega (arith, g .word, f ∙ value-word-at)))) (h .shown .unit-value j on)
 
-    pub head-told : (v i : ℕ) → v ≡ getD (set s (marks + p) stamp) (values + p) 0 → tag-in v ≡ 7 → i ≡ rest-in v
-        → Told x true (getD (set s (marks + p) stamp) (gift-term i) 0) (value (x .after) j)
-    head-told v i f d at =
-        let g = head-given v f d in
-        let is : i ≡ g .number = omega (arith, g .word) in
-        let words : getD (set s (marks + p) stamp) (gift-term (g .number)) 0 ≡ getD (x .front) (gift-term (g .number)) 0 =
-        front-word (set s (marks + p) stamp) x values marks place stamp z marked-searching (gift-term (g .number)) (g .inside) in
-        rw (is, words) (g .told)
+      -- The search goes on from a value: a path from it is one from the pair, and when all its pairs are seen, so are those on which the pair leans.
+      module _ (d : p ≡ place → ⊥) (marked : Visited stamp (getD s₁ (marks + p) 0))
+          (same : (k : ℕ) → (k ≡ marks + p → ⊥) → visited stamp (getD s₁ k 0) ≡ visited stamp (getD s k 0)) where
+        new-answer : (now : Option Term) → ((i : ℕ) → StandsAt i now → Reaches x z i → Links (x .after) j z)
+            → ((s′ : List ℕ) → ((i : ℕ) → StandsAt i now → Seen s′ x marks stamp z i) → (k : ℕ) → Leans (x .after) j k → Seen s′ x marks stamp z k)
+            → (s′ : List ℕ) (r : Bool) → Searched s₁ s′ x marks stamp z (λ i. StandsAt i now) r → Searched s s′ x marks stamp z (λ i. i ≡ j) r
+        new-answer now path seen s′ r a = record {
+          stamped = stamped-then x marks stamp s s₁ s′ st (a .stamped);
+          found = λ f. let (i, q, l) = a .found f in (j, refl, inr (path i q l));
+          visited = λ f. seen-unit s′ d (stamp-stays x marks stamp s₁ s′ (a .stamped) (marks + p) marked);
+          closed = λ f. record { new = λ i l n m k q. go f i l n m k q (ℕ-discrete i j) };
+        }
+          where
+            go : r ≡ false → (i : ℕ) → i < x .old → (Visited stamp (getD s (marks + x .unit .pair i) 0) → ⊥)
+                → Visited stamp (getD s′ (marks + x .unit .pair i) 0) → (k : ℕ) → Leans (x .after) i k → Dec (i ≡ j) → Seen s′ x marks stamp z k
+            go f i l n m k q (yes is) = seen s′ (a .visited f) k (rw is at q)
+            go f i l n m k q (no isnt) =
+                a .closed f .new i l
+                (λ g. n (sym (same (marks + x .unit .pair i) (λ b. isnt (h .shown .apart i j l on (omega arith)))) ∙ g)) m k q
 
-    -- A pair whose value is a term of the unit had it before the trial.
-    pub unit-same : (v : ℕ) → v ≡ getD (set s (marks + p) stamp) (values + p) 0 → (tag-in v ≡ 7 → ⊥) → value (x .after) j ≡ value (x .before) j
-    unit-same v f d = ⊎-elim (λ (same, t). same)
-        (λ (none-before, g). absurd (d (omega (arith, g .word, f ∙ value-word-at)))) (h .shown .unit-value j on)
+        pub value-answer : (s′ : List ℕ) (r : Bool) → Searched s₁ s′ x marks stamp z (λ i. StandsAt i (value (x .after) j)) r
+            → Searched s s′ x marks stamp z (λ i. i ≡ j) r
+        value-answer =
+            new-answer (value (x .after) j) (λ i q l. link x z i j q l) (λ s′ all k l. all k (stands-of (x .after) k j l))
 
-    pub new-answer : (p ≡ place → ⊥) → (Visited stamp (getD s (marks + p) 0) → ⊥) → (s′ : List ℕ) (r : Bool)
-        → Searched (set s (marks + p) stamp) s′ x marks stamp z (λ i. StandsAt i (value (x .after) j)) r
-        → Searched s s′ x marks stamp z (λ i. i ≡ j) r
-    new-answer d new s′ r a = record {
-      stamped = stamped-then x marks stamp s (set s (marks + p) stamp) s′ marking (a .stamped);
-      found = λ f. let (i, q, l) = a .found f in (j, refl, inr (link x z i j q l));
-      visited = λ f. seen-unit s′ d
-          (stamp-stays x marks stamp (set s (marks + p) stamp) s′ (a .stamped) (marks + p)
-          (ap (visited stamp) (getD-set-same s (marks + p) stamp 0 mark-inside) ∙ visited-stamp stamp));
-      closed = λ f. record { new = λ i l n m k q. go f i l n m k q (ℕ-discrete i j) };
-    }
-      where
-        go : r ≡ false → (i : ℕ) → i < x .old → (Visited stamp (getD s (marks + x .unit .pair i) 0) → ⊥)
-            → Visited stamp (getD s′ (marks + x .unit .pair i) 0) → (k : ℕ) → Leans (x .after) i k → Dec (i ≡ j) → Seen s′ x marks stamp z k
-        go f i l n m k q (yes is) = a .visited f k (stands-of (x .after) k j (rw is at q))
-        go f i l n m k q (no isnt) =
-            a .closed f .new i l
-            (λ g. n (ap (visited stamp) (sym (getD-set-other s (marks + p) (marks + x .unit .pair i) stamp 0
-            (λ b. isnt (h .shown .apart i j l on (omega arith))))) ∙ g)) m k q
+        -- From the pair through which all ways go.
+        pub via-answer : (u : ℕ) → u < x .old → LeadsVia (x .before) u j → Links (x .before) j u
+            → (s′ : List ℕ) (r : Bool) → Searched s₁ s′ x marks stamp z (λ i. StandsAt i (some (Term.variable writer u))) r
+            → Searched s s′ x marks stamp z (λ i. i ≡ j) r
+        unfolding Stands
+        via-answer u of-unit (t, assigned, all) path = new-answer (some (Term.variable writer u)) there-on seen
+          where
+            here : Links (x .after) j u
+            here = links-stay (x .before) (x .after) (h .shown .stays) path
+
+            there-on : (i : ℕ) → i ≡ u → Reaches x z i → Links (x .after) j z
+            there-on i e (inl f) = subst (Links (x .after) j) (sym e ∙ f) here
+            there-on i e (inr l) = links-join here (subst (λ k. Links (x .after) k z) e l)
+
+            below : (k : ℕ) → Leans (x .after) j k → k < x .old
+            below k l = ⊎-elim (λ (same, told). told .pairs k (stands-of (x .after) k j l))
+                (λ (nothing, g). absurd (none-some t (sym nothing ∙ assigned))) (h .shown .unit-value j on)
+              where
+                none-some : (v : Term) → none ≡ some v → ⊥
+                none-some v f = let y : _≡_ {A = ℕ} 0 1 = cc in absurd (omega arith)
+
+            seen : (s′ : List ℕ) → ((i : ℕ) → i ≡ u → Seen s′ x marks stamp z i) → (k : ℕ) → Leans (x .after) j k → Seen s′ x marks stamp z k
+            seen s′ reached k l =
+                let m = reached u refl .unit of-unit in
+                record {
+                  unit = λ b. record {
+                    end = m .end;
+                    of-unit = m .of-unit;
+                    via = via-via (x .before) (all k (leans-stands (x .before) (x .after) (h .shown .stays) j k t assigned l)) (m .via);
+                    stamped = m .stamped;
+                    other = m .other;
+                  };
+                  clause = λ b. absurd (omega (arith, below k l));
+                }

@@ -13,7 +13,7 @@ use Rattle.laws.proofs.Terms.Standing.{Stands, StandsIn}
 use Rattle.term.specs.Cells.{Places, term-word, functor-word}
 use Rattle.term.specs.Words.{word, tag-in, rest-in}
 use Rattle.term.specs.Holds.{Holds, HoldsFrom, value-word}
-use Rattle.run_circle.specs.Ground.{Ground}
+use Rattle.run_circle.specs.Ground.{Ground, Via}
 use Rattle.run_circle.specs.Search.{
   Scene,
   whole,
@@ -26,9 +26,12 @@ use Rattle.run_circle.specs.Search.{
   Seen,
   Closed,
   Searched,
+  AllStand,
   Firm,
+  Stems,
   JoinedIs,
 }
+use Rattle.run_circle.proofs.Grounds.{ground-via}
 use Rattle.run_circle.proofs.Depth.{depth, depths}
 use Rattle.run_circle.proofs.Stamps.{stamped-same, stamped-then, searching-on, seen-on, closed-then, closed-same, whole-word}
 
@@ -56,7 +59,7 @@ pub record Rest (x : Scene) (b : Bool) (q k i : ℕ) (v : Option Term) : Type 0 
   pub held : HoldsFrom (whole x) (side x b) number passed terms
   pub within : (j : ℕ) → StandsIn j terms → StandsAt j v
   pub lower : depths terms < value-depth v
-  pub firm-of : ((j : ℕ) → StandsAt j v → Ground (x .before) j) → Firm x v
+  pub assigned : (t : Term) × (v ≡ some t)
 
 -- The i-th argument, with the word a, and those behind it.
 pub record Split (x : Scene) (b : Bool) (q k i a : ℕ) (v : Option Term) (c : Rest x b q k i v) : Type 0 where
@@ -89,10 +92,19 @@ pub none-at : (places : Places) (v : Option Term) (w : ℕ) → w ≡ value-word
 none-at places none w e idle j r = r
 none-at places (some t) w e idle j r = none-stands places t w e idle j r
 
--- The pairs of a firm value.
-pub grounds : (x : Scene) (v : Option Term) → Firm x v → (j : ℕ) → StandsAt j v → Ground (x .before) j
-grounds x none all j r = absurd r
-grounds x (some t) all j r = all j r
+-- The pairs of a value.
+pub all-at : (P : ℕ → Type 0) (v : Option Term) → AllStand P v → (j : ℕ) → StandsAt j v → P j
+all-at P none all j r = absurd r
+all-at P (some t) all j r = all j r
+
+pub all-stand : (P : ℕ → Type 0) (v : Option Term) → (t : Term) × (v ≡ some t) → ((j : ℕ) → StandsAt j v → P j) → AllStand P v
+all-stand P none (t, e) all = let z : _≡_ {A = ℕ} 0 1 = cc in absurd (omega arith)
+all-stand P (some t) e all = all
+
+-- A search goes on from a value to another: it is as firm, and whoever has come to the one has come to the other.
+pub record Onward (x : Scene) (v now : Option Term) : Type 0 where
+  pub firm : Firm x now → Firm x v
+  pub stems : (n : ℕ) → Stems x n v → Stems x n now
 
 -- The k-th of some arguments, counted from 1 behind the i-th.
 nth : (front : List ℕ) (places : Places) (n i : ℕ) (ts : Terms) → HoldsFrom front places n i ts → (k : ℕ) → i < k → k ≤ i + count ts
@@ -153,7 +165,7 @@ module _ (x : Scene) (values marks place stamp z : ℕ) (b : Bool) where
           held = told .held .1;
           within = λ j r. r;
           lower = omega arith;
-          firm-of = λ f. f;
+          assigned = (Term.compound n f ts, refl);
         },
         λ j r. r,
       )
@@ -190,7 +202,7 @@ module _ (x : Scene) (values marks place stamp z : ℕ) (b : Bool) where
                 held = held .2;
                 within = λ j r. within j (inr r);
                 lower = omega arith;
-                firm-of = c .firm-of;
+                assigned = c .assigned;
               };
               stands = λ j r. rw e at r;
             }
@@ -342,11 +354,24 @@ module _ (x : Scene) (values marks place stamp z : ℕ) (b : Bool) where
         closed = λ f. closed-then x marks stamp z s s′ (a .stamped) s₀ (c .closed) (a .closed refl);
       }
 
-      pub walk-firm : (state ≡ 1) ⊎ ((state ≡ first) × (Firm x (c .argument .value) → Firm x v))
+      walk-all : (P : ℕ → Type 0) → ((j : ℕ) → Ground (x .before) j → P j)
+          → ((j : ℕ) → StandsAt j v → (StandsAt j (c .argument .value) ⊎ StandsIn j (c .rest .terms)) ⊎ Ground (x .before) j)
+          → AllStand P (c .argument .value) → AllStand P v
+      walk-all P weaker left all =
+          all-stand P v (c .rest .assigned) (λ j l.
+          ⊎-elim (⊎-elim (all-at P (c .argument .value) all j) (λ m. absurd (none-left w v told q k i (c .rest) done j m))) (weaker j) (left j l))
+
+      pub walk-firm : (state ≡ 1) ⊎ ((state ≡ first) × Onward x v (c .argument .value))
       walk-firm = ⊎-elim inl (λ (same, left). inr (
         same,
-        λ all. c .rest .firm-of (λ j l.
-            ⊎-elim (⊎-elim (grounds x (c .argument .value) all j) (λ m. absurd (none-left w v told q k i (c .rest) done j m))) (λ m. m) (left j l)),
+        record {
+          firm = walk-all (Ground (x .before)) (λ j g. g) left;
+          stems = λ n st. record {
+            reaches = λ j r. st .reaches j (c .argument .within j r);
+            firm = λ f. st .firm (walk-all (Ground (x .before)) (λ j g. g) left f);
+            via = λ u f. st .via u (walk-all (Via (x .before) u) (λ j g. ground-via (x .before) u g) left f);
+          };
+        },
       )) (c .firm)
 
       -- Or none is, and nothing was searched.

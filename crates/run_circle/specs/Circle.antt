@@ -1,5 +1,5 @@
 -- What the circle test asks of a trial that has agreed, and what it tells: the answer, and that only marks are changed afterwards.
-use Prim.Native.Nat.{ℕ, _+_, _*_, _≤_, _<_, _^_}
+use Prim.Native.Nat.{ℕ, _+_, _*_, _%_, _≤_, _<_}
 use mathlib.Core.Path.{_≡_}
 use mathlib.Core.Bool.{Bool, true, false}
 use mathlib.Core.List.{List}
@@ -14,7 +14,7 @@ use Rattle.term.specs.Frames.{Only}
 use Rattle.term.specs.Setting.{Setting, Within, UnitStands}
 use Rattle.term.specs.Layout.{trial-region, gift-pair, gift-term}
 use Rattle.term.specs.Words.{probe-word}
-use Rattle.run_circle.specs.Ground.{Grounds, NewGrounds}
+use Rattle.run_circle.specs.Ground.{stamp-in, Grounds, NewGrounds}
 
 -- The place of the pair of the i-th entry, and the word of its term of the head.
 abbrev pub entry-pair : List ℕ → ℕ → ℕ
@@ -77,6 +77,7 @@ pub record Tried (s : List ℕ) (y : Trial) (values marks n stamp : ℕ) : Type 
   pub item-before : (m : ℕ) → m < y .compounds → y .item .compound m + y .item .width m ≤ values
   pub item-pair : (m : ℕ) → y .item .pair m ≡ m
   pub few : y .pairs ≤ 16
+  pub few-pairs : y .unit .pairs ≤ 65536
   pub entries-before : gift-pair n ≤ values
   pub marks-behind : values + y .unit .pairs ≤ marks
   pub room : marks + y .unit .pairs ≤ length s
@@ -87,21 +88,21 @@ pub record Tried (s : List ℕ) (y : Trial) (values marks n stamp : ℕ) : Type 
   pub others : (j : ℕ) → j < old y → ((i : ℕ) → i < n → y .unit .places .pair j ≡ entry-pair s i → ⊥)
       → value (y .after) j ≡ value (y .unit .values) j
   pub no-circle : circle (y .unit .values) ≡ false
-  pub stamps-fit : stamp + n < 2 ^ 64
-  pub stamps-new : (k : ℕ) → marks ≤ k → k < marks + y .unit .pairs → getD s k 0 < stamp
+  pub stamps-fit : stamp + n < 1099511627776
+  pub stamps-new : (k : ℕ) → marks ≤ k → k < marks + y .unit .pairs → stamp-in (getD s k 0) < stamp
   pub stamp-above : 1 < stamp
   pub grounds : Grounds (y .unit .places) (y .unit .values) marks s
 
--- After the test: its answer; only marks differ, and stamps from stamp + n on are unused. Of the marks 1 is no stamp: it tells a ground pair.
+-- After the test: its answer; only marks differ, stamps from stamp + n on are unused, and what marks tell is so.
 pub record Tested (s s′ : List ℕ) (y : Trial) (marks n stamp : ℕ) (r : Bool) : Type 0 where
   pub answer : r ≡ circle (y .after)
   pub only : Only marks (marks + y .unit .pairs) s s′
-  pub stamps-new : (k : ℕ) → marks ≤ k → k < marks + y .unit .pairs → getD s′ k 0 < stamp + n
+  pub stamps-new : (k : ℕ) → marks ≤ k → k < marks + y .unit .pairs → stamp-in (getD s′ k 0) < stamp + n
   pub grounds : NewGrounds (y .unit .places) (y .unit .values) marks s s′
 
 -- After the search from the entries' own terms, before their pairs are set back.
 pub record Answered (s₀ s s′ : List ℕ) (y : Trial) (marks n stamp : ℕ) (r : Bool) : Type 0 where
   pub answer : r ≡ circle (y .after)
   pub only : Only marks (marks + y .unit .pairs) s s′
-  pub stamps-new : (k : ℕ) → marks ≤ k → k < marks + y .unit .pairs → getD s′ k 0 < stamp + n
+  pub stamps-new : (k : ℕ) → marks ≤ k → k < marks + y .unit .pairs → stamp-in (getD s′ k 0) < stamp + n
   pub grounds : NewGrounds (y .unit .places) (y .unit .values) marks s s′

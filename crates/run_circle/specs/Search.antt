@@ -17,7 +17,7 @@ use Rattle.term.specs.Cells.{Places}
 use Rattle.term.specs.Holds.{value-word, HoldsValue}
 use Rattle.term.specs.Layout.{trial-region, gift-term}
 use Rattle.term.specs.Words.{probe-word, tag-in}
-use Rattle.run_circle.specs.Ground.{Ground, GroundAt, Grounds, NewGrounds}
+use Rattle.run_circle.specs.Ground.{Ground, Via, LeadsVia, GroundAt, ViaAt, stamp-in, Grounds, NewGrounds}
 
 -- A pair stands in a value.
 abbrev pub StandsAt : ℕ → Option Term → Type 0
@@ -99,16 +99,18 @@ pub record Searching (s : List ℕ) (x : Scene) (values marks place stamp z : �
   pub place-at : place ≡ x .unit .pair z
   pub unassigned : value (x .before) z ≡ none
   pub stamp-above : 1 < stamp
+  pub stamp-below : stamp < 1099511627776
+  pub few : x .pairs ≤ 65536
   pub grounds : Grounds (x .unit) (x .before) marks s
 
 -- A mark of a visited pair: the search's stamp, or that of a ground pair, which no search enters.
 unfoldable pub visited : ℕ → ℕ → Bool
-visited stamp m = if eqb m 1 then true else eqb m stamp
+visited stamp m = if eqb m 1 then true else eqb (stamp-in m) stamp
 
 abbrev pub Visited : ℕ → ℕ → Type 0
 Visited stamp m = visited stamp m ≡ true
 
--- Only marks changed, each of those to one of a visited pair; who is marked as ground is so.
+-- Only marks changed, each of those to one of a visited pair; what they tell is so.
 pub record Stamped (x : Scene) (marks stamp : ℕ) (s s′ : List ℕ) : Type 0 where
   pub size : length s′ ≡ length s
   pub front : take marks s′ ≡ take marks s
@@ -116,10 +118,13 @@ pub record Stamped (x : Scene) (marks stamp : ℕ) (s s′ : List ℕ) : Type 0 
   pub others : (k : ℕ) → (Visited stamp (getD s′ k 0) → ⊥) → getD s′ k 0 ≡ getD s k 0
   pub grounds : NewGrounds (x .unit) (x .before) marks s s′
 
--- A pair of the unit is marked, and is not the goal pair.
+-- From a pair all ways go through a marked pair of the unit that is not the goal pair: it may be that pair itself.
 pub record Marked (s : List ℕ) (x : Scene) (marks stamp z j : ℕ) : Type 0 where
-  pub stamped : Visited stamp (getD s (marks + x .unit .pair j) 0)
-  pub other : j ≡ z → ⊥
+  pub end : ℕ
+  pub of-unit : end < x .old
+  pub via : Via (x .before) end j
+  pub stamped : Visited stamp (getD s (marks + x .unit .pair end) 0)
+  pub other : end ≡ z → ⊥
 
 -- A pair was visited: a pair of the unit is marked, a pair of the clause leans on marked pairs.
 pub record Seen (s : List ℕ) (x : Scene) (marks stamp z j : ℕ) : Type 0 where
@@ -143,21 +148,37 @@ pub record Searched (s s′ : List ℕ) (x : Scene) (marks stamp z : ℕ) (From 
   pub visited : r ≡ false → (j : ℕ) → From j → Seen s′ x marks stamp z j
   pub closed : r ≡ false → Closed s s′ x marks stamp z
 
--- Each pair that stands in a value is ground.
+-- Each pair that stands in a value is such a pair.
+abbrev pub AllStand : (ℕ → Type 0) → Option Term → Type 0
+AllStand P none = ⊥
+AllStand P (some t) = (j : ℕ) → Stands j t → P j
+
 abbrev pub Firm : Scene → Option Term → Type 0
-Firm x none = ⊥
-Firm x (some t) = (j : ℕ) → Stands j t → Ground (x .before) j
+Firm x v = AllStand (Ground (x .before)) v
 
 -- A search from a value: 2 (REACHED), the pair was found; 0 (FIRM), it was not, and the value has ground pairs only; else it was not found.
 pub record SearchedFrom (s s′ : List ℕ) (x : Scene) (marks stamp z : ℕ) (v : Option Term) (r : ℕ) : Type 0 where
   pub searched : Searched s s′ x marks stamp z (λ j. StandsAt j v) (eqb r 2)
   pub firm : r ≡ 0 → Firm x v
 
+-- From pair n a search has come to a value: its pairs are reached, and n is ground if they are, and leads via pair u if they do.
+pub record Stems (x : Scene) (n : ℕ) (now : Option Term) : Type 0 where
+  pub reaches : (j : ℕ) → StandsAt j now → Links (x .before) n j
+  pub firm : Firm x now → Ground (x .before) n
+  pub via : (u : ℕ) → AllStand (Via (x .before) u) now → LeadsVia (x .before) u n
+
+-- The pair at place p is one from which a search has come to a value.
+pub record First (x : Scene) (p : ℕ) (now : Option Term) : Type 0 where
+  pub pair : ℕ
+  pub below : pair < length (x .before)
+  pub place : x .unit .pair pair ≡ p
+  pub stems : Stems x pair now
+
 -- What a search keeps besides, as one number: odd, if it has met a pair that may not be ground; and twice one more than the place of the first pair that
--- it visited since, if any. The value is firm, and that pair ground, if what is left to search is firm.
+-- it visited since, if any. The value is firm if what is left to search is firm, and from that pair it has come to what is left.
 pub record Keeps (x : Scene) (state : ℕ) (b : Bool) (v now : Option Term) : Type 0 where
   pub firm : state % 2 ≡ 0 → (b ≡ false) × (Firm x now → Firm x v)
-  pub since : (p : ℕ) → state / 2 ≡ p + 1 → (b ≡ false) × (Firm x now → GroundAt (x .unit) (x .before) p)
+  pub since : (p : ℕ) → state / 2 ≡ p + 1 → (b ≡ false) × First x p now
 
 -- Of the head's terms a search never tells that they are firm.
 abbrev pub begun-state : Bool → ℕ
@@ -189,3 +210,28 @@ Names x state = (p : ℕ) → state / 2 ≡ p + 1 → GroundAt (x .unit) (x .bef
 pub record Settled (x : Scene) (marks stamp : ℕ) (s s′ : List ℕ) : Type 0 where
   pub stamped : Stamped x marks stamp s s′
   pub same : (k : ℕ) → visited stamp (getD s′ k 0) ≡ visited stamp (getD s k 0)
+
+-- From the pair that the state names all ways go through the pair at place p.
+abbrev pub Leading : Scene → ℕ → ℕ → Type 0
+Leading x state p = (q : ℕ) → state / 2 ≡ q + 1 → ViaAt (x .unit) (x .before) p q
+
+-- Pair n, at place p, is to be visited: it has the mark m, and is not the goal pair.
+pub record Visiting (s : List ℕ) (x : Scene) (values marks place stamp z state p m n : ℕ) : Type 0 where
+  pub searching : Searching s x values marks place stamp z
+  pub of-unit : n < x .old
+  pub at : p ≡ x .unit .pair n
+  pub other : p ≡ place → ⊥
+  pub mark : m ≡ getD s (marks + p) 0
+  pub unfirm : m ≡ 1 → ⊥
+  pub fresh : stamp-in m ≡ stamp → ⊥
+  pub leading : Leading x state p
+
+-- It was visited, and the search goes on from the word r: from the head's term that the trial gives the pair, or from a value of the unit.
+pub record Visits (s s′ : List ℕ) (x : Scene) (marks stamp z n r : ℕ) : Type 0 where
+  pub stamped : Stamped x marks stamp s s′
+  pub marked : Visited stamp (getD s′ (marks + x .unit .pair n) 0)
+  pub now : Option Term
+  pub given : tag-in r ≡ 7 → Given x r now
+  pub told : (tag-in r ≡ 7 → ⊥) → Told x false r now
+  pub stems : (tag-in r ≡ 7 → ⊥) → Stems x n now
+  pub answer : (s″ : List ℕ) (f : Bool) → Searched s′ s″ x marks stamp z (λ j. StandsAt j now) f → Searched s s″ x marks stamp z (λ i. i ≡ n) f

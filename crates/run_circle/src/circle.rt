@@ -23,10 +23,31 @@ ghost use Rattle.term.specs.Layout.{gift-pair, gift-term};
 ghost use Rattle.term.specs.Words.{probe-word};
 ghost use Rattle.run_circle.specs.Circle.{Entries, Held, held-word, entry-pair, Trial, Tried, Tested, Answered};
 ghost use Rattle.run_circle.specs.Ground.{GroundAt};
-ghost use Rattle.run_circle.specs.Search.{Scene, Told, Searching, LeadsIs, LastLeads, Settled, Names, begun-state, met-open, visited-one, JoinedIs, SinceIs, SearchedFrom};
+ghost use Rattle.run_circle.specs.Search.{
+  Scene,
+  Told,
+  Searching,
+  LeadsIs,
+  LastLeads,
+  Settled,
+  Names,
+  Leading,
+  Visiting,
+  Visits,
+  begun-state,
+  met-open,
+  visited-one,
+  JoinedIs,
+  SinceIs,
+  SearchedFrom,
+};
 
 // The mark of a pair from which no unassigned pair is reached. Stamps are greater.
 const GROUND: u64 = 1;
+
+// Any other mark has the stamp of the last search that visited the pair below STAMPS, and above, if it is known that all ways from the pair to unassigned
+// ones go through one pair, one more than the place of that pair.
+const STAMPS: u64 = 1099511627776;
 
 // What a search finds: the pair is reached; it is not, but an unassigned pair may be; it is not, and all that was reached is ground. A number and no enum:
 // an enum is handed over by a pointer, and the deepest search would pass 8 MiB of stack.
@@ -56,12 +77,12 @@ fn visited_one(state: usize) -> bool
     state > MET_OPEN
 }
 
-// The place of the first pair that it has visited since.
+// The place of the first pair that it has visited since. Halved last: so the search keeps 128 bytes of stack a level, else 144.
 fn first_visited(state: usize) -> usize
     requires { ⌜ 1 < state ⌝ }
     ensures { λ r. ⌜ state / 2 ≡ r + 1 ⌝ }
 {
-    state / 2 - 1
+    (state - 2) / 2
 }
 
 // The state at the beginning. From a term of the head a search never tells that all is ground.
@@ -114,6 +135,15 @@ fn leads(w: u64) -> bool
     true
 }
 
+// Whether a pair with this word had no value before the trial.
+fn unassigned(w: u64) -> bool {
+    let tag = w % TAGS;
+    if tag == 0 {
+        return true;
+    }
+    tag == PROBE
+}
+
 // The last argument of the compound at a place from which a pair may be reached; 0 if there is none.
 fn last(s: &[u64], q: usize) -> usize
     requires { ⌜ q + 7 < length (now s) ⌝ }
@@ -148,7 +178,7 @@ fn settle(s: &mut [u64], values: usize, marks: usize, stamp: u64, pair: usize)
             continue;
         }
         let m = word_at(s, marks, q);
-        if m != stamp {
+        if m % STAMPS != stamp {
             return;
         }
         set_at(s, marks, q, GROUND);
@@ -167,6 +197,47 @@ fn ended(s: &mut [u64], values: usize, marks: usize, stamp: u64, state: usize) -
         settle(s, values, marks, stamp, first_visited(state));
     }
     if met_open(state) { OPEN } else { FIRM }
+}
+
+// Notes that from the first pair visited since all ways go through the pair at place p.
+fn note(s: &mut [u64], values: usize, marks: usize, stamp: u64, state: usize, p: usize)
+    requires { ⌜ ((x : Scene) × (place : ℕ) × (goal : ℕ) × Searching (now s) x values marks place stamp goal × Leading x state p × (p < x .pairs)) ⌝ }
+    ensures { λ r. ⌜ ((x : Scene) (place goal : ℕ) → Searching (now (s .entry)) x values marks place stamp goal → Leading x state p → p < x .pairs
+        → Settled x marks stamp (now (s .entry)) (now (s .exit))) ⌝ }
+{
+    if visited_one(state) {
+        let q = first_visited(state);
+        let m = word_at(s, marks, q);
+        if m % STAMPS == stamp {
+            set_at(s, marks, q, STAMPS * (word(p) + 1) + stamp);
+        }
+    }
+}
+
+// Visits the pair at place p, which has the mark m, and returns the term to go on with: the pair through which all ways from it go, or its value.
+fn visit(
+    s: &mut [u64],
+    values: usize,
+    marks: usize,
+    stamp: u64,
+    state: usize,
+    p: usize,
+    m: u64,
+) -> u64
+    requires { ⌜ ((x : Scene) × (place : ℕ) × (goal : ℕ) × (n : ℕ) × Visiting (now s) x values marks place stamp goal state p m n) ⌝ }
+    ensures { λ r. ⌜ ((x : Scene) (place goal n : ℕ) → Visiting (now (s .entry)) x values marks place stamp goal state p m n
+        → Visits (now (s .entry)) (now (s .exit)) x marks stamp goal n r) ⌝ }
+{
+    let end = m / STAMPS;
+    set_at(s, marks, p, STAMPS * end + stamp);
+    if end != 0 {
+        return WRITER + TAGS * (end - 1);
+    }
+    let t = word_at(s, values, p);
+    if unassigned(t) {
+        note(s, values, marks, stamp, state, p);
+    }
+    t
 }
 
 // Whether pair z is reached from a term: the head's, whose variables stand for what they are given, or the goal's. A pair with this search's stamp was
@@ -233,12 +304,11 @@ fn from_term(
         if m == GROUND {
             return ended(s, values, marks, stamp, state);
         }
-        if m == stamp {
+        if m % STAMPS == stamp {
             return OPEN;
         }
-        set_at(s, marks, p, stamp);
+        t = visit(s, values, marks, stamp, state, p, m);
         state = since(state, p);
-        t = word_at(s, values, p);
         let kind = t % TAGS;
         if kind == PROBE {
             let i = index(t / TAGS);

@@ -67,6 +67,7 @@ module _ (s : List ℕ) (values marks links met : ℕ) (first : Bool) (place k s
               };
               only = only-same marks (marks + 3 * x .pairs) s;
               stamp-above = b .above;
+              stamp-below = omega (arith, b .fits);
               stamps = λ j low high. omega (arith, b .stamps j low high);
             };
             links-are = a .chained .links-are;

@@ -10,9 +10,8 @@ use lib.ListN.{length, getD, set}
 use Rattle.meaning.specs.Terms.{Half, Term, variable}
 use Rattle.meaning.specs.Guards.{unassigned}
 use Rattle.term.specs.Words.{tag-in, rest-in}
-use Rattle.run_circle.specs.Search.{visited}
-use Rattle.run_circle.proofs.Stamps.{visited-stamp, not-visited}
 use Rattle.run_ground.specs.Looking.{Scene, unit-pair, result-of, Placed, Looking, Told, Firm, Before, Found, Settled, AtPair, Entered}
+use Rattle.run_ground.proofs.Entered.{was-entered, entered-stamp, not-entered}
 use Rattle.run_ground.proofs.Found.{found-as, found-nothing}
 use Rattle.run_ground.proofs.Written.{constant-result, unassigned-result}
 use Rattle.run_ground.proofs.Words.{
@@ -119,7 +118,7 @@ module _ (values marks links stamp : ℕ) where
               let c = walking x m p t b in
               (x, c .size, c .pending, _, next-before values marks links stamp s s′ x m p w t (b .told) (b .looking .placed) q k i state′ c a reads le)
 
-          pub argument-lighter : Asks s w state → weight (visited stamp) s′ marks links a < weight (visited stamp) s marks links w
+          pub argument-lighter : Asks s w state → weight (was-entered stamp) s′ marks links a < weight (was-entered stamp) s marks links w
           argument-lighter (x, m, p, t, b) =
               next-lighter values marks links stamp s s′ x m p w t (b .told) (b .looking .placed) q k i state′ (walking x m p t b) a reads le
 
@@ -237,13 +236,13 @@ module _ (values marks links stamp : ℕ) where
 
         -- It is entered.
         module _ (something : v ≡ 0 → ⊥) (s′ : List ℕ) (entered : Entered s s′ marks stamp q true) where
-          pub new-lighter : Asks s w state → weight (visited stamp) s′ marks links v < weight (visited stamp) s marks links w
+          pub new-lighter : Asks s w state → weight (was-entered stamp) s′ marks links v < weight (was-entered stamp) s marks links w
           new-lighter (x, m, p, t, b) =
               let k = its x m p t b in
               let small = b .looking .placed .shown .stands .held .place (k .pair) (k .at .below) in
-              falls-to-value (visited stamp) s marks links q stamp (omega (arith, place x m p t b, b .looking .links-are))
+              falls-to-value (was-entered stamp) s marks links q stamp (omega (arith, place x m p t b, b .looking .links-are))
               (omega (arith, b .looking .links-are, b .looking .placed .shown .inside, b .looking .placed .only .size))
-              (not-visited stamp (getD s (marks + q) 0) (entered .1) (entered .2)) (visited-stamp stamp) s′ (entered .0) v w
+              (not-entered stamp (getD s (marks + q) 0) (entered .1) (entered .2)) (entered-stamp stamp) s′ (entered .0) v w
 
           pub new-going : Going s w state s′ v state
           new-going x m p t b =

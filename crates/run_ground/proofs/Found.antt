@@ -13,9 +13,7 @@ use Rattle.meaning.specs.Compare.{Result, succeeds, fails}
 use Rattle.laws.proofs.Lists.Among.{In, in-none, in-append-cases}
 use Rattle.term.specs.States.{listed}
 use Rattle.term.proofs.Frames.{only-same, only-then, only-wider}
-use Rattle.run_circle.specs.Ground.{Ground, Grounds}
-use Rattle.run_circle.specs.Search.{visited, Visited}
-use Rattle.run_circle.proofs.Stamps.{visited-stamp, visited-ground, not-visited}
+use Rattle.run_circle.specs.Ground.{Grounds}
 use Rattle.run_readers.specs.Readers.{all-met}
 use Rattle.run_readers.proofs.Ranks.{listed-kept, readers-kept}
 use Rattle.run_asked.specs.Asking.{Joined}
@@ -36,21 +34,10 @@ use Rattle.run_ground.specs.Looking.{
   Found,
   Settled,
 }
+use Rattle.run_ground.proofs.Entered.{was-entered, entered-cases, cases-entered}
 use Rattle.run_ground.proofs.Left.{left, left-less}
 use Rattle.run_ground.proofs.Results.{then-readers, then-fails, fails-first, first-decides, then-none, or-some-then, or-some-true, or-some-none}
 use Rattle.run_ground.proofs.Sets.{joined-then, in-joined, joined-known}
-
--- A visited mark is that of a ground pair or the stamp.
-pub visited-cases : (stamp m : ℕ) → Visited stamp m → (m ≡ 1) ⊎ (m ≡ stamp)
-visited-cases stamp m v = go (ℕ-discrete m 1) (ℕ-discrete m stamp)
-  where
-    go : Dec (m ≡ 1) → Dec (m ≡ stamp) → (m ≡ 1) ⊎ (m ≡ stamp)
-    go (yes e) d = inl e
-    go (no d) (yes e) = inr e
-    go (no d) (no e) = absurd (true≢false (sym v ∙ not-visited stamp m d e))
-
-pub cases-visited : (stamp m : ℕ) → (m ≡ 1) ⊎ (m ≡ stamp) → Visited stamp m
-cases-visited stamp m = ⊎-elim (λ e. rw e (visited-ground stamp)) (λ e. rw e (visited-stamp stamp))
 
 -- What a state says in its last two bits, and the tests of them.
 pub even-of : (state : ℕ) → eqb (state % 2) 1 ≡ false → state % 2 ≡ 0
@@ -86,9 +73,7 @@ module _ (x : Scene) (values marks : ℕ) (shown : Shown x values marks) where
 
   pub grounds-later : (s t : List ℕ) → Grounds (x .unit .places) (x .unit .values) marks s
       → GroundsAdded (x .unit .places) (x .unit .values) marks (x .unit .pairs) s t → Grounds (x .unit .places) (x .unit .values) marks t
-  grounds-later s t was new n l e =
-      ⊎-elim (was n l) (λ g. subst (Ground (x .unit .values)) (shown .apart (g .pair) n (g .below) l (g .place)) (g .ground))
-      (new (unit-pair x n) (place-small n l) e)
+  grounds-later s t was new o n l e = ⊎-elim (was o n l) (λ g. g) (new o (unit-pair x n) (place-small n l) e)
 
 module _ (x : Scene) (marks links stamp : ℕ) where
   -- A result that is known already.
@@ -99,7 +84,7 @@ module _ (x : Scene) (marks links stamp : ℕ) where
     found-known rs e below known opened = record {
       only = only-same marks (marks + 3 * x .unit .pairs) s;
       stamps = h .placed .stamps;
-      grounds = λ q l f. inl f;
+      grounds = λ o q l f. inl f;
       entered = λ q l f. f;
       size = m;
       pairs = map (λ q. unit-pair x q) rs;
@@ -123,7 +108,7 @@ module _ (x : Scene) (marks links stamp : ℕ) where
     found-fails e = record {
       only = only-same marks (marks + 3 * x .unit .pairs) s;
       stamps = h .placed .stamps;
-      grounds = λ q l f. inl f;
+      grounds = λ o q l f. inl f;
       entered = λ q l f. f;
       size = m;
       pairs = [];
@@ -151,9 +136,9 @@ module _ (x : Scene) (marks links stamp : ℕ) where
     pub goes : (r % 4 ≡ 3 → ⊥) → Going
     goes d = ⊎-elim (λ (e, three). absurd (d (omega arith))) (λ g. g) (f .answer)
 
-    pub found-left : left (visited stamp) t marks (x .unit .pairs) ≤ left (visited stamp) s marks (x .unit .pairs)
-    found-left = left-less (visited stamp) s t marks (x .unit .pairs) (λ q l v.
-        cases-visited stamp (getD t (marks + q) 0) (f .entered q l (visited-cases stamp (getD s (marks + q) 0) v)))
+    pub found-left : left (was-entered stamp) t marks (x .unit .pairs) ≤ left (was-entered stamp) s marks (x .unit .pairs)
+    found-left = left-less (was-entered stamp) s t marks (x .unit .pairs) (λ q l v.
+        cases-entered stamp (getD t (marks + q) 0) (f .entered q l (entered-cases stamp (getD s (marks + q) 0) v)))
 
     -- Behind the last term nothing is left; behind one that ends the walk nothing matters.
     pub last-decides : together (x .first) o (succeeds []) ≡ o
@@ -173,6 +158,7 @@ module _ (x : Scene) (marks links stamp : ℕ) where
       shown = h .shown;
       only = only-then marks (marks + 3 * x .unit .pairs) (x .base) s t (h .only) (f .only);
       stamp-above = h .stamp-above;
+      stamp-below = h .stamp-below;
       stamps = f .stamps;
     }
 
@@ -205,7 +191,7 @@ module _ (x : Scene) (marks links stamp : ℕ) where
       found-then u others r′ b = record {
         only = only-then marks (marks + 3 * x .unit .pairs) s t u (f .only) (b .only);
         stamps = b .stamps;
-        grounds = λ q l e. ⊎-elim (f .grounds q l) inr (b .grounds q l e);
+        grounds = λ o q l e. ⊎-elim (f .grounds o q l) inr (b .grounds o q l e);
         entered = λ q l e. b .entered q l (f .entered q l e);
         size = b .size;
         pairs = f .pairs ++ b .pairs;
@@ -250,7 +236,7 @@ module _ (x : Scene) (marks links stamp : ℕ) where
         only = only-then marks (marks + 3 * x .unit .pairs) s t u (f .only)
             (only-wider marks (marks + x .unit .pairs) marks (marks + 3 * x .unit .pairs) t u (omega arith) (omega arith) (turned .only));
         stamps = λ k l l′. ⊎-elim (λ e. rw e (f .stamps k l l′)) (λ (was, is). omega arith) (turned .turned k);
-        grounds = λ q l e. ⊎-elim (f .grounds q l) inr (turned .grounds q l e);
+        grounds = λ o q l e. ⊎-elim (f .grounds o q l) inr (turned .grounds o q l e);
         entered = λ q l e. ⊎-elim (λ same. rw same (f .entered q l e)) (λ (was, is). inl is) (turned .turned (marks + q));
         size = f .size;
         pairs = f .pairs;

@@ -1,5 +1,6 @@
 pub mod Begins
 pub mod Calls
+pub mod Entered
 pub mod Found
 pub mod Leaf
 pub mod Left

@@ -4,7 +4,7 @@ use mathlib.Core.Path.{_≡_, refl, sym, ap, subst, _∙_}
 use mathlib.Core.Logic.{_⊎_, inl, inr, ⊎-elim}
 use mathlib.Core.Bool.{Bool}
 use mathlib.Core.List.{List}
-use mathlib.Core.Option.{none, some}
+use mathlib.Core.Option.{Option, none, some}
 use native.Mathlib.Decide.{ℕ-discrete}
 use native.Mathlib.Omega.{arith}
 use lib.Dec.{eqb}
@@ -17,7 +17,7 @@ use Rattle.laws.proofs.Terms.Standing.{Stands, StandsIn}
 use Rattle.term.specs.Setting.{UnitTerms}
 use Rattle.term.specs.Words.{tag-in, rest-in}
 use Rattle.term.proofs.Frames.{only-same, only-set, only-then, only-wider}
-use Rattle.run_circle.specs.Ground.{Ground, ground, GroundAt}
+use Rattle.run_circle.specs.Ground.{Ground, ground, GroundAt, Tells, IsSo}
 use Rattle.run_circle.proofs.Depth.{depth, depths}
 use Rattle.run_ground.specs.Looking.{Scene, unit-pair, Placed, Told, Firm, Settled}
 use Rattle.run_ground.proofs.Words.{
@@ -75,14 +75,14 @@ ground-parts values n (ground t e all) u f j s =
 
 module _ (x : Scene) (marks stamp : ℕ) where
   pub settled-same : (s : List ℕ) → Settled x marks stamp s s
-  settled-same s = record { only = only-same marks (marks + x .unit .pairs) s; turned = λ k. inl refl; grounds = λ p l e. inl e }
+  settled-same s = record { only = only-same marks (marks + x .unit .pairs) s; turned = λ k. inl refl; grounds = λ o p l e. inl e }
 
   settled-then : (s t u : List ℕ) → (stamp ≡ 1 → ⊥) → Settled x marks stamp s t → Settled x marks stamp t u → Settled x marks stamp s u
   settled-then s t u above a b = record {
     only = only-then marks (marks + x .unit .pairs) s t u (a .only) (b .only);
     turned = λ k. ⊎-elim (λ e. ⊎-elim (λ f. inl (e ∙ f)) (λ (was, is). inr (was, e ∙ is)) (a .turned k))
         (λ (was, is). ⊎-elim (λ f. inr (sym f ∙ was, is)) (λ (first, then). absurd (above (sym was ∙ then))) (a .turned k)) (b .turned k);
-    grounds = λ p l e. ⊎-elim (a .grounds p l) inr (b .grounds p l e);
+    grounds = λ o p l e. ⊎-elim (a .grounds o p l) inr (b .grounds o p l e);
   }
 
   settled-set : (s : List ℕ) (p : ℕ) → p < x .unit .pairs → marks + p < length s → getD s (marks + p) 0 ≡ stamp
@@ -90,7 +90,7 @@ module _ (x : Scene) (marks stamp : ℕ) where
   settled-set s p h inside m known = record {
     only = only-set marks (marks + x .unit .pairs) s (marks + p) 1 (omega arith) (omega arith);
     turned = λ k. turned k (ℕ-discrete k (marks + p));
-    grounds = λ q l e. new q e (ℕ-discrete q p);
+    grounds = λ o q l e. new o q e (ℕ-discrete q p);
   }
     where
       turned : (k : ℕ) → Dec (k ≡ marks + p)
@@ -98,10 +98,17 @@ module _ (x : Scene) (marks stamp : ℕ) where
       turned k (yes e) = inr (rw e m, rw e (getD-set-same s (marks + p) 1 0 inside))
       turned k (no d) = inl (getD-set-other s (marks + p) k 1 0 d)
 
-      new : (q : ℕ) → getD (set s (marks + p) 1) (marks + q) 0 ≡ 1 → Dec (q ≡ p)
-          → (getD s (marks + q) 0 ≡ 1) ⊎ GroundAt (x .unit .places) (x .unit .values) q
-      new q e (yes f) = inr (subst (GroundAt (x .unit .places) (x .unit .values)) (sym f) known)
-      new q e (no d) = inl (sym (getD-set-other s (marks + p) (marks + q) 1 0 (λ f. d (omega arith))) ∙ e)
+      one : (o : Option ℕ) → Tells o 1 → IsSo (x .unit .places) (x .unit .values) o p
+      one none e = known
+      one (some q) e = absurd (omega arith)
+
+      here : (q : ℕ) → q ≡ p → getD (set s (marks + p) 1) (marks + q) 0 ≡ 1
+      here q f = ap (λ k. getD (set s (marks + p) 1) (marks + k) 0) f ∙ getD-set-same s (marks + p) 1 0 inside
+
+      new : (o : Option ℕ) (q : ℕ) → Tells o (getD (set s (marks + p) 1) (marks + q) 0) → Dec (q ≡ p)
+          → Tells o (getD s (marks + q) 0) ⊎ IsSo (x .unit .places) (x .unit .values) o q
+      new o q e (yes f) = inr (subst (IsSo (x .unit .places) (x .unit .values) o) (sym f) (one o (subst (Tells o) (here q f) e)))
+      new o q e (no d) = inl (subst (Tells o) (getD-set-other s (marks + p) (marks + q) 1 0 (λ f. d (omega arith))) e)
 
   pub placed-settled : (values : ℕ) (s t : List ℕ) → Placed s x values marks stamp → Settled x marks stamp s t → Placed t x values marks stamp
   placed-settled values s t h a = record {
@@ -109,6 +116,7 @@ module _ (x : Scene) (marks stamp : ℕ) where
     only = only-then marks (marks + 3 * x .unit .pairs) (x .base) s t (h .only)
         (only-wider marks (marks + x .unit .pairs) marks (marks + 3 * x .unit .pairs) s t (omega arith) (omega arith) (a .only));
     stamp-above = h .stamp-above;
+    stamp-below = h .stamp-below;
     stamps = λ k l l′. ⊎-elim (λ e. rw e (h .stamps k l l′)) (λ (was, is). omega (arith, h .stamp-above)) (a .turned k);
   }
 

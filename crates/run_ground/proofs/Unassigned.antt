@@ -1,6 +1,6 @@
 -- At an unassigned variable: a writer fails; a reader joins the set, and the walk has met one.
 use Prim.Native.Nat.{ℕ, _+_, _*_, _/_, _%_, _<_}
-use mathlib.Core.Path.{_≡_, refl, sym, ap, _∙_}
+use mathlib.Core.Path.{_≡_, refl, sym, ap, subst, _∙_}
 use mathlib.Core.Logic.{inl, inr}
 use mathlib.Core.Bool.{Bool, true, false}
 use mathlib.Core.List.{List, [], _∷_}
@@ -11,6 +11,7 @@ use Rattle.meaning.specs.Compare.{fails, waits-on}
 use Rattle.meaning.specs.Guards.{unassigned}
 use Rattle.laws.proofs.Lists.Among.{in-single}
 use Rattle.term.proofs.Frames.{only-wider}
+use Rattle.run_circle.specs.Ground.{Tells}
 use Rattle.run_readers.specs.Readers.{Readers, Met}
 use Rattle.run_ground.specs.Looking.{Scene, unit-pair, of-readers, kept-as, half-tag, Looking, AtPair, Found}
 use Rattle.run_ground.proofs.Found.{found-fails}
@@ -57,7 +58,7 @@ module _ (s : List ℕ) (x : Scene) (values marks links stamp state m : ℕ) (p 
       only = only-wider (marks + links) (marks + links + 2 * links) marks (marks + 3 * x .unit .pairs) s t (omega arith) (omega (arith, h .links-are))
           (met .only);
       stamps = λ j l l′. rw (same j (omega (arith, h .links-are))) (h .placed .stamps j l l′);
-      grounds = λ j l e. inl (sym (same (marks + j) (omega (arith, h .links-are))) ∙ e);
+      grounds = λ o j l e. inl (subst (Tells o) (same (marks + j) (omega (arith, h .links-are))) e);
       entered = λ j l e. rw (same (marks + j) (omega (arith, h .links-are))) e;
       size = m′;
       pairs = q ∷ [];

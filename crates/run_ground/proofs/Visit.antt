@@ -5,7 +5,7 @@ use mathlib.Core.Path.{_≡_, refl, sym, ap, subst, _∙_}
 use mathlib.Core.Logic.{_⊎_, inl, inr, ⊎-elim}
 use mathlib.Core.Bool.{Bool, true}
 use mathlib.Core.List.{List, [], _∷_, map}
-use mathlib.Core.Option.{some}
+use mathlib.Core.Option.{Option, some}
 use native.Mathlib.Decide.{ℕ-discrete}
 use native.Mathlib.Omega.{arith}
 use lib.ListN.{length, getD, set, length-set}
@@ -19,6 +19,8 @@ use Rattle.laws.proofs.Circle.Search.{no-circle-says}
 use Rattle.term.specs.Frames.{Only}
 use Rattle.term.specs.States.{listed}
 use Rattle.term.proofs.Frames.{only-set, only-then}
+use Rattle.run_circle.specs.Ground.{Tells}
+use Rattle.run_circle.proofs.Grounds.{marked-ground}
 use Rattle.run_readers.specs.Readers.{all-met}
 use Rattle.run_readers.proofs.AllMet.{all-met-in-new}
 use Rattle.run_readers.proofs.Ranks.{listed-kept, readers-kept}
@@ -35,6 +37,7 @@ use Rattle.run_ground.specs.Looking.{
   Goes,
   Found,
 }
+use Rattle.run_ground.proofs.Entered.{stamp-silent}
 use Rattle.run_ground.proofs.Found.{found-known, found-nothing, looked-on}
 use Rattle.run_ground.proofs.Written.{ground-succeeds, assigned-result}
 
@@ -49,7 +52,8 @@ module _ (values marks links stamp : ℕ) (s : List ℕ) (x : Scene) (state m : 
   pub ground-found : getD s (marks + unit-pair x j) 0 ≡ 1 → Found s s x marks links stamp m p (result-of x (variable half j)) state
   ground-found e =
       found-nothing x marks links stamp values state m p s (b .looking) (result-of x (variable half j))
-      (ground-succeeds (x .unit .values) (b .looking .placed .shown .no-circle) (x .first) (b .looking .grounds j l e) half)
+      (ground-succeeds (x .unit .values) (b .looking .placed .shown .no-circle) (x .first) (marked-ground (x .unit .places) (x .unit .values) marks (b .looking .placed .shown .apart) s
+      (b .looking .grounds) j l e) half)
 
   pub stamp-found : getD s (marks + unit-pair x j) 0 ≡ stamp → Found s s x marks links stamp m p (result-of x (variable half j)) state
   unfolding Stands
@@ -94,6 +98,9 @@ module _ (values marks links stamp : ℕ) (s : List ℕ) (x : Scene) (state m : 
     only-marked : Only marks (marks + 3 * x .unit .pairs) s s₁
     only-marked = rw stamped (only-set marks (marks + 3 * x .unit .pairs) s (marks + unit-pair x j) stamp (omega arith) (omega (arith, small)))
 
+    silent : (o : Option ℕ) → Tells o stamp → ⊥
+    silent = stamp-silent stamp (b .looking .placed .stamp-above) (b .looking .placed .stamp-below)
+
     leans : (i : ℕ) → Stands i u → Leans (x .unit .values) j i
     unfolding Leans
     leans i r = (u, assigned, r)
@@ -106,13 +113,14 @@ module _ (values marks links stamp : ℕ) (s : List ℕ) (x : Scene) (state m : 
           shown = b .looking .placed .shown;
           only = only-then marks (marks + 3 * x .unit .pairs) (x .base) s s₁ (b .looking .placed .only) only-marked;
           stamp-above = b .looking .placed .stamp-above;
+          stamp-below = b .looking .placed .stamp-below;
           stamps = λ k low high. ⊎-elim (λ (e, now). omega arith) (λ same. rw same (b .looking .placed .stamps k low high)) (mark-cases k);
         };
         links-are = b .looking .links-are;
         state-is = b .looking .state-is;
         readers = joined-same .ok;
-        grounds = λ n low e. ⊎-elim (λ (f, now). absurd (omega (arith, b .looking .placed .stamp-above)))
-            (λ same. b .looking .grounds n low (sym same ∙ e)) (mark-cases (marks + unit-pair x n));
+        grounds = λ o n low e. ⊎-elim (λ (f, now). absurd (silent o (subst (Tells o) now e)))
+            (λ same. b .looking .grounds o n low (subst (Tells o) same e)) (mark-cases (marks + unit-pair x n));
         goes-on = b .looking .goes-on;
       };
       told = told;
@@ -131,9 +139,9 @@ module _ (values marks links stamp : ℕ) (s : List ℕ) (x : Scene) (state m : 
     new-answer s′ r f = record {
       only = only-then marks (marks + 3 * x .unit .pairs) s s₁ s′ only-marked (f .only);
       stamps = f .stamps;
-      grounds = λ q low e. ⊎-elim
-          (λ was. ⊎-elim (λ (g, now). absurd (omega (arith, b .looking .placed .stamp-above))) (λ same. inl (sym same ∙ was)) (mark-cases (marks + q)))
-          inr (f .grounds q low e);
+      grounds = λ o q low e. ⊎-elim
+          (λ was. ⊎-elim (λ (g, now). absurd (silent o (subst (Tells o) now was))) (λ same. inl (subst (Tells o) same was)) (mark-cases (marks + q)))
+          inr (f .grounds o q low e);
       entered = λ q low e. f .entered q low (⊎-elim (λ (g, now). inr now) (λ same. rw same e) (mark-cases (marks + q)));
       size = f .size;
       pairs = f .pairs;

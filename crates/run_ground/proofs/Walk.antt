@@ -13,7 +13,6 @@ use Rattle.meaning.specs.Guards.{all-variables}
 use Rattle.laws.proofs.Terms.Standing.{Stands, StandsIn}
 use Rattle.term.specs.Setting.{UnitTerms}
 use Rattle.term.specs.Words.{tag-in, rest-in}
-use Rattle.run_circle.specs.Search.{visited}
 use Rattle.run_circle.proofs.Depth.{depth, depths}
 use Rattle.run_ground.specs.Seeking.{together}
 use Rattle.run_ground.specs.Looking.{
@@ -31,6 +30,7 @@ use Rattle.run_ground.specs.Looking.{
   Found,
   Settled,
 }
+use Rattle.run_ground.proofs.Entered.{was-entered}
 use Rattle.run_ground.proofs.Left.{left}
 use Rattle.run_ground.proofs.Results.{or-some-none}
 use Rattle.run_ground.proofs.Written.{compound-result, argument-result, firm-of}
@@ -84,7 +84,7 @@ pub record Walked (s₀ s : List ℕ) (x : Scene) (values marks links stamp m₀
   pub held : UnitTerms (x .base) (x .unit) number passed terms
   pub within : (j : ℕ) → StandsIn j terms → Stands j t
   pub lower : depths terms < depth t
-  pub fewer : left (visited stamp) s marks (x .unit .pairs) ≤ left (visited stamp) s₀ marks (x .unit .pairs)
+  pub fewer : left (was-entered stamp) s marks (x .unit .pairs) ≤ left (was-entered stamp) s₀ marks (x .unit .pairs)
   pub answer : (s′ : List ℕ) (r : ℕ) → Found s s′ x marks links stamp size pending (results-of x terms) r
       → Found s₀ s′ x marks links stamp m₀ p₀ (result-of x t) r
 
@@ -167,12 +167,12 @@ module _ (values marks links stamp : ℕ) where
         behind = λ j l e. ⊎-elim inl (λ f. inr (λ i r. f i (c .within i (rw (next .is) (inl r))))) (c .behind j l e);
       }
 
-      pub next-lighter : weight (visited stamp) s marks links a < weight (visited stamp) s₀ marks links w
+      pub next-lighter : weight (was-entered stamp) s marks links a < weight (was-entered stamp) s₀ marks links w
       unfolding depths
       next-lighter =
           let deep : depths (c .terms) ≡ depths (more (next .term) (next .others)) = ap depths (next .is) in
           rw (c .looking .links-are)
-          (falls-to-argument x values marks stamp s₀ s h₀ (c .looking .placed) (visited stamp) (x .unit .pairs) (c .fewer) w a t (next .term) told (next .told)
+          (falls-to-argument x values marks stamp s₀ s h₀ (c .looking .placed) (was-entered stamp) (x .unit .pairs) (c .fewer) w a t (next .term) told (next .told)
           (omega (arith, c .lower)))
 
       results-are : results-of x (c .terms) ≡ together (x .first) (result-of x (next .term)) (results-of x (next .others))

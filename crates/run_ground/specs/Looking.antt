@@ -74,6 +74,7 @@ pub record Placed (s : List ℕ) (x : Scene) (values marks stamp : ℕ) : Type 0
   pub shown : Shown x values marks
   pub only : Only marks (marks + 3 * x .unit .pairs) (x .base) s
   pub stamp-above : 1 < stamp
+  pub stamp-below : stamp < 1099511627776
   pub stamps : StampsFrom s marks (x .unit .pairs) (stamp + 1)
 
 -- On the way, while the walk goes on: the set has m pairs; whether it has met an unassigned reader.

@@ -1,9 +1,10 @@
 -- What looking through a guard's arguments asks and tells: the definition's result over them written out, and the readers in the step's set.
-use Prim.Native.Nat.{ℕ, _+_, _*_, _≤_, _<_, _^_}
+use Prim.Native.Nat.{ℕ, _+_, _*_, _≤_, _<_}
 use mathlib.Core.Path.{_≡_}
 use mathlib.Core.Logic.{_≢_, _⊎_}
 use mathlib.Core.Bool.{Bool, true, false}
 use mathlib.Core.List.{List, [], map}
+use mathlib.Core.Option.{Option}
 use lib.ListN.{length, getD}
 use Rattle.meaning.specs.Terms.{Terms, count}
 use Rattle.meaning.specs.State.{Values}
@@ -14,7 +15,7 @@ use Rattle.term.specs.Cells.{Places}
 use Rattle.term.specs.Frames.{Only}
 use Rattle.term.specs.Setting.{Setting}
 use Rattle.run_compare.specs.Compare.{Template}
-use Rattle.run_circle.specs.Ground.{GroundAt}
+use Rattle.run_circle.specs.Ground.{Tells, IsSo}
 use Rattle.run_readers.specs.Readers.{Readers}
 use Rattle.run_asked.specs.Asking.{Asking, Arguments, out, StampsFrom, Joined}
 use Rattle.run_ground.specs.declared.seek.Sought.{Sought}
@@ -25,10 +26,10 @@ abbrev pub together : Bool → Result → Result → Result
 together true = first-of
 together false = and-then
 
--- Among the marks of so many pairs, who is newly marked as ground is a ground pair of the unit. Behind the marks stands the set of readers.
+-- Among the marks of so many pairs, what one newly tells is so of a pair of the unit. Behind the marks stands the set of readers.
 abbrev pub GroundsAdded : Places → Values → ℕ → ℕ → List ℕ → List ℕ → Type 0
 GroundsAdded places values marks pairs s s′ =
-    (p : ℕ) → p < pairs → getD s′ (marks + p) 0 ≡ 1 → (getD s (marks + p) 0 ≡ 1) ⊎ GroundAt places values p
+    (o : Option ℕ) (p : ℕ) → p < pairs → Tells o (getD s′ (marks + p) 0) → Tells o (getD s (marks + p) 0) ⊎ IsSo places values o p
 
 -- The scratch before: k arguments of the guard that is compound n, at a place; the set has `met` pairs; stamps from this one on are unused.
 pub record Seeks (s : List ℕ) (x : Setting) (y : Template) (given : List Assignment) (n : ℕ) (ts : Terms)
@@ -41,7 +42,7 @@ pub record Seeks (s : List ℕ) (x : Setting) (y : Template) (given : List Assig
   pub readers : Readers s (marks + links) links met
   pub stamps : StampsFrom s marks (x .pairs) stamp
   pub above : 1 < stamp
-  pub fits : stamp + 1 < 2 ^ 64
+  pub fits : stamp + 1 < 1099511627776
 
 -- The answer to a result: the readers that it waits on have joined the set, which has m pairs then; else the set is as it was.
 abbrev pub Answered : List ℕ → List ℕ → Setting → ℕ → ℕ → ℕ → Result → Sought → Type 0

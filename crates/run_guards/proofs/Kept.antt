@@ -19,7 +19,7 @@ use Rattle.term.proofs.Frames.{only-same}
 use Rattle.term.proofs.Holds.{holds-alike, holds-from-alike}
 use Rattle.term.proofs.Units.{within-every, unit-term-alike, unit-stands-alike, ends-stand-alike}
 use Rattle.run_compare.specs.Compare.{Template, HeadTerm, item}
-use Rattle.run_circle.specs.Ground.{Ground, GroundAt}
+use Rattle.run_circle.specs.Ground.{Tells}
 use Rattle.run_readers.specs.Readers.{Readers, all-met}
 use Rattle.run_asked.specs.Asking.{GaveAt, Asking, EachTemplate, Arguments, StampsFrom, Joined}
 use Rattle.run_ground.specs.Seeking.{GroundsAdded}
@@ -30,11 +30,11 @@ use Rattle.run_guards.specs.declared.guards.GuardResult.{GuardResult}
 -- Marks of ground pairs: where no mark changed, and after two changes.
 module _ (places : Places) (values : Values) (marks pairs : ℕ) where
   pub grounds-same : (s t : List ℕ) → ((k : ℕ) → marks ≤ k → k < marks + pairs → getD t k 0 ≡ getD s k 0) → GroundsAdded places values marks pairs s t
-  grounds-same s t same p h e = inl (sym (same (marks + p) (omega arith) (omega arith)) ∙ e)
+  grounds-same s t same o p h e = inl (subst (Tells o) (same (marks + p) (omega arith) (omega arith)) e)
 
   pub grounds-then : (s t u : List ℕ) → GroundsAdded places values marks pairs s t → GroundsAdded places values marks pairs t u
       → GroundsAdded places values marks pairs s u
-  grounds-then s t u a b p h e = ⊎-elim (a p h) inr (b p h e)
+  grounds-then s t u a b o p h e = ⊎-elim (a o p h) inr (b o p h e)
 
 -- No pair joined the set; none, and then some.
 pub joined-none : (s : List ℕ) (at pairs n : ℕ) → Readers s at pairs n → Joined s s at pairs n [] n
@@ -93,9 +93,7 @@ module _ (s s′ : List ℕ) (x : Setting) (y : Template) (given : List Assignme
     few-pairs = a .few-pairs;
     few-compounds = a .few-compounds;
     gave = gave-kept;
-    grounds = λ n h e. ⊎-elim (a .grounds n h) (λ (g : GroundAt (x .places) (x .values) (x .places .pair n)).
-        subst (Ground (x .values)) (a .apart (g .pair) n (g .below) h (g .place)) (g .ground))
-        (new (x .places .pair n) (a .chained .stands .held .place n h) e);
+    grounds = λ o n h e. ⊎-elim (a .grounds o n h) (λ g. g) (new o (x .places .pair n) (a .chained .stands .held .place n h) e);
     no-circle = a .no-circle;
   }
 

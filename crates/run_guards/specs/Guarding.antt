@@ -1,5 +1,5 @@
 -- What asking the guards of a clause in order asks and gives.
-use Prim.Native.Nat.{ℕ, _+_, _*_, _≤_, _<_, _^_}
+use Prim.Native.Nat.{ℕ, _+_, _*_, _≤_, _<_}
 use mathlib.Core.Path.{_≡_}
 use mathlib.Core.List.{List, [], _∷_, map}
 use lib.ListN.{length}
@@ -36,7 +36,7 @@ pub record Guarded (s : List ℕ) (x : Setting) (y : Template) (c : Clause) (giv
   pub near : values ≤ 268435456
   pub stamps : StampsFrom s marks (x .pairs) stamp
   pub above : 1 < stamp
-  pub below : stamp + 16 < 2 ^ 64
+  pub below : stamp + 16 < 1099511627776
 
 -- What the earlier clauses of the procedure gave: some reader exactly if the step has met one.
 pub record Earlier (earlier : List ℕ) (met : ℕ) : Type 0 where

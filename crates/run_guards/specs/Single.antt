@@ -1,5 +1,5 @@
 -- What asking a single guard of a clause asks and tells, and what a word shows of the term that an argument is, written out.
-use Prim.Native.Nat.{ℕ, zero, suc, _+_, _*_, _≤_, _<_, _^_}
+use Prim.Native.Nat.{ℕ, zero, suc, _+_, _*_, _≤_, _<_}
 use mathlib.Core.Path.{_≡_}
 use mathlib.Core.Bool.{Bool, true, not}
 use mathlib.Core.List.{List, []}
@@ -33,7 +33,7 @@ pub record GuardAt (s : List ℕ) (x : Setting) (y : Template) (given : List Ass
   pub near : values ≤ 268435456
   pub stamps : StampsFrom s marks (x .pairs) stamp
   pub above : 1 < stamp
-  pub below : stamp + 1 < 2 ^ 64
+  pub below : stamp + 1 < 1099511627776
 
 -- The answer to what the guard's test answers.
 pub record GuardIs (s s′ : List ℕ) (x : Setting) (marks links met stamp : ℕ) (o : Result) (r : GuardResult) : Type 0 where

@@ -1,6 +1,6 @@
 -- What a trial answers: where a place fails, where some wait, where the circle test finds a circle, and what its guards make of it. The readers that it waits on
 -- join those that the step has met; a trial that fails leaves them.
-use Prim.Native.Nat.{ℕ, _+_, _*_, _≤_, _<_, _^_}
+use Prim.Native.Nat.{ℕ, _+_, _*_, _≤_, _<_}
 use mathlib.Core.Path.{_≡_, refl, sym, subst, ap, _∙_}
 use mathlib.Core.Bool.{Bool, true, false}
 use mathlib.Core.Logic.{_≢_}
@@ -99,7 +99,7 @@ module _ {s s₁ : List ℕ} {text : Bytes} {names : List Bytes} {j : Job} {limi
       rw (t .links-are) (compared-set (Noted n) told .ok, omega (arith, behind), trials.few-noted t f m begun told, small)
 
   -- What `guards` asks, where the circle test finds none.
-  module _ {s₂ s₃ : List ℕ} {n stamp : ℕ} {found : Bool} (new : MarksBelow s marks (figures .pairs) stamp) (fit : (1 < stamp) × (stamp + 256 < 2 ^ 64))
+  module _ {s₂ s₃ : List ℕ} {n stamp : ℕ} {found : Bool} (new : MarksBelow s marks (figures .pairs) stamp) (fit : (1 < stamp) × (stamp + 256 < 1099511627776))
       (cleared : (a : ℕ) → a < c .pairs → getD s₁ (trial-region + a) 0 ≡ 0)
       (told : trials.Comparison t f m begun s₂ (Noted n)) (none-asked : asks-in (told .told .1 .notes) ≡ [])
       (answer : Tested s₂ s₃ (trials.tried-as t f m begun new fit cleared told none-asked) marks n stamp found) where

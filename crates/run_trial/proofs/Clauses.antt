@@ -1,6 +1,6 @@
 -- The walk over the clauses of a procedure: the clauses passed, those left, and the readers that they wait on so far, a set in the region of the
 -- readers.
-use Prim.Native.Nat.{ℕ, _+_, _-_, _*_, _≤_, _<_, _^_}
+use Prim.Native.Nat.{ℕ, _+_, _-_, _*_, _≤_, _<_}
 use mathlib.Core.Path.{_≡_, refl, sym, subst, ap, _∙_}
 use mathlib.Core.Bool.{Bool, _&&_}
 use mathlib.Core.Logic.{_⊎_, inl, inr, _≢_}
@@ -347,7 +347,7 @@ pub record Turning (s₀ s : List ℕ) (marks links first stamp : ℕ) (l : Lead
   pub number : l .next - 1 < 128
   pub link : l .link < clause-stride
   pub stamps : stamp + 256 ≤ first + 32768
-  pub stamps-fit : first + 32768 < 2 ^ 64
+  pub stamps-fit : first + 32768 < 1099511627776
 
 pub turning : {s₀ s : List ℕ} {values marks links goal first readers stamp : ℕ} {l : Leads}
     → Walking s₀ values marks links goal first s readers stamp l → Ready s₀ values marks links goal first → l .next ≢ 0

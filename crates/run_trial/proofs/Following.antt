@@ -1,5 +1,5 @@
 -- Before the first clause the goal's arguments are followed. What the choice then tells is told of the scratch before it too.
-use Prim.Native.Nat.{ℕ, _+_, _*_, _<_, _^_}
+use Prim.Native.Nat.{ℕ, _+_, _*_, _<_}
 use mathlib.Core.List.{List}
 use native.Mathlib.Omega.{arith}
 use Rattle.meaning.specs.Bytes.{Bytes}
@@ -73,13 +73,13 @@ abbrev pub Asked : List ℕ → ℕ → ℕ → ℕ → ℕ → ℕ → Type 0
 Asked s values marks links goal first =
     (text : Bytes) × (names : List Bytes) × (j : Job) × (limit : ℕ) × (figures : Room) × (at : Places) × (g : Goal) × (others : List Goal)
     × Trying s text names j limit figures at g others values marks links goal
-    × MarksBelow s marks (figures .pairs) first × ((1 < first) × (first + 32768 < 2 ^ 64))
+    × MarksBelow s marks (figures .pairs) first × ((1 < first) × (first + 32768 < 1099511627776))
 
 abbrev pub Ready : List ℕ → ℕ → ℕ → ℕ → ℕ → ℕ → Type 0
 Ready s values marks links goal first =
     (text : Bytes) × (names : List Bytes) × (j : Job) × (limit : ℕ) × (figures : Room) × (at : Places) × (g : Goal) × (others : List Goal)
     × Trying s text names j limit figures at g others values marks links goal × ArgumentsStand s j limit figures at g links
-    × MarksBelow s marks (figures .pairs) first × ((1 < first) × (first + 32768 < 2 ^ 64))
+    × MarksBelow s marks (figures .pairs) first × ((1 < first) × (first + 32768 < 1099511627776))
 
 pub ready : {s s₀ : List ℕ} {values marks links goal first : ℕ} → Asked s values marks links goal first → Following s s₀ values links goal
     → Ready s₀ values marks links goal first

@@ -1,6 +1,6 @@
 -- What a change of the trial's region, of marks and of the readers met alone leaves as it was: the job, the goal and its unit, a clause's head, what a trial gave.
 use Prim.Native.Nat.{ℕ, _+_, _*_, _≤_, _<_}
-use mathlib.Core.Path.{_≡_, refl, sym, subst, ap, _∙_}
+use mathlib.Core.Path.{_≡_, refl, subst, ap, _∙_}
 use mathlib.Core.Logic.{_⊎_, inl, inr, ⊎-elim}
 use mathlib.Core.List.{List, [], _∷_}
 use native.Mathlib.Omega.{arith}
@@ -19,7 +19,7 @@ use Rattle.term.proofs.Holds.{holds-alike}
 use Rattle.term.proofs.Jobs.{holds-clause-kept, holds-job-kept}
 use Rattle.term.proofs.Units.{within-every, unit-stands-alike, ends-stand-alike}
 use Rattle.term.specs.Layout.{trial-region, compounds-region, gifts-part, gift-pair, gift-term, woken-part, clause-record, query-record, ends-after}
-use Rattle.run_circle.specs.Ground.{Ground, GroundAt, Grounds, NewGrounds}
+use Rattle.run_circle.specs.Ground.{Tells, Grounds, NewGrounds}
 use Rattle.run_circle.proofs.Grounds.{new-same}
 use Rattle.run_compare.specs.Gifts.{Gift, to-head, to-goal, Entry, EntriesAt}
 use Rattle.run_compare.specs.Compare.{Template, item, HeadTerm, AllEntries, AllGiven}
@@ -199,24 +199,20 @@ compounds-apart t n h = inr (t .compound-behind n h, omega (arith, t .compound-b
 -- New marks: none, one change after another, none where the marks are the same; those of a trial.
 module _ (places : Places) (values : Values) (marks pairs : ℕ) where
   pub new-marks-none : (s : List ℕ) → NewMarks places values marks pairs s s
-  new-marks-none s p h e = inl e
+  new-marks-none s o p h e = inl e
 
   pub new-marks-then : (s t u : List ℕ) → NewMarks places values marks pairs s t → NewMarks places values marks pairs t u → NewMarks places values marks pairs s u
-  new-marks-then s t u a b p h e = ⊎-elim (a p h) inr (b p h e)
+  new-marks-then s t u a b o p h e = ⊎-elim (a o p h) inr (b o p h e)
 
   pub new-marks-same : (s t : List ℕ) → ((p : ℕ) → p < pairs → getD t (marks + p) 0 ≡ getD s (marks + p) 0) → NewMarks places values marks pairs s t
-  new-marks-same s t same p h e = inl (sym (same p h) ∙ e)
+  new-marks-same s t same o p h e = inl (subst (Tells o) (same p h) e)
 
   pub new-marks-of : (s t : List ℕ) → NewGrounds places values marks s t → NewMarks places values marks pairs s t
-  new-marks-of s t new p h = new p
+  new-marks-of s t new o p h = new o p
 
-  grounds-below : ((i j : ℕ) → i < length values → j < length values → places .pair i ≡ places .pair j → i ≡ j)
-      → ((n : ℕ) → n < length values → places .pair n < pairs)
+  grounds-below : ((n : ℕ) → n < length values → places .pair n < pairs)
       → (s t : List ℕ) → NewMarks places values marks pairs s t → Grounds places values marks s → Grounds places values marks t
-  grounds-below apart below s t new was n h e = ⊎-elim (was n h) now (new (places .pair n) (below n h) e)
-    where
-      now : GroundAt places values (places .pair n) → Ground values n
-      now g = subst (Ground values) (apart (g .pair) n (g .below) h (g .place)) (g .ground)
+  grounds-below below s t new was o n h e = ⊎-elim (was o n h) (λ g. g) (new o (places .pair n) (below n h) e)
 
 -- All that a trial leans on.
 pub trying-stays : {s s′ : List ℕ} {text : Bytes} {names : List Bytes} {j : Job} {limit : ℕ} {figures : Room} {at : Places}
@@ -251,7 +247,7 @@ trying-stays {s} {s′} {names = names} {j} {limit} {figures} {at} {g} {values =
       near = t .near;
       ends-behind = t .ends-behind;
       ends = ends-stay marks (3 * figures .pairs) s s′ o behind x (compounds-apart t) values (t .ends-behind) (t .ends);
-      grounds = grounds-below at (unit-of j limit figures g .values) marks (figures .pairs) (t .apart) (t .unit .held .place) s s′ new (t .grounds);
+      grounds = grounds-below at (unit-of j limit figures g .values) marks (figures .pairs) (t .unit .held .place) s s′ new (t .grounds);
     }
 
 -- The same behind a change of a trial's.

@@ -1,6 +1,6 @@
 -- The trial of a clause: what its comparison asks; what the circle test asks where all places agree; and what is given behind it. Each pair of the goal is
 -- given a term at most once, and had none before.
-use Prim.Native.Nat.{ℕ, _+_, _*_, _≤_, _<_, _^_}
+use Prim.Native.Nat.{ℕ, _+_, _*_, _≤_, _<_}
 use mathlib.Core.Path.{_≡_, refl, sym, subst, ap, _∙_}
 use mathlib.Core.Bool.{Bool, true, false}
 use mathlib.Core.Logic.{_⊎_, inl, inr, _≢_}
@@ -150,7 +150,7 @@ module _ {s s₁ : List ℕ} {text : Bytes} {names : List Bytes} {j : Job} {limi
         some-not-none (asked-in s₂ n) (sym is ∙ e) (asked-noted ∙ ap (map (λ p. at .pair p)) empty)
 
   -- Before the circle test, where all places agree.
-  module _ {s₂ : List ℕ} {n stamp : ℕ} (new : MarksBelow s marks (figures .pairs) stamp) (fit : (1 < stamp) × (stamp + 256 < 2 ^ 64))
+  module _ {s₂ : List ℕ} {n stamp : ℕ} (new : MarksBelow s marks (figures .pairs) stamp) (fit : (1 < stamp) × (stamp + 256 < 1099511627776))
       (cleared : (a : ℕ) → a < c .pairs → getD s₁ (trial-region + a) 0 ≡ 0)
       (told : Comparison s₂ (Noted n)) (none-asked : asks-in (told .told .1 .notes) ≡ []) where
     abbrev pub x : Setting
@@ -288,6 +288,7 @@ module _ {s s₁ : List ℕ} {text : Bytes} {names : List Bytes} {j : Job} {limi
       item-before = λ a h. omega (arith, m .at .number, m .at .held .laid .few-compounds, t .values-behind);
       item-pair = λ a. refl;
       few = few;
+      few-pairs = omega (arith, t .few-links, t .links-are);
       entries-before = omega (arith, few-entries, t .values-behind);
       marks-behind = t .marks-behind;
       room = omega (arith, agreed-trying .inside);

@@ -1,9 +1,10 @@
 -- What the trial of a clause and the choice of a clause ask and give. Both work for the goal in front, in a state of the run of the job that a
 -- text was read as: what the laws say of such states is what they lean on.
-use Prim.Native.Nat.{ℕ, _+_, _*_, _≤_, _<_, _^_}
+use Prim.Native.Nat.{ℕ, _+_, _*_, _≤_, _<_}
 use mathlib.Core.Path.{_≡_}
 use mathlib.Core.Logic.{_⊎_}
 use mathlib.Core.List.{List, [], _∷_, _++_, map}
+use mathlib.Core.Option.{Option}
 use lib.ListN.{length, getD}
 use Rattle.meaning.specs.Bytes.{Bytes}
 use Rattle.meaning.specs.Terms.{Clause, Job, as-term}
@@ -20,7 +21,7 @@ use Rattle.term.specs.States.{setting, listed}
 use Rattle.term.specs.Layout.{trial-region, compounds-region, woken-part, ends-after}
 use Rattle.run_chains.specs.Follow.{FollowedAt}
 use Rattle.run_compare.specs.Compare.{Template, Gave}
-use Rattle.run_circle.specs.Ground.{GroundAt, Grounds}
+use Rattle.run_circle.specs.Ground.{stamp-in, Tells, IsSo, Grounds}
 use Rattle.run_readers.specs.Readers.{Readers, all-met}
 use Rattle.run_asked.specs.Asking.{Joined, AllBelow}
 use Rattle.run_index.specs.Index.{Indexed}
@@ -67,12 +68,12 @@ ArgumentsStand s j limit figures places g links =
 
 -- Stamps from this one on are unused.
 abbrev pub MarksBelow : List ℕ → ℕ → ℕ → ℕ → Type 0
-MarksBelow s marks pairs stamp = (k : ℕ) → marks ≤ k → k < marks + pairs → getD s k 0 < stamp
+MarksBelow s marks pairs stamp = (k : ℕ) → marks ≤ k → k < marks + pairs → stamp-in (getD s k 0) < stamp
 
--- Who is newly marked as ground, of so many pairs, is a ground pair of the unit.
+-- What a mark newly tells, of so many pairs, is so of a pair of the unit.
 abbrev pub NewMarks : Places → Values → ℕ → ℕ → List ℕ → List ℕ → Type 0
 NewMarks places values marks pairs s s′ =
-    (p : ℕ) → p < pairs → getD s′ (marks + p) 0 ≡ 1 → (getD s (marks + p) 0 ≡ 1) ⊎ GroundAt places values p
+    (o : Option ℕ) (p : ℕ) → p < pairs → Tells o (getD s′ (marks + p) 0) → Tells o (getD s (marks + p) 0) ⊎ IsSo places values o p
 
 -- Only words of the trial's region below a top, and so many words from the marks on, differ.
 pub record TrialOnly (top marks wide : ℕ) (s s′ : List ℕ) : Type 0 where

@@ -18,7 +18,7 @@ use term::scratch::word_at;
 use term::word::index;
 ghost use mathlib.Core.Path.{_≡_};
 ghost use mathlib.Core.List.{List};
-ghost use Prim.Native.Nat.{ℕ, _+_, _*_, _≤_, _<_, _^_};
+ghost use Prim.Native.Nat.{ℕ, _+_, _*_, _≤_, _<_};
 ghost use lib.ListN.{length, getD};
 ghost use Rattle.meaning.specs.Bytes.{Bytes};
 ghost use Rattle.meaning.specs.Terms.{Clause, Job};
@@ -73,7 +73,7 @@ fn trial(
         × ArgumentsStand (now s) j limit figures at g links
         × Candidate (now s) names j g k c
         × MarksBelow (now s) marks (figures .pairs) stamp
-        × Readers (now s) (marks + figures .pairs) (figures .pairs) readers × ((1 < stamp) × (stamp + 256 < 2 ^ 64))) ⌝ }
+        × Readers (now s) (marks + figures .pairs) (figures .pairs) readers × ((1 < stamp) × (stamp + 256 < 1099511627776))) ⌝ }
     ensures { λ r. ⌜ ((text : Bytes) (names : List Bytes) (j : Job) (limit : ℕ) (figures : Room) (at : Places) (g : Goal) (others : List Goal) (goal : ℕ) (c : Clause) (earlier : List ℕ)
         → Trying (now (s .entry)) text names j limit figures at g others values marks links goal
         → ArgumentsStand (now (s .entry)) j limit figures at g links
@@ -122,7 +122,7 @@ pub fn choice(
 ) -> ChoiceResult
     requires { ⌜ ((text : Bytes) × (names : List Bytes) × (j : Job) × (limit : ℕ) × (figures : Room) × (at : Places) × (g : Goal) × (others : List Goal)
         × Trying (now s) text names j limit figures at g others values marks links goal
-        × MarksBelow (now s) marks (figures .pairs) first × ((1 < first) × (first + 32768 < 2 ^ 64))) ⌝ }
+        × MarksBelow (now s) marks (figures .pairs) first × ((1 < first) × (first + 32768 < 1099511627776))) ⌝ }
     ensures { λ r. ⌜ ((text : Bytes) (names : List Bytes) (j : Job) (limit : ℕ) (figures : Room) (at : Places) (g : Goal) (others : List Goal)
         → Trying (now (s .entry)) text names j limit figures at g others values marks links goal
         → MarksBelow (now (s .entry)) marks (figures .pairs) first

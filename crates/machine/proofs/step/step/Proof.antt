@@ -79,7 +79,7 @@ module _ (w : tie.After-word) (text : Bytes) (names : List Bytes) (j : Job) (lim
       choice-marks (start w .args .s .now) text names j (figures (start w .args .room)) limit atlas slots g others (start w .args .t)
       (goal w) (query w) (place w) (values w) (marks w) (steps w) r more front (fetched w)
 
-  stamps : (1 < steps w * 32768 + 2) × (steps w * 32768 + 2 + 32768 < 18446744073709551616)
+  stamps : (1 < steps w * 32768 + 2) × (steps w * 32768 + 2 + 32768 < 1099511627776)
   stamps =
       choice-stamps (start w .args .s .now) text names j (figures (start w .args .room)) limit atlas slots g others (start w .args .t)
       (goal w) (query w) (place w) (values w) (marks w) (steps w) r more front (fetched w)

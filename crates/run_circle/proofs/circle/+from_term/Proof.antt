@@ -1,6 +1,6 @@
 -- The search from a term meets its contract: turn by turn it goes on from term to term, as Calls has it, and the weight of what is left falls.
 use Prim.Native.Nat.{ℕ, _+_, _-_, _≤_, _<_}
-use mathlib.Core.Path.{_≡_, refl, sym, _∙_}
+use mathlib.Core.Path.{_≡_, refl, sym, ap, _∙_}
 use mathlib.Core.Logic.{inl, inr, ⊎-elim}
 use mathlib.Core.Bool.{true, false}
 use native.Mathlib.Omega.{arith}
@@ -8,6 +8,7 @@ use lib.ListN.{length}
 use borrow.Author.Needs.{needs}
 use borrow.Fn.Kinds.{In}
 use borrow.Fn.PlainCycle.{Measures, is, falls, and}
+use Rattle.run_circle.specs.Ground.{stamp-in}
 use Rattle.run_circle.specs.Search.{visited}
 use Rattle.run_circle.proofs.Calls as calls
 use Rattle.run_circle.proofs.Measure.{term-weight, lighter, no-heavier}
@@ -22,8 +23,8 @@ use Rattle.run_circle.proofs.circle.given_term.Reads as given-term-read
 use Rattle.term.proofs.word.index.Reads as index-reads
 use Rattle.run_circle.proofs.circle.joined.Reads as joined-reads
 use Rattle.run_circle.proofs.circle.leads.Reads as leads-reads
-use Rattle.term.proofs.scratch.set_at.Reads as set-at-reads
 use Rattle.run_circle.proofs.circle.since.Reads as since-reads
+use Rattle.run_circle.proofs.circle.visit.Reads as visit-reads
 use Rattle.term.proofs.scratch.word_at.Reads as word-at-reads
 use Rattle.run_circle.proofs.circle.+from_term.{statement}
 use Rattle.run_circle.proofs.circle.+from_term.Tie.{close}
@@ -58,7 +59,32 @@ from-term-μ-loop s₀ values marks z stamp head w side₀ state₀ t₀ s side 
 
 pub +from-term-spec : {M : Type 1} → statement M
 +from-term-spec = close μ-from-term λ t.
-    from-term-lts.spec (begun-reads.Asked, begun-reads.Learnt, index-reads.Asked, index-reads.Learnt, count-reads.Asked, count-reads.Learnt, argument-reads.Asked, argument-reads.Learnt, leads-reads.Asked, leads-reads.Learnt, from-term-below t, from-term.Post, joined-reads.Asked, joined-reads.Learnt, ended-reads.Asked, ended-reads.Learnt, word-at-reads.Asked, word-at-reads.Learnt, set-at-reads.Asked, set-at-reads.Learnt, since-reads.Asked, since-reads.Learnt, given-term-reads.Asked, given-term-reads.Learnt)
+    from-term-lts.spec (
+      begun-reads.Asked,
+      begun-reads.Learnt,
+      index-reads.Asked,
+      index-reads.Learnt,
+      count-reads.Asked,
+      count-reads.Learnt,
+      argument-reads.Asked,
+      argument-reads.Learnt,
+      leads-reads.Asked,
+      leads-reads.Learnt,
+      from-term-below t,
+      from-term.Post,
+      joined-reads.Asked,
+      joined-reads.Learnt,
+      ended-reads.Asked,
+      ended-reads.Learnt,
+      word-at-reads.Asked,
+      word-at-reads.Learnt,
+      visit-reads.Asked,
+      visit-reads.Learnt,
+      since-reads.Asked,
+      since-reads.Learnt,
+      given-term-reads.Asked,
+      given-term-reads.Learnt,
+    )
     (from-term-at t) from-term.Post from-term-Inv-loop2 from-term-μ-loop2 from-term-Inv-loop from-term-μ-loop
     -- begun-requires
     (λ c κs.
@@ -76,7 +102,7 @@ pub +from-term-spec : {M : Type 1} → statement M
     let If1 = c .before in let Index = If1 .before in let Loop = Index .before in let Begun = Loop .before in let S = Begun .before .before in
     let a = S .args in let s₀ = a .s .now in let vs = a .values in let ms = a .marks in let z = a .z in let st = a .stamp in let s = Loop .loop .s in
     let b = Loop .loop .side in let u = Loop .loop .t in let n = Loop .loop .state in let o = Begun .begun .result in
-    let going = Loop .loop .inv .0 in let asks = calls.going-asks s₀ vs ms z st (a .head) (a .w) o s b u n going (S .pre .1) in
+    let going = Loop .loop .inv .0 in let asks = calls.going-asks s₀ vs ms z st (a .head) (a .w) o s b u n going (Begun .begun .ensures) (S .pre .1) in
     let p = Index .index .result in
     calls.count-at s vs ms z st b u n p (Index .index .ensures) (If1 .if1 .taken) asks)
     -- loop2-holds
@@ -91,7 +117,7 @@ pub +from-term-spec : {M : Type 1} → statement M
     let Index = If1 .before in let Loop = Index .before in let Begun = Loop .before in let S = Begun .before .before in let a = S .args in
     let s₀ = a .s .now in let vs = a .values in let ms = a .marks in let z = a .z in let st = a .stamp in let s = Loop .loop .s in
     let b = Loop .loop .side in let u = Loop .loop .t in let n = Loop .loop .state in let o = Begun .begun .result in
-    let going = Loop .loop .inv .0 in let asks = calls.going-asks s₀ vs ms z st (a .head) (a .w) o s b u n going (S .pre .1) in
+    let going = Loop .loop .inv .0 in let asks = calls.going-asks s₀ vs ms z st (a .head) (a .w) o s b u n going (Begun .begun .ensures) (S .pre .1) in
     let p = Index .index .result in let k = Count .count .result in let s₂ = Loop2 .loop2 .s in let i = Loop2 .loop2 .i in
     let later = Loop2 .loop2 .later in let m = Loop2 .loop2 .state in let walking = Loop2 .loop2 .inv .0 in
     let low : i ≤ k = omega (arith, Loop2Test .loop2-test .taken) in
@@ -106,7 +132,7 @@ pub +from-term-spec : {M : Type 1} → statement M
     let S = Begun .before .before in let a = S .args in let s₀ = a .s .now in let vs = a .values in let ms = a .marks in let z = a .z in
     let st = a .stamp in let s = Loop .loop .s in let b = Loop .loop .side in let u = Loop .loop .t in let n = Loop .loop .state in
     let o = Begun .begun .result in let going = Loop .loop .inv .0 in
-    let asks = calls.going-asks s₀ vs ms z st (a .head) (a .w) o s b u n going (S .pre .1) in let p = Index .index .result in
+    let asks = calls.going-asks s₀ vs ms z st (a .head) (a .w) o s b u n going (Begun .begun .ensures) (S .pre .1) in let p = Index .index .result in
     let k = Count .count .result in let s₂ = Loop2 .loop2 .s in let i = Loop2 .loop2 .i in let later = Loop2 .loop2 .later in
     let m = Loop2 .loop2 .state in let walking = Loop2 .loop2 .inv .0 in let f = visited st in (
       lighter (term-weight s₂ ms f b later) (term-weight s ms f b u) (term-weight s₀ ms f (a .head) (a .w)) t (S .pre .0) (Loop .loop .inv .1)
@@ -127,7 +153,7 @@ pub +from-term-spec : {M : Type 1} → statement M
     let u = Loop .loop .t in let n = Loop .loop .state in let o = Begun .begun .result in let going = Loop .loop .inv .0 in
     let p = Index .index .result in let k = Count .count .result in let s₂ = Loop2 .loop2 .s in let i = Loop2 .loop2 .i in
     let later = Loop2 .loop2 .later in let m = Loop2 .loop2 .state in let walking = Loop2 .loop2 .inv .0 in
-    calls.going-tells s₀ vs ms z st (a .head) (a .w) o s b u n going (FromTerm .from-term .last .0) 2 true refl (λ e. absurd (omega arith))
+    calls.going-tells s₀ vs ms z st (a .head) (a .w) o s b u n going (Begun .begun .ensures) (FromTerm .from-term .last .0) 2 true refl calls.reached-not-firm
     (calls.later-found s vs ms z st b u n s₂ p k i later m walking (FromTerm .from-term .last .0) (rw (c .if4 .taken) at (FromTerm .from-term .ensures))))
     -- joined-requires
     (λ c κs.
@@ -139,7 +165,7 @@ pub +from-term-spec : {M : Type 1} → statement M
     let S = Begun .before .before in let a = S .args in let s₀ = a .s .now in let vs = a .values in let ms = a .marks in let z = a .z in
     let st = a .stamp in let s = Loop .loop .s in let b = Loop .loop .side in let u = Loop .loop .t in let n = Loop .loop .state in
     let o = Begun .begun .result in let going = Loop .loop .inv .0 in
-    let asks = calls.going-asks s₀ vs ms z st (a .head) (a .w) o s b u n going (S .pre .1) in let p = Index .index .result in
+    let asks = calls.going-asks s₀ vs ms z st (a .head) (a .w) o s b u n going (Begun .begun .ensures) (S .pre .1) in let p = Index .index .result in
     let k = Count .count .result in let s₂ = Loop2 .loop2 .s in let i = Loop2 .loop2 .i in let later = Loop2 .loop2 .later in
     let m = Loop2 .loop2 .state in let walking = Loop2 .loop2 .inv .0 in
     omega (arith, Loop2Test .loop2-test .taken, calls.few-of s vs ms z st b u n s₂ p k i later m walking asks))
@@ -181,7 +207,7 @@ pub +from-term-spec : {M : Type 1} → statement M
     let S = Begun .before .before in let a = S .args in let s₀ = a .s .now in let vs = a .values in let ms = a .marks in let z = a .z in
     let st = a .stamp in let s = Loop .loop .s in let b = Loop .loop .side in let u = Loop .loop .t in let n = Loop .loop .state in
     let o = Begun .begun .result in let going = Loop .loop .inv .0 in
-    let asks = calls.going-asks s₀ vs ms z st (a .head) (a .w) o s b u n going (S .pre .1) in let p = Index .index .result in
+    let asks = calls.going-asks s₀ vs ms z st (a .head) (a .w) o s b u n going (Begun .begun .ensures) (S .pre .1) in let p = Index .index .result in
     let k = Count .count .result in let s₂ = Loop2 .loop2 .s in let i = Loop2 .loop2 .i in let later = Loop2 .loop2 .later in
     let m = Loop2 .loop2 .state in let walking = Loop2 .loop2 .inv .0 in
     let done : k < i = omega (arith, Loop2Test .loop2-test .left) in
@@ -200,7 +226,7 @@ pub +from-term-spec : {M : Type 1} → statement M
     let S = Begun .before .before in let a = S .args in let s₀ = a .s .now in let vs = a .values in let ms = a .marks in let z = a .z in
     let st = a .stamp in let s = Loop .loop .s in let b = Loop .loop .side in let u = Loop .loop .t in let n = Loop .loop .state in
     let o = Begun .begun .result in let going = Loop .loop .inv .0 in
-    let asks = calls.going-asks s₀ vs ms z st (a .head) (a .w) o s b u n going (S .pre .1) in let p = Index .index .result in
+    let asks = calls.going-asks s₀ vs ms z st (a .head) (a .w) o s b u n going (Begun .begun .ensures) (S .pre .1) in let p = Index .index .result in
     let k = Count .count .result in let s₂ = Loop2 .loop2 .s in let i = Loop2 .loop2 .i in let later = Loop2 .loop2 .later in
     let m = Loop2 .loop2 .state in let walking = Loop2 .loop2 .inv .0 in
     let done : k < i = omega (arith, Loop2Test .loop2-test .left) in
@@ -216,7 +242,7 @@ pub +from-term-spec : {M : Type 1} → statement M
     let Index = If1 .before in let Loop = Index .before in let Begun = Loop .before in let S = Begun .before .before in let a = S .args in
     let s₀ = a .s .now in let vs = a .values in let ms = a .marks in let z = a .z in let st = a .stamp in let s = Loop .loop .s in
     let b = Loop .loop .side in let u = Loop .loop .t in let n = Loop .loop .state in let o = Begun .begun .result in
-    let going = Loop .loop .inv .0 in let asks = calls.going-asks s₀ vs ms z st (a .head) (a .w) o s b u n going (S .pre .1) in
+    let going = Loop .loop .inv .0 in let asks = calls.going-asks s₀ vs ms z st (a .head) (a .w) o s b u n going (Begun .begun .ensures) (S .pre .1) in
     let p = Index .index .result in let k = Count .count .result in let s₂ = Loop2 .loop2 .s in let i = Loop2 .loop2 .i in
     let later = Loop2 .loop2 .later in let m = Loop2 .loop2 .state in let walking = Loop2 .loop2 .inv .0 in
     calls.later-lighter s vs ms z st b u n s₂ p k i later m walking asks)
@@ -226,7 +252,7 @@ pub +from-term-spec : {M : Type 1} → statement M
     let Index = If1 .before in let Loop = Index .before in let Begun = Loop .before in let S = Begun .before .before in let a = S .args in
     let s₀ = a .s .now in let vs = a .values in let ms = a .marks in let z = a .z in let st = a .stamp in let s = Loop .loop .s in
     let b = Loop .loop .side in let u = Loop .loop .t in let n = Loop .loop .state in let o = Begun .begun .result in
-    let going = Loop .loop .inv .0 in let asks = calls.going-asks s₀ vs ms z st (a .head) (a .w) o s b u n going (S .pre .1) in
+    let going = Loop .loop .inv .0 in let asks = calls.going-asks s₀ vs ms z st (a .head) (a .w) o s b u n going (Begun .begun .ensures) (S .pre .1) in
     let p = Index .index .result in let k = Count .count .result in let s₂ = Loop2 .loop2 .s in let i = Loop2 .loop2 .i in
     let later = Loop2 .loop2 .later in let m = Loop2 .loop2 .state in let walking = Loop2 .loop2 .inv .0 in let f = visited st in (
       calls.going-on s₀ vs ms z st (a .head) (a .w) o s b u n going s₂ b later m
@@ -245,14 +271,16 @@ pub +from-term-spec : {M : Type 1} → statement M
     let s₀ = a .s .now in let vs = a .values in let ms = a .marks in let z = a .z in let st = a .stamp in let s = Loop .loop .s in
     let b = Loop .loop .side in let u = Loop .loop .t in let n = Loop .loop .state in let o = Begun .begun .result in
     let going = Loop .loop .inv .0 in
-    calls.going-tells s₀ vs ms z st (a .head) (a .w) o s b u n going s 1 false refl (λ e. absurd (omega arith)) (calls.nothing-finds s vs ms z st b u n (If1 .if1 .left, inl (c .if6 .taken))))
+    calls.going-tells s₀ vs ms z st (a .head) (a .w) o s b u n going (Begun .begun .ensures) s 1 false refl calls.open-not-firm (calls.nothing-finds s vs ms z st b u n
+    (If1 .if1 .left, inl (c .if6 .taken))))
     -- ended-requires-2
     (λ c κs.
     let If7 = c .before in let If6 = If7 .before in let If1 = If6 .before in let Loop = If1 .before .before in let Begun = Loop .before in
     let S = Begun .before .before in let a = S .args in let s₀ = a .s .now in let vs = a .values in let ms = a .marks in let z = a .z in
     let st = a .stamp in let s = Loop .loop .s in let b = Loop .loop .side in let u = Loop .loop .t in let n = Loop .loop .state in
     let o = Begun .begun .result in let going = Loop .loop .inv .0 in
-    calls.ended-asks s₀ vs ms z st (a .head) (a .w) o s b u n going (Begun .begun .ensures) (calls.nothing-is-firm s vs ms z st b u n (If1 .if1 .left, inr (If7 .if7 .taken)) (If6 .if6 .left)) (S .pre .1))
+    calls.ended-asks s₀ vs ms z st (a .head) (a .w) o s b u n going (Begun .begun .ensures) (calls.nothing-is-firm s vs ms z st b u n (If1 .if1 .left, inr (If7 .if7 .taken))
+    (If6 .if6 .left)) (S .pre .1))
     -- same-length-4
     (λ c.
     let Ended2 = c .before .before in let Loop = Ended2 .before .before .before .before .before .before in
@@ -263,7 +291,8 @@ pub +from-term-spec : {M : Type 1} → statement M
     let Loop = If1 .before .before in let Begun = Loop .before in let S = Begun .before .before in let a = S .args in let s₀ = a .s .now in
     let vs = a .values in let ms = a .marks in let z = a .z in let st = a .stamp in let s = Loop .loop .s in let b = Loop .loop .side in
     let u = Loop .loop .t in let n = Loop .loop .state in let o = Begun .begun .result in let going = Loop .loop .inv .0 in
-    calls.ended-tells s₀ vs ms z st (a .head) (a .w) o s b u n going (Begun .begun .ensures) (calls.nothing-is-firm s vs ms z st b u n (If1 .if1 .left, inr (If7 .if7 .taken)) (If6 .if6 .left)) (calls.nothing-finds s vs ms z st b u n (If1 .if1 .left, inr (If7 .if7 .taken)))
+    calls.ended-tells s₀ vs ms z st (a .head) (a .w) o s b u n going (Begun .begun .ensures) (calls.nothing-is-firm s vs ms z st b u n (If1 .if1 .left, inr (If7 .if7 .taken))
+    (If6 .if6 .left)) (calls.nothing-finds s vs ms z st b u n (If1 .if1 .left, inr (If7 .if7 .taken)))
     (Ended2 .ended2 .last .0) (Ended2 .ended2 .result) (Ended2 .ended2 .ensures .0) (Ended2 .ended2 .ensures .1))
     -- word-at-requires
     (λ c κs.
@@ -271,7 +300,7 @@ pub +from-term-spec : {M : Type 1} → statement M
     let Loop = Index .before in let Begun = Loop .before in let S = Begun .before .before in let a = S .args in let s₀ = a .s .now in
     let vs = a .values in let ms = a .marks in let z = a .z in let st = a .stamp in let s = Loop .loop .s in let b = Loop .loop .side in
     let u = Loop .loop .t in let n = Loop .loop .state in let o = Begun .begun .result in let going = Loop .loop .inv .0 in
-    let asks = calls.going-asks s₀ vs ms z st (a .head) (a .w) o s b u n going (S .pre .1) in let p = Index .index .result in
+    let asks = calls.going-asks s₀ vs ms z st (a .head) (a .w) o s b u n going (Begun .begun .ensures) (S .pre .1) in let p = Index .index .result in
     let true-asks : calls.TermAsks s vs ms z st true u = rw (If8 .if8 .taken) at asks in
     calls.given-at s vs ms z st u p (Index .index .ensures) (If1 .if1 .left) (If6 .if6 .left) (If7 .if7 .left) true-asks)
     -- loop-less-2
@@ -280,7 +309,7 @@ pub +from-term-spec : {M : Type 1} → statement M
     let Loop = Index .before in let Begun = Loop .before in let S = Begun .before .before in let a = S .args in let s₀ = a .s .now in
     let vs = a .values in let ms = a .marks in let z = a .z in let st = a .stamp in let s = Loop .loop .s in let b = Loop .loop .side in
     let u = Loop .loop .t in let n = Loop .loop .state in let o = Begun .begun .result in let going = Loop .loop .inv .0 in
-    let asks = calls.going-asks s₀ vs ms z st (a .head) (a .w) o s b u n going (S .pre .1) in let p = Index .index .result in
+    let asks = calls.going-asks s₀ vs ms z st (a .head) (a .w) o s b u n going (Begun .begun .ensures) (S .pre .1) in let p = Index .index .result in
     let true-asks : calls.TermAsks s vs ms z st true u = rw (If8 .if8 .taken) at asks in
     rw (If8 .if8 .taken) (calls.given-lighter s vs ms z st u p (Index .index .ensures) (If1 .if1 .left) (If6 .if6 .left) (If7 .if7 .left) true-asks (c .word-at .result)))
     -- loop-again-2
@@ -289,12 +318,14 @@ pub +from-term-spec : {M : Type 1} → statement M
     let Loop = Index .before in let Begun = Loop .before in let S = Begun .before .before in let a = S .args in let s₀ = a .s .now in
     let vs = a .values in let ms = a .marks in let z = a .z in let st = a .stamp in let s = Loop .loop .s in let b = Loop .loop .side in
     let u = Loop .loop .t in let n = Loop .loop .state in let o = Begun .begun .result in let going = Loop .loop .inv .0 in
-    let asks = calls.going-asks s₀ vs ms z st (a .head) (a .w) o s b u n going (S .pre .1) in let p = Index .index .result in let f = visited st in
+    let asks = calls.going-asks s₀ vs ms z st (a .head) (a .w) o s b u n going (Begun .begun .ensures) (S .pre .1) in let p = Index .index .result in let f = visited st in
     let true-asks : calls.TermAsks s vs ms z st true u = rw (If8 .if8 .taken) at asks in
     let true-going : calls.Going s₀ vs ms z st (a .head) (a .w) o s true u n = rw (If8 .if8 .taken) at going in
     let light : term-weight s ms f true u ≤ term-weight s₀ ms f (a .head) (a .w) = rw (If8 .if8 .taken) at (Loop .loop .inv .1) in (
-      calls.going-on s₀ vs ms z st (a .head) (a .w) o s true u n true-going s false (c .word-at .result) n (calls.given-going s vs ms z st u p (Index .index .ensures) (If1 .if1 .left) (If6 .if6 .left) (If7 .if7 .left) (c .word-at .result) n (c .word-at .ensures)),
-      no-heavier (term-weight s ms f false (c .word-at .result)) (term-weight s ms f true u) (term-weight s₀ ms f (a .head) (a .w)) light (calls.given-lighter s vs ms z st u p (Index .index .ensures) (If1 .if1 .left) (If6 .if6 .left) (If7 .if7 .left) true-asks (c .word-at .result)),
+      calls.going-on s₀ vs ms z st (a .head) (a .w) o s true u n true-going s false (c .word-at .result) n (calls.given-going s vs ms z st u p (Index .index .ensures) (If1 .if1 .left)
+          (If6 .if6 .left) (If7 .if7 .left) (c .word-at .result) n (c .word-at .ensures)),
+      no-heavier (term-weight s ms f false (c .word-at .result)) (term-weight s ms f true u) (term-weight s₀ ms f (a .head) (a .w)) light (calls.given-lighter s vs ms z st u p
+          (Index .index .ensures) (If1 .if1 .left) (If6 .if6 .left) (If7 .if7 .left) true-asks (c .word-at .result)),
       Loop .loop .inv .2,
     ))
     -- same-length-5
@@ -308,14 +339,15 @@ pub +from-term-spec : {M : Type 1} → statement M
     let vs = a .values in let ms = a .marks in let z = a .z in let st = a .stamp in let s = Loop .loop .s in let u = Loop .loop .t in
     let n = Loop .loop .state in let o = Begun .begun .result in let going = Loop .loop .inv .0 in let p = Index .index .result in
     let false-going : calls.Going s₀ vs ms z st (a .head) (a .w) o s false u n = rw (If8 .if8 .left) at going in
-    calls.going-tells s₀ vs ms z st (a .head) (a .w) o s false u n false-going s 2 true refl (λ e. absurd (omega arith)) (calls.goal-finds s vs ms z st u p (Index .index .ensures) (If1 .if1 .left) (If6 .if6 .left) (If7 .if7 .left) (c .if9 .taken)))
+    calls.going-tells s₀ vs ms z st (a .head) (a .w) o s false u n false-going (Begun .begun .ensures) s 2 true refl calls.reached-not-firm (calls.goal-finds s vs ms z st u p
+    (Index .index .ensures) (If1 .if1 .left) (If6 .if6 .left) (If7 .if7 .left) (c .if9 .taken)))
     -- word-at-requires-2
     (λ c κs.
     let If8 = c .before .before in let If7 = If8 .before in let If6 = If7 .before in let If1 = If6 .before in let Index = If1 .before in
     let Loop = Index .before in let Begun = Loop .before in let S = Begun .before .before in let a = S .args in let s₀ = a .s .now in
     let vs = a .values in let ms = a .marks in let z = a .z in let st = a .stamp in let s = Loop .loop .s in let b = Loop .loop .side in
     let u = Loop .loop .t in let n = Loop .loop .state in let o = Begun .begun .result in let going = Loop .loop .inv .0 in
-    let asks = calls.going-asks s₀ vs ms z st (a .head) (a .w) o s b u n going (S .pre .1) in let p = Index .index .result in
+    let asks = calls.going-asks s₀ vs ms z st (a .head) (a .w) o s b u n going (Begun .begun .ensures) (S .pre .1) in let p = Index .index .result in
     let false-asks : calls.TermAsks s vs ms z st false u = rw (If8 .if8 .left) at asks in
     calls.mark-at s vs ms z st u p (Index .index .ensures) (If1 .if1 .left) (If6 .if6 .left) (If7 .if7 .left) false-asks)
     -- ended-requires-3
@@ -325,7 +357,8 @@ pub +from-term-spec : {M : Type 1} → statement M
     let a = S .args in let s₀ = a .s .now in let vs = a .values in let ms = a .marks in let z = a .z in let st = a .stamp in let s = Loop .loop .s in
     let u = Loop .loop .t in let n = Loop .loop .state in let o = Begun .begun .result in let going = Loop .loop .inv .0 in
     let p = Index .index .result in let false-going : calls.Going s₀ vs ms z st (a .head) (a .w) o s false u n = rw (If8 .if8 .left) at going in
-    calls.ended-asks s₀ vs ms z st (a .head) (a .w) o s false u n false-going (Begun .begun .ensures) (calls.ground-is-firm s vs ms z st u p (Index .index .ensures) (If1 .if1 .left) (If6 .if6 .left) (If7 .if7 .left) (sym (WordAt2 .word-at2 .ensures) ∙ If10 .if10 .taken)) (S .pre .1))
+    calls.ended-asks s₀ vs ms z st (a .head) (a .w) o s false u n false-going (Begun .begun .ensures) (calls.ground-is-firm s vs ms z st u p (Index .index .ensures) (If1 .if1 .left)
+    (If6 .if6 .left) (If7 .if7 .left) (sym (WordAt2 .word-at2 .ensures) ∙ If10 .if10 .taken)) (S .pre .1))
     -- same-length-6
     (λ c.
     let Ended3 = c .before .before in let Loop = Ended3 .before .before .before .before .before .before .before .before .before .before .before in
@@ -338,7 +371,9 @@ pub +from-term-spec : {M : Type 1} → statement M
     let vs = a .values in let ms = a .marks in let z = a .z in let st = a .stamp in let s = Loop .loop .s in let u = Loop .loop .t in
     let n = Loop .loop .state in let o = Begun .begun .result in let going = Loop .loop .inv .0 in let p = Index .index .result in
     let false-going : calls.Going s₀ vs ms z st (a .head) (a .w) o s false u n = rw (If8 .if8 .left) at going in
-    calls.ended-tells s₀ vs ms z st (a .head) (a .w) o s false u n false-going (Begun .begun .ensures) (calls.ground-is-firm s vs ms z st u p (Index .index .ensures) (If1 .if1 .left) (If6 .if6 .left) (If7 .if7 .left) (sym (WordAt2 .word-at2 .ensures) ∙ If10 .if10 .taken)) (calls.ground-finds s vs ms z st u p (Index .index .ensures) (If1 .if1 .left) (If6 .if6 .left) (If7 .if7 .left) (If9 .if9 .left) (sym (WordAt2 .word-at2 .ensures) ∙ If10 .if10 .taken))
+    calls.ended-tells s₀ vs ms z st (a .head) (a .w) o s false u n false-going (Begun .begun .ensures) (calls.ground-is-firm s vs ms z st u p (Index .index .ensures) (If1 .if1 .left)
+    (If6 .if6 .left) (If7 .if7 .left) (sym (WordAt2 .word-at2 .ensures) ∙ If10 .if10 .taken)) (calls.ground-finds s vs ms z st u p (Index .index .ensures) (If1 .if1 .left) (If6 .if6 .left)
+    (If7 .if7 .left) (If9 .if9 .left) (sym (WordAt2 .word-at2 .ensures) ∙ If10 .if10 .taken))
     (Ended3 .ended3 .last .0) (Ended3 .ended3 .result) (Ended3 .ended3 .ensures .0) (Ended3 .ended3 .ensures .1))
     -- same-length-7
     (λ c.
@@ -351,106 +386,110 @@ pub +from-term-spec : {M : Type 1} → statement M
     let a = S .args in let s₀ = a .s .now in let vs = a .values in let ms = a .marks in let z = a .z in let st = a .stamp in let s = Loop .loop .s in
     let u = Loop .loop .t in let n = Loop .loop .state in let o = Begun .begun .result in let going = Loop .loop .inv .0 in
     let p = Index .index .result in let false-going : calls.Going s₀ vs ms z st (a .head) (a .w) o s false u n = rw (If8 .if8 .left) at going in
-    calls.going-tells s₀ vs ms z st (a .head) (a .w) o s false u n false-going s 1 false refl (λ e. absurd (omega arith)) (calls.stamp-finds s vs ms z st u p (Index .index .ensures) (If1 .if1 .left) (If6 .if6 .left) (If7 .if7 .left) (If9 .if9 .left) (sym (WordAt2 .word-at2 .ensures) ∙ c .if11 .taken)))
-    -- set-at-requires
+    calls.going-tells s₀ vs ms z st (a .head) (a .w) o s false u n false-going (Begun .begun .ensures) s 1 false refl calls.open-not-firm (calls.stamp-finds s vs ms z st u p
+    (Index .index .ensures) (If1 .if1 .left) (If6 .if6 .left) (If7 .if7 .left) (If9 .if9 .left) (ap (λ k. stamp-in k) (sym (WordAt2 .word-at2 .ensures)) ∙ c .if11 .taken)))
+    -- visit-requires
     (λ c κs.
-    let If8 = c .before .before .before .before .before .before in let If7 = If8 .before in let If6 = If7 .before in let If1 = If6 .before in
+    let If11 = c .before in let If10 = If11 .before in let WordAt2 = If10 .before in
+    let If9 = WordAt2 .before .before in let If8 = If9 .before in let If7 = If8 .before in let If6 = If7 .before in let If1 = If6 .before in
     let Index = If1 .before in let Loop = Index .before in let Begun = Loop .before in let S = Begun .before .before in let a = S .args in
-    let s₀ = a .s .now in let vs = a .values in let ms = a .marks in let z = a .z in let st = a .stamp in let s = Loop .loop .s in
-    let b = Loop .loop .side in let u = Loop .loop .t in let n = Loop .loop .state in let o = Begun .begun .result in
-    let going = Loop .loop .inv .0 in let asks = calls.going-asks s₀ vs ms z st (a .head) (a .w) o s b u n going (S .pre .1) in
-    let p = Index .index .result in let false-asks : calls.TermAsks s vs ms z st false u = rw (If8 .if8 .left) at asks in
-    calls.mark-at s vs ms z st u p (Index .index .ensures) (If1 .if1 .left) (If6 .if6 .left) (If7 .if7 .left) false-asks)
+    let s₀ = a .s .now in let vs = a .values in let ms = a .marks in let z = a .z in let st = a .stamp in let s = Loop .loop .s in let b = Loop .loop .side in
+    let u = Loop .loop .t in let n = Loop .loop .state in let o = Begun .begun .result in let going = Loop .loop .inv .0 in let p = Index .index .result in
+    let keeps = calls.going-keeps s₀ vs ms z st (a .head) (a .w) o s b u n going (Begun .begun .ensures) (S .pre .1) in
+    let false-keeps : calls.StateAsks s vs ms z st false u n = rw (If8 .if8 .left) at keeps in
+    calls.visit-asks s vs ms z st u p (Index .index .ensures) (If1 .if1 .left) (If6 .if6 .left) (If7 .if7 .left)
+    (WordAt2 .word-at2 .result) n (WordAt2 .word-at2 .ensures) (If9 .if9 .left) (If10 .if10 .left) (If11 .if11 .left) false-keeps)
     -- since-requires
     (λ c κs.
-    let If8 = c .before .before .before .before .before .before .before .before .before in let If7 = If8 .before in let If6 = If7 .before in
-    let If1 = If6 .before in let Index = If1 .before in let Loop = Index .before in let Begun = Loop .before in let S = Begun .before .before in
-    let a = S .args in let s₀ = a .s .now in let vs = a .values in let ms = a .marks in let z = a .z in let st = a .stamp in let s = Loop .loop .s in
-    let b = Loop .loop .side in let u = Loop .loop .t in let n = Loop .loop .state in let o = Begun .begun .result in
-    let going = Loop .loop .inv .0 in let asks = calls.going-asks s₀ vs ms z st (a .head) (a .w) o s b u n going (S .pre .1) in
-    let p = Index .index .result in let false-asks : calls.TermAsks s vs ms z st false u = rw (If8 .if8 .left) at asks in
+    let WordAt2 = c .before .before .before .before .before .before in
+    let If9 = WordAt2 .before .before in let If8 = If9 .before in let If7 = If8 .before in let If6 = If7 .before in let If1 = If6 .before in
+    let Index = If1 .before in let Loop = Index .before in let Begun = Loop .before in let S = Begun .before .before in let a = S .args in
+    let s₀ = a .s .now in let vs = a .values in let ms = a .marks in let z = a .z in let st = a .stamp in let s = Loop .loop .s in let b = Loop .loop .side in
+    let u = Loop .loop .t in let n = Loop .loop .state in let o = Begun .begun .result in let going = Loop .loop .inv .0 in let p = Index .index .result in
+    let asks = calls.going-asks s₀ vs ms z st (a .head) (a .w) o s b u n going (Begun .begun .ensures) (S .pre .1) in
+    let false-asks : calls.TermAsks s vs ms z st false u = rw (If8 .if8 .left) at asks in
     omega (arith, calls.mark-at s vs ms z st u p (Index .index .ensures) (If1 .if1 .left) (If6 .if6 .left) (If7 .if7 .left) false-asks, Loop .loop .inv .2, S .good .0 .1))
-    -- word-at-requires-3
-    (λ c κs.
-    let SetAt = c .before .before .before .before in let If8 = SetAt .before .before .before .before .before .before .before in
-    let If7 = If8 .before in let If6 = If7 .before in let If1 = If6 .before in let Index = If1 .before in let Loop = Index .before in
-    let Begun = Loop .before in let S = Begun .before .before in let a = S .args in let s₀ = a .s .now in let vs = a .values in let ms = a .marks in
-    let z = a .z in let st = a .stamp in let s = Loop .loop .s in let b = Loop .loop .side in let u = Loop .loop .t in let n = Loop .loop .state in
-    let o = Begun .begun .result in let going = Loop .loop .inv .0 in
-    let asks = calls.going-asks s₀ vs ms z st (a .head) (a .w) o s b u n going (S .pre .1) in let p = Index .index .result in
-    let false-asks : calls.TermAsks s vs ms z st false u = rw (If8 .if8 .left) at asks in let s₁ = SetAt .set-at .last .0 in
-    calls.value-at s vs ms z st u p (Index .index .ensures) (If1 .if1 .left) (If6 .if6 .left) (If7 .if7 .left) s₁ (SetAt .set-at .ensures) false-asks)
     -- index-requires-2
     (λ c κs.
     search needs)
     -- given-term-requires
     (λ c κs.
-    let Index2 = c .before in let If12 = Index2 .before in let WordAt3 = If12 .before in
-    let SetAt = WordAt3 .before .before .before .before .before in let If8 = SetAt .before .before .before .before .before .before .before in
-    let If7 = If8 .before in let If6 = If7 .before in let If1 = If6 .before in let Index = If1 .before in let Loop = Index .before in
-    let Begun = Loop .before in let S = Begun .before .before in let a = S .args in let s₀ = a .s .now in let vs = a .values in let ms = a .marks in
-    let z = a .z in let st = a .stamp in let s = Loop .loop .s in let b = Loop .loop .side in let u = Loop .loop .t in let n = Loop .loop .state in
-    let o = Begun .begun .result in let going = Loop .loop .inv .0 in
-    let asks = calls.going-asks s₀ vs ms z st (a .head) (a .w) o s b u n going (S .pre .1) in let p = Index .index .result in
-    let false-asks : calls.TermAsks s vs ms z st false u = rw (If8 .if8 .left) at asks in let s₁ = SetAt .set-at .last .0 in
-    calls.head-at s vs ms z st u p (Index .index .ensures) (If1 .if1 .left) (If6 .if6 .left) (If7 .if7 .left) s₁ (SetAt .set-at .ensures) (WordAt3 .word-at3 .result) (WordAt3 .word-at3 .ensures) (Index2 .index2 .result) (Index2 .index2 .ensures) (If12 .if12 .taken) false-asks)
+    let Index2 = c .before in let If12 = Index2 .before in let Visit = If12 .before .before .before .before in
+    let If11 = Visit .before .before in let If10 = If11 .before in let WordAt2 = If10 .before in
+    let If9 = WordAt2 .before .before in let If8 = If9 .before in let If7 = If8 .before in let If6 = If7 .before in let If1 = If6 .before in
+    let Index = If1 .before in let Loop = Index .before in let Begun = Loop .before in let S = Begun .before .before in let a = S .args in
+    let s₀ = a .s .now in let vs = a .values in let ms = a .marks in let z = a .z in let st = a .stamp in let s = Loop .loop .s in let b = Loop .loop .side in
+    let u = Loop .loop .t in let n = Loop .loop .state in let o = Begun .begun .result in let going = Loop .loop .inv .0 in let p = Index .index .result in
+    let keeps = calls.going-keeps s₀ vs ms z st (a .head) (a .w) o s b u n going (Begun .begun .ensures) (S .pre .1) in
+    let false-keeps : calls.StateAsks s vs ms z st false u n = rw (If8 .if8 .left) at keeps in
+    calls.head-at s vs ms z st u p (Index .index .ensures) (If1 .if1 .left) (If6 .if6 .left) (If7 .if7 .left)
+    (WordAt2 .word-at2 .result) n (WordAt2 .word-at2 .ensures) (If9 .if9 .left) (If10 .if10 .left) (If11 .if11 .left) (Visit .visit .last .0) (Visit .visit .result) (Visit .visit .ensures)
+    (Index2 .index2 .result) (Index2 .index2 .ensures) (If12 .if12 .taken) false-keeps)
     -- loop-less-3
     (λ c.
-    let SetAt = c .before .before .before .before .before .before .before .before .before in let If11 = SetAt .before .before in
-    let If10 = If11 .before in let WordAt2 = If10 .before in let If8 = WordAt2 .before .before .before in let If7 = If8 .before in
-    let If6 = If7 .before in let If1 = If6 .before in let Index = If1 .before in let Loop = Index .before in let Begun = Loop .before in
-    let S = Begun .before .before in let a = S .args in let s₀ = a .s .now in let vs = a .values in let ms = a .marks in let z = a .z in
-    let st = a .stamp in let s = Loop .loop .s in let b = Loop .loop .side in let u = Loop .loop .t in let n = Loop .loop .state in
-    let o = Begun .begun .result in let going = Loop .loop .inv .0 in
-    let asks = calls.going-asks s₀ vs ms z st (a .head) (a .w) o s b u n going (S .pre .1) in let p = Index .index .result in
-    let false-asks : calls.TermAsks s vs ms z st false u = rw (If8 .if8 .left) at asks in let s₁ = SetAt .set-at .last .0 in
-    rw (If8 .if8 .left) (calls.new-lighter s vs ms z st u p (Index .index .ensures) (If1 .if1 .left) (If6 .if6 .left) (If7 .if7 .left) s₁ (SetAt .set-at .ensures) false-asks (λ e. If10 .if10 .left (WordAt2 .word-at2 .ensures ∙ e)) (λ e. If11 .if11 .left (WordAt2 .word-at2 .ensures ∙ e)) true (c .given-term .result)))
+    let Visit = c .before .before .before .before .before .before .before in let If11 = Visit .before .before in let If10 = If11 .before in let WordAt2 = If10 .before in
+    let If9 = WordAt2 .before .before in let If8 = If9 .before in let If7 = If8 .before in let If6 = If7 .before in let If1 = If6 .before in
+    let Index = If1 .before in let Loop = Index .before in let Begun = Loop .before in let S = Begun .before .before in let a = S .args in
+    let s₀ = a .s .now in let vs = a .values in let ms = a .marks in let z = a .z in let st = a .stamp in let s = Loop .loop .s in let b = Loop .loop .side in
+    let u = Loop .loop .t in let n = Loop .loop .state in let o = Begun .begun .result in let going = Loop .loop .inv .0 in let p = Index .index .result in
+    let keeps = calls.going-keeps s₀ vs ms z st (a .head) (a .w) o s b u n going (Begun .begun .ensures) (S .pre .1) in
+    let false-keeps : calls.StateAsks s vs ms z st false u n = rw (If8 .if8 .left) at keeps in
+    rw (If8 .if8 .left) (calls.visit-lighter s vs ms z st u p (Index .index .ensures) (If1 .if1 .left) (If6 .if6 .left) (If7 .if7 .left)
+    (WordAt2 .word-at2 .result) n (WordAt2 .word-at2 .ensures) (If9 .if9 .left) (If10 .if10 .left) (If11 .if11 .left) (Visit .visit .last .0) (Visit .visit .result)
+    (Visit .visit .ensures) false-keeps true (c .given-term .result)))
     -- loop-again-3
     (λ c.
-    let Index2 = c .before .before in let If12 = Index2 .before in let WordAt3 = If12 .before in
-    let SetAt = WordAt3 .before .before .before .before .before in let If11 = SetAt .before .before in let If10 = If11 .before in
-    let WordAt2 = If10 .before in let If9 = WordAt2 .before .before in let If8 = If9 .before in let If7 = If8 .before in let If6 = If7 .before in
-    let If1 = If6 .before in let Index = If1 .before in let Loop = Index .before in let Begun = Loop .before in let S = Begun .before .before in
-    let a = S .args in let s₀ = a .s .now in let vs = a .values in let ms = a .marks in let z = a .z in let st = a .stamp in let s = Loop .loop .s in
-    let b = Loop .loop .side in let u = Loop .loop .t in let n = Loop .loop .state in let o = Begun .begun .result in
-    let going = Loop .loop .inv .0 in let asks = calls.going-asks s₀ vs ms z st (a .head) (a .w) o s b u n going (S .pre .1) in
-    let p = Index .index .result in let f = visited st in let false-asks : calls.TermAsks s vs ms z st false u = rw (If8 .if8 .left) at asks in
-    let false-going : calls.Going s₀ vs ms z st (a .head) (a .w) o s false u n = rw (If8 .if8 .left) at going in let s₁ = SetAt .set-at .last .0 in
+    let Index2 = c .before .before in let If12 = Index2 .before in let Visit = If12 .before .before .before .before in
+    let If11 = Visit .before .before in let If10 = If11 .before in let WordAt2 = If10 .before in
+    let If9 = WordAt2 .before .before in let If8 = If9 .before in let If7 = If8 .before in let If6 = If7 .before in let If1 = If6 .before in
+    let Index = If1 .before in let Loop = Index .before in let Begun = Loop .before in let S = Begun .before .before in let a = S .args in
+    let s₀ = a .s .now in let vs = a .values in let ms = a .marks in let z = a .z in let st = a .stamp in let s = Loop .loop .s in let b = Loop .loop .side in
+    let u = Loop .loop .t in let n = Loop .loop .state in let o = Begun .begun .result in let going = Loop .loop .inv .0 in let p = Index .index .result in
+    let keeps = calls.going-keeps s₀ vs ms z st (a .head) (a .w) o s b u n going (Begun .begun .ensures) (S .pre .1) in
+    let false-keeps : calls.StateAsks s vs ms z st false u n = rw (If8 .if8 .left) at keeps in
+    let false-going : calls.Going s₀ vs ms z st (a .head) (a .w) o s false u n = rw (If8 .if8 .left) at going in let s₁ = Visit .visit .last .0 in let f = visited st in
     let light : term-weight s ms f false u ≤ term-weight s₀ ms f (a .head) (a .w) = rw (If8 .if8 .left) at (Loop .loop .inv .1) in (
       calls.going-on s₀ vs ms z st (a .head) (a .w) o s false u n false-going s₁ true (c .given-term .result) 1
-          (calls.head-going s vs ms z st u p (Index .index .ensures) (If1 .if1 .left) (If6 .if6 .left) (If7 .if7 .left) s₁ (SetAt .set-at .ensures) (WordAt3 .word-at3 .result) (WordAt3 .word-at3 .ensures) (If9 .if9 .left) (λ e. If10 .if10 .left (WordAt2 .word-at2 .ensures ∙ e)) (λ e. If11 .if11 .left (WordAt2 .word-at2 .ensures ∙ e)) (Index2 .index2 .result) (c .given-term .result) (Index2 .index2 .ensures)
-          (c .given-term .ensures) (If12 .if12 .taken) n),
+          (calls.head-going s vs ms z st u p (Index .index .ensures) (If1 .if1 .left) (If6 .if6 .left) (If7 .if7 .left)
+          (WordAt2 .word-at2 .result) n (WordAt2 .word-at2 .ensures) (If9 .if9 .left) (If10 .if10 .left) (If11 .if11 .left) (Visit .visit .last .0) (Visit .visit .result) (Visit .visit .ensures)
+          (Index2 .index2 .result) (Index2 .index2 .ensures) (If12 .if12 .taken) (c .given-term .result) (c .given-term .ensures)),
       no-heavier (term-weight s₁ ms f true (c .given-term .result)) (term-weight s ms f false u) (term-weight s₀ ms f (a .head) (a .w)) light
-          (calls.new-lighter s vs ms z st u p (Index .index .ensures) (If1 .if1 .left) (If6 .if6 .left) (If7 .if7 .left) s₁ (SetAt .set-at .ensures) false-asks (λ e. If10 .if10 .left (WordAt2 .word-at2 .ensures ∙ e)) (λ e. If11 .if11 .left (WordAt2 .word-at2 .ensures ∙ e)) true (c .given-term .result)),
-      SetAt .set-at .kept .0 ∙ Loop .loop .inv .2,
+          (calls.visit-lighter s vs ms z st u p (Index .index .ensures) (If1 .if1 .left) (If6 .if6 .left) (If7 .if7 .left)
+          (WordAt2 .word-at2 .result) n (WordAt2 .word-at2 .ensures) (If9 .if9 .left) (If10 .if10 .left) (If11 .if11 .left) (Visit .visit .last .0) (Visit .visit .result)
+          (Visit .visit .ensures) false-keeps true (c .given-term .result)),
+      Visit .visit .kept .0 ∙ Loop .loop .inv .2,
     ))
     -- loop-less-4
     (λ c.
-    let WordAt3 = c .before in let SetAt = WordAt3 .before .before .before .before .before in let If11 = SetAt .before .before in
-    let If10 = If11 .before in let WordAt2 = If10 .before in let If8 = WordAt2 .before .before .before in let If7 = If8 .before in
-    let If6 = If7 .before in let If1 = If6 .before in let Index = If1 .before in let Loop = Index .before in let Begun = Loop .before in
-    let S = Begun .before .before in let a = S .args in let s₀ = a .s .now in let vs = a .values in let ms = a .marks in let z = a .z in
-    let st = a .stamp in let s = Loop .loop .s in let b = Loop .loop .side in let u = Loop .loop .t in let n = Loop .loop .state in
-    let o = Begun .begun .result in let going = Loop .loop .inv .0 in
-    let asks = calls.going-asks s₀ vs ms z st (a .head) (a .w) o s b u n going (S .pre .1) in let p = Index .index .result in
-    let false-asks : calls.TermAsks s vs ms z st false u = rw (If8 .if8 .left) at asks in let s₁ = SetAt .set-at .last .0 in
-    rw (If8 .if8 .left) (calls.new-lighter s vs ms z st u p (Index .index .ensures) (If1 .if1 .left) (If6 .if6 .left) (If7 .if7 .left) s₁ (SetAt .set-at .ensures) false-asks (λ e. If10 .if10 .left (WordAt2 .word-at2 .ensures ∙ e)) (λ e. If11 .if11 .left (WordAt2 .word-at2 .ensures ∙ e)) false (WordAt3 .word-at3 .result)))
+    let Visit = c .before .before .before .before in let If11 = Visit .before .before in let If10 = If11 .before in let WordAt2 = If10 .before in
+    let If9 = WordAt2 .before .before in let If8 = If9 .before in let If7 = If8 .before in let If6 = If7 .before in let If1 = If6 .before in
+    let Index = If1 .before in let Loop = Index .before in let Begun = Loop .before in let S = Begun .before .before in let a = S .args in
+    let s₀ = a .s .now in let vs = a .values in let ms = a .marks in let z = a .z in let st = a .stamp in let s = Loop .loop .s in let b = Loop .loop .side in
+    let u = Loop .loop .t in let n = Loop .loop .state in let o = Begun .begun .result in let going = Loop .loop .inv .0 in let p = Index .index .result in
+    let keeps = calls.going-keeps s₀ vs ms z st (a .head) (a .w) o s b u n going (Begun .begun .ensures) (S .pre .1) in
+    let false-keeps : calls.StateAsks s vs ms z st false u n = rw (If8 .if8 .left) at keeps in
+    rw (If8 .if8 .left) (calls.visit-lighter s vs ms z st u p (Index .index .ensures) (If1 .if1 .left) (If6 .if6 .left) (If7 .if7 .left)
+    (WordAt2 .word-at2 .result) n (WordAt2 .word-at2 .ensures) (If9 .if9 .left) (If10 .if10 .left) (If11 .if11 .left) (Visit .visit .last .0) (Visit .visit .result)
+    (Visit .visit .ensures) false-keeps false (Visit .visit .result)))
     -- loop-again-4
     (λ c.
-    let WordAt3 = c .before in let Since = WordAt3 .before .before in let SetAt = Since .before .before .before in let If11 = SetAt .before .before in
-    let If10 = If11 .before in let WordAt2 = If10 .before in let If9 = WordAt2 .before .before in let If8 = If9 .before in let If7 = If8 .before in
-    let If6 = If7 .before in let If1 = If6 .before in let Index = If1 .before in let Loop = Index .before in let Begun = Loop .before in
-    let S = Begun .before .before in let a = S .args in let s₀ = a .s .now in let vs = a .values in let ms = a .marks in let z = a .z in
-    let st = a .stamp in let s = Loop .loop .s in let b = Loop .loop .side in let u = Loop .loop .t in let n = Loop .loop .state in
-    let o = Begun .begun .result in let going = Loop .loop .inv .0 in
-    let asks = calls.going-asks s₀ vs ms z st (a .head) (a .w) o s b u n going (S .pre .1) in let p = Index .index .result in let f = visited st in
-    let false-asks : calls.TermAsks s vs ms z st false u = rw (If8 .if8 .left) at asks in
-    let false-going : calls.Going s₀ vs ms z st (a .head) (a .w) o s false u n = rw (If8 .if8 .left) at going in let s₁ = SetAt .set-at .last .0 in
+    let Since = c .before in let Visit = Since .before .before .before in let If11 = Visit .before .before in let If10 = If11 .before in let WordAt2 = If10 .before in
+    let If9 = WordAt2 .before .before in let If8 = If9 .before in let If7 = If8 .before in let If6 = If7 .before in let If1 = If6 .before in
+    let Index = If1 .before in let Loop = Index .before in let Begun = Loop .before in let S = Begun .before .before in let a = S .args in
+    let s₀ = a .s .now in let vs = a .values in let ms = a .marks in let z = a .z in let st = a .stamp in let s = Loop .loop .s in let b = Loop .loop .side in
+    let u = Loop .loop .t in let n = Loop .loop .state in let o = Begun .begun .result in let going = Loop .loop .inv .0 in let p = Index .index .result in
+    let keeps = calls.going-keeps s₀ vs ms z st (a .head) (a .w) o s b u n going (Begun .begun .ensures) (S .pre .1) in
+    let false-keeps : calls.StateAsks s vs ms z st false u n = rw (If8 .if8 .left) at keeps in
+    let false-going : calls.Going s₀ vs ms z st (a .head) (a .w) o s false u n = rw (If8 .if8 .left) at going in let s₁ = Visit .visit .last .0 in let f = visited st in
     let light : term-weight s ms f false u ≤ term-weight s₀ ms f (a .head) (a .w) = rw (If8 .if8 .left) at (Loop .loop .inv .1) in
     rw (If8 .if8 .left) (
-      calls.going-on s₀ vs ms z st (a .head) (a .w) o s false u n false-going s₁ false (WordAt3 .word-at3 .result) (Since .since .result)
-          (calls.unit-going s vs ms z st u p (Index .index .ensures) (If1 .if1 .left) (If6 .if6 .left) (If7 .if7 .left) s₁ (SetAt .set-at .ensures) (WordAt3 .word-at3 .result) (WordAt3 .word-at3 .ensures) (If9 .if9 .left) (λ e. If10 .if10 .left (WordAt2 .word-at2 .ensures ∙ e)) (λ e. If11 .if11 .left (WordAt2 .word-at2 .ensures ∙ e)) (c .if12 .left) n (Since .since .result) (Since .since .ensures)),
-      no-heavier (term-weight s₁ ms f false (WordAt3 .word-at3 .result)) (term-weight s ms f false u) (term-weight s₀ ms f (a .head) (a .w)) light
-          (calls.new-lighter s vs ms z st u p (Index .index .ensures) (If1 .if1 .left) (If6 .if6 .left) (If7 .if7 .left) s₁ (SetAt .set-at .ensures) false-asks (λ e. If10 .if10 .left (WordAt2 .word-at2 .ensures ∙ e)) (λ e. If11 .if11 .left (WordAt2 .word-at2 .ensures ∙ e)) false (WordAt3 .word-at3 .result)),
-      SetAt .set-at .kept .0 ∙ Loop .loop .inv .2,
+      calls.going-on s₀ vs ms z st (a .head) (a .w) o s false u n false-going s₁ false (Visit .visit .result) (Since .since .result)
+          (calls.unit-going s vs ms z st u p (Index .index .ensures) (If1 .if1 .left) (If6 .if6 .left) (If7 .if7 .left)
+          (WordAt2 .word-at2 .result) n (WordAt2 .word-at2 .ensures) (If9 .if9 .left) (If10 .if10 .left) (If11 .if11 .left) (Visit .visit .last .0) (Visit .visit .result) (Visit .visit .ensures)
+          (c .if12 .left) (Since .since .result) (Since .since .ensures)),
+      no-heavier (term-weight s₁ ms f false (Visit .visit .result)) (term-weight s ms f false u) (term-weight s₀ ms f (a .head) (a .w)) light
+          (calls.visit-lighter s vs ms z st u p (Index .index .ensures) (If1 .if1 .left) (If6 .if6 .left) (If7 .if7 .left)
+          (WordAt2 .word-at2 .result) n (WordAt2 .word-at2 .ensures) (If9 .if9 .left) (If10 .if10 .left) (If11 .if11 .left) (Visit .visit .last .0) (Visit .visit .result)
+          (Visit .visit .ensures) false-keeps false (Visit .visit .result)),
+      Visit .visit .kept .0 ∙ Loop .loop .inv .2,
     ))

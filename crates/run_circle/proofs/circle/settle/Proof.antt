@@ -1,11 +1,12 @@
 -- `run_circle::circle::settle` meets its contract: the term at hand has ground pairs only, and the weight of what is left falls.
 use Prim.Native.Nat.{_+_, _*_}
-use mathlib.Core.Path.{_≡_, refl, sym, _∙_}
+use mathlib.Core.Path.{_≡_, refl, sym, ap, _∙_}
 use native.Mathlib.Omega.{arith}
 use mathlib.Core.Bool.{false}
 use lib.ListN.{length}
 use borrow.Author.Needs.{needs}
 use Rattle.term.specs.Words.{writer-word}
+use Rattle.run_circle.specs.Ground.{stamp-in}
 use Rattle.run_circle.proofs.Measure.{term-weight}
 use Rattle.run_circle.proofs.Settle.{
   is-one,
@@ -63,7 +64,8 @@ last-requires c κs =
     let Index = If2 .before in
     let Loop = Index .before .before .before in
     let S = Loop .before .before .before in
-    settle-count (S .args .s .now) (S .args .values) (S .args .marks) (S .args .stamp) (S .args .pair) (Loop .loop .s) (Loop .loop .t) (Loop .loop .inv .0) (If2 .if2 .taken) (Index .index .result) (Index .index .ensures) (S .pre)
+    settle-count (S .args .s .now) (S .args .values) (S .args .marks) (S .args .stamp) (S .args .pair) (Loop .loop .s) (Loop .loop .t) (Loop .loop .inv .0) (If2 .if2 .taken)
+    (Index .index .result) (Index .index .ensures) (S .pre)
 
 same-length : tie.Need-same-length Inv-loop μ-loop
 same-length c =
@@ -83,7 +85,12 @@ argument-requires c κs =
     let Index = If2 .before in
     let Loop = Index .before .before .before in
     let S = Loop .before .before .before in
-    omega (arith, settle-count (S .args .s .now) (S .args .values) (S .args .marks) (S .args .stamp) (S .args .pair) (Loop .loop .s) (Loop .loop .t) (Loop .loop .inv .0) (If2 .if2 .taken) (Index .index .result) (Index .index .ensures) (S .pre), Last .last .ensures .among)
+    omega (
+      arith,
+      settle-count (S .args .s .now) (S .args .values) (S .args .marks) (S .args .stamp) (S .args .pair) (Loop .loop .s) (Loop .loop .t) (Loop .loop .inv .0) (If2 .if2 .taken)
+          (Index .index .result) (Index .index .ensures) (S .pre),
+      Last .last .ensures .among,
+    )
 
 loop-less : tie.Need-loop-less Inv-loop μ-loop
 loop-less c =
@@ -93,7 +100,8 @@ loop-less c =
     let Index = If2 .before in
     let Loop = Index .before .before .before in
     let S = Loop .before .before .before in
-    argument-lighter (S .args .s .now) (S .args .values) (S .args .marks) (S .args .stamp) (S .args .pair) (Loop .loop .s) (Loop .loop .t) (Loop .loop .inv .0) (If2 .if2 .taken) (Index .index .result) (Index .index .ensures) (Last .last .result) (Last .last .ensures) (If3 .if3 .left) (c .argument .result) (c .argument .ensures) (S .pre)
+    argument-lighter (S .args .s .now) (S .args .values) (S .args .marks) (S .args .stamp) (S .args .pair) (Loop .loop .s) (Loop .loop .t) (Loop .loop .inv .0) (If2 .if2 .taken)
+    (Index .index .result) (Index .index .ensures) (Last .last .result) (Last .last .ensures) (If3 .if3 .left) (c .argument .result) (c .argument .ensures) (S .pre)
 
 loop-again : tie.Need-loop-again Inv-loop μ-loop
 loop-again c =
@@ -102,8 +110,11 @@ loop-again c =
     let If2 = Last .before .before in
     let Index = If2 .before in
     let Loop = Index .before .before .before in
-    let S = Loop .before .before .before in
-    (settling-argument (S .args .s .now) (S .args .values) (S .args .marks) (S .args .stamp) (S .args .pair) (Loop .loop .s) (Loop .loop .t) (Loop .loop .inv .0) (If2 .if2 .taken) (Index .index .result) (Index .index .ensures) (Last .last .result) (Last .last .ensures) (If3 .if3 .left) (c .argument .result) (c .argument .ensures), Loop .loop .inv .1)
+    let S = Loop .before .before .before in (
+      settling-argument (S .args .s .now) (S .args .values) (S .args .marks) (S .args .stamp) (S .args .pair) (Loop .loop .s) (Loop .loop .t) (Loop .loop .inv .0) (If2 .if2 .taken)
+          (Index .index .result) (Index .index .ensures) (Last .last .result) (Last .last .ensures) (If3 .if3 .left) (c .argument .result) (c .argument .ensures),
+      Loop .loop .inv .1,
+    )
 
 word-at-requires : tie.Need-word-at-requires Inv-loop μ-loop
 word-at-requires c κs =
@@ -113,7 +124,8 @@ word-at-requires c κs =
     let Leads = If1 .before in
     let Loop = Leads .before in
     let S = Loop .before .before .before in
-    settle-mark (S .args .s .now) (S .args .values) (S .args .marks) (S .args .stamp) (S .args .pair) (Loop .loop .s) (Loop .loop .t) (Loop .loop .inv .0) (If2 .if2 .left) (rw (If1 .if1 .taken) at (Leads .leads .ensures)) (Index .index .result) (Index .index .ensures) (S .pre)
+    settle-mark (S .args .s .now) (S .args .values) (S .args .marks) (S .args .stamp) (S .args .pair) (Loop .loop .s) (Loop .loop .t) (Loop .loop .inv .0) (If2 .if2 .left) (rw
+    (If1 .if1 .taken) at (Leads .leads .ensures)) (Index .index .result) (Index .index .ensures) (S .pre)
 
 same-length-2 : tie.Need-same-length-2 Inv-loop μ-loop
 same-length-2 c =
@@ -134,7 +146,8 @@ set-at-requires c κs =
     let Leads = If1 .before in
     let Loop = Leads .before in
     let S = Loop .before .before .before in
-    settle-mark (S .args .s .now) (S .args .values) (S .args .marks) (S .args .stamp) (S .args .pair) (Loop .loop .s) (Loop .loop .t) (Loop .loop .inv .0) (If2 .if2 .left) (rw (If1 .if1 .taken) at (Leads .leads .ensures)) (Index .index .result) (Index .index .ensures) (S .pre)
+    settle-mark (S .args .s .now) (S .args .values) (S .args .marks) (S .args .stamp) (S .args .pair) (Loop .loop .s) (Loop .loop .t) (Loop .loop .inv .0) (If2 .if2 .left) (rw
+    (If1 .if1 .taken) at (Leads .leads .ensures)) (Index .index .result) (Index .index .ensures) (S .pre)
 
 word-at-requires-2 : tie.Need-word-at-requires-2 Inv-loop μ-loop
 word-at-requires-2 c κs =
@@ -147,7 +160,9 @@ word-at-requires-2 c κs =
     let Leads = If1 .before in
     let Loop = Leads .before in
     let S = Loop .before .before .before in
-    settle-value (S .args .s .now) (S .args .values) (S .args .marks) (S .args .stamp) (S .args .pair) (Loop .loop .s) (Loop .loop .t) (Loop .loop .inv .0) (If2 .if2 .left) (rw (If1 .if1 .taken) at (Leads .leads .ensures)) (Index .index .result) (Index .index .ensures) (sym (WordAt .word-at .ensures) ∙ If4 .if4 .left) (SetAt .set-at .last .0) (SetAt .set-at .ensures) (S .pre)
+    settle-value (S .args .s .now) (S .args .values) (S .args .marks) (S .args .stamp) (S .args .pair) (Loop .loop .s) (Loop .loop .t) (Loop .loop .inv .0) (If2 .if2 .left) (rw
+    (If1 .if1 .taken) at (Leads .leads .ensures)) (Index .index .result) (Index .index .ensures) (ap (λ m. stamp-in m) (sym (WordAt .word-at .ensures)) ∙ If4 .if4 .left)
+    (SetAt .set-at .last .0) (SetAt .set-at .ensures) (S .pre)
 
 loop-less-2 : tie.Need-loop-less-2 Inv-loop μ-loop
 loop-less-2 c =
@@ -160,7 +175,9 @@ loop-less-2 c =
     let Leads = If1 .before in
     let Loop = Leads .before in
     let S = Loop .before .before .before in
-    value-lighter (S .args .s .now) (S .args .values) (S .args .marks) (S .args .stamp) (S .args .pair) (Loop .loop .s) (Loop .loop .t) (Loop .loop .inv .0) (If2 .if2 .left) (rw (If1 .if1 .taken) at (Leads .leads .ensures)) (Index .index .result) (Index .index .ensures) (sym (WordAt .word-at .ensures) ∙ If4 .if4 .left) (SetAt .set-at .last .0) (SetAt .set-at .ensures) (S .pre) (c .word-at2 .result)
+    value-lighter (S .args .s .now) (S .args .values) (S .args .marks) (S .args .stamp) (S .args .pair) (Loop .loop .s) (Loop .loop .t) (Loop .loop .inv .0) (If2 .if2 .left) (rw
+    (If1 .if1 .taken) at (Leads .leads .ensures)) (Index .index .result) (Index .index .ensures) (ap (λ m. stamp-in m) (sym (WordAt .word-at .ensures)) ∙ If4 .if4 .left)
+    (SetAt .set-at .last .0) (SetAt .set-at .ensures) (S .pre) (c .word-at2 .result)
 
 loop-again-2 : tie.Need-loop-again-2 Inv-loop μ-loop
 loop-again-2 c =
@@ -172,8 +189,12 @@ loop-again-2 c =
     let If1 = Index .before in
     let Leads = If1 .before in
     let Loop = Leads .before in
-    let S = Loop .before .before .before in
-    (settling-value (S .args .s .now) (S .args .values) (S .args .marks) (S .args .stamp) (S .args .pair) (Loop .loop .s) (Loop .loop .t) (Loop .loop .inv .0) (If2 .if2 .left) (rw (If1 .if1 .taken) at (Leads .leads .ensures)) (Index .index .result) (Index .index .ensures) (sym (WordAt .word-at .ensures) ∙ If4 .if4 .left) (SetAt .set-at .last .0) (SetAt .set-at .ensures) (c .word-at2 .result) (c .word-at2 .ensures), SetAt .set-at .kept .0 ∙ Loop .loop .inv .1)
+    let S = Loop .before .before .before in (
+      settling-value (S .args .s .now) (S .args .values) (S .args .marks) (S .args .stamp) (S .args .pair) (Loop .loop .s) (Loop .loop .t) (Loop .loop .inv .0) (If2 .if2 .left)
+          (rw (If1 .if1 .taken) at (Leads .leads .ensures)) (Index .index .result) (Index .index .ensures) (ap (λ m. stamp-in m) (sym (WordAt .word-at .ensures)) ∙ If4 .if4 .left)
+          (SetAt .set-at .last .0) (SetAt .set-at .ensures) (c .word-at2 .result) (c .word-at2 .ensures),
+      SetAt .set-at .kept .0 ∙ Loop .loop .inv .1,
+    )
 
 same-length-3 : tie.Need-same-length-3 Inv-loop μ-loop
 same-length-3 c =

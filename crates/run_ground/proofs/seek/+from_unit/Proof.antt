@@ -7,8 +7,8 @@ use borrow.Author.Needs.{needs}
 use borrow.Author.Tests.{eqb-true}
 use borrow.Fn.Kinds.{In}
 use borrow.Fn.PlainCycle.{Measures, is, falls, and}
-use Rattle.run_circle.specs.Search.{visited}
 use Rattle.run_circle.proofs.Measure.{lighter, no-heavier}
+use Rattle.run_ground.proofs.Entered.{was-entered}
 use Rattle.run_ground.proofs.Calls as calls
 use Rattle.run_ground.proofs.Found.{not-three}
 use Rattle.run_ground.proofs.Words.{weight}
@@ -27,7 +27,7 @@ use Rattle.run_ground.proofs.seek.+from_unit.{statement}
 use Rattle.run_ground.proofs.seek.+from_unit.Tie.{close}
 
 abbrev μ-from-unit : Measures 1 from-unit-kinds.ps ℕ
-μ-from-unit κs a = weight (visited (a .1 .1 .1 .1 .0)) (a .0 .now) (a .1 .1 .0) (a .1 .1 .1 .0) (a .1 .1 .1 .1 .1 .0)
+μ-from-unit κs a = weight (was-entered (a .1 .1 .1 .1 .0)) (a .0 .now) (a .1 .1 .0) (a .1 .1 .1 .0) (a .1 .1 .1 .1 .1 .0)
 
 abbrev from-unit-at : ℕ → In 1 from-unit-kinds.ps
 from-unit-at t = and 1 from-unit-kinds.ps (is 1 from-unit-kinds.ps μ-from-unit t) from-unit.Pre
@@ -48,10 +48,10 @@ from-unit-μ-loop2 s₀ values marks links stamp w state found₀ t tag p k i₀
 abbrev from-unit-Inv-loop : from-unit-lts.InvT-loop
 from-unit-Inv-loop s₀ values marks links stamp w state found₀ t₀ s found t =
     calls.Going values marks links stamp s₀ w state s t found
-    × (weight (visited stamp) s marks links t ≤ weight (visited stamp) s₀ marks links w) × (length s ≡ length s₀)
+    × (weight (was-entered stamp) s marks links t ≤ weight (was-entered stamp) s₀ marks links w) × (length s ≡ length s₀)
 
 abbrev from-unit-μ-loop : from-unit-lts.MeasureT-loop
-from-unit-μ-loop s₀ values marks links stamp w state found₀ t₀ s found t = weight (visited stamp) s marks links t
+from-unit-μ-loop s₀ values marks links stamp w state found₀ t₀ s found t = weight (was-entered stamp) s marks links t
 
 pub +from-unit-spec : {M : Type 1} → statement M
 +from-unit-spec = close μ-from-unit λ t.
@@ -115,7 +115,7 @@ pub +from-unit-spec : {M : Type 1} → statement M
     let asks = calls.going-asks vs ms ls st s₀ (a .w) (a .state) s u f going (S .pre .1) in let p = Index .index .result in
     let k = Count .count .result in let s₂ = Loop2 .loop2 .s in let i = Loop2 .loop2 .i in let m = Loop2 .loop2 .found in
     let walking = Loop2 .loop2 .inv .0 in let low : i ≤ k = omega (arith, Loop2Test .loop2-test .taken) in let b = Argument .argument .result in
-    let reads = Argument .argument .ensures in let g = visited st in (
+    let reads = Argument .argument .ensures in let g = was-entered st in (
       lighter (weight g s₂ ms ls b) (weight g s ms ls u) (weight g s₀ ms ls (a .w)) t (S .pre .0) (Loop .loop .inv .1)
           (calls.argument-lighter vs ms ls st s u f s₂ p k i m walking low b reads asks),
       calls.argument-asks vs ms ls st s u f s₂ p k i m walking low b reads asks,
@@ -221,7 +221,7 @@ pub +from-unit-spec : {M : Type 1} → statement M
     let asks = calls.going-asks vs ms ls st s₀ (a .w) (a .state) s u f going (S .pre .1) in let p = Index .index .result in
     let k = Count .count .result in let s₂ = Loop2 .loop2 .s in let i = Loop2 .loop2 .i in let m = Loop2 .loop2 .found in
     let walking = Loop2 .loop2 .inv .0 in let low2 : i ≤ k = omega (arith, If3 .if3 .left) in let b2 = c .argument2 .result in
-    let reads2 = c .argument2 .ensures in let g = visited st in (
+    let reads2 = c .argument2 .ensures in let g = was-entered st in (
       calls.going-on vs ms ls st s₀ (a .w) (a .state) s u f going s₂ b2 m
           (calls.last-going vs ms ls st s u f s₂ p k i m walking low2 b2 reads2 (λ l. omega (arith, Loop2Test .loop2-test .left))),
       no-heavier (weight g s₂ ms ls b2) (weight g s ms ls u) (weight g s₀ ms ls (a .w)) (Loop .loop .inv .1)
@@ -293,7 +293,7 @@ pub +from-unit-spec : {M : Type 1} → statement M
     let u = Loop .loop .t in let f = Loop .loop .found in let going = Loop .loop .inv .0 in
     let asks = calls.going-asks vs ms ls st s₀ (a .w) (a .state) s u f going (S .pre .1) in let p = Index .index .result in
     let at = Index .index .ensures in let v = WordAt .word-at .result in let read = WordAt .word-at .ensures in let s₅ = Enters .enters .last .0 in
-    let g = visited st in (
+    let g = was-entered st in (
       calls.going-on vs ms ls st s₀ (a .w) (a .state) s u f going s₅ v f
           (calls.new-going vs ms ls st s u f (If1 .if1 .left) (If4 .if4 .left) p at v read (If5 .if5 .left) s₅ (rw (c .if6 .taken) at (Enters .enters .ensures))),
       no-heavier (weight g s₅ ms ls v) (weight g s ms ls u) (weight g s₀ ms ls (a .w)) (Loop .loop .inv .1)
