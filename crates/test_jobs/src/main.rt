@@ -2,6 +2,7 @@
 // A frame is `BUDGET PAIRS COMPOUNDS GOALS BUFFER SCRATCH NEED LENGTH`, ended by LF; then so many bytes of text and an LF. The scratch that is lent is
 // as much longer or shorter than the call's own need as SCRATCH is than NEED, and at most 600,000 words. Every job runs over the same scratch. A
 // frame whose buffer is larger than 65,536 bytes, or its text than 65,535, ends the program.
+// Its first jobs are tests/corners.txt: the cases of document 01, and further corners.
 use job::call::Answer;
 use job::call::call;
 use loader::refusal::Refusal;
