@@ -3,7 +3,7 @@ use Prim.Native.Nat.{ℕ, _+_, _*_, _≤_, _<_}
 use mathlib.Core.Path.{_≡_, _∙_}
 use mathlib.Core.List.{List, [], _∷_, _++_}
 use native.Mathlib.Omega.{arith}
-use lib.ListN.{length, getD, replicate, length-replicate, getD-replicate, List·getD-append}
+use lib.ListN.{length, getD}
 use Rattle.meaning.specs.Bytes.{Bytes}
 use Rattle.meaning.specs.Terms.{Named, Clause, Query, Job, count}
 use Rattle.meaning.specs.Trial.{procedure}
@@ -168,10 +168,3 @@ pub image-holds-laid-out : (text : Bytes) (j : Job) (s : List ℕ) → LaidOut t
 unfolding image
 image-holds-laid-out text j s l inside zeros =
     rw (l .job) at (stored-job (text-names text) (text-entries text) s (l .few-names) (l .entries) inside zeros (l .distinct))
-
--- Words that were cleared.
-pub cleared-zero : (n : ℕ) (rest : List ℕ) (w : ℕ) → w < n → getD (replicate n 0 ++ rest) w 0 ≡ 0
-cleared-zero n rest w h =
-    let zeros : List ℕ = replicate n 0 in
-    let size : length zeros ≡ n = length-replicate n 0 in
-    List·getD-append zeros rest 0 w (omega arith) ∙ getD-replicate n w 0 0 h

@@ -8,12 +8,11 @@ use mathlib.Core.Logic.{⊎-elim}
 use native.Mathlib.Omega.{arith}
 use native.Mathlib.Nat.{eq-or-lt-of-le}
 use lib.Dec.{leb}
-use lib.ListN.{length, getD, drop, replicate, length-append, length-replicate, List·getD-append}
+use lib.ListN.{length, getD, length-append, List·getD-append}
 use lib.Seq.{getD-append-seam}
 use Rattle.meaning.specs.Bytes.{Bytes, same, any, if_then_else_}
 use Rattle.meaning.specs.Terms.{Job}
 use Rattle.meaning.specs.Tokens.{Token, name, variable, integer, sign, bad, Tokens, ends, token, tokens}
-use Rattle.meaning.specs.Call.{cleared}
 use Rattle.meaning.specs.Items.{pieces, no-query, Reading, job, refused, items, asked, reading}
 use Rattle.term.specs.Jobs.{Distinct, HoldsJob}
 use Rattle.term.proofs.Numbers.{same-swap}
@@ -22,7 +21,7 @@ use Rattle.load_names.specs.Places.{spellings}
 use Rattle.load_image.specs.Image.{so-far, text-names, text-entries, image}
 use Rattle.load_image.proofs.Steps.{added, name-added, names-after}
 use Rattle.load_image.proofs.AcceptedEntries.{names-in-spells, entries-accepted, pieces-cut, pieces-names}
-use Rattle.load_image.proofs.ImageHolds.{LaidOut, image-holds-laid-out, cleared-zero}
+use Rattle.load_image.proofs.ImageHolds.{LaidOut, image-holds-laid-out}
 
 -- One name more that is not known stands apart from all.
 or-none : (a b : Bool) → (a || b) ≡ false → (a ≡ false) × (b ≡ false)
@@ -95,17 +94,7 @@ accepted-laid-out text j h =
       job = all .same-job;
     }
 
--- Loading an accepted text into a scratch whose words were cleared.
+-- Loading an accepted text into a scratch whose table of procedures is zero; what else stands there may be anything.
 pub image-holds : (text : Bytes) (j : Job) (s : List ℕ) → reading text ≡ job j → compounds-region ≤ length s
     → ((w : ℕ) → 512 ≤ w → w < clauses-region → getD s w 0 ≡ 0) → HoldsJob (image text s) (spellings (text-names text)) j
 image-holds text j s h inside zeros = image-holds-laid-out text j s (accepted-laid-out text j h) inside zeros
-
--- What `load` leaves in the room's words that it cleared first.
-pub loaded-holds : (text : Bytes) (j : Job) (need : ℕ) (s s′ : List ℕ) → reading text ≡ job j → compounds-region ≤ need → s′ ≡ image text (cleared need s)
-    → HoldsJob s′ (spellings (text-names text)) j
-unfolding cleared
-loaded-holds text j need s s′ h inside e =
-    let zeros : List ℕ = replicate need 0 in
-    let size : length zeros ≡ need = length-replicate need 0 in
-    rw e (image-holds text j (zeros ++ drop need s) h (omega (arith, length-append zeros (drop need s)))
-    (λ w l m. cleared-zero need (drop need s) w (omega arith)))

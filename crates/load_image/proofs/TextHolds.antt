@@ -3,12 +3,11 @@ use Prim.Native.Nat.{ℕ, _+_, _*_, _≤_, _<_}
 use mathlib.Core.Path.{_≡_, ap, sym, _∙_}
 use mathlib.Core.List.{List, [], _∷_, _++_}
 use native.Mathlib.Omega.{arith}
-use lib.ListN.{length, getD, set, drop, replicate, length-set, length-append, length-replicate}
+use lib.ListN.{length, getD, set, length-set}
 use lib.Seq.{getD-set-same, getD-set-other}
 use Rattle.meaning.specs.Bytes.{Bytes}
 use Rattle.meaning.specs.Terms.{Query, Job}
 use Rattle.meaning.specs.Tokens.{Tokens, tokens}
-use Rattle.meaning.specs.Call.{cleared}
 use Rattle.meaning.specs.Items.{Piece, nothing, clause, query, refused, item, pieces, reading, job}
 use Rattle.term.specs.Frames.{Only}
 use Rattle.term.specs.Jobs.{EachFrom}
@@ -176,11 +175,3 @@ image-holds-text text j s h inside =
     rw (l .job) at (stored-text text (text-names text) (text-entries text) s (l .few-names) (l .entries) inside
     (names-in-placed text (tokens text) [] (tokens-spelled text) tt)
     (entries-placed text [] 0 0 (pieces (tokens text)) (pieces-cut (tokens text)) (pieces-spelled text (tokens text) (tokens-spelled text))))
-
-pub loaded-holds-text : (text : Bytes) (j : Job) (need : ℕ) (s s′ : List ℕ) → reading text ≡ job j → compounds-region ≤ need → s′ ≡ image text (cleared need s)
-    → HoldsText s′ text (spellings (text-names text)) j
-unfolding cleared
-loaded-holds-text text j need s s′ h inside e =
-    let zeros : List ℕ = replicate need 0 in
-    let size : length zeros ≡ need = length-replicate need 0 in
-    rw e (image-holds-text text j (zeros ++ drop need s) h (omega (arith, length-append zeros (drop need s))))

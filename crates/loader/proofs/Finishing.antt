@@ -4,8 +4,8 @@ use mathlib.Core.Path.{_≡_, refl, ap, sym, _∙_}
 use mathlib.Core.Bool.{Bool, true, false, _||_}
 use mathlib.Core.List.{List, [], _∷_, _++_, map}
 use native.Mathlib.Omega.{arith}
-use lib.ListN.{length, getD, take, drop, replicate, length-drop, length-append, length-replicate, length-take, length-map}
-use lib.Seq.{ext-getD, getD-drop, getD-take, drop-at}
+use lib.ListN.{length, getD, take, drop, replicate, length-drop, length-take, length-map}
+use lib.Seq.{ext-getD, getD-drop, getD-take}
 use borrow.Author.Tests.{le-leb}
 use Rattle.meaning.specs.Bytes.{Bytes, same, any, if_then_else_}
 use Rattle.meaning.specs.Terms.{Clause, Job, count, named}
@@ -46,21 +46,16 @@ use Rattle.load_names.proofs.Numbering.{spellings-length}
 use Rattle.loader.proofs.Entries.{with-all}
 use Rattle.load_items.proofs.PlacesKept.{kept-places}
 
--- Clearing again: nothing beyond the needed part has changed.
+-- Clearing the needed part: nothing beyond it has changed.
 only-drop : (hi n : ℕ) (s t : List ℕ) → hi ≤ n → Only 0 hi s t → drop n t ≡ drop n s
 only-drop hi n s t h o =
     let size : length (drop n t) ≡ length (drop n s) = omega (arith, length-drop n t, length-drop n s, o .size) in
     ext-getD 0 (drop n t) (drop n s) size (λ i l. getD-drop n t i 0 ∙ o .above (n + i) (omega arith) ∙ sym (getD-drop n s i 0))
 
-pub cleared-again : (need : ℕ) (s t : List ℕ) → trial-region ≤ need → Only 0 trial-region (cleared need s) t → replicate need 0 ++ drop need t ≡ cleared need s
+pub cleared-again : (need : ℕ) (s s₀ t : List ℕ) → trial-region ≤ need → Only 0 need s s₀ → Only 0 trial-region s₀ t → replicate need 0 ++ drop need t ≡ cleared need s
 unfolding cleared
-cleared-again need s t h o =
-    ap (λ l. replicate need 0 ++ l)
-    (only-drop trial-region need (replicate need 0 ++ drop need s) t h o ∙ drop-at (replicate need 0) (drop need s) need (length-replicate {A = ℕ} need 0))
-
-pub cleared-length : (need : ℕ) (s : List ℕ) → need ≤ length s → length (cleared need s) ≡ length s
-unfolding cleared
-cleared-length need s h = omega (arith, length-append (replicate need 0) (drop need s), length-replicate {A = ℕ} need 0, length-drop need s)
+cleared-again need s s₀ t h p o =
+    ap (λ l. replicate need 0 ++ l) (only-drop trial-region need s₀ t h o ∙ only-drop need need s s₀ (omega arith) p)
 
 -- A name's number is below how many there are.
 number-by : (b t : Bool) (m n : ℕ) → (t ≡ true → m < n) → (b || t) ≡ true → (if b then 0 else suc m) < suc n
@@ -158,10 +153,7 @@ module _ (text : Bytes) (s₀ s names heads : List ℕ) (from clauses queries kn
       let word : getD heads k 0 ≡ getD (head-words places (clauses-of done)) k 0 = sym (getD-take clauses heads k 0 l) ∙ ap (λ ws. getD ws k 0) (r .heads-are) in
       rw word (heads-bounds places done (r .known-names) (r .names-table .few) k low)
 
--- The code's clearing, by what `clear` ensures.
-pub first-clear : (need n : ℕ) (s s′ : List ℕ) → n ≡ need → s′ ≡ replicate n 0 ++ drop n s → s′ ≡ cleared need s
-unfolding cleared
-first-clear need n s s′ e h = h ∙ ap (λ k. replicate k 0 ++ drop k s) e
-
-pub second-clear : (need n : ℕ) (s t s′ : List ℕ) → n ≡ need → trial-region ≤ need → Only 0 trial-region (cleared need s) t → s′ ≡ replicate n 0 ++ drop n t → s′ ≡ cleared need s
-second-clear need n s t s′ e enough o h = h ∙ ap (λ k. replicate k 0 ++ drop k t) e ∙ cleared-again need s t enough o
+-- The code's clearing of a text that is refused, by what `clear` ensures.
+pub clear-refused : (need n : ℕ) (s s₀ t s′ : List ℕ) → n ≡ need → trial-region ≤ need → Only 0 need s s₀ → Only 0 trial-region s₀ t
+    → s′ ≡ replicate n 0 ++ drop n t → s′ ≡ cleared need s
+clear-refused need n s s₀ t s′ e enough p o h = h ∙ ap (λ k. replicate k 0 ++ drop k t) e ∙ cleared-again need s s₀ t enough p o

@@ -3,6 +3,7 @@ pub mod Finishing
 pub mod Loaded
 pub mod OneAnswer
 pub mod Pieces
+pub mod Preparing
 pub mod Reaching
 pub mod Readying
 pub mod Stopping

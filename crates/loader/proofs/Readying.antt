@@ -7,18 +7,18 @@ use mathlib.Core.Logic.{_⊎_, inl, inr, ⊎-elim}
 use native.Mathlib.Omega.{arith}
 use native.Mathlib.Nat.{eq-or-lt-of-le}
 use lib.Dec.{leb}
-use lib.ListN.{length, getD, set, drop, replicate, length-replicate}
-use lib.Seq.{getD-set-other, getD-drop, drop-at}
+use lib.ListN.{length, getD, set}
+use lib.Seq.{getD-set-other}
 use borrow.Author.Tests.{leb-true, leb-false}
 use Rattle.meaning.specs.Bytes.{Bytes}
 use Rattle.meaning.specs.Terms.{Query, Job}
 use Rattle.meaning.specs.Items.{reading, job}
 use Rattle.meaning.specs.State.{Room}
-use Rattle.meaning.specs.Call.{cleared}
 use Rattle.term.specs.Frames.{Only}
 use Rattle.term.specs.Jobs.{QueryLaid}
 use Rattle.term.specs.Layout.{need-of, InRange, trial-region, compounds-region, query-record, query-base, query-first-pair-word, query-tries-word}
 use Rattle.term.specs.States.{Ready}
+use Rattle.term.proofs.Zeroing.{pairs-zero-kept}
 use Rattle.load_names.specs.Places.{Place, spellings, item-places}
 use Rattle.load_image.specs.Image.{
   Entry,
@@ -41,10 +41,11 @@ use Rattle.load_image.proofs.Keeping.{goals-two, places-only}
 use Rattle.load_image.proofs.KeptItems.{clause-two, query-two}
 use Rattle.load_image.proofs.KeptEntries.{EntriesLaid, entries-earlier}
 use Rattle.load_image.proofs.Procedures.{LinkKept, linked-kept}
-use Rattle.load_image.proofs.ImageHolds.{entries-clauses-few, entries-headed, cleared-zero}
-use Rattle.load_image.proofs.Loaded.{accepted-laid-out, loaded-holds}
-use Rattle.load_image.proofs.TextHolds.{loaded-holds-text}
-use Rattle.loader.proofs.Finishing.{cleared-length}
+use Rattle.load_image.proofs.ImageHolds.{entries-clauses-few, entries-headed}
+use Rattle.load_image.proofs.Loaded.{accepted-laid-out}
+use Rattle.loader.specs.Loading.{prepared}
+use Rattle.loader.proofs.Loaded.{loaded-holds, loaded-holds-text}
+use Rattle.loader.proofs.Preparing.{Prepared, prepared-is}
 
 -- A word that no item writes: the first pair and the tries of a query, and all from the trial's region on.
 record RunWordsKept (s s′ : List ℕ) : Type 0 where
@@ -154,51 +155,35 @@ image-kept text j s h inside =
       behind = λ w m. last .above w (omega arith) ∙ links .behind w (omega arith);
     })
 
--- What is zero after clearing, and what stands behind it.
-cleared-word : (need : ℕ) (s : List ℕ) (w : ℕ) → w < need → getD (cleared need s) w 0 ≡ 0
-unfolding cleared
-cleared-word need s w h = cleared-zero need (drop need s) w h
-
-cleared-behind : (need : ℕ) (s : List ℕ) (k : ℕ) → need ≤ k → getD (cleared need s) k 0 ≡ getD s k 0
-unfolding cleared
-cleared-behind need s k h =
-    let at : need + (k - need) ≡ k = omega arith in
-    let moved : getD (replicate need 0 ++ drop need s) (need + (k - need)) 0 ≡ getD s (need + (k - need)) 0 =
-    sym (getD-drop need (replicate need 0 ++ drop need s) (k - need) 0)
-    ∙ ap (λ l. getD l (k - need) 0) (drop-at (replicate need 0) (drop need s) need (length-replicate {A = ℕ} need 0))
-    ∙ getD-drop need s (k - need) 0 in
-    rw at at moved
-
 -- What `load` has made of a text that is a job.
 module _ (text : Bytes) (j : Job) (figures : Room) (s s′ : List ℕ) (inside : need-of figures ≤ length s) (h : reading text ≡ job j)
-    (e : s′ ≡ image text (cleared (need-of figures) s)) where
-  kept : RunWordsKept (cleared (need-of figures) s) s′
-  kept =
-      let size = cleared-length (need-of figures) s inside in
-      rw e (image-kept text j (cleared (need-of figures) s) h (omega arith))
+    (e : s′ ≡ image text (prepared figures s)) where
+  before : Prepared figures s (prepared figures s)
+  before = prepared-is figures s inside
+
+  kept : RunWordsKept (prepared figures s) s′
+  kept = rw e (image-kept text j (prepared figures s) h (omega (arith, before .only .size)))
 
   pub loaded-ready : InRange figures → Ready s′ text (spellings (text-names text)) figures j
   loaded-ready range =
-      let need = need-of figures in
-      let size = cleared-length need s inside in
       record {
         in-range = range;
-        inside = omega (arith, kept .size);
+        inside = omega (arith, kept .size, before .only .size);
         reads = h;
-        held = loaded-holds text j need s s′ h (omega arith) e;
-        text-held = loaded-holds-text text j need s s′ h (omega arith) e;
+        held = loaded-holds text j figures s s′ inside h e;
+        text-held = loaded-holds-text text j figures s s′ inside h e;
         records-zero = λ q i m x.
             ⊎-elim
-            (λ (a : i ≡ 3). rw a (kept .third q m ∙ cleared-word need s (query-first-pair-word q) (omega arith)))
-            (λ (a : i ≡ 4). rw a (kept .fourth q m ∙ cleared-word need s (query-tries-word q) (omega arith)))
+            (λ (a : i ≡ 3). rw a (kept .third q m ∙ before .tables (query-first-pair-word q) (omega arith) (omega arith)))
+            (λ (a : i ≡ 4). rw a (kept .fourth q m ∙ before .tables (query-tries-word q) (omega arith) (omega arith)))
             x;
-        zero = λ k low high. kept .behind k low ∙ cleared-word need s k high;
+        zero = pairs-zero-kept (prepared figures s) s′ figures (λ k l m. kept .behind k (omega arith)) (before .pairs);
       }
 
   -- Nothing behind the needed part has changed.
   pub loaded-only : Only 0 (need-of figures) s s′
   loaded-only = record {
-    size = kept .size ∙ cleared-length (need-of figures) s inside;
+    size = kept .size ∙ before .only .size;
     below = λ k l. absurd (omega arith);
-    above = λ k l. kept .behind k (omega arith) ∙ cleared-behind (need-of figures) s k l;
+    above = λ k l. kept .behind k (omega arith) ∙ before .only .above k l;
   }

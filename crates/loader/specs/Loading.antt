@@ -1,5 +1,5 @@
 -- What loading answers, and how far it has come between two items.
-use Prim.Native.Nat.{ℕ, _+_, _≤_, _<_}
+use Prim.Native.Nat.{ℕ, _+_, _*_, _-_, _≤_, _<_}
 use mathlib.Core.Path.{_≡_}
 use mathlib.Core.List.{List, [], _∷_, _++_}
 use lib.ListN.{length, take}
@@ -9,9 +9,9 @@ use Rattle.meaning.specs.Tokens.{Tokens, tokens}
 use Rattle.meaning.specs.Items.{Refusal, Reading, job, refused, with-clause, with-query, items, pieces, reading}
 use Rattle.meaning.specs.State.{Room}
 use Rattle.meaning.specs.Call.{refusal, cleared}
-use Rattle.term.specs.Frames.{Only}
+use Rattle.term.specs.Frames.{Only, zeroed}
 use Rattle.term.specs.Jobs.{GoalsKnown}
-use Rattle.term.specs.Layout.{trial-region, need-of}
+use Rattle.term.specs.Layout.{procedures-region, items-region, trial-region, values-region, marks-region, ends-region, need-of}
 use Rattle.term.specs.States.{Ready}
 use Rattle.load_tokens.specs.Fronts.{tokens-at}
 use Rattle.load_names.specs.Places.{Place, spellings}
@@ -75,12 +75,21 @@ ListedIs text s₀ s names heads (Items clauses queries known) =
 ListedIs text s₀ s names heads (Stopped why) =
     (r : Refusal) × (reading text ≡ refused r) × (refusal-answer (at-line text why) ≡ refusal text r) × Only 0 trial-region s₀ s
 
+-- What is zeroed before a text is loaded: the table of procedures and the records of clauses and of queries; and of the pairs values and waiters, marks,
+-- and ends.
+unfoldable pub prepared : Room → List ℕ → List ℕ
+prepared figures s =
+    zeroed (ends-region figures) (figures .pairs)
+    (zeroed (marks-region figures) (figures .pairs)
+    (zeroed (values-region figures) (2 * figures .pairs)
+    (zeroed procedures-region (items-region - procedures-region) s)))
+
 -- The answer of `load`: a job, every word of the scratch, and that it is ready to run, with nothing changed behind the needed part; or the definition's
 -- answer for the refused text, and the needed part is zero.
 abbrev pub LoadedIs : (text : Bytes) (figures : Room) (s s′ : List ℕ) → Loaded → Type 0
 LoadedIs text figures s s′ (AJob clauses queries) =
     (j : Job) × (reading text ≡ job j) × (clauses ≡ length (j .clauses)) × (queries ≡ length (j .queries))
-    × (s′ ≡ image text (cleared (need-of figures) s))
+    × (s′ ≡ image text (prepared figures s))
     × (names : List Bytes) × Ready s′ text names figures j × Only 0 (need-of figures) s s′
 LoadedIs text figures s s′ (Refused why) =
     (r : Refusal) × (reading text ≡ refused r) × (refusal-answer why ≡ refusal text r) × (s′ ≡ cleared (need-of figures) s)

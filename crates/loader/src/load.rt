@@ -1,4 +1,5 @@
 // The loader's one public function: a text becomes a job in the scratch, or is refused.
+use crate::prepare::prepare;
 use crate::refusal::Refusal;
 use load_image::keep::keep_places;
 use load_image::keep::link;
@@ -126,7 +127,7 @@ pub fn load(text: &[u8], s: &mut [u64], room: Room) -> Loaded
     ensures { λ r. ⌜ LoadedIs (now (text .entry)) (figures room) (now (s .entry)) (now (s .exit)) r ⌝ }
 {
     let words = need(room);
-    clear(s, words);
+    prepare(s, room);
     let mut names = [0u64; 1024];
     let mut heads = [0u64; 128];
     match all_items(text, s, &mut names, &mut heads) {

@@ -17,6 +17,7 @@ use Rattle.term.specs.declared.state.Standing.{Standing}
 use Rattle.term.specs.declared.state.Verdict.{Verdict}
 use Rattle.term.proofs.Jobs.{holds-job-but-index}
 use Rattle.term.proofs.Spellings.{holds-text-kept}
+use Rattle.term.proofs.Zeroing.{pairs-zero-kept}
 use Rattle.run_queues.specs.Log.{Slot, present, LogOk}
 use Rattle.run_index.specs.Index.{Indexed, IndexOnly}
 use Rattle.run_index.proofs.Kept.{indexed-kept}
@@ -35,7 +36,7 @@ unfolding present start
 entered-running s text names j figures atlas t indexed e =
     let none : t .steps ≡ 0 = e .state .steps in
     let waiters-none : (p : ℕ) → p < figures .pairs → getD s (waiters-region figures + p) 0 ≡ 0 =
-    λ p l. e .room-zero (waiters-region figures + p) (omega arith) (omega arith) in (
+    λ p l. e .room-zero .values-waiters (waiters-region figures + p) (omega arith) (omega arith) in (
       record {
         in-range = e .in-range;
         inside = e .inside;
@@ -54,9 +55,9 @@ entered-running s text names j figures atlas t indexed e =
         };
         log-number = e .log;
         waiting = rw (run-starts j figures) refl;
-        marks = λ k l m. omega (arith, e .room-zero k (omega arith) (omega arith));
-        ends = λ p l d. absurd (d (e .room-zero (ends-region figures + p) (omega arith) (omega arith)));
-        grounds = grounds-none s figures atlas (run j 0 figures .state .units) (λ p l. e .room-zero (marks-region figures + p) (omega arith) (omega arith));
+        marks = λ k l m. omega (arith, e .room-zero .marks k (omega arith) (omega arith));
+        ends = λ p l d. absurd (d (e .room-zero .ends (ends-region figures + p) (omega arith) (omega arith)));
+        grounds = grounds-none s figures atlas (run j 0 figures .state .units) (λ p l. e .room-zero .marks (marks-region figures + p) (omega arith) (omega arith));
       },
       none,
     )
@@ -78,7 +79,7 @@ ready-indexed figures s s′ text names j i r =
       held = holds-job-but-index s s′ names kept j (r .held);
       text-held = holds-text-kept s s′ text names j (r .held) kept (r .text-held);
       records-zero = λ q w h e. i .above (query-record q + w) (omega arith) ∙ r .records-zero q w h e;
-      zero = λ k a b. i .above k (omega arith) ∙ r .zero k a b;
+      zero = pairs-zero-kept s s′ figures (λ k a b. i .above k (omega arith)) (r .zero);
     }
 
 pub entered-indexed : (figures : Room) (s s′ : List ℕ) (names : List Bytes) (j : Job) → HoldsJob s names j → HoldsJob s′ names j → EnterOnly figures s s′

@@ -197,7 +197,7 @@ none-entered s text names j figures t r fit (pairs, compounds, cells, front, act
         cells = omega arith;
         front = front;
         log = log;
-        room-zero = λ k h l. r .zero k (omega arith) (omega arith);
+        room-zero = r .zero;
         tries-zero = λ q h. r .records-zero q 4 h (inr refl);
       },
     )

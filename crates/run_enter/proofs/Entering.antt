@@ -41,6 +41,7 @@ use Rattle.run_enter.proofs.Adjoining.{
 use Rattle.run_between.proofs.Fresh.{Fresh, fresh}
 use Rattle.run_between.proofs.BodyGoals.{goals-within, goals-ranged}
 use Rattle.term.proofs.Units.{within-every}
+use Rattle.term.proofs.Zeroing.{pairs-zero-kept}
 use Rattle.run_between.proofs.OwnPairs.{no-query}
 use Rattle.run_queues.proofs.Ring.{ring-kept}
 use Rattle.run_enter.proofs.Starting.{pairs-more, compounds-more, goals-one-more, goals-at-number, Fits, fits-so-far}
@@ -243,7 +244,7 @@ module _ (s : List ℕ) (text : Bytes) (names : List Bytes) (j : Job) (figures :
             copied = copies .copied;
             older = λ k h l. same k (inl l) (inl (omega (arith, before-values))) (λ f. omega (arith, f, few));
             values = λ k h l. only .pairs k h (omega arith);
-            zero = λ k h l. e .room-zero k h (omega arith);
+            zero = λ k h l. e .room-zero .values-waiters k h (omega arith);
             records = λ k h. same (query-first-pair-word k) (inl (omega (arith, few, e .cells))) (inl (omega (arith, few))) (λ f. omega (arith, f));
             first = first;
             tries = λ k h. record-word k 4 h (omega arith) (λ f. omega (arith, f));
@@ -365,6 +366,6 @@ module _ (s : List ℕ) (text : Bytes) (names : List Bytes) (j : Job) (figures :
               cells = omega (arith, onward .cells-are, added .behind, e .cells);
               front = onward .front;
               log = onward .log;
-              room-zero = λ k h l. only .pairs k h l ∙ e .room-zero k h l;
+              room-zero = pairs-zero-kept s s′ figures (only .pairs) (e .room-zero);
               tries-zero = λ k h. record-word k 4 h (omega arith) (λ f. omega (arith, f)) ∙ e .tries-zero k h;
             }

@@ -12,7 +12,7 @@ use Rattle.meaning.specs.State.{Room, start}
 use Rattle.meaning.specs.Run.{queries-fit}
 use Rattle.term.specs.Jobs.{HoldsJob}
 use Rattle.term.specs.Layout.{values-region, waiters-region, marks-region, queue-region, need-of, InRange, queries-region, items-region, compounds-region, query-record, query-tries-word, query-stride, first-pair-at}
-use Rattle.term.specs.States.{Atlas, HoldsState}
+use Rattle.term.specs.States.{Atlas, HoldsState, PairsZero}
 use Rattle.term.specs.declared.state.Standing.{Standing}
 
 -- A word of the first n queries' records, added up.
@@ -40,5 +40,5 @@ pub record Entered (s : List ℕ) (text : Bytes) (names : List Bytes) (j : Job) 
   pub cells : compounds-region ≤ t .cells
   pub front : t .front ≡ 0
   pub log : t .log ≡ 0
-  pub room-zero : (k : ℕ) → values-region figures ≤ k → k < queue-region figures → getD s k 0 ≡ 0
+  pub room-zero : PairsZero s figures
   pub tries-zero : (q : ℕ) → q < 8 → getD s (query-tries-word q) 0 ≡ 0

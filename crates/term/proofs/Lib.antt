@@ -16,3 +16,4 @@ pub mod Spellings
 pub mod TableOfGuards
 pub mod Units
 pub mod Words
+pub mod Zeroing

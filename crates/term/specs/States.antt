@@ -16,7 +16,23 @@ use Rattle.term.specs.Cells.{Places}
 use Rattle.term.specs.Jobs.{EachFrom, HoldsJob}
 use Rattle.term.specs.Spellings.{HoldsText}
 use Rattle.term.specs.Setting.{Setting, UnitTerm, UnitStands}
-use Rattle.term.specs.Layout.{values-region, queue-region, waiting-region, failed-region, need-of, InRange, trial-region, compounds-region, compound-words, query-record, query-first-pair-word, query-tries-word}
+use Rattle.term.specs.Layout.{
+  values-region,
+  sets-region,
+  marks-region,
+  readers-region,
+  ends-region,
+  queue-region,
+  waiting-region,
+  failed-region,
+  need-of,
+  InRange,
+  compounds-region,
+  compound-words,
+  query-record,
+  query-first-pair-word,
+  query-tries-word,
+}
 use Rattle.term.specs.declared.state.Standing.{Standing}
 use Rattle.term.specs.declared.state.Verdict.{Verdict as Told}
 use Rattle.term.specs.declared.state.Verdict.the-variants.{Rest, Budget, Room as NoRoom}
@@ -123,8 +139,15 @@ pub record HoldsState (s : List ℕ) (names : List Bytes) (figures : Room) (quer
   pub waiting : WaitingStand s figures atlas (t .log) (t .waiting) (state .goals .waiting)
   pub failed : FailedStand s figures atlas (t .failed) (state .goals .failed)
 
--- A job as it is loaded: the text was read as this job, the scratch holds it and the text's spellings, and the run's words are zero: tries and
--- first pairs of the queries, the trial's region and all that the room has.
+-- The words of the pairs that a run asks about before it has written them are zero: no pair has a value, nobody waits on one, none is marked, and of
+-- none is the end of its chain known.
+pub record PairsZero (s : List ℕ) (figures : Room) : Type 0 where
+  pub values-waiters : (k : ℕ) → values-region figures ≤ k → k < sets-region figures → getD s k 0 ≡ 0
+  pub marks : (k : ℕ) → marks-region figures ≤ k → k < readers-region figures → getD s k 0 ≡ 0
+  pub ends : (k : ℕ) → ends-region figures ≤ k → k < queue-region figures → getD s k 0 ≡ 0
+
+-- A job as it is loaded: the text was read as this job, the scratch holds it and the text's spellings, and the words that the run begins with are zero:
+-- tries and first pairs of the queries, and of the pairs what it asks about. What else the room has, may be anything.
 pub record Ready (s : List ℕ) (text : Bytes) (names : List Bytes) (figures : Room) (j : Job) : Type 0 where
   pub in-range : InRange figures
   pub inside : need-of figures ≤ length s
@@ -132,7 +155,7 @@ pub record Ready (s : List ℕ) (text : Bytes) (names : List Bytes) (figures : R
   pub held : HoldsJob s names j
   pub text-held : HoldsText s text names j
   pub records-zero : (q i : ℕ) → q < 8 → (i ≡ 3) ⊎ (i ≡ 4) → getD s (query-record q + i) 0 ≡ 0
-  pub zero : (k : ℕ) → trial-region ≤ k → k < need-of figures → getD s k 0 ≡ 0
+  pub zero : PairsZero s figures
 
 abbrev pub verdict-of : Told → Verdict
 verdict-of Rest = rest
