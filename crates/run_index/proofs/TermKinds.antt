@@ -1,5 +1,5 @@
 -- The kind of a term by its word's tag.
-use Prim.Native.Nat.{ℕ, _+_, _*_, _%_, _<_}
+use Prim.Native.Nat.{ℕ, _%_, _<_}
 use mathlib.Core.Path.{_≡_}
 use mathlib.Core.Logic.{_≢_}
 use mathlib.Core.List.{List}
@@ -32,7 +32,7 @@ module _ (s : List ℕ) (w : ℕ) where
   pub kind-no-writer : tag-in w ≢ 0 → 2 < kind-of s w → kind-of s w % keys ≢ 0
   kind-no-writer tagged closed = go (ℕ-discrete (tag-in w) 6) (ℕ-discrete (tag-in w) 1) (ℕ-discrete (tag-in w) 2)
     where
-      compound : (x : ℕ) → (6 + 8 * x) % keys ≢ 0
+      compound : (x : ℕ) → packed 6 x % keys ≢ 0
       compound x e = omega arith
 
       go : Dec (tag-in w ≡ 6) → Dec (tag-in w ≡ 1) → Dec (tag-in w ≡ 2) → kind-of s w % keys ≢ 0

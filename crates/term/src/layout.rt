@@ -22,7 +22,8 @@
 //         values      1 a pair: what it was assigned, or 0
 //         waiters     1 a pair: the place in the waiting log of the goal that waits on it, plus one
 //         sets        1 a pair: the next pair that the same goal waits on, plus one
-//         marks       1 a pair: 0; 1 if no unassigned pair is reached from it; or the stamp of the last search of the circle test that visited it
+//         marks       1 a pair: 0; 1 if no unassigned pair is reached from it; else the stamp of the last search of the circle test that visited it,
+//                     and 2^40 times one more than the place of the pair through which all ways to unassigned pairs go, if one is known
 //         readers     1 a pair: the pairs whose readers the clauses tried in this step wait on, each once
 //         ranks       1 a pair: where a pair stands among them, if it does; what stands here of any other pair says nothing
 //         ends        1 a pair: where its chain was seen to lead, or 0; ENDS_AFTER = 6 words a pair behind the values
