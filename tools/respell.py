@@ -51,14 +51,15 @@ def imports(text):
 
 def members(text):
     """Labels of records and constructors of data."""
-    inside = False
+    inside = None
     for line in text.split("\n"):
         line = split(line)[0]
-        if re.match(r"(pub |unfoldable |abbrev )*(record|data) ", line):
-            inside = True
-        elif inside and line.strip():
-            if not line.startswith(" "):
-                inside = False
+        depth = len(line) - len(line.lstrip())
+        if re.match(r" *(pub |unfoldable |abbrev )*(record|data) ", line):
+            inside = depth
+        elif inside is not None and line.strip():
+            if depth <= inside:
+                inside = None
                 continue
             m = re.match(r"\s+([^:(){}]+?)\s*:", line)
             if m:
@@ -66,7 +67,7 @@ def members(text):
 
 
 def declared(text):
-    for m in re.finditer(r"^%s(?:record |data )?([^\s(){}\[\].,;:]+)\s*(?:\{[^}]*\})?\s*:" % MARKS, text, re.M):
+    for m in re.finditer(r"^ *%s(?:record |data )?([^\s(){}\[\].,;:]+)\s*(?:\{[^}]*\})?\s*:" % MARKS, text, re.M):
         if DASHED.match(m.group(1)):
             yield m.group(1)
 
@@ -115,7 +116,7 @@ def main():
                 left = left.group()[::-1] if left else ""
                 if left in ("tie", "goal") or MADE.match(word):
                     return word
-                if word not in labels and word not in tops:
+                if word not in labels and not (word in tops and (left[:1].isupper() or left in modules)):
                     return word
             elif MADE.match(word) or word in kit or word in goals:
                 return word
@@ -128,6 +129,8 @@ def main():
             return spelled(word)
 
         out, importing = [], False
+        modules = set(re.findall(r"\bas (\w+)\s*$|\bas (\w+);", text, re.M))
+        modules = {w for words in modules for w in words}
         renamed = set(re.findall(r"([^\s{,]+) as ", text))
         for line in text.split("\n"):
             importing = not antt and (importing or line.startswith("ghost use "))

@@ -2,6 +2,8 @@
 // Budget 10,000; room 1,024 pairs, 1,024 compounds, 128 goals; report buffer 65,536 bytes. Input in pieces is read whole; one byte past the longest
 // text is read, so that a longer one is refused with number 3.
 // What is printed is not stated: its file `stdout` is held to the reference. Read on: crate `job`.
+#![tactic(auto)]
+
 ghost use Rattle.std.specs.Prelude.{◌≡◌, ℕ, ◌≤◌, length};
 ghost use Rattle.term.specs.Layout.{need_for};
 ghost use Rattle.job.specs.Calling.{Within};

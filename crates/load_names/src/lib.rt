@@ -2,6 +2,8 @@
 // each half of a variable has occurred.
 // Each promises exactly what stands in its table afterwards. They are the loader's own arrays, no part of the scratch.
 // Read specs/Tables for the tables, specs/Answers and specs/Rules for what is told of them.
+#![tactic(auto)]
+
 pub mod names;
 pub mod rules;
 pub mod variables;

@@ -2,6 +2,8 @@
 // `lines` counts lines.
 // Each promises what the definitions' `tokens` and `line` have there.
 // Read specs/Fronts for what it is to stand in front of a token.
+#![tactic(auto)]
+
 pub mod lines;
 pub mod next;
 pub mod token;

@@ -2,5 +2,7 @@
 // `leaf` promises the definition's bytes of a term that is no compound, `opening` those before the first argument, `copied` those of a value that stands in the
 // buffer already, or none.
 // Read specs/Writes for what writing asks, and specs/Fits for what copying does.
+#![tactic(auto)]
+
 pub mod copy;
 pub mod leaf;

@@ -2,6 +2,8 @@
 // arguments and a list's elements; lengths up to the ceiling.
 // Each function promises what is known of each pair afterwards, and that nothing else has changed.
 // Read specs/Facts and specs/Walk.
+#![tactic(auto)]
+
 pub mod cells;
 pub mod ends;
 pub mod length;

@@ -2,4 +2,6 @@
 // clause's pairs and compounds, all else stays held, and the goals that it wakes join the queue.
 // There is no code here but the answer of a step, and so no edit: the laws of both stand together.
 // Read specs/Running and specs/Taking, then specs/Extended, proofs/NextUnits and proofs/NextState.
+#![tactic(auto)]
+
 pub mod stepped;

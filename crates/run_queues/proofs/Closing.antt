@@ -174,7 +174,7 @@ module _ (s₀ : List ℕ) (log waiters sets pairs used : ℕ) (slots : List Slo
     pub halfway_settles : Settles s log waiters sets pairs now i to
     halfway_settles =
         record {
-          ok = h.log-now.ok;
+          ok = h.log_now.ok;
           here = omega (arith, h.closing.size);
           before = h.closing.before;
           empty = λ l. h.closing.empty to (omega arith) l;
@@ -187,7 +187,7 @@ module _ (s₀ : List ℕ) (log waiters sets pairs used : ℕ) (slots : List Slo
       record {
         log_now = record {
           ok = t.1.ok;
-          only = log_only_then log waiters sets pairs used s₀ s s' h.log-now.only (rw (h.closing.size ∙ sym e) at t.1.only);
+          only = log_only_then log waiters sets pairs used s₀ s s' h.log_now.only (rw (h.closing.size ∙ sym e) at t.1.only);
         };
         closing = rw t.0 (closing_none slots now i to h.closing (omega arith) f);
       },
@@ -197,7 +197,7 @@ module _ (s₀ : List ℕ) (log waiters sets pairs used : ℕ) (slots : List Slo
       record {
         log_now = record {
           ok = t.1.ok;
-          only = log_only_then log waiters sets pairs used s₀ s s' h.log-now.only (rw (h.closing.size ∙ sym e) at t.1.only);
+          only = log_only_then log waiters sets pairs used s₀ s s' h.log_now.only (rw (h.closing.size ∙ sym e) at t.1.only);
         };
         closing = rw t.0 (closing_goal slots now i to h.closing (omega arith) goal ps f);
       },
@@ -212,7 +212,7 @@ module _ (s₀ : List ℕ) (log waiters sets pairs used : ℕ) (slots : List Slo
   unfolding among
   halfway_ends s i to now h f =
       let c = h.closing in
-      let now_ok = h.log-now.ok in
+      let now_ok = h.log_now.ok in
       let size = upto_length now to in
       let part : LogOk s log waiters sets pairs (upto now to) =
       record {
@@ -227,7 +227,7 @@ module _ (s₀ : List ℕ) (log waiters sets pairs used : ℕ) (slots : List Slo
       }
       in
       let same : upto now to ≡ present slots used = rw f at c.kept in
-      record { number = sym size ∙ ap length same; now = record { ok = rw same at part; only = h.log-now.only } }
+      record { number = sym size ∙ ap length same; now = record { ok = rw same at part; only = h.log_now.only } }
     where
       within : (k q : ℕ) → Closing slots now i to → i ≡ used → k < length now → among q (pairs_in (slot now k)) ≡ true → k < to
       within k q c f l w = go (ltb k to) refl

@@ -3,6 +3,8 @@
 // as much longer or shorter than the call's own need as SCRATCH is than NEED, and at most 600,000 words. Every job runs over the same scratch. A
 // frame whose buffer is larger than 65,536 bytes, or its text than 65,535, ends the program.
 // Its first jobs are tests/corners.txt: the cases of document 01, and further corners.
+#![tactic(auto)]
+
 ghost use Rattle.std.specs.Prelude.{◌≡◌, ℕ, ◌≤◌, ◌<◌, length};
 ghost use Rattle.job.specs.Calling.{Within};
 

@@ -1,6 +1,8 @@
 // Loads framed texts from standard input and prints the number, line and offset of each, all 0 for a job that was loaded.
 // A frame is how often to load the text, and its length, in six digits each with an LF behind; then the text and an LF. Every text is loaded
 // over the same scratch, so what one leaves behind must not matter to the next. More than once is for measuring.
+#![tactic(auto)]
+
 ghost use Rattle.std.specs.Prelude.{◌≡◌, ◌≤◌, ◌<◌, length};
 ghost use Rattle.term.specs.Layout.{need_for};
 

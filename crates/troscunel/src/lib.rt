@@ -2,6 +2,8 @@
 // `troscunel_call` requires nothing and promises number, line, length and offset of the definition's answer, and both buffers; proofs/OneAnswer has that two
 // answers to one call are equal.
 // Read specs/Exported for the contract, include/troscunel.h for what a host has to know.
+#![tactic(auto)]
+
 ghost use Rattle.std.specs.Prelude.{◌≡◌};
 ghost use Rattle.meaning.specs.Call.{number, line_of, offset_of as offset_of_meant, length_of as length_of_meant, call as call_of};
 ghost use Rattle.term.specs.Layout.{need_of};

@@ -95,4 +95,4 @@ example_kept =
 -- It is one own step of the second query, and leaves the first as it is.
 pub example_own : (part_of 1 next ≡ own_step the_job.clauses (part_of 1 now)) × (part_of 0 next ≡ part_of 0 now)
 unfolding words
-example_own = (example_kept.first-is-own refl, example_kept.others_stay 0 refl)
+example_own = (example_kept.first_is_own refl, example_kept.others_stay 0 refl)

@@ -139,7 +139,7 @@ module _ (unit later : QueryUnit) (goal : Named) (l : GoalLater unit later goal)
       (λ t own. follows_on values after l.grew (length values) t)
       (length values) unit.compounds (length after) later.compounds clause.head.arguments goal.arguments
       (each_of_goal goal.arguments l.still_open (all_below_by_occurrences (length values) goal.arguments l.goal_in_range)) given e in
-      (a.given-later, a.agrees, a.paired)
+      (a.given_later, a.agrees, a.paired)
 
   module _ (clause : Clause) (given given_later : List Assignment)
       (paired : GivenLater unit.values later.values l.grew l.longer unit.compounds later.compounds given given_later)

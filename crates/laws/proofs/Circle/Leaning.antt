@@ -80,9 +80,9 @@ module _ (values : Values) where
       ⊎_elim (λ l. (i, here refl, l)) (λ r. let (k, p, l) = in_leans_on is j r in (k, there p, l))
       (in_held (value values i) (leans_on values is) j q)
 
-  pub leaning_in_leans_on : {is : List ℕ} {i : ℕ} (j : ℕ) → In i is → Leans values i j → In j (leans_on values is)
+  pub leaning_in_leans_on : {i : ℕ} {is : List ℕ} (j : ℕ) → In i is → Leans values i j → In j (leans_on values is)
   unfolding leans_on held Leans
-  leaning_in_leans_on {i} j (here {x = k} {xs = ks} e) (t, v, s) =
+  leaning_in_leans_on {i = i} j (here {x = k} {xs = ks} e) (t, v, s) =
       rw (← e, v) (stands_in_pairs_of t (leans_on values ks) j (inl s))
   leaning_in_leans_on j (there {x = k} {xs = ks} p) l =
       behind_in_held (value values k) (leans_on values ks) j (leaning_in_leans_on j p l)

@@ -102,9 +102,9 @@ module _ (values : Values) where
       ⊎_elim inl (λ q. inr (next_reached reached last c i j (inl q) l)) (in_append_cases (layer reached last) p)
 
   -- Where there is no pair to go on from, the paths from what is reached stay in it.
-  closed_has_ways : (reached : List ℕ) → Closed reached [] → {i j : ℕ} {left : List ℕ} → Way values j i left → In i reached → In j reached
-  closed_has_ways reached c {i} {j} (arrives l) p = ⊎_elim (λ q. absurd (in_none q)) (λ q. q) (c i j p l)
-  closed_has_ways reached c {i} {j} (leaves {k = k} l w) p =
+  closed_has_ways : (reached : List ℕ) → Closed reached [] → {j i : ℕ} {left : List ℕ} → Way values j i left → In i reached → In j reached
+  closed_has_ways reached c {j} {i} (arrives l) p = ⊎_elim (λ q. absurd (in_none q)) (λ q. q) (c i j p l)
+  closed_has_ways reached c {j} {i} (leaves {k = k} l w) p =
       closed_has_ways reached c w (⊎_elim (λ q. absurd (in_none q)) (λ q. q) (c i k p l))
 
   -- Every path from a pair reached has its end reached, if it has no more links than the search.
@@ -140,9 +140,9 @@ module _ (values : Values) where
       go (left, w, d) = ⊎_elim (way_from w d) (λ new. (i ∷ left, leaves l w, (new, d))) (in_or_not i left)
 
   -- It leaves only pairs that have a value.
-  way_below : {i j : ℕ} {left : List ℕ} → Way values j i left → (m : ℕ) → In m left → m < length values
-  way_below {i} {j} (arrives l) m p = rw (in_single p) (leaning_below values i j l)
-  way_below {i} {j} (leaves {k = k} l w) m (here e) = rw e (leaning_below values i k l)
+  way_below : {j i : ℕ} {left : List ℕ} → Way values j i left → (m : ℕ) → In m left → m < length values
+  way_below {j} {i} (arrives l) m p = rw (in_single p) (leaning_below values i j l)
+  way_below {j} {i} (leaves {k = k} l w) m (here e) = rw e (leaning_below values i k l)
   way_below (leaves l w) m (there p) = way_below w m p
 
 -- The test at one pair: it is reached from itself exactly if it leans on itself through one or more links.

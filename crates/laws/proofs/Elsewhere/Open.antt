@@ -67,10 +67,10 @@ module _ (values : Values) where
   closed_links {i} {j} (one (t, e, s)) c = let (h, o) = stands_occurs t j s in closed_holds i t c e h j o
   closed_links {i} {j} (first {j = k} (t, e, s) further) c = let (h, o) = stands_occurs t k s in closed_links further (closed_holds i t c e h k o)
 
-  closed_reaches : (p x : ℕ) (u : Term) → closed values p ≡ true → value values p ≡ some u → Reaches values x (more u end) → closed values x ≡ true
+  closed_reaches : (x p : ℕ) (u : Term) → closed values p ≡ true → value values p ≡ some u → Reaches values x (more u end) → closed values x ≡ true
   unfolding all_occurrences
-  closed_reaches p x u c e (here m) = closed_holds p u c e reader x (omega arith)
-  closed_reaches p x u c e (through k q v m f further) = closed_reaches q x v (closed_holds p u c e k q (omega arith)) f further
+  closed_reaches x p u c e (here m) = closed_holds p u c e reader x (omega arith)
+  closed_reaches x p u c e (through k q v m f further) = closed_reaches x q v (closed_holds p u c e k q (omega arith)) f further
 
   -- So a path, or a chain, to a pair that is not closed begins at one that is not closed.
   pub links_open : {i j : ℕ} → Links values i j → closed values j ≡ false → closed values i ≡ false
@@ -85,4 +85,4 @@ module _ (values : Values) where
     where
       go : (b : Bool) → closed values p ≡ b → closed values p ≡ false
       go false c = c
-      go true c = absurd (false_not_true _ o (closed_reaches p x u c e chain))
+      go true c = absurd (false_not_true _ o (closed_reaches x p u c e chain))

@@ -93,7 +93,7 @@ any_in {A} test (a ∷ rest) e = go (or_true (test a) (any test rest) e) (any_in
     go (inl now) further = (a, here refl, now)
     go (inr later) further = let (b, p, q) = further later in (b, there p, q)
 
-pub in_any : {A : Type 0} (test : A → Bool) {l : List A} {a : A} → In a l → test a ≡ true → any test l ≡ true
+pub in_any : {A : Type 0} (test : A → Bool) {a : A} {l : List A} → In a l → test a ≡ true → any test l ≡ true
 unfolding any
 in_any test {a = a} (here {x = b} {xs = rest} e) q = rw (← e, q)
 in_any test (there {x = b} {xs = rest} p) q = or_true_right (test b) (any test rest) (in_any test p q)
@@ -106,7 +106,7 @@ pub any_append_last : {A : Type 0} (test : A → Bool) (l : List A) (a : A) → 
 any_append_last test l a e = in_any test (in_append_right l (here refl)) e
 
 -- Those of a list that pass a test.
-pub in_those : {A : Type 0} (test : A → Bool) {l : List A} {a : A} → In a l → test a ≡ true → In a (those test l)
+pub in_those : {A : Type 0} (test : A → Bool) {a : A} {l : List A} → In a l → test a ≡ true → In a (those test l)
 unfolding those if◌then◌else◌
 in_those test {a = a} (here {x = b} {xs = rest} e) q = rw (ap test (sym e) ∙ q) (here e)
 in_those {A} test {a = a} (there {x = b} {xs = rest} p) q = go (test b) (in_those test p q)

@@ -47,7 +47,7 @@ module _ {A : Type 0} where
   each_member P [] f = tt
   each_member P (a ∷ l) f = (f a (here refl), each_member P l (λ b m. f b (there m)))
 
-  pub each_in : (P : A → Type 0) {l : List A} {a : A} → Each P l → In a l → P a
+  pub each_in : (P : A → Type 0) {a : A} {l : List A} → Each P l → In a l → P a
   each_in P ps (here e) = rw e ps.0
   each_in P ps (there m) = each_in P ps.1 m
 

@@ -57,7 +57,7 @@ module _ {A : Type 0} where
   sum_set f (b ∷ l) (suc i) a d h = let further = sum_set f l i a d (le_of_suc-le-suc h) in omega arith
 
 -- A member counts.
-pub in_sum : {A : Type 0} (f : A → ℕ) {l : List A} {a : A} → In a l → f a ≤ sum f l
+pub in_sum : {A : Type 0} (f : A → ℕ) {a : A} {l : List A} → In a l → f a ≤ sum f l
 in_sum f (here {x = b} {xs = l} e) = rw e (omega arith)
 in_sum f (there {x = b} {xs = l} m) = omega (arith, in_sum f m)
 

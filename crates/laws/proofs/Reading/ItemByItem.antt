@@ -77,6 +77,7 @@ CountedFrom n [] = Unit {0}
 CountedFrom n (c ∷ cs) = (c.place ≡ n) × CountedFrom (n + 1) cs
 
 counted_within : (n : ℕ) (cs : List Clause) → CountedFrom n cs → (c : Clause) → In c cs → (n ≤ c.place) × (c.place + 1 ≤ n + length cs)
+counted_within n [] h c m = elim m [ ]
 counted_within n (d ∷ cs) h c (here e) = rw e (omega (arith, h.0), omega (arith, h.0))
 counted_within n (d ∷ cs) h c (there m) = let (a, b) = counted_within (n + 1) cs h.1 c m in (omega arith, omega arith)
 

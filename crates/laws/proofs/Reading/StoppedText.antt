@@ -1,7 +1,7 @@
 -- "For 4 the token's start (the text's length at its end)": a text that is no sequence of items is refused at a token of it, or at its end.
 -- The refused piece's readers stop at a place of its tokens; those are places of the text's tokens.
 use Prim.Native.Nat.{ℕ, zero, suc, ◌+◌}
-use mathlib.Core.Path.{◌≡◌, refl}
+use mathlib.Core.Path.{subst, ◌≡◌, refl}
 use mathlib.Core.Logic.{◌⊎◌, inl, inr}
 use mathlib.Core.Bool.{Bool, true, false}
 use mathlib.Core.List.{List, [], ◌∷◌}
@@ -92,7 +92,7 @@ module _ (so_far : SoFar) (at : ℕ) (t : Token) (rest : Tokens) (p : ℕ) where
   as_query (read gs counted behind) e q = absurd (not_four _ _ (λ d. differ (cc)) q)
   as_query (malformed place) e q =
       let place_is : place ≡ p = cc in
-      inr (rw (← place_is) (rw e at ((goals_stop 8).from (fresh so_far.names) rest)))
+      inr (subst (λ x. At x rest) place_is (rw e at ((goals_stop 8).from (fresh so_far.names) rest)))
   as_query passed e q = absurd (differ (cc))
 
   token_stopped : item_from so_far at t rest ≡ refused (no_item p) → At p (token at t rest)

@@ -109,7 +109,7 @@ module _ (both : Bool) (free : Bytes → Bool) (piece : Tokens) (xs : List Bytes
           splits = λ h x. rw (none_here h x) at (b.splits h x);
           in_head = λ e h x. rw (none_here h x, or_false_right implied (is ":" t) e) at (b.in_head (or_false_left implied (is ":" t) e) h x);
           head_passed = λ e. passed_now implied refl e;
-          seen_is = λ h x. rw (none_here h x) (b.seen-is h x);
+          seen_is = λ h x. rw (none_here h x) (b.seen_is h x);
           clean = b.clean;
         }
       where
@@ -156,7 +156,7 @@ module _ (both : Bool) (free : Bytes → Bool) (piece : Tokens) (xs : List Bytes
 
     second_time : seen h x ≡ true → (implied && pardoned free h x) ≡ false → FaultOf both free piece xs (record { rule = twice; offset = place })
     unfolding some_of
-    second_time e strict = let (others, all, later) = judged_here strict in go others all (b.earlier h x) refl (sym (b.seen-is h x) ∙ e)
+    second_time e strict = let (others, all, later) = judged_here strict in go others all (b.earlier h x) refl (sym (b.seen_is h x) ∙ e)
       where
         go : (others : List ℕ) → occurs_at h x (judged_in free h x piece) ≡ b.earlier h x ++ (place ∷ others)
             → (l : List ℕ) → b.earlier h x ≡ l → some_of l ≡ true → FaultOf both free piece xs (record { rule = twice; offset = place })
@@ -219,7 +219,7 @@ module _ (both : Bool) (free : Bytes → Bool) (piece : Tokens) (xs : List Bytes
         seen_so : (k : Half) (y : Bytes) (c : Bool) → is_half k y (variable h x) ≡ c
             → (is_half k y (variable h x) || seen k y) ≡ some_of (if is_half k y (variable h x) then b.earlier k y ++ (place ∷ []) else b.earlier k y)
         seen_so k y true q = rw q (sym (some_of_last (b.earlier k y) place))
-        seen_so k y false q = rw q (b.seen-is k y)
+        seen_so k y false q = rw q (b.seen_is k y)
 
         clean_so : (f : Fault) (o : FaultOf both free piece xs f)
             → In f.offset (if is_half o.half o.spelling (variable h x) then b.earlier o.half o.spelling ++ (place ∷ []) else b.earlier o.half o.spelling) → ⊥
@@ -249,12 +249,12 @@ module _ (both : Bool) (free : Bytes → Bool) (piece : Tokens) (xs : List Bytes
 
         go : TwiceAt (judged_in free h x piece) h x f ⊎ ((both ≡ true) × AloneAt piece h x f) → In f.offset (b.earlier h x)
         go (inl t) = pardoned_here pardon f t
-        go (inr (q, a)) = first_earlier (b.earlier h x) refl (sym (b.seen-is h x) ∙ e) a
+        go (inr (q, a)) = first_earlier (b.earlier h x) refl (sym (b.seen_is h x) ∙ e) a
 
     module _ (unseen : seen h x ≡ false) where
       none_earlier : b.earlier h x ≡ []
       unfolding some_of
-      none_earlier = go (b.earlier h x) (sym (b.seen-is h x) ∙ unseen)
+      none_earlier = go (b.earlier h x) (sym (b.seen_is h x) ∙ unseen)
         where
           go : (l : List ℕ) → some_of l ≡ false → l ≡ []
           go [] q = refl

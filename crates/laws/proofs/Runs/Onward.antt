@@ -27,7 +27,7 @@ module _ (clauses : List Clause) (figures : Room) where
       → (left : ℕ) (state : State) (queue : List Goal) → state.goals.queue ≡ queue → P left state (onward left clauses figures state queue)
   unfolding onward
   onward_induction P cases zero state [] e = cases.rests zero state e
-  onward_induction P cases zero state (g ∷ others) e = cases.budget-ends state g others e
+  onward_induction P cases zero state (g ∷ others) e = cases.budget_ends state g others e
   onward_induction P cases (suc left) state [] e = cases.rests (suc left) state e
   onward_induction P cases (suc left) state (g ∷ others) e =
       go (fits figures (choice_for clauses state g) state (without_front others state.goals)) refl
@@ -40,7 +40,7 @@ module _ (clauses : List Clause) (figures : Room) where
           → P (suc left) state (onward (suc left) clauses figures state (g ∷ others))
       go true f further =
           rw (f, onward) (cases.steps left state g others e f (onward left clauses figures after after.goals.queue) further)
-      go false f further = rw (f, onward) (cases.room-ends left state g others e f)
+      go false f further = rw (f, onward) (cases.room_ends left state g others e f)
 
 pub run_induction : (job : Job) (figures : Room) (P : ℕ → State → Ended → Type 0) → Cases job.clauses figures P
     → (limit : ℕ) → P limit (start job.queries) (run job limit figures)

@@ -91,7 +91,7 @@ module _ (Goal Found : Term → Type 0) (look look_later : Term → Term)
   unfolding and_then with_assignments
   together_agree r s given first others e one two =
       rw (e, one.agrees, two.agrees)
-      (record { given_later = one.given-later ++ two.given-later; agrees = refl; paired = paired_append one.paired two.paired })
+      (record { given_later = one.given_later ++ two.given_later; agrees = refl; paired = paired_append one.paired two.paired })
 
   mutual
     unfolding EachArgument FoundLater place places renamed all_renamed waits_on if◌then◌else◌

@@ -35,7 +35,7 @@ end-requires c κs =
     let start = c.before.before.before.before.before in
     let T = tail_asks start.args.s.now start.requires.1 start.args.p start.args.i start.requires.3 start.requires.2 start.requires.4 start.requires.5 start.requires.7
     (sym c.before.before.before.functor.ensures ∙ c.before.before.if1.false) c.before.if2.true in
-    (start.requires.0, start.requires.1, T.tail-term, start.requires.6, rw c.word_at.ensures T.shows)
+    (start.requires.0, start.requires.1, T.tail_term, start.requires.6, rw c.word_at.ensures T.shows)
 
 behind-element-requires : tie.Need-behind-element-requires
 behind-element-requires c κs =
@@ -44,9 +44,9 @@ behind-element-requires c κs =
     (sym c.before.before.before.before.functor.ensures ∙ c.before.before.before.if1.false) c.before.before.if2.true in (
       start.requires.1,
       start.requires.4,
-      T.tail-term,
+      T.tail_term,
       T.position,
-      c.end.ensures start.requires.0 start.requires.1 T.tail-term start.requires.6 (rw c.before.word_at.ensures T.shows),
+      c.end.ensures start.requires.0 start.requires.1 T.tail_term start.requires.6 (rw c.before.word_at.ensures T.shows),
     )
 
 returns-2 : tie.Need-returns-2
@@ -55,8 +55,8 @@ returns-2 c text x f j u us r a =
     let T = tail_asks start.args.s.now x start.args.p start.args.i j f u us a
     (sym c.before.before.before.before.before.functor.ensures ∙ c.before.before.before.before.if1.false) c.before.before.before.if2.true in
     T.tells c.behind_element.result
-    (c.behind_element.ensures x u T.tail-term T.position
-    (c.before.end.ensures text x T.tail-term r (rw c.before.before.word_at.ensures T.shows)))
+    (c.behind_element.ensures x u T.tail_term T.position
+    (c.before.end.ensures text x T.tail_term r (rw c.before.before.word_at.ensures T.shows)))
 
 returns-3 : tie.Need-returns-3
 returns-3 c text x f j u us r a =

@@ -54,7 +54,7 @@ loop-again c =
 same_length : tie.Need-same-length invariant-loop decreases-loop
 same_length c =
     let a = c.before.before.before.requires in
-    (c.before.loop.invariant.1 a.0 a.1 a.2 a.3).1.log-now.only.size
+    (c.before.loop.invariant.1 a.0 a.1 a.2 a.3).1.log_now.only.size
 
 returns : tie.Need-returns invariant-loop decreases-loop
 returns c =
