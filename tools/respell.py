@@ -14,6 +14,8 @@ import sys
 
 NAME = re.compile(r"[^\s(){}\[\].,;:`\"]+")
 DASHED = re.compile(r"^[^\W\d_][\w'₀₁₂₃₄₅₆₇₈₉]*(-[\w'₀₁₂₃₄₅₆₇₈₉]+)+$")
+# Words of tactics, which no definition may have.
+TACTICS = {"ground": "a_ground"}
 MADE = re.compile(r"^(Need|invariant|decreases)-")
 MARKS = r"(?:(?:unfoldable|abbrev|pub|pattern|irrelevant)\s+)*"
 KIT = ("Prim.", "mathlib.", "lib.", "native.", "base.", "borrow.", "contract.", "denote.", "ghost.", "mir.", "prog.", "seplogic.", "sound.", "store.",
@@ -109,6 +111,8 @@ def main():
 
         def turn(m, code):
             word, before = m.group(), m.string[: m.start()]
+            if code and word in TACTICS:
+                return TACTICS[word]
             if not DASHED.match(word):
                 return word
             if before.endswith("."):

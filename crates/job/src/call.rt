@@ -19,7 +19,7 @@ use term::layout::{Room, need};
 use term::state::{Standing, Verdict};
 
 // The answers: with the report's length where it ran or was too long; 4, 11, 5, 9, 10 and 6 as the loader told them.
-#[derive(Drop)]
+#[derive(Clone, Copy)]
 pub enum Answer {
     Ran(usize),
     OutOfRange,

@@ -2,7 +2,7 @@
 use load_openings::cursor::Cursor;
 
 // So many elements and then the full stop at an offset, or the bar, with the cursor behind it; or 4 at a place, or 6.
-#[derive(Drop)]
+#[derive(Clone, Copy)]
 pub enum Elements {
     Stop(usize, usize, Cursor),
     Bar(usize, Cursor),

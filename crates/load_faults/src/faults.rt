@@ -14,7 +14,7 @@ use load_names::variables::find;
 use load_tokens::token::{Token, behind_sign, front};
 
 // 5 (the same half twice), 9 (a writer without its reader) and 10 (a reader without its writer).
-#[derive(Drop)]
+#[derive(Clone, Copy)]
 pub enum Broken {
     Twice,
     WriterAlone,
@@ -22,14 +22,14 @@ pub enum Broken {
 }
 
 // The rule, and where in the rest of the text the token stands that breaks it.
-#[derive(Drop)]
+#[derive(Clone, Copy)]
 pub struct Fault {
     pub rule: Broken,
     pub offset: usize,
 }
 
 // What a half of a variable breaks where it stands, if anything.
-#[derive(Drop)]
+#[derive(Clone, Copy)]
 pub enum Judged {
     Twice,
     Alone,

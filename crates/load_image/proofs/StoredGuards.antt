@@ -11,7 +11,7 @@ use Rattle.meaning.specs.Terms.{
   an_integer,
   a_constant,
   a_compound,
-  ground,
+  a_ground,
   known,
   equal,
   otherwise,
@@ -52,7 +52,7 @@ module _ (places : CellPlaces) (base : ℕ) (at : (n : ℕ) → places.compound 
   test_only an_integer lo hi g ts s few k = named_only lo hi g ts s few k
   test_only a_constant lo hi g ts s few k = named_only lo hi g ts s few k
   test_only a_compound lo hi g ts s few k = named_only lo hi g ts s few k
-  test_only ground lo hi g ts s few k = named_only lo hi g ts s few k
+  test_only a_ground lo hi g ts s few k = named_only lo hi g ts s few k
   test_only known lo hi g ts s few k = named_only lo hi g ts s few k
   test_only equal lo hi g end s few k = absurd k
   test_only equal lo hi g (more t end) s few k = absurd k
@@ -113,7 +113,7 @@ module _ (places : CellPlaces) (base : ℕ) (at : (n : ℕ) → places.compound 
     test_hold an_integer lo hi g ts s few inside k = named_hold lo hi g ts s few inside k
     test_hold a_constant lo hi g ts s few inside k = named_hold lo hi g ts s few inside k
     test_hold a_compound lo hi g ts s few inside k = named_hold lo hi g ts s few inside k
-    test_hold ground lo hi g ts s few inside k = named_hold lo hi g ts s few inside k
+    test_hold a_ground lo hi g ts s few inside k = named_hold lo hi g ts s few inside k
     test_hold known lo hi g ts s few inside k = named_hold lo hi g ts s few inside k
     test_hold equal lo hi g end s few inside k = absurd k
     test_hold equal lo hi g (more t end) s few inside k = absurd k

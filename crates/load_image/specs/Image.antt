@@ -78,7 +78,7 @@ unfoldable pub test_stored : Test → CellPlaces → Guard → Terms → List �
 test_stored Test.an_integer places g ts s = stored places (compound g.number (named g.row.name) ts) s
 test_stored Test.a_constant places g ts s = stored places (compound g.number (named g.row.name) ts) s
 test_stored Test.a_compound places g ts s = stored places (compound g.number (named g.row.name) ts) s
-test_stored Test.ground places g ts s = stored places (compound g.number (named g.row.name) ts) s
+test_stored Test.a_ground places g ts s = stored places (compound g.number (named g.row.name) ts) s
 test_stored Test.known places g ts s = stored places (compound g.number (named g.row.name) ts) s
 test_stored Test.equal places g end s = s
 test_stored Test.equal places g (more t end) s = s

@@ -19,7 +19,7 @@ unfolding TestNamed
 test_named_later names later Test.an_integer g ts k = known_more (compound g.number (named g.row.name) ts) names later k
 test_named_later names later Test.a_constant g ts k = known_more (compound g.number (named g.row.name) ts) names later k
 test_named_later names later Test.a_compound g ts k = known_more (compound g.number (named g.row.name) ts) names later k
-test_named_later names later Test.ground g ts k = known_more (compound g.number (named g.row.name) ts) names later k
+test_named_later names later Test.a_ground g ts k = known_more (compound g.number (named g.row.name) ts) names later k
 test_named_later names later Test.known g ts k = known_more (compound g.number (named g.row.name) ts) names later k
 test_named_later names later Test.equal g end k = tt
 test_named_later names later Test.equal g (more t end) k = tt
@@ -37,7 +37,7 @@ module _ (p : CellPlaces) (later : List Bytes) where
   test_later Test.an_integer g ts s k = stored_more p later (compound g.number (named g.row.name) ts) s k
   test_later Test.a_constant g ts s k = stored_more p later (compound g.number (named g.row.name) ts) s k
   test_later Test.a_compound g ts s k = stored_more p later (compound g.number (named g.row.name) ts) s k
-  test_later Test.ground g ts s k = stored_more p later (compound g.number (named g.row.name) ts) s k
+  test_later Test.a_ground g ts s k = stored_more p later (compound g.number (named g.row.name) ts) s k
   test_later Test.known g ts s k = stored_more p later (compound g.number (named g.row.name) ts) s k
   test_later Test.equal g end s k = refl
   test_later Test.equal g (more t end) s k = refl

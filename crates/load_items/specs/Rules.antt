@@ -61,7 +61,7 @@ unfoldable pub TestNamed : Test → List Bytes → Guard → Terms → Type 0
 TestNamed Test.an_integer names g ts = Known names (compound g.number (named g.row.name) ts)
 TestNamed Test.a_constant names g ts = Known names (compound g.number (named g.row.name) ts)
 TestNamed Test.a_compound names g ts = Known names (compound g.number (named g.row.name) ts)
-TestNamed Test.ground names g ts = Known names (compound g.number (named g.row.name) ts)
+TestNamed Test.a_ground names g ts = Known names (compound g.number (named g.row.name) ts)
 TestNamed Test.known names g ts = Known names (compound g.number (named g.row.name) ts)
 TestNamed Test.equal names g end = Unit {0}
 TestNamed Test.equal names g (more t end) = Unit {0}

@@ -25,7 +25,7 @@ use term::word::word;
 
 // An item read, up to the byte behind its full stop, with the names counted so far; or 4 at a place; or where it begins
 // with 11 and 6, and with the rule and the byte that break it; or nothing is left.
-#[derive(Drop)]
+#[derive(Clone, Copy)]
 pub enum Item {
     Clause(usize, usize),
     Query(usize, usize),

@@ -22,7 +22,7 @@ use term::word::{COMPOUND, TAGS, word};
 
 // The clause is read: how many guards it has, where the bar ends (0 without guards), and how many goals; one of its guards is not in the table; or 4 at a
 // place, or 6.
-#[derive(Drop)]
+#[derive(Clone, Copy)]
 pub enum Ruled {
     Got(usize, usize, u64, Cursor),
     Unknown,

@@ -12,7 +12,7 @@ ghost use Rattle.load_names.specs.Answers.{found, NameIs};
 use term::bytes::same;
 use term::word::{index, word};
 
-#[derive(Drop)]
+#[derive(Clone, Copy)]
 pub enum Numbered {
     // The name's number, and how many names there are then.
     Number(usize, usize),
@@ -20,7 +20,7 @@ pub enum Numbered {
 }
 
 // The number of the place that a search has found, if any.
-#[derive(Drop)]
+#[derive(Clone, Copy)]
 pub enum Found {
     At(usize),
     Nothing,

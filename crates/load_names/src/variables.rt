@@ -10,7 +10,7 @@ ghost use Rattle.load_names.specs.Answers.{found, VariableIs};
 use crate::names::{Found, spelled};
 use term::word::word;
 
-#[derive(Drop)]
+#[derive(Clone, Copy)]
 pub enum Numbered {
     // The variable's number, and how many there are then.
     Number(usize, usize),

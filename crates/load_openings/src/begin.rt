@@ -13,7 +13,7 @@ use load_tokens::token::{Token, front};
 use term::word::{EMPTY, INTEGER, NAME, READER, TAGS, WRITER, index, word};
 
 // A term begun: read whole, or up to behind its opening bracket, of a compound with its name's number; or 4 at a place, or 6.
-#[derive(Drop)]
+#[derive(Clone, Copy)]
 pub enum Begun {
     Got(u64, Cursor),
     Round(usize, Cursor),

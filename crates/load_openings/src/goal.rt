@@ -10,7 +10,7 @@ use load_tokens::next::{IsNext, next_is};
 use load_tokens::token::{Token, front};
 
 // A goal's name with its number, and the cursor behind its parenthesis; or 4 at a place, or 6.
-#[derive(Drop)]
+#[derive(Clone, Copy)]
 pub enum Opening {
     Named(usize, Cursor),
     NotNamed(usize),

@@ -5,7 +5,7 @@ ghost use Rattle.load_tokens.specs.Nexts.{StartIs, MarkIs, IsNextSign, NextIs};
 use crate::token::{Token, begins_sign, behind_sign, front, skip};
 
 // Whether the next token can begin a term, or where the one stands that cannot.
-#[derive(Drop)]
+#[derive(Clone, Copy)]
 pub enum Start {
     Can,
     Cannot(usize),
@@ -33,7 +33,7 @@ pub fn starts(rest: &[u8], at: usize) -> Start
 }
 
 // The sign that comes next, and where; or where the token stands that is none.
-#[derive(Drop)]
+#[derive(Clone, Copy)]
 pub enum Mark {
     Sign(u8, usize),
     NoSign(usize),
@@ -56,7 +56,7 @@ fn ahead(rest: &[u8], at: usize) -> Mark
 }
 
 // Whether this sign comes next, with the first place behind it; or where the token stands that is another.
-#[derive(Drop)]
+#[derive(Clone, Copy)]
 pub enum IsNext {
     Yes(usize),
     No(usize),
@@ -78,7 +78,7 @@ pub fn next_is(rest: &[u8], at: usize, sign: u8) -> IsNext
 }
 
 // Which of three signs comes next, with the first place behind it; or where the token stands that is none of them.
-#[derive(Drop)]
+#[derive(Clone, Copy)]
 pub enum Next {
     First(usize),
     Second(usize),

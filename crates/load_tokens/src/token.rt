@@ -9,7 +9,7 @@ ghost use Rattle.load_tokens.specs.Ends.{Skipped, end_of_run, end_of_remark};
 ghost use Rattle.load_tokens.specs.Fronts.{FrontIs, double_sign, second, begins_sign as begins_sign_meant, behind};
 
 // What stands in front, with where it begins and where it ends; of a reader the `?` is not counted in its end.
-#[derive(Drop)]
+#[derive(Clone, Copy)]
 pub enum Token {
     End,
     Name(usize, usize),

@@ -16,14 +16,14 @@ use term::clear::clear;
 use term::layout::{Room, need};
 
 // How many clauses and queries the job has; or the refusal with its line.
-#[derive(Drop)]
+#[derive(Clone, Copy)]
 pub enum Loaded {
     Job(usize, usize),
     Refused(Refusal),
 }
 
 // All items read: clauses, queries and names; or the refusal with its place.
-#[derive(Drop)]
+#[derive(Clone, Copy)]
 pub enum Listed {
     Items(usize, usize, usize),
     Stopped(Refusal),

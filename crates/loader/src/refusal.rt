@@ -6,7 +6,7 @@ ghost use Rattle.load_faults.specs.Finding.{rule_of};
 use load_faults::faults::Broken;
 
 // It holds a place in the text while that is read, and the line once it is told; behind it the byte, where the number has one.
-#[derive(Drop)]
+#[derive(Clone, Copy)]
 pub enum Refusal {
     NoItems(usize, usize),
     GuardRefused(usize),

@@ -16,7 +16,7 @@ use term::layout::Room;
 use term::state::{Standing, Verdict};
 
 // How the run ended and the state in which it did; or the queries alone pass a room figure.
-#[derive(Drop)]
+#[derive(Clone, Copy)]
 pub enum Ran {
     Ended(Verdict, Standing),
     QueriesPassRoom,

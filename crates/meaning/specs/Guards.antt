@@ -20,7 +20,7 @@ use Rattle.meaning.specs.Terms.{
   an_integer,
   a_constant,
   a_compound,
-  ground,
+  a_ground,
   known,
   equal,
   otherwise,
@@ -112,7 +112,7 @@ answer an_integer earlier ts = argument_is is_integer false ts
 answer a_constant earlier ts = argument_is (λ k. true) false ts
 answer a_compound earlier ts = argument_is (λ k. false) true ts
 answer known earlier ts = argument_is (λ k. true) true ts
-answer ground earlier ts = all_variables and_then ts
+answer a_ground earlier ts = all_variables and_then ts
 answer equal earlier ts = first_of (all_variables first_of ts) (succeeds_if (two_equal ts))
 answer otherwise earlier ts = after earlier
 

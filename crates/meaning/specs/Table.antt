@@ -18,7 +18,7 @@ use Rattle.meaning.specs.Terms.{
   an_integer,
   a_constant,
   a_compound,
-  ground,
+  a_ground,
   known,
   equal,
   otherwise,
@@ -47,7 +47,7 @@ rows_before =
     row "integer" 1 an_integer true
     ∷ row "constant" 1 a_constant true
     ∷ row "compound" 1 a_compound false
-    ∷ row "ground" 1 ground true
+    ∷ row "ground" 1 a_ground true
     ∷ row "known" 1 known false
     ∷ []
 

@@ -41,7 +41,7 @@ pub record Named : Type 0 where
 
 -- What a guard asks: "integer, constant, compound, ground, known, `==` and otherwise" (02, T-02).
 pub data Test : Type 0 where
-  an_integer a_constant a_compound ground known equal otherwise : Test
+  an_integer a_constant a_compound a_ground known equal otherwise : Test
 
 -- A row of the "fixed table of names and argument counts", with whether success means ground.
 pub record Row : Type 0 where

@@ -20,7 +20,7 @@ pub fn functor(s: &[u64], p: usize) -> usize
 }
 
 // What stands behind an argument of a compound: a byte, and then an argument of a compound; or a last byte.
-#[derive(Drop)]
+#[derive(Clone, Copy)]
 pub enum Next {
     Goes(u8, usize, usize),
     Ends(u8),

@@ -10,7 +10,7 @@ use term::state::Standing;
 use term::word::{TAGS, index};
 
 // So many goals of one of the three lists: their words stand from a place on, so many words apart, in a ring of so many, from a first one on.
-#[derive(Drop)]
+#[derive(Clone, Copy)]
 pub struct Group {
     pub from: usize,
     pub step: usize,

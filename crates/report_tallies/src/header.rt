@@ -14,7 +14,7 @@ use term::state::{Standing, Verdict};
 use term::word::index;
 
 // The counts of a query's goals.
-#[derive(Drop)]
+#[derive(Clone, Copy)]
 pub struct Tallies {
     pub tries: usize,
     pub active: usize,

@@ -9,7 +9,7 @@ use report_pairs::cells::{Next, behind};
 use report_put::put::put;
 
 // The place in the buffer, the next argument by its compound and its number, and how many compounds are still around it; or the place behind them all.
-#[derive(Drop)]
+#[derive(Clone, Copy)]
 pub enum Risen {
     Goes(usize, usize, usize, usize),
     Ends(usize),

@@ -2,7 +2,7 @@
 use term::state::Standing;
 
 // The state after the step, or the reduction does not fit.
-#[derive(Drop)]
+#[derive(Clone, Copy)]
 pub enum Stepped {
     Next(Standing),
     NoRoom,

@@ -164,7 +164,7 @@ module _ (s : List ℕ) (values marks place stamp : ℕ) (b : Bool) (w state : �
       names : (x : Scene) (z : ℕ) (v : Option Term) (h : Searching s x values marks place stamp z) (told : Told x b w v) → Names x state'
       names x z v h told p e =
           let f = ((gone x z v h told).keeps.since p e).1 in
-          record { pair = f.pair; below = f.below; place = f.place; ground = f.stems.firm (left x z v h told) }
+          record { pair = f.pair; below = f.below; place = f.place; a_ground = f.stems.firm (left x z v h told) }
 
       pub ended_asks : TermAsks s values marks place stamp b w
           → (x : Scene) × (at : ℕ) × (goal : ℕ) × Searching s' x values marks at stamp goal × Names x state'

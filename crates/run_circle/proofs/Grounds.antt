@@ -11,7 +11,7 @@ use Rattle.meaning.specs.State.{Values, value}
 use Rattle.laws.proofs.Terms.Standing.{Stands}
 use Rattle.laws.proofs.Circle.Leaning.{Leans, Links, one, first}
 use Rattle.term.specs.Cells.{Places}
-use Rattle.run_circle.specs.Ground.{Ground, ground, Via, there, through, LeadsVia, GroundAt, Tells, IsSo, Grounds, NewGrounds}
+use Rattle.run_circle.specs.Ground.{Ground, a_ground, Via, there, through, LeadsVia, GroundAt, Tells, IsSo, Grounds, NewGrounds}
 
 none_some : (u : Term) → none ≡ some u → ⊥
 none_some u g = let z : ◌≡◌ {A = ℕ} 0 1 = cc in absurd (omega arith)
@@ -22,7 +22,7 @@ some_same a b g = cc
 module _ (before after : Values) (stays : (n : ℕ) (t : Term) → value before n ≡ some t → value after n ≡ some t) where
   -- What is ground stays so where values stay.
   pub ground_stays : {n : ℕ} → Ground before n → Ground after n
-  ground_stays (ground {n = n} t e all) = ground t (stays n t e) (λ j r. ground_stays (all j r))
+  ground_stays (a_ground {n = n} t e all) = a_ground t (stays n t e) (λ j r. ground_stays (all j r))
 
   pub via_stays : {u n : ℕ} → Via before u n → Via after u n
   via_stays (there e) = there e
@@ -48,10 +48,10 @@ module _ (before after : Values) (stays : (n : ℕ) (t : Term) → value before 
 
   -- A ground pair leans on ground pairs.
   pub ground_leans : {n : ℕ} → Ground before n → (j : ℕ) → Leans after n j → Ground before j
-  ground_leans (ground {n = n} t e all) j l = all j (leans_stands n j t e l)
+  ground_leans (a_ground {n = n} t e all) j l = all j (leans_stands n j t e l)
 
   pub ground_value : {n : ℕ} → Ground before n → value before n ≡ none → ⊥
-  ground_value (ground t e all) f = none_some t (sym f ∙ e)
+  ground_value (a_ground t e all) f = none_some t (sym f ∙ e)
 
   -- No unassigned pair is reached from it.
   pub ground_reaches : {n z : ℕ} → Ground before n → Links after n z → value before z ≡ none → ⊥
@@ -70,11 +70,11 @@ via_unassigned values (through t e all) f = absurd (none_some t (sym f ∙ e))
 
 -- Through a ground pair nothing unassigned is reached, and through one from which all ways go through another, all ways go through that.
 pub ground_via : (values : Values) (u : ℕ) {n : ℕ} → Ground values n → Via values u n
-ground_via values u (ground t e all) = through t e (λ j r. ground_via values u (all j r))
+ground_via values u (a_ground t e all) = through t e (λ j r. ground_via values u (all j r))
 
 pub via_ground : (values : Values) {u n : ℕ} → Via values u n → Ground values u → Ground values n
 via_ground values (there e) g = subst (Ground values) (sym e) g
-via_ground values (through t e all) g = ground t e (λ j r. via_ground values (all j r) g)
+via_ground values (through t e all) g = a_ground t e (λ j r. via_ground values (all j r) g)
 
 pub via_via : (values : Values) {u w n : ℕ} → Via values u n → Via values w u → Via values w n
 via_via values {w = w} (there e) g = subst (Via values w) (sym e) g
@@ -92,7 +92,7 @@ so_grows places places' before after longer same stays none p g = record {
   pair = g.pair;
   below = omega (arith, g.below);
   place = same g.pair g.below ∙ g.place;
-  ground = ground_stays before after stays g.ground;
+  a_ground = ground_stays before after stays g.a_ground;
 }
 so_grows places places' before after longer same stays (some q) p g = record {
   pair = g.pair;
@@ -130,4 +130,4 @@ module _ (places : Places) (values : Values) (marks : ℕ) where
       → (s : List ℕ) → Grounds places values marks s → (n : ℕ) → n < length values → get_or s (marks + places.pair n) 0 ≡ 1 → Ground values n
   marked_ground apart s all n h e =
       let g : GroundAt places values (places.pair n) = all none n h e in
-      subst (Ground values) (apart g.pair n g.below h g.place) g.ground
+      subst (Ground values) (apart g.pair n g.below h g.place) g.a_ground

@@ -16,7 +16,7 @@ use Rattle.meaning.specs.State.{value}
 use Rattle.laws.proofs.Terms.Standing.{Stands}
 use Rattle.term.specs.Holds.{Holds}
 use Rattle.term.specs.Words.{tag_in, rest_in}
-use Rattle.run_circle.specs.Ground.{Ground, ground, GroundAt, stamp_in, Tells, IsSo}
+use Rattle.run_circle.specs.Ground.{Ground, a_ground, GroundAt, stamp_in, Tells, IsSo}
 use Rattle.run_circle.specs.Search.{Scene, Told, StandsAt, LeadsIs, LastLeads, Searching, visited, Searched, Settled}
 use Rattle.run_circle.proofs.Grounds.{ground_value, ground_leans}
 use Rattle.run_circle.proofs.Measure.{term_weight, falls_to_pair, falls_to_value, falls_to_argument}
@@ -103,7 +103,7 @@ module _ (s₀ : List ℕ) (values marks stamp pair : ℕ) where
       held = tt;
       pairs = λ j r. rw r (omega (arith, g.below, h.shown.old_is));
     };
-    all = λ j r. rw r g.ground;
+    all = λ j r. rw r g.a_ground;
     settled = settled_same x marks stamp s₀;
   }
 
@@ -207,7 +207,7 @@ module _ (s₀ : List ℕ) (values marks stamp pair : ℕ) where
                   pair = u.pair;
                   below = omega (arith, u.on, h.shown.old_is);
                   place = sym (at ∙ u.place);
-                  ground = (settling x place goal h g).all u.pair u.stands;
+                  a_ground = (settling x place goal h g).all u.pair u.stands;
                 })))
 
             word : get_or s₁ (values + p) 0 ≡ get_or x.front (x.values + x.unit.pair (settle_pair x place goal h g).pair) 0

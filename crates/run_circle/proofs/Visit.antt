@@ -14,7 +14,7 @@ use Rattle.laws.proofs.Terms.Standing.{Stands}
 use Rattle.laws.proofs.Circle.Leaning.{Leans, Links, one, first, links_join}
 use Rattle.term.specs.Layout.{trial_region}
 use Rattle.term.specs.Words.{tag_in, rest_in}
-use Rattle.run_circle.specs.Ground.{Ground, ground, Via, there, LeadsVia}
+use Rattle.run_circle.specs.Ground.{Ground, a_ground, Via, there, LeadsVia}
 use Rattle.run_circle.specs.Search.{
   Scene,
   side,
@@ -109,7 +109,7 @@ value_stems x n same = rw same (record {
   where
     firm : (v : Option Term) → value x.before n ≡ v → Firm x v → Ground x.before n
     firm none e f = absurd f
-    firm (some t) e f = ground t e f
+    firm (some t) e f = a_ground t e f
 
     via : (u : ℕ) (v : Option Term) → value x.before n ≡ v → AllStand (Via x.before u) v → LeadsVia x.before u n
     via u none e f = absurd f

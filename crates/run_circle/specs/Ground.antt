@@ -10,7 +10,7 @@ use Rattle.term.specs.Cells.{Places}
 
 -- A pair has a value, and so has each pair that stands in it, and so on to the end.
 pub data Ground (values : Values) : ℕ → Type 0 where
-  ground : {n : ℕ} (t : Term) → value values n ≡ some t → ((j : ℕ) → Stands j t → Ground values j) → Ground values n
+  a_ground : {n : ℕ} (t : Term) → value values n ≡ some t → ((j : ℕ) → Stands j t → Ground values j) → Ground values n
 
 -- The same, where only pair u may have no value: all ways from a pair to an unassigned one go through u.
 pub data Via (values : Values) (u : ℕ) : ℕ → Type 0 where
@@ -22,7 +22,7 @@ pub record GroundAt (places : Places) (values : Values) (p : ℕ) : Type 0 where
   pub pair : ℕ
   pub below : pair < length values
   pub place : places.pair pair ≡ p
-  pub ground : Ground values pair
+  pub a_ground : Ground values pair
 
 -- A pair has a value, from which all ways go through u.
 abbrev pub LeadsVia : Values → ℕ → ℕ → Type 0

@@ -13,7 +13,7 @@ use term::word::{View, look};
 
 // How many of the goal's pairs are noted so far, where no place fails: those that are given a term, and those whose readers are waited on; or a place
 // fails.
-#[derive(Drop)]
+#[derive(Clone, Copy)]
 pub enum CompareResult {
     Noted(usize),
     Fails,

@@ -65,7 +65,7 @@ module _ (s : List ℕ) (x : Setting) (y : Template) (given : List Assignment) (
   scene = record { front = s; unit = x; clause = y; given = given; marks = marks; met = met }
 
   bare_both : AllBare (out x given (more t (more u end)))
-  bare_both = bare_terms (out x given (more t (more u end))) [] a.ground
+  bare_both = bare_terms (out x given (more t (more u end))) [] a.a_ground
 
   bare_first : Bare (filled scene t)
   unfolding written_out all_replaced AllBare

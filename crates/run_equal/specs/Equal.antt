@@ -199,7 +199,7 @@ pub record Equating (s : List ℕ) (x : Setting) (y : Template) (given : List As
   pub readers : Readers s (marks + links) links met
   pub few : links ≤ 65536
   pub near : values ≤ 268435456
-  pub ground : all_variables first_of (out x given (more t (more u end))) ≡ succeeds []
+  pub a_ground : all_variables first_of (out x given (more t (more u end))) ≡ succeeds []
 
 -- The answer, and the step's readers as before.
 pub record Equated (s s' : List ℕ) (x : Setting) (given : List Assignment) (marks links met : ℕ) (t u : Term) (r : Bool) : Type 0 where

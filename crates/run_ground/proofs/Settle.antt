@@ -17,7 +17,7 @@ use Rattle.laws.proofs.Terms.Standing.{Stands, StandsIn}
 use Rattle.term.specs.Setting.{UnitTerms}
 use Rattle.term.specs.Words.{tag_in, rest_in}
 use Rattle.term.proofs.Frames.{only_same, only_set, only_then, only_wider}
-use Rattle.run_circle.specs.Ground.{Ground, ground, GroundAt, Tells, IsSo}
+use Rattle.run_circle.specs.Ground.{Ground, a_ground, GroundAt, Tells, IsSo}
 use Rattle.run_circle.proofs.Depth.{depth, depths}
 use Rattle.run_ground.specs.Looking.{Scene, unit_pair, Placed, Told, Firm, Settled}
 use Rattle.run_ground.proofs.Words.{
@@ -63,10 +63,10 @@ nth x n i (more t ts) u k a low high reads = go (ℕ_discrete k (i + 1)) (nth x 
 
 -- A ground pair's value, and its pairs.
 ground_value : (values : Values) (n : ℕ) → Ground values n → value values n ≡ none → ⊥
-ground_value values n (ground t e all) f = let z : ◌≡◌ {A = ℕ} 0 1 = cc in absurd (omega arith)
+ground_value values n (a_ground t e all) f = let z : ◌≡◌ {A = ℕ} 0 1 = cc in absurd (omega arith)
 
 ground_parts : (values : Values) (n : ℕ) → Ground values n → (u : Term) → value values n ≡ some u → (j : ℕ) → Stands j u → Ground values j
-ground_parts values n (ground t e all) u f j s =
+ground_parts values n (a_ground t e all) u f j s =
     let same : ◌≡◌ {A = Term} t u = some_same t u (sym e ∙ f) in
     all j (rw same s)
   where
@@ -249,7 +249,7 @@ module _ (s₀ : List ℕ) (values marks stamp w₀ state : ℕ) where
                 settled_then x marks stamp s₀ s s₁ (λ e. omega (arith, h.stamp_above)) (settling x t h told firm).settled
                 (rw set_now (settled_set x marks stamp s p (omega (arith, k.at.place, h.shown.stands.held.place j k.at.below))
                 (settle_mark (x, t, h, told, firm)) m
-                (record { pair = j; below = k.at.below; place = omega (arith, k.at.place); ground = known })))
+                (record { pair = j; below = k.at.below; place = omega (arith, k.at.place); a_ground = known })))
 
             p₁ : Placed s₁ x values marks stamp
             p₁ = placed_settled x marks stamp values s₀ s₁ h now_settled

@@ -15,7 +15,7 @@ use Rattle.meaning.specs.Guards.{first_of, unassigned, variables, all_variables}
 use Rattle.laws.proofs.Terms.Standing.{Stands, StandsIn}
 use Rattle.laws.proofs.Circle.Chains.{EndsWithin, chains_end}
 use Rattle.laws.proofs.Circle.Written.{replaced_alike, applied_within}
-use Rattle.run_circle.specs.Ground.{Ground, ground}
+use Rattle.run_circle.specs.Ground.{Ground, a_ground}
 use Rattle.run_ground.specs.Seeking.{together}
 use Rattle.run_ground.proofs.Results.{then_readers}
 
@@ -130,7 +130,7 @@ module _ (values : Values) (no_circle : circle values ≡ false) where
     result t = variables (together b) (applied (length values) values t)
 
     pub ground_succeeds : {p : ℕ} → Ground values p → (h : Half) → result (variable h p) ≡ succeeds []
-    ground_succeeds (ground {n = p} t e all) h =
+    ground_succeeds (a_ground {n = p} t e all) h =
         ap (variables (together b)) (written_assigned h p t e ∙ written_by_variables t)
         ∙ all_succeed b written t (λ k q s. ground_succeeds (all q s) k)
 
@@ -158,7 +158,7 @@ module _ (values : Values) (no_circle : circle values ≡ false) where
             → ((k : Half) (q : ℕ) → EndsWithin n values q → result (variable k q) ≡ succeeds [] → Ground values q) → Ground values p
         go none f further = absurd (unassigned_open h p (sym (unassigned_result h p f) ∙ e))
         go (some u) f further =
-            ground u f (λ j s. let (k, r) = succeeds_each u (sym (assigned_result h p u f) ∙ e) j s in further k j (ends u f j s) r)
+            a_ground u f (λ j s. let (k, r) = succeeds_each u (sym (assigned_result h p u f) ∙ e) j s in further k j (ends u f j s) r)
 
     -- It succeeds: its pairs are ground.
     pub firm_of : (t : Term) → result t ≡ succeeds [] → (p : ℕ) → Stands p t → Ground values p

@@ -33,7 +33,7 @@ use term::scratch::{argument, count, set_at, word_at};
 use term::word::{COMPOUND, READER, TAGS, WRITER, index};
 
 // What the walk finds: no unassigned variable; readers to wait on, and how many pairs the set has with them; or that the guard fails.
-#[derive(Drop)]
+#[derive(Clone, Copy)]
 pub enum Sought {
     Ground,
     Waits(usize),

@@ -5,7 +5,7 @@ use mathlib.Core.Bool.{Bool, true, false}
 use mathlib.Core.List.{List, [], ◌∷◌, map}
 use native.Mathlib.Omega.{arith}
 use lib.ListN.{length, get_or}
-use Rattle.meaning.specs.Terms.{Term, Terms, end, more, Test, an_integer, a_constant, a_compound, ground, known, equal, otherwise, Guard, count, all_replaced}
+use Rattle.meaning.specs.Terms.{Term, Terms, end, more, Test, an_integer, a_constant, a_compound, a_ground, known, equal, otherwise, Guard, count, all_replaced}
 use Rattle.meaning.specs.Compare.{Assignment, Result, succeeds, waits, fails}
 use Rattle.meaning.specs.Guards.{written_out, first_of, succeeds_if, all_variables, argument_is, two_equal, after, answer}
 use Rattle.laws.proofs.Lists.Among.{In, here, there}
@@ -45,11 +45,11 @@ all_below n [] h = tt
 all_below n (r ∷ rs) h = (h r (here refl), all_below n rs (λ p m. h p (there m)))
 
 -- The tests by their numbers.
-pub three_is_ground : (test : Test) → test_number test ≡ 3 → test ≡ ground
+pub three_is_ground : (test : Test) → test_number test ≡ 3 → test ≡ a_ground
 three_is_ground an_integer e = absurd (omega arith)
 three_is_ground a_constant e = absurd (omega arith)
 three_is_ground a_compound e = absurd (omega arith)
-three_is_ground ground e = refl
+three_is_ground a_ground e = refl
 three_is_ground known e = absurd (omega arith)
 three_is_ground equal e = absurd (omega arith)
 three_is_ground otherwise e = absurd (omega arith)
@@ -58,7 +58,7 @@ pub five_is_equal : (test : Test) → test_number test ≡ 5 → test ≡ equal
 five_is_equal an_integer e = absurd (omega arith)
 five_is_equal a_constant e = absurd (omega arith)
 five_is_equal a_compound e = absurd (omega arith)
-five_is_equal ground e = absurd (omega arith)
+five_is_equal a_ground e = absurd (omega arith)
 five_is_equal known e = absurd (omega arith)
 five_is_equal equal e = refl
 five_is_equal otherwise e = absurd (omega arith)
@@ -67,7 +67,7 @@ pub six_is_otherwise : (test : Test) → test_number test ≡ 6 → test ≡ oth
 six_is_otherwise an_integer e = absurd (omega arith)
 six_is_otherwise a_constant e = absurd (omega arith)
 six_is_otherwise a_compound e = absurd (omega arith)
-six_is_otherwise ground e = absurd (omega arith)
+six_is_otherwise a_ground e = absurd (omega arith)
 six_is_otherwise known e = absurd (omega arith)
 six_is_otherwise equal e = absurd (omega arith)
 six_is_otherwise otherwise e = refl
@@ -258,7 +258,7 @@ module _ {s : List ℕ} {x : Setting} {y : Template} {given : List Assignment} {
           readers = ended.1.ok;
           few = at.few_links;
           near = at.near;
-          ground = rw two.2 at ended.0;
+          a_ground = rw two.2 at ended.0;
         }
 
     module _ {s₂ : List ℕ} {b : Bool} (equated : Equated s₁ s₂ x given marks links met left_side right_side b) where

@@ -4,7 +4,7 @@ use mathlib.Core.Path.{◌≡◌, refl, sym, ap, ◌∙◌}
 use mathlib.Core.List.{List, [], ◌∷◌, map}
 use native.Mathlib.Omega.{arith}
 use lib.ListN.{length, get_or}
-use Rattle.meaning.specs.Terms.{Term, Terms, end, more, Test, an_integer, a_constant, a_compound, ground, known, equal, otherwise, Guard, Clause, count}
+use Rattle.meaning.specs.Terms.{Term, Terms, end, more, Test, an_integer, a_constant, a_compound, a_ground, known, equal, otherwise, Guard, Clause, count}
 use Rattle.meaning.specs.Compare.{Assignment, Result, succeeds, waits, fails}
 use Rattle.meaning.specs.Guards.{first_of, answer, in_order}
 use Rattle.term.specs.Cells.{Numbered, AllNumbered, AllKnown}
@@ -61,7 +61,7 @@ module _ (s : List ℕ) (x : Setting) (y : Template) where
   test_template an_integer lo hi n ts high h w k r b = each_template n 0 (lo + 1) hi ts high h w k r b.1
   test_template a_constant lo hi n ts high h w k r b = each_template n 0 (lo + 1) hi ts high h w k r b.1
   test_template a_compound lo hi n ts high h w k r b = each_template n 0 (lo + 1) hi ts high h w k r b.1
-  test_template ground lo hi n ts high h w k r b = each_template n 0 (lo + 1) hi ts high h w k r b.1
+  test_template a_ground lo hi n ts high h w k r b = each_template n 0 (lo + 1) hi ts high h w k r b.1
   test_template known lo hi n ts high h w k r b = each_template n 0 (lo + 1) hi ts high h w k r b.1
   test_template equal lo hi n end high h w k r b = absurd b
   test_template equal lo hi n (more t end) high h w k r b = absurd b
@@ -91,7 +91,7 @@ test_small : (test : Test) → test_number test < 8
 test_small an_integer = omega arith
 test_small a_constant = omega arith
 test_small a_compound = omega arith
-test_small ground = omega arith
+test_small a_ground = omega arith
 test_small known = omega arith
 test_small equal = omega arith
 test_small otherwise = omega arith

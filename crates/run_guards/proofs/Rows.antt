@@ -22,7 +22,7 @@ use Rattle.meaning.specs.Terms.{
   an_integer,
   a_constant,
   a_compound,
-  ground,
+  a_ground,
   known,
   equal,
   otherwise,
@@ -119,7 +119,7 @@ unfolding answer
 looks_answer an_integer n e l earlier ts = rw e (argument_alike _ _ _ _ ts integers refl)
 looks_answer a_constant n e l earlier ts = rw e (argument_alike _ _ _ _ ts constants refl)
 looks_answer a_compound n e l earlier ts = rw e (argument_alike _ _ _ _ ts no_compounds refl)
-looks_answer ground n e l earlier ts = absurd (l.0 refl)
+looks_answer a_ground n e l earlier ts = absurd (l.0 refl)
 looks_answer known n e l earlier ts = rw e refl
 looks_answer equal n e l earlier ts = absurd (l.1 refl)
 looks_answer otherwise n e l earlier ts = absurd (l.2 refl)
@@ -133,12 +133,12 @@ unfolding guard_table rows_before rows_between rows_alone row row_at
 looks_one an_integer l = omega arith
 looks_one a_constant l = omega arith
 looks_one a_compound l = omega arith
-looks_one ground l = omega arith
+looks_one a_ground l = omega arith
 looks_one known l = omega arith
 looks_one equal l = omega arith
 looks_one otherwise l = absurd (l.2 refl)
 
-pub ground_one : arguments_of ground ≡ 1
+pub ground_one : arguments_of a_ground ≡ 1
 unfolding guard_table rows_before rows_between rows_alone row row_at
 ground_one = refl
 

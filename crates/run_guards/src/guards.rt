@@ -1,6 +1,6 @@
 // The guards of a clause, in order.
 ghost use Rattle.std.specs.Prelude.{◌≡◌, List, ℕ, ◌<◌};
-ghost use Rattle.meaning.specs.Terms.{Term, Guard, Clause, equal as equals, ground, count};
+ghost use Rattle.meaning.specs.Terms.{Term, Guard, Clause, equal as equals, a_ground, count};
 ghost use Rattle.meaning.specs.Compare.{Assignment};
 ghost use Rattle.meaning.specs.Guards.{argument_is, answer};
 ghost use Rattle.term.specs.Guards.{test_number};
@@ -23,7 +23,7 @@ use term::scratch::{argument, word_at};
 use term::word::{COMPOUND, INTEGER, READER, TAGS, index, word};
 
 // "Each guard in order succeeds, waits on the readers it needs, or fails": all succeed; one waits, and the step has met so many readers then; one fails.
-#[derive(Drop)]
+#[derive(Clone, Copy)]
 pub enum GuardResult {
     Succeeds,
     Waits(usize),
@@ -100,10 +100,10 @@ fn is_ground(
     stamp: u64,
 ) -> GuardResult
     requires { (x : Setting) × (y : Template) × (given : List Assignment) × (g : Guard)
-        × GuardAt s.old x y given values marks links met stamp g place × (g.row.test ≡ ground) }
+        × GuardAt s.old x y given values marks links met stamp g place × (g.row.test ≡ a_ground) }
     ensures { (x : Setting) (y : Template) (given : List Assignment) (g : Guard) (earlier : List ℕ)
-        → GuardAt s.old x y given values marks links met stamp g place → g.row.test ≡ ground
-        → GuardIs s.old s.new x marks links met stamp (answer ground earlier (out x given g.arguments)) result }
+        → GuardAt s.old x y given values marks links met stamp g place → g.row.test ≡ a_ground
+        → GuardIs s.old s.new x marks links met stamp (answer a_ground earlier (out x given g.arguments)) result }
 {
     let n = arguments(index(IS_GROUND));
     match seek(s, values, marks, links, met, false, place, n, stamp) {

@@ -15,7 +15,7 @@ use term::word::{READER, index};
 
 // What is left to try: two chains of clauses, each by its first clause plus one, or 0, and the word of a record by which it goes on. The clause to try next is
 // the first of the first chain; the other chain has none before it.
-#[derive(Drop)]
+#[derive(Clone, Copy)]
 pub struct Leads {
     pub next: usize,
     pub link: usize,

@@ -12,7 +12,7 @@ use term::word::{View, look, word};
 
 // How many of the goal's pairs are noted so far, where the place agrees or waits; or it fails; or the places of two compounds whose functors and
 // arguments are to be compared.
-#[derive(Drop)]
+#[derive(Clone, Copy)]
 pub enum PlaceResult {
     Noted(usize),
     Fails,

@@ -22,7 +22,7 @@ use term::word::index;
 
 // "Each trial of a clause gives one of three results": it succeeds, with so many of the goal's pairs given a term; it waits on readers, and the step
 // has met so many then; it fails.
-#[derive(Drop)]
+#[derive(Clone, Copy)]
 pub enum TrialResult {
     Succeeds(usize),
     Waits(usize),
@@ -30,7 +30,7 @@ pub enum TrialResult {
 }
 
 // What becomes of the goal: reduced by a clause, with so many of its pairs given a term; waiting on so many readers; failed.
-#[derive(Drop)]
+#[derive(Clone, Copy)]
 pub enum ChoiceResult {
     Reduces(usize, usize),
     Waits(usize),

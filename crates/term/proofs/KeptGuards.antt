@@ -5,7 +5,7 @@ use mathlib.Core.Path.{◌≡◌, ◌∙◌}
 use mathlib.Core.List.{List, [], ◌∷◌}
 use native.Mathlib.Omega.{arith}
 use lib.ListN.{length, get_or}
-use Rattle.meaning.specs.Terms.{Test, an_integer, a_constant, a_compound, ground, known, equal, otherwise, Terms, end, more, Guard, count}
+use Rattle.meaning.specs.Terms.{Test, an_integer, a_constant, a_compound, a_ground, known, equal, otherwise, Terms, end, more, Guard, count}
 use Rattle.meaning.specs.Bytes.{Bytes}
 use Rattle.term.specs.Cells.{Places, Numbered, AllNumbered}
 use Rattle.term.specs.Every.{Every, EveryOf}
@@ -30,7 +30,7 @@ unfolding TestNumbered
 test_order an_integer lo hi n ts k = named_order lo hi n ts k
 test_order a_constant lo hi n ts k = named_order lo hi n ts k
 test_order a_compound lo hi n ts k = named_order lo hi n ts k
-test_order ground lo hi n ts k = named_order lo hi n ts k
+test_order a_ground lo hi n ts k = named_order lo hi n ts k
 test_order known lo hi n ts k = named_order lo hi n ts k
 test_order equal lo hi n end k = absurd k
 test_order equal lo hi n (more t end) k = absurd k
@@ -45,7 +45,7 @@ unfolding TestNumbered EveryOf
 test_every an_integer lo hi n ts k = named_every lo hi n ts k
 test_every a_constant lo hi n ts k = named_every lo hi n ts k
 test_every a_compound lo hi n ts k = named_every lo hi n ts k
-test_every ground lo hi n ts k = named_every lo hi n ts k
+test_every a_ground lo hi n ts k = named_every lo hi n ts k
 test_every known lo hi n ts k = named_every lo hi n ts k
 test_every equal lo hi n end k = absurd k
 test_every equal lo hi n (more t end) k = absurd k
@@ -65,7 +65,7 @@ unfolding TestNumbered count
 test_own an_integer lo hi n ts k some_here = (omega (arith, k.0), omega (arith, k.0, all_numbered_order (lo + 1) hi ts k.1))
 test_own a_constant lo hi n ts k some_here = (omega (arith, k.0), omega (arith, k.0, all_numbered_order (lo + 1) hi ts k.1))
 test_own a_compound lo hi n ts k some_here = (omega (arith, k.0), omega (arith, k.0, all_numbered_order (lo + 1) hi ts k.1))
-test_own ground lo hi n ts k some_here = (omega (arith, k.0), omega (arith, k.0, all_numbered_order (lo + 1) hi ts k.1))
+test_own a_ground lo hi n ts k some_here = (omega (arith, k.0), omega (arith, k.0, all_numbered_order (lo + 1) hi ts k.1))
 test_own known lo hi n ts k some_here = (omega (arith, k.0), omega (arith, k.0, all_numbered_order (lo + 1) hi ts k.1))
 test_own equal lo hi n end k some_here = absurd k
 test_own equal lo hi n (more t end) k some_here = absurd k
@@ -81,7 +81,7 @@ unfolding TestNumbered
 test_inside base m an_integer lo hi n ts inside one k = omega (arith, k.0, all_numbered_order (lo + 1) hi ts k.1)
 test_inside base m a_constant lo hi n ts inside one k = omega (arith, k.0, all_numbered_order (lo + 1) hi ts k.1)
 test_inside base m a_compound lo hi n ts inside one k = omega (arith, k.0, all_numbered_order (lo + 1) hi ts k.1)
-test_inside base m ground lo hi n ts inside one k = omega (arith, k.0, all_numbered_order (lo + 1) hi ts k.1)
+test_inside base m a_ground lo hi n ts inside one k = omega (arith, k.0, all_numbered_order (lo + 1) hi ts k.1)
 test_inside base m known lo hi n ts inside one k = omega (arith, k.0, all_numbered_order (lo + 1) hi ts k.1)
 test_inside base m equal lo hi n end inside one k = absurd k
 test_inside base m equal lo hi n (more t end) inside one k = absurd k

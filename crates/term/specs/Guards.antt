@@ -7,7 +7,7 @@ use Rattle.meaning.specs.Terms.{
   an_integer,
   a_constant,
   a_compound,
-  ground,
+  a_ground,
   known,
   equal,
   otherwise,
@@ -30,7 +30,7 @@ abbrev pub test_number : Test → ℕ
 test_number an_integer = 0
 test_number a_constant = 1
 test_number a_compound = 2
-test_number ground = 3
+test_number a_ground = 3
 test_number known = 4
 test_number equal = 5
 test_number otherwise = 6
@@ -45,7 +45,7 @@ unfoldable pub TestNumbered : Test → ℕ → ℕ → ℕ → Terms → Type 0
 TestNumbered an_integer lo hi n ts = (n ≡ lo) × AllNumbered (lo + 1) hi ts
 TestNumbered a_constant lo hi n ts = (n ≡ lo) × AllNumbered (lo + 1) hi ts
 TestNumbered a_compound lo hi n ts = (n ≡ lo) × AllNumbered (lo + 1) hi ts
-TestNumbered ground lo hi n ts = (n ≡ lo) × AllNumbered (lo + 1) hi ts
+TestNumbered a_ground lo hi n ts = (n ≡ lo) × AllNumbered (lo + 1) hi ts
 TestNumbered known lo hi n ts = (n ≡ lo) × AllNumbered (lo + 1) hi ts
 TestNumbered equal lo hi n end = ⊥
 TestNumbered equal lo hi n (more t end) = ⊥

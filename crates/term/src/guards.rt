@@ -27,7 +27,7 @@ pub const ROWS: usize = 7;
 
 // A row: how long its name is, its name with dots behind it, its number of arguments, and whether success means ground. Of `==` it does, but only "a reader
 // that is itself the argument of a ground, integer or constant guard" may stand several times.
-#[derive(Drop)]
+#[derive(Clone, Copy)]
 pub struct Row(pub usize, pub [u8; 9], pub usize, pub bool);
 
 const GUARDS: [Row; 7] = [

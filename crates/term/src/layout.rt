@@ -113,7 +113,7 @@ pub const ENDS_AFTER: usize = 6;
 pub const PAIR_FACTS: usize = 4;
 
 // The room figures that a call is given.
-#[derive(Drop)]
+#[derive(Clone, Copy)]
 pub struct Room {
     pub pairs: usize,
     pub compounds: usize,

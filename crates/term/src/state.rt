@@ -2,7 +2,7 @@
 
 // Pairs and compounds charged, the first free word of the compounds, steps taken; where the queue begins and how many goals it has; how many places of the
 // waiting log are used and how many goals wait; how many goals failed.
-#[derive(Drop)]
+#[derive(Clone, Copy)]
 pub struct Standing {
     pub pairs: usize,
     pub compounds: usize,
@@ -16,7 +16,7 @@ pub struct Standing {
 }
 
 // "Ends `rest`", "`budget`", "`room`".
-#[derive(Drop)]
+#[derive(Clone, Copy)]
 pub enum Verdict {
     Rest,
     Budget,

@@ -21,7 +21,7 @@ pub const PROBE: u64 = 7;
 pub const TAGS: u64 = 8;
 
 // What a word says.
-#[derive(Drop)]
+#[derive(Clone, Copy)]
 pub enum View {
     Nothing,
     Writer(usize),

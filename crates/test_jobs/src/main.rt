@@ -165,7 +165,7 @@ fn text_read(text: &mut [u8], n: usize)
 }
 
 // The numbers of a frame.
-#[derive(Drop)]
+#[derive(Clone, Copy)]
 struct Figures {
     budget: usize,
     pairs: usize,

@@ -10,7 +10,7 @@ use lib.Dec.{eqb}
 use lib.ListN.{length}
 use borrow.Author.Tests.{eqb-true}
 use Rattle.meaning.specs.Bytes.{Bytes, bytes_words, bytes, same}
-use Rattle.meaning.specs.Terms.{Terms, end, more, an_integer, a_constant, a_compound, ground, known, equal, otherwise, Row, Guard, count, as_term}
+use Rattle.meaning.specs.Terms.{Terms, end, more, an_integer, a_constant, a_compound, a_ground, known, equal, otherwise, Row, Guard, count, as_term}
 use Rattle.meaning.specs.Tokens.{tokens_words, next_is}
 use Rattle.meaning.specs.Table.{Element, whole, bare, equals, row, rows_before, rows_between, rows_alone, guard_table, in_rows, as_guard, with_guard, as_guards}
 use Rattle.laws.proofs.Lists.{In, here, there, in_append_left, in_append_right, Each, each_in, and_left, and_right, differ, false_not_true, same_true}
@@ -21,7 +21,7 @@ use Rattle.laws.proofs.Reading.BodyReaders.{ElementFits, ElementNumbered, Elemen
 
 -- What holds of each row of the table.
 pub each_row : (P : Row → Type 0) → P (row "integer" 1 an_integer true) → P (row "constant" 1 a_constant true) → P (row "compound" 1 a_compound false)
-    → P (row "ground" 1 ground true) → P (row "known" 1 known false) → P (row "==" 2 equal false) → P (row "otherwise" 0 otherwise false)
+    → P (row "ground" 1 a_ground true) → P (row "known" 1 known false) → P (row "==" 2 equal false) → P (row "otherwise" 0 otherwise false)
     → (r : Row) → In r guard_table → P r
 unfolding guard_table rows_before rows_between rows_alone
 each_row P a b c d e f g r m = each_in P {l = guard_table} (a, (b, (c, (d, (e, (f, (g, tt))))))) m

@@ -17,7 +17,7 @@ use Rattle.meaning.specs.Terms.{
   an_integer,
   a_constant,
   a_compound,
-  ground,
+  a_ground,
   known,
   equal,
   otherwise,
@@ -60,7 +60,7 @@ unfolding TestNumbered
 test_numbered_grows an_integer low n high ts (first, all) = omega (arith, all_numbered_grow (low + 1) high ts all)
 test_numbered_grows a_constant low n high ts (first, all) = omega (arith, all_numbered_grow (low + 1) high ts all)
 test_numbered_grows a_compound low n high ts (first, all) = omega (arith, all_numbered_grow (low + 1) high ts all)
-test_numbered_grows ground low n high ts (first, all) = omega (arith, all_numbered_grow (low + 1) high ts all)
+test_numbered_grows a_ground low n high ts (first, all) = omega (arith, all_numbered_grow (low + 1) high ts all)
 test_numbered_grows known low n high ts (first, all) = omega (arith, all_numbered_grow (low + 1) high ts all)
 test_numbered_grows equal low n high ts h = sides_numbered_grow low n high ts h
 test_numbered_grows otherwise low n high ts h = omega arith

@@ -17,7 +17,7 @@ use Rattle.meaning.specs.Terms.{
   an_integer,
   a_constant,
   a_compound,
-  ground,
+  a_ground,
   known,
   equal,
   otherwise,
@@ -57,7 +57,7 @@ unfoldable pub TestNumbered : Test → ℕ → ℕ → ℕ → Terms → Type 0
 TestNumbered an_integer low n high ts = (n ≡ low) × AllNumbered (low + 1) high ts
 TestNumbered a_constant low n high ts = (n ≡ low) × AllNumbered (low + 1) high ts
 TestNumbered a_compound low n high ts = (n ≡ low) × AllNumbered (low + 1) high ts
-TestNumbered ground low n high ts = (n ≡ low) × AllNumbered (low + 1) high ts
+TestNumbered a_ground low n high ts = (n ≡ low) × AllNumbered (low + 1) high ts
 TestNumbered known low n high ts = (n ≡ low) × AllNumbered (low + 1) high ts
 TestNumbered equal low n high ts = SidesNumbered low n high ts
 TestNumbered otherwise low n high ts = low ≡ high

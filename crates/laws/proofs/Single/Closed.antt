@@ -22,7 +22,7 @@ use Rattle.meaning.specs.Terms.{
   an_integer,
   a_constant,
   a_compound,
-  ground,
+  a_ground,
   known,
   equal,
   otherwise,
@@ -260,7 +260,7 @@ unfoldable pub grounding : Test → Bool
 grounding an_integer = true
 grounding a_constant = true
 grounding a_compound = false
-grounding ground = true
+grounding a_ground = true
 grounding known = false
 grounding equal = false
 grounding otherwise = false
@@ -287,7 +287,7 @@ unfolding answer grounding all_variables
 answer_plain an_integer earlier t ts first g e = ([], argument_plain is_integer t ts first e)
 answer_plain a_constant earlier t ts first g e = ([], argument_plain (λ k. true) t ts first e)
 answer_plain a_compound earlier t ts first g e = absurd (false_not_true false refl g)
-answer_plain ground earlier t ts first g e =
+answer_plain a_ground earlier t ts first g e =
     let b = both (variables and_then t) (all_variables and_then ts) first e in
     (b.first, b.one_succeeds)
 answer_plain known earlier t ts first g e = absurd (false_not_true false refl g)

@@ -23,7 +23,7 @@ use Rattle.meaning.specs.Terms.{
   an_integer,
   a_constant,
   a_compound,
-  ground,
+  a_ground,
   known,
   equal,
   otherwise,
@@ -122,7 +122,7 @@ answer_held an_integer earlier ts readers e = argument_held is_integer false ts 
 answer_held a_constant earlier ts readers e = argument_held (λ k. true) false ts readers e
 answer_held a_compound earlier ts readers e = argument_held (λ k. false) true ts readers e
 answer_held known earlier ts readers e = argument_held (λ k. true) true ts readers e
-answer_held ground earlier ts readers e = all_variables_held and_then waited_and_then ts readers e
+answer_held a_ground earlier ts readers e = all_variables_held and_then waited_and_then ts readers e
 answer_held equal earlier ts readers e =
     waited_first_of (Held ts) (all_variables first_of ts) (succeeds_if (two_equal ts)) (all_variables_held first_of waited_first_of ts)
     (waited_if (Held ts) (two_equal ts)) readers e
@@ -205,7 +205,7 @@ answer_on_some an_integer ts = argument_on_some is_integer false ts
 answer_on_some a_constant ts = argument_on_some (λ k. true) false ts
 answer_on_some a_compound ts = argument_on_some (λ k. false) true ts
 answer_on_some known ts = argument_on_some (λ k. true) true ts
-answer_on_some ground ts = all_variables_on_some and_then and_then_on_some ts
+answer_on_some a_ground ts = all_variables_on_some and_then and_then_on_some ts
 answer_on_some equal ts =
     first_of_on_some (all_variables first_of ts) (succeeds_if (two_equal ts)) (all_variables_on_some first_of first_of_on_some ts)
     (succeeds_if_on_some (two_equal ts))

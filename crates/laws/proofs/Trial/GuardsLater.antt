@@ -21,7 +21,7 @@ use Rattle.meaning.specs.Terms.{
   an_integer,
   a_constant,
   a_compound,
-  ground,
+  a_ground,
   known,
   equal,
   otherwise,
@@ -164,7 +164,7 @@ module _ (earlier later : List ℕ) where
   answer_fails_later a_constant g e = argument_fails_later (λ k. true) false g e
   answer_fails_later a_compound g e = argument_fails_later (λ k. false) true g e
   answer_fails_later known g e = argument_fails_later (λ k. true) true g e
-  answer_fails_later ground g e = all_writer_anywhere g e
+  answer_fails_later a_ground g e = all_writer_anywhere g e
   answer_fails_later equal {ts = ts} {us = us} g e = go (first_of_fails (all_variables first_of ts) (succeeds_if (two_equal ts)) e)
     where
       go : (all_variables first_of ts ≡ fails)
@@ -188,7 +188,7 @@ module _ (earlier later : List ℕ) where
   answer_succeeds_later still a_constant given g e = argument_succeeds_later (λ k. true) false given g e
   answer_succeeds_later still a_compound given g e = argument_succeeds_later (λ k. false) true given g e
   answer_succeeds_later still known given g e = argument_succeeds_later (λ k. true) true given g e
-  answer_succeeds_later still ground given {ts = ts} {us = us} g e =
+  answer_succeeds_later still a_ground given {ts = ts} {us = us} g e =
       let same : us ≡ ts = all_plain_stay and_then and_then_both g given e in
       rw same e
   answer_succeeds_later still equal given {ts = ts} {us = us} g e =

@@ -4,7 +4,7 @@ use Prim.Native.Nat.{ℕ, ◌+◌, ◌≤◌, ◌<◌}
 use mathlib.Core.Path.{◌≡◌, refl, sym, ap, ◌∙◌}
 use mathlib.Core.List.{List}
 use native.Mathlib.Omega.{arith}
-use Rattle.meaning.specs.Terms.{Guard, ground}
+use Rattle.meaning.specs.Terms.{Guard, a_ground}
 use Rattle.meaning.specs.Compare.{Assignment}
 use Rattle.meaning.specs.Table.{guard_table}
 use Rattle.meaning.specs.Guards.{answer}
@@ -30,10 +30,10 @@ module _ (c : tie.After-arguments) where
   start = c.before.before.before
 
   looks : (x : Setting) (y : Template) (given : List Assignment) (g : Guard)
-      → (let a = start.args in GuardAt a.s.now x y given a.values a.marks a.links a.met a.stamp g a.place) → g.row.test ≡ ground
+      → (let a = start.args in GuardAt a.s.now x y given a.values a.marks a.links a.met a.stamp g a.place) → g.row.test ≡ a_ground
       → let a = start.args in Seeks a.s.now x y given g.number g.arguments a.values a.marks a.links a.met a.place c.arguments.result a.stamp
   looks x y given g A e =
-      seeks A ground e (omega (arith, ground_one)) (omega (arith, ground_one)) c.arguments.result
+      seeks A a_ground e (omega (arith, ground_one)) (omega (arith, ground_one)) c.arguments.result
       (c.arguments.ensures ∙ ap (λ (m : ℕ). (row_at guard_table m).count) c.before.index.ensures)
 
 seek-requires : tie.Need-seek-requires

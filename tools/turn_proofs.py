@@ -1,0 +1,255 @@
+#!/usr/bin/env python3
+"""Turns the names that a Proof.antt cites of what Rattle makes (goals, places, steps) to today's, and orders the answers as `tie.spec` takes them.
+
+    rt names OUT; tools/turn_proofs.py OUT [CRATE ..]      at the top of the repository
+
+OUT/crates/CRATE/names.json has each function's names, old and new. A name is turned where the place that it is read from is known: the argument of a
+goal's answer, what a `let` takes from one, and what a signature gives the type of a place. What stays open is said ('open:')."""
+import glob
+import json
+import os
+import re
+import sys
+
+OPS = ("add", "sub", "mul", "shl", "shr", "cast", "neg")
+W = r"[^\s(){}\[\].,;:]+"
+
+
+def plain(name):
+    """The name without what older spellings differ in."""
+    name = name.replace("_", "-")
+    m = re.match(r"overflow-(%s)-" % "|".join(OPS), name)
+    if m:
+        name = name[len("overflow-") :]
+    return name
+
+
+class Function:
+    def __init__(self, of):
+        self.needs = [tuple(n) for n in of["needs"]]
+        self.need_of = {}
+        for i, (old, new) in enumerate(self.needs):
+            self.need_of.setdefault(plain(old), i)
+        self.asked_at = [a[0] for a in of["asked_at"]]
+        self.places = {}
+        for p, new in zip(of["places"], of["places_by_name"]):
+            self.places[p[0]] = (p[1], p[2][0], p[2][1], new)
+        self.place_of = {plain(p): p for p in self.places}
+        self.loops = {plain(l[0][0]): l[0][1] for l in of["loops"]}
+        self.fields = {}
+        for parent, old, new, _ in self.places.values():
+            if old:
+                self.fields.setdefault(plain(old), set()).add(new)
+
+    def up(self, place, n):
+        for _ in range(n):
+            if place is None:
+                return None
+            place = self.places[place][0]
+        return place
+
+
+def find(names, path):
+    out = {}
+    for key, of in names.items():
+        if isinstance(of, dict) and "places" in of and key.startswith(path + "."):
+            rest = key[len(path) + 1 :]
+            if rest == "Lts" or rest.startswith("Lts"):
+                out[rest] = of
+    return out
+
+
+def blocks(text):
+    """Top-level parts: each begins at a line that is not indented and not blank, and a clause goes with its signature."""
+    lines = text.split("\n")
+    out, here = [], []
+    for i, line in enumerate(lines):
+        new = line and not line[0].isspace() and not line.startswith(("--", "unfolding"))
+        if new:
+            head = re.match(r"(?:(?:unfoldable|abbrev|pub|irrelevant)\s+)*(%s)" % W, line)
+            name = head.group(1) if head else ""
+            first = here and re.match(r"(?:(?:unfoldable|abbrev|pub|irrelevant)\s+)*(%s)" % W, here[0])
+            if not (first and first.group(1) == name and name not in ("use", "module")):
+                if here:
+                    out.append("\n".join(here))
+                here = []
+        here.append(line)
+    out.append("\n".join(here))
+    return out
+
+
+class Turn:
+    def __init__(self, f, path):
+        self.f, self.path, self.open = f, path, []
+        self.alias = "tie"
+
+    def types(self, text):
+        f = self.f
+
+        def one(m):
+            word = m.group(2)
+            if word.startswith("Need-"):
+                i = f.need_of.get(plain(word[5:]))
+                if i is None:
+                    self.open.append(m.group(0))
+                    return m.group(0)
+                return m.group(1) + "Need-" + f.needs[i][1]
+            for head in ("invariant-", "decreases-"):
+                if word.startswith(head):
+                    new = f.loops.get(plain(word[len(head) :]))
+                    return m.group(1) + head + new if new else m.group(0)
+            p = f.place_of.get(plain(word))
+            return m.group(1) + f.places[p][3] if p else m.group(0)
+
+        return re.sub(r"\b(%s\.)(%s)" % (self.alias, W), one, text)
+
+    def loops(self, text):
+        for head in ("invariant-", "decreases-"):
+            for old, new in self.f.loops.items():
+                if old != new:
+                    text = re.sub(r"(?<![\w.-])%s%s(?![\w'-])" % (head, re.escape(old)), head + new, text)
+        return text
+
+    def block(self, text, env):
+        f = self.f
+        env = dict(env)
+        need = re.search(r"\b%s\.Need-(%s)" % (self.alias, W), text.split("\n")[0])
+        head = re.match(r"(?:(?:unfoldable|abbrev|pub|irrelevant)\s+)*(%s)" % W, text.lstrip())
+        for m in re.finditer(r"\((\w+(?: \w+)*) : %s\.(%s)" % (self.alias, W), text):
+            p = f.place_of.get(plain(m.group(2)))
+            if p:
+                for v in m.group(1).split():
+                    env[v] = p
+        if need:
+            i = f.need_of.get(plain(need.group(1)))
+            if i is not None:
+                name = head.group(1)
+                m = re.search(r"^\s*%s (\w+)" % re.escape(name), text[text.find("\n") :], re.M)
+                if m:
+                    env[m.group(1)] = f.asked_at[i]
+        lines = text.split("\n")
+        out = []
+        # Variables in the order in which they are bound.
+        pattern = re.compile(
+            r"let (\w+) = (\w+)((?:\.before)*) in"
+            r"|(?<![\w.'-])(\w+)((?:\.before)+)(?![\w'-])(?:\.(%s))?"
+            r"|(?<![\w.'-])(\w+)\.(%s)" % (W, W)
+        )
+
+        def one(m):
+            if m.group(1):
+                env[m.group(1)] = f.up(env.get(m.group(2)), m.group(3).count(".before"))
+                return m.group(0)
+            if m.group(4):
+                place = f.up(env.get(m.group(4)), m.group(5).count(".before"))
+                if m.group(6) is None:
+                    return m.group(0)
+                return m.group(4) + m.group(5) + "." + self.field(place, m.group(6), m.group(0), m.group(4) in env)
+            place = env.get(m.group(7))
+            if m.group(7) not in env:
+                word = m.group(8)
+                if plain(word) in f.fields and f.fields[plain(word)] != {word} and len(m.group(7)) <= 2:
+                    self.open.append(m.group(0))
+                return m.group(0)
+            return m.group(7) + "." + self.field(place, m.group(8), m.group(0), True)
+
+        text = "\n".join(lines)
+        # remarks stay
+        parts = re.split(r"((?:^|(?<=\s))--[^\n]*)", text)
+        return "".join(p if i % 2 else pattern.sub(one, p) for i, p in enumerate(parts))
+
+    def field(self, place, word, whole, known):
+        if word == "well-formed":
+            return "well_formed"
+        if place is None:
+            if known and plain(word) in self.f.fields:
+                self.open.append(whole)
+            return word
+        parent, old, new, _ = self.f.places[place]
+        if plain(word) == plain(old):
+            return new
+        return word
+
+    def spec(self, text):
+        """The answers in the order of the goals."""
+        f = self.f
+        m = re.search(r"\b%s\.spec\b" % self.alias, text)
+        if not m or not re.search(r"%s\.close" % self.alias, text):
+            return text
+        i = m.end()
+        depth, j = 0, i
+        while j < len(text):
+            if text[j] == "(":
+                depth += 1
+            elif text[j] == ")":
+                if depth == 0:
+                    break
+                depth -= 1
+            j += 1
+        body = text[i:j]
+        args, depth, cur = [], 0, ""
+        for ch in body:
+            if ch.isspace() and depth == 0:
+                if cur:
+                    args.append(cur)
+                cur = ""
+                continue
+            depth += ch in "(["
+            depth -= ch in ")]"
+            cur += ch
+        if cur:
+            args.append(cur)
+        answers = {}
+        for d in re.finditer(r"^(?:abbrev )?(?:pub )?(%s) : [^\n]*\b%s\.Need-(%s)" % (W, self.alias, W), text, re.M):
+            answers.setdefault(d.group(2), d.group(1))
+        mine = set(answers.values())
+        front = [a for a in args if a not in mine]
+        new = front + [answers.get(n, "(λ c. search rules)") for _, n in f.needs]
+        if "(λ c. search rules)" in new:
+            self.open.append("no answer: " + ", ".join(n for _, n in f.needs if n not in answers))
+        return text[:i] + "\n    " + "\n    ".join(new) + text[j:]
+
+
+def turn(path, f):
+    text = open(path, encoding="utf-8").read()
+    t = Turn(f, path)
+    parts = blocks(text)
+    out = []
+    for p in parts:
+        m = re.match(r"module _ .*?where", p, re.S)
+        out.append(t.block(p, {}))
+    text = "\n".join(out)
+    text = t.loops(t.types(text))
+    text = t.spec(text)
+    # An answer has the goal's name.
+    renames = {}
+    for d in re.finditer(r"^(?:abbrev )?(?:pub )?(%s) : [^\n]*\btie\.Need-(%s)" % (W, W), text, re.M):
+        if d.group(1) != d.group(2):
+            renames[d.group(1)] = d.group(2)
+    if renames:
+        text = re.sub(r"(?<![\w.'-])(%s)(?![\w'-])" % "|".join(sorted(map(re.escape, renames), key=len, reverse=True)), lambda m: renames[m.group(1)], text)
+    if "search rules" in text and not re.search(r"use borrow\.Author\.Rules\.\{[^}]*\brules\b", text):
+        text = re.sub(r"^use ", "use borrow.Author.Rules.{rules}\nuse ", text, count=1, flags=re.M)
+    open(path, "w", encoding="utf-8").write(text)
+    for o in t.open:
+        print("open:", path, o)
+
+
+def main():
+    out, only = sys.argv[1], sys.argv[2:]
+    for listed in sorted(glob.glob(f"{out}/crates/*/names.json")):
+        crate = os.path.basename(os.path.dirname(listed))
+        if only and crate not in only:
+            continue
+        names = json.load(open(listed))
+        for path in sorted(glob.glob(f"crates/{crate}/proofs/**/Proof.antt", recursive=True)):
+            home = os.path.dirname(os.path.relpath(path, f"crates/{crate}/proofs")).replace("/", ".")
+            found = find(names, f"Rattle-{crate}-proofs.{home}")
+            if list(found) == ["Lts"]:
+                turn(path, Function(found["Lts"]))
+            else:
+                print("other:", path, *found)
+
+
+if __name__ == "__main__":
+    main()
