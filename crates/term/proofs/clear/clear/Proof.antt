@@ -9,42 +9,52 @@ use Rattle.term.proofs.Lists.{zero_next}
 use Rattle.term.proofs.clear.clear.Statement.{statement}
 use Rattle.term.proofs.clear.clear.Tie as tie
 
-abbrev invariant-loop : tie.invariant-loop
-invariant-loop s₀ n i₀ s i = (s ≡ replicate i 0 ++ drop i s₀) × (i ≤ n) × (length s ≡ length s₀)
+abbrev invariant-loop-i : tie.invariant-loop-i
+invariant-loop-i s₀ n i₀ s i = (s ≡ replicate i 0 ++ drop i s₀) × (i ≤ n) × (length s ≡ length s₀)
 
-abbrev decreases-loop : tie.decreases-loop
-decreases-loop s₀ n i₀ s i = n - i
+abbrev decreases-loop-i : tie.decreases-loop-i
+decreases-loop-i s₀ n i₀ s i = n - i
 
-loop-holds : tie.Need-loop-init invariant-loop decreases-loop
-loop-holds c = (refl, omega arith, refl)
+loop-i-init : tie.Need-loop-i-init invariant-loop-i decreases-loop-i
+loop-i-init c = (refl, omega arith, refl)
 
-mul-s : tie.Need-overflow-mul-s invariant-loop decreases-loop
-mul-s c = search rules
+offset_bounds-s-i : tie.Need-offset_bounds-s-i invariant-loop-i decreases-loop-i
+offset_bounds-s-i c = search rules
 
-slice-write-s : tie.Need-slice-write-s invariant-loop decreases-loop
-slice-write-s c = search rules
+bounds-s-i : tie.Need-bounds-s-i invariant-loop-i decreases-loop-i
+bounds-s-i c = search rules
 
-add-i : tie.Need-overflow-add-i invariant-loop decreases-loop
-add-i c = search rules
+overflow_add-i : tie.Need-overflow_add-i invariant-loop-i decreases-loop-i
+overflow_add-i c = search rules
 
-loop-less : tie.Need-loop-smaller invariant-loop decreases-loop
-loop-less c = search rules
+loop-i-smaller : tie.Need-loop-i-smaller invariant-loop-i decreases-loop-i
+loop-i-smaller c = search rules
 
-loop-again : tie.Need-loop-preserved invariant-loop decreases-loop
-loop-again c =
+loop-i-preserved : tie.Need-loop-i-preserved invariant-loop-i decreases-loop-i
+loop-i-preserved c =
     let s₀ = c.before.before.args.s.now in
-    let i = c.before.loop.i in
+    let i = c.before.loop-i.i in
     let inside : i < length s₀ = omega arith in
-    (rw c.before.loop.invariant.0 (zero_next s₀ i inside), omega arith, length-set c.before.loop.s i 0 ∙ c.before.loop.invariant.2)
+    (rw c.before.loop-i.invariant.0 (zero_next s₀ i inside), omega arith, length-set c.before.loop-i.s i 0 ∙ c.before.loop-i.invariant.2)
 
-same_length : tie.Need-same-length invariant-loop decreases-loop
-same_length c = search rules
+shape_of-s : tie.Need-shape_of-s invariant-loop-i decreases-loop-i
+shape_of-s c = search rules
 
-returns : tie.Need-returns invariant-loop decreases-loop
+returns : tie.Need-returns invariant-loop-i decreases-loop-i
 returns c =
-    let all : c.before.loop.i ≡ c.before.before.args.n = omega arith in
-    rw all at c.before.loop.invariant.0
+    let all : c.before.loop-i.i ≡ c.before.before.args.n = omega arith in
+    rw all at c.before.loop-i.invariant.0
 
 pub clear_spec : {M : Type 1} → statement M
 clear_spec =
-    tie.close (tie.spec invariant-loop decreases-loop loop-holds mul-s slice-write-s add-i loop-less loop-again same_length returns)
+    tie.close (tie.spec
+    invariant-loop-i
+    decreases-loop-i
+    loop-i-init
+    offset_bounds-s-i
+    bounds-s-i
+    overflow_add-i
+    loop-i-smaller
+    loop-i-preserved
+    shape_of-s
+    returns)

@@ -8,15 +8,18 @@ use Rattle.term.proofs.TableOfGuards.{coded_at}
 use Rattle.term.proofs.guards.entry.Statement.{statement}
 use Rattle.term.proofs.guards.entry.Tie as tie
 
-mul-result : tie.Need-overflow-mul-result
-mul-result c = search rules
+offset_bounds-n : tie.Need-offset_bounds-n
+offset_bounds-n c = search rules
 
-array-copy-out-result : tie.Need-array-copy-out-result
-array-copy-out-result c = search rules
+bounds-n-n : tie.Need-bounds-n-n
+bounds-n-n c = search rules
 
 returns : tie.Need-returns
 unfolding table_words bytes_words
 returns c = coded_at guard_table (0, [], 0, false) c.before.args.n (search rules)
 
 pub entry_spec : {M : Type 1} → statement M
-entry_spec = tie.close (tie.spec mul-result array-copy-out-result returns)
+entry_spec = tie.close (tie.spec
+    offset_bounds-n
+    bounds-n-n
+    returns)

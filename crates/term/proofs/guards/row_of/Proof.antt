@@ -9,45 +9,54 @@ use Rattle.term.proofs.TableOfGuards.{seven, NoneBefore, row_here, row_nowhere, 
 use Rattle.term.proofs.guards.row_of.Statement.{statement}
 use Rattle.term.proofs.guards.row_of.Tie as tie
 
-abbrev invariant-loop : tie.invariant-loop
-invariant-loop text start size count n₀ n = (n ≤ 7) × NoneBefore guard_table (slice start (start + size) text) count n
+abbrev invariant-loop-n : tie.invariant-loop-n
+invariant-loop-n text start size count n₀ n = (n ≤ 7) × NoneBefore guard_table (slice start (start + size) text) count n
 
-abbrev decreases-loop : tie.decreases-loop
-decreases-loop text start size count n₀ n = 7 - n
+abbrev decreases-loop-n : tie.decreases-loop-n
+decreases-loop-n text start size count n₀ n = 7 - n
 
-loop-holds : tie.Need-loop-init invariant-loop decreases-loop
-loop-holds c = (omega arith, λ m l. absurd (omega arith))
+loop-n-init : tie.Need-loop-n-init invariant-loop-n decreases-loop-n
+loop-n-init c = (omega arith, λ m l. absurd (omega arith))
 
-is-named-requires : tie.Need-is-named-requires invariant-loop decreases-loop
-is-named-requires c κs = (omega arith, c.before.before.before.requires)
+is_named-requires : tie.Need-is_named-requires invariant-loop-n decreases-loop-n
+is_named-requires c κs = (omega arith, c.before.before.before.requires)
 
-returns : tie.Need-returns invariant-loop decreases-loop
-returns c =
+returns-then-is_named : tie.Need-returns-then-is_named invariant-loop-n decreases-loop-n
+returns-then-is_named c =
     let turn = c.before.before.before in
     let a = turn.before.before.args in
-    sym (row_here guard_table (slice a.start (a.start + a.size) a.text.now) a.count turn.loop.n (omega (arith, seven)) turn.loop.invariant.1
-    (sym c.before.is-named.ensures ∙ c.if1.true))
+    sym (row_here guard_table (slice a.start (a.start + a.size) a.text.now) a.count turn.loop-n.n (omega (arith, seven)) turn.loop-n.invariant.1
+    (sym c.before.is_named.ensures ∙ c.if-is_named.true))
 
-add-n : tie.Need-overflow-add-n invariant-loop decreases-loop
-add-n c = omega arith
+overflow_add-n : tie.Need-overflow_add-n invariant-loop-n decreases-loop-n
+overflow_add-n c = omega arith
 
-loop-less : tie.Need-loop-smaller invariant-loop decreases-loop
-loop-less c = omega arith
+loop-n-smaller : tie.Need-loop-n-smaller invariant-loop-n decreases-loop-n
+loop-n-smaller c = omega arith
 
-loop-again : tie.Need-loop-preserved invariant-loop decreases-loop
-loop-again c =
+loop-n-preserved : tie.Need-loop-n-preserved invariant-loop-n decreases-loop-n
+loop-n-preserved c =
     let turn = c.before.before.before in
     let a = turn.before.before.args in (
       omega arith,
-      none_more guard_table (slice a.start (a.start + a.size) a.text.now) a.count turn.loop.n turn.loop.invariant.1
-          (sym c.before.is-named.ensures ∙ c.if1.false),
+      none_more guard_table (slice a.start (a.start + a.size) a.text.now) a.count turn.loop-n.n turn.loop-n.invariant.1
+          (sym c.before.is_named.ensures ∙ c.if-is_named.false),
     )
 
-returns-2 : tie.Need-returns-2 invariant-loop decreases-loop
-returns-2 c =
+returns : tie.Need-returns invariant-loop-n decreases-loop-n
+returns c =
     let a = c.before.before.before.args in
-    let all : c.before.loop.n ≡ length guard_table = omega (arith, seven) in
-    sym (row_nowhere guard_table (slice a.start (a.start + a.size) a.text.now) a.count (rw all at c.before.loop.invariant.1) ∙ seven)
+    let all : c.before.loop-n.n ≡ length guard_table = omega (arith, seven) in
+    sym (row_nowhere guard_table (slice a.start (a.start + a.size) a.text.now) a.count (rw all at c.before.loop-n.invariant.1) ∙ seven)
 
 pub row_of_spec : {M : Type 1} → statement M
-row_of_spec = tie.close (tie.spec invariant-loop decreases-loop loop-holds is-named-requires returns add-n loop-less loop-again returns-2)
+row_of_spec = tie.close (tie.spec
+    invariant-loop-n
+    decreases-loop-n
+    loop-n-init
+    is_named-requires
+    returns-then-is_named
+    overflow_add-n
+    loop-n-smaller
+    loop-n-preserved
+    returns)

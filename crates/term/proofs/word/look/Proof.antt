@@ -6,32 +6,39 @@ use Rattle.term.specs.Words.{view}
 use Rattle.term.proofs.word.look.Statement.{statement}
 use Rattle.term.proofs.word.look.Tie as tie
 
-returns : tie.Need-returns
+returns-in-0 : tie.Need-returns-in-0
 unfolding view
-returns c = rw c.match.keys1
+returns-in-0 c = rw c.in-0.is
 
-returns-2 : tie.Need-returns-2
+returns-in-1 : tie.Need-returns-in-1
 unfolding view
-returns-2 c = rw c.match.keys2
+returns-in-1 c = rw c.in-1.is
 
-returns-3 : tie.Need-returns-3
+returns-in-2 : tie.Need-returns-in-2
 unfolding view
-returns-3 c = rw c.match.keys3
+returns-in-2 c = rw c.in-2.is
 
-returns-4 : tie.Need-returns-4
+returns-in-3 : tie.Need-returns-in-3
 unfolding view
-returns-4 c = rw c.match.keys4
+returns-in-3 c = rw c.in-3.is
 
-returns-5 : tie.Need-returns-5
+returns-in-4 : tie.Need-returns-in-4
 unfolding view
-returns-5 c = rw c.match.keys5
+returns-in-4 c = rw c.in-4.is
 
-returns-6 : tie.Need-returns-6
+returns-in-5 : tie.Need-returns-in-5
 unfolding view
-returns-6 c = rw c.match.keys6
+returns-in-5 c = rw c.in-5.is
 
-returns-7 : tie.Need-returns-7
-returns-7 c = sym (view_compound _ _ (omega arith))
+returns-in_default : tie.Need-returns-in_default
+returns-in_default c = sym (view_compound _ _ (omega arith))
 
 pub look_spec : {M : Type 1} → statement M
-look_spec = tie.close (tie.spec returns returns-2 returns-3 returns-4 returns-5 returns-6 returns-7)
+look_spec = tie.close (tie.spec
+    returns-in-0
+    returns-in-1
+    returns-in-2
+    returns-in-3
+    returns-in-4
+    returns-in-5
+    returns-in_default)
