@@ -25,28 +25,59 @@ def plain(name):
 
 
 class Function:
+    """The names of one function. A place is known by its old name; where an arm has several old places, the last of them that is passed has today's record."""
+
     def __init__(self, of):
+        self.stem = of["stem"]
         self.needs = [tuple(n) for n in of["needs"]]
         self.need_of = {}
         for i, (old, new) in enumerate(self.needs):
             self.need_of.setdefault(plain(old), i)
         self.asked_at = [a[0] for a in of["asked_at"]]
+        self.asked = of["asked"]
+        self.pre = of["pre"]["fields"] if of["pre"] else None
         self.places = {}
-        for p, new in zip(of["places"], of["places_by_name"]):
-            self.places[p[0]] = (p[1], p[2][0], p[2][1], new)
+        for p, new, arm, clauses in zip(of["places"], of["places_by_name"], of["arms"], of["clauses"]):
+            self.places[p[0]] = {
+                "up": p[1],
+                "old": p[2][0],
+                "new": p[2][1],
+                "params": of["params"].get(p[3]),
+                "name": new,
+                "arm": arm,
+                "clauses": clauses and clauses["fields"],
+            }
         self.place_of = {plain(p): p for p in self.places}
         self.loops = {plain(l[0][0]): l[0][1] for l in of["loops"]}
         self.fields = {}
-        for parent, old, new, _ in self.places.values():
-            if old:
-                self.fields.setdefault(plain(old), set()).add(new)
+        for p in self.places.values():
+            if p["old"]:
+                self.fields.setdefault(plain(p["old"]), set()).add(p["new"])
 
     def up(self, place, n):
         for _ in range(n):
             if place is None:
                 return None
-            place = self.places[place][0]
+            place = self.places[place]["up"]
         return place
+
+    def group(self, place):
+        """The old places that the record of a place has in it, and the place above them."""
+        arm = self.places[place]["arm"]
+        out = [place]
+        for _ in range(arm[1] - 1 if arm else 0):
+            out.append(self.places[out[-1]]["up"])
+        return out, self.places[out[-1]]["up"]
+
+    def way(self, held, wanted):
+        """How often `.before` leads from the record of a place to that which has the wanted one in it, and the place of that record."""
+        n = 0
+        while held is not None:
+            inside, above = self.group(held)
+            if wanted in inside:
+                return n, held
+            held, n = above, n + 1
+        return None
 
 
 def find(names, path):
@@ -99,7 +130,7 @@ class Turn:
                     new = f.loops.get(plain(word[len(head) :]))
                     return m.group(1) + head + new if new else m.group(0)
             p = f.place_of.get(plain(word))
-            return m.group(1) + f.places[p][3] if p else m.group(0)
+            return m.group(1) + f.places[p]["name"] if p else m.group(0)
 
         return re.sub(r"\b(%s\.)(%s)" % (self.alias, W), one, text)
 
@@ -119,56 +150,104 @@ class Turn:
             p = f.place_of.get(plain(m.group(2)))
             if p:
                 for v in m.group(1).split():
-                    env[v] = p
+                    env[v] = (p, p, [], [])
         if need:
             i = f.need_of.get(plain(need.group(1)))
             if i is not None:
                 name = head.group(1)
                 m = re.search(r"^\s*%s (\w+)" % re.escape(name), text[text.find("\n") :], re.M)
                 if m:
-                    env[m.group(1)] = f.asked_at[i]
-        lines = text.split("\n")
-        out = []
+                    env[m.group(1)] = (f.asked_at[i], f.asked_at[i], [], [])
         # Variables in the order in which they are bound.
-        pattern = re.compile(
-            r"let (\w+) = (\w+)((?:\.before)*) in"
-            r"|(?<![\w.'-])(\w+)((?:\.before)+)(?![\w'-])(?:\.(%s))?"
-            r"|(?<![\w.'-])(\w+)\.(%s)" % (W, W)
-        )
+        pattern = re.compile(r"let (\w+) = (\w+)((?:\.%s)*) in|(?<![\w.'-])(\w+)((?:\.before)*)(?![\w'-])((?:\.%s)*)" % (W, W))
+
+        def chain(var, words):
+            """What a path from a variable is today, and what it leads to; or None. A variable stands for a place, or for a step of one with a path behind."""
+            at, held, path, now = env[var]
+            ups = 0
+            while not path and words[ups : ups + 1] == ["before"]:
+                ups += 1
+            words = words[ups:]
+            wanted = f.up(at, ups)
+            found = wanted and f.way(held, wanted)
+            if not found:
+                return None
+            whole = path + words
+            read = self.read(wanted, found[1], whole, f"{var} {ups} {words}")
+            if read is None or read[: len(now)] != now:
+                return None
+            return ".".join([var] + ["before"] * found[0] + read[len(now) :]), (wanted, found[1], whole, read)
 
         def one(m):
-            if m.group(1):
-                env[m.group(1)] = f.up(env.get(m.group(2)), m.group(3).count(".before"))
-                return m.group(0)
-            if m.group(4):
-                place = f.up(env.get(m.group(4)), m.group(5).count(".before"))
-                if m.group(6) is None:
-                    return m.group(0)
-                return m.group(4) + m.group(5) + "." + self.field(place, m.group(6), m.group(0), m.group(4) in env)
-            place = env.get(m.group(7))
-            if m.group(7) not in env:
-                word = m.group(8)
-                if plain(word) in f.fields and f.fields[plain(word)] != {word} and len(m.group(7)) <= 2:
+            var, words = (m.group(2), m.group(3)) if m.group(1) else (m.group(4), m.group(5) + m.group(6))
+            words = words.split(".")[1:]
+            known = env.get(var)
+            if known is None:
+                if m.group(1):
+                    env[m.group(1)] = None
+                if "before" in words:
                     self.open.append(m.group(0))
                 return m.group(0)
-            return m.group(7) + "." + self.field(place, m.group(8), m.group(0), True)
+            if not m.group(1) and not words:
+                return m.group(0)
+            found = chain(var, words)
+            if m.group(1):
+                env[m.group(1)] = found and found[1]
+            if not found:
+                self.open.append(m.group(0))
+                return m.group(0)
+            return f"let {m.group(1)} = {found[0]} in" if m.group(1) else found[0]
 
-        text = "\n".join(lines)
-        # remarks stay
         parts = re.split(r"((?:^|(?<=\s))--[^\n]*)", text)
         return "".join(p if i % 2 else pattern.sub(one, p) for i, p in enumerate(parts))
 
-    def field(self, place, word, whole, known):
-        if word == "well-formed":
-            return "well_formed"
-        if place is None:
-            if known and plain(word) in self.f.fields:
-                self.open.append(whole)
-            return word
-        parent, old, new, _ = self.f.places[place]
-        if plain(word) == plain(old):
-            return new
-        return word
+    def read(self, wanted, held, path, whole):
+        """What is read of an old place, of the record that has it."""
+        f = self.f
+        path = ["well_formed" if w == "well-formed" else w for w in path]
+        if not path:
+            return path
+        place, record = f.places[wanted], f.places[held]
+        if plain(path[0]) == plain(place["old"]):
+            if record["arm"]:
+                name, _, rows = record["arm"]
+                fits = [r for r in rows if plain(r[1]) == plain(place["old"]) and r[2] == path[1 : 1 + len(r[2])]]
+                if not fits:
+                    if any(plain(r[1]) == plain(place["old"]) and r[2][: len(path) - 1] == path[1:] for r in rows):
+                        return [name]
+                    self.open.append(f"no row for {whole}: {rows}")
+                    return None
+                row = max(fits, key=lambda r: len(r[2]))
+                path = [name, row[0]] + path[1 + len(row[2]) :]
+            else:
+                path = [place["new"]] + path[1:]
+            path = self.by_name(path, place["params"])
+            if place["clauses"] and "ensures" in path:
+                path = self.clause(path, path.index("ensures"), place["clauses"], whole)
+        elif path[0] == "requires" and f.pre:
+            path = self.clause(path, 0, f.pre, whole)
+        return path
+
+    def by_name(self, path, params):
+        """What a call left in its n-th parameter, by the parameter's name."""
+        for of in ("new", "auto"):
+            if params and of in path[:3]:
+                at = path.index(of) + 1
+                n = at
+                while path[n : n + 1] == ["1"]:
+                    n += 1
+                if path[n : n + 1] == ["0"] and n - at < len(params):
+                    return path[:at] + [params[n - at]] + path[n + 1 :]
+        return path
+
+    def clause(self, path, at, fields, whole):
+        """A clause by its name in place of its number."""
+        n = at + 1
+        if path[n : n + 1] and path[n].isdigit() and int(path[n]) < len(fields):
+            if path[n] != "1" or len(fields) == 2:
+                return path[:n] + [fields[int(path[n])]] + path[n + 1 :]
+        self.open.append(f"clauses {fields}: {whole}")
+        return path
 
     def spec(self, text):
         """The answers in the order of the goals."""

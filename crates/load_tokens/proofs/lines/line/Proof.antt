@@ -17,59 +17,59 @@ use Rattle.load_tokens.proofs.lines.line.Tie as tie
 feeds : ℕ → Bool
 feeds c = eqb c 10
 
-abbrev invariant-loop : tie.invariant-loop
-invariant-loop text place end n₀ i₀ n i = (n ≡ 1 + length (those feeds (take i text))) × (n ≤ i + 1) × (i ≤ end)
+abbrev invariant-loop-i : tie.invariant-loop-i
+invariant-loop-i text place end n₀ i₀ n i = (n ≡ 1 + length (those feeds (take i text))) × (n ≤ i + 1) × (i ≤ end)
 
-abbrev decreases-loop : tie.decreases-loop
-decreases-loop text place end n₀ i₀ n i = end - i
+abbrev decreases-loop-i : tie.decreases-loop-i
+decreases-loop-i text place end n₀ i₀ n i = end - i
 
-counted-to-requires : tie.Need-counted-to-requires invariant-loop decreases-loop
-counted-to-requires c κs = search rules
+counted_to-end-requires : tie.Need-counted_to-end-requires invariant-loop-i decreases-loop-i
+counted_to-end-requires c κs = search rules
 
-loop-holds : tie.Need-loop-init invariant-loop decreases-loop
-loop-holds c = (omega (arith, those_none feeds c.before.before.args.text.now), omega arith, omega arith)
+loop-i-init : tie.Need-loop-i-init invariant-loop-i decreases-loop-i
+loop-i-init c = (omega (arith, those_none feeds c.before.before.args.text.now), omega arith, omega arith)
 
-shared-slice-read-if1 : tie.Need-shared-slice-read-if1 invariant-loop decreases-loop
-shared-slice-read-if1 c = omega arith
+bounds-text-i : tie.Need-bounds-text-i invariant-loop-i decreases-loop-i
+bounds-text-i c = omega arith
 
-add-n : tie.Need-overflow-add-n invariant-loop decreases-loop
-add-n c = search rules
+overflow_add-n : tie.Need-overflow_add-n invariant-loop-i decreases-loop-i
+overflow_add-n c = search rules
 
-add-i : tie.Need-overflow-add-i invariant-loop decreases-loop
-add-i c = search rules
+overflow_add-i : tie.Need-overflow_add-i invariant-loop-i decreases-loop-i
+overflow_add-i c = search rules
 
-loop-less : tie.Need-loop-smaller invariant-loop decreases-loop
-loop-less c = search rules
+loop-i-smaller : tie.Need-loop-i-smaller invariant-loop-i decreases-loop-i
+loop-i-smaller c = search rules
 
-loop-again : tie.Need-loop-preserved invariant-loop decreases-loop
+loop-i-preserved : tie.Need-loop-i-preserved invariant-loop-i decreases-loop-i
 unfolding feeds
-loop-again c =
+loop-i-preserved c =
     let text = c.before.before.before.before.before.before.args.text.now in
-    let i = c.before.before.before.loop.i in
+    let i = c.before.before.before.loop-i.i in
     let inside : i < length text = omega arith in
     ⊎_elim
     (λ w. (omega (arith, those_passes feeds text i inside (eq-eqb (get_or text i 0) 10 w.0.taken)), omega arith, omega arith))
     (λ w. (omega (arith, those_fails feeds text i inside (ne_eqb (get_or text i 0) 10 w.0.left)), omega arith, omega arith))
-    c.if1.branch
+    c.if-text-i-eq10.branch
 
-returns : tie.Need-returns invariant-loop decreases-loop
+returns : tie.Need-returns invariant-loop-i decreases-loop-i
 unfolding line_of_place byte feeds
 returns c =
-    let end = c.before.before.counted-to.result in
-    let all : c.before.loop.i ≡ end = omega arith in
-    rw (← c.before.before.counted-to.ensures, ← all) c.before.loop.invariant.0
+    let end = c.before.before.counted_to-end.result in
+    let all : c.before.loop-i.i ≡ end = omega arith in
+    rw (← c.before.before.counted_to-end.ensures, ← all) c.before.loop-i.invariant.0
 
 pub line_spec : {M : Type 1} → statement M
 line_spec =
     tie.close
     (tie.spec
-    invariant-loop
-    decreases-loop
-    counted-to-requires
-    loop-holds
-    shared-slice-read-if1
-    add-n
-    add-i
-    loop-less
-    loop-again
+    invariant-loop-i
+    decreases-loop-i
+    counted_to-end-requires
+    loop-i-init
+    bounds-text-i
+    overflow_add-n
+    overflow_add-i
+    loop-i-smaller
+    loop-i-preserved
     returns)

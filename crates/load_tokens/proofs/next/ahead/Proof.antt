@@ -13,47 +13,53 @@ use borrow.Author.Rules.{rules}
 use Rattle.load_tokens.proofs.next.ahead.Statement.{statement}
 use Rattle.load_tokens.proofs.next.ahead.Tie as tie
 
-skip-requires : tie.Need-skip-requires
-skip-requires c κs = search rules
+skip-a-requires : tie.Need-skip-a-requires
+skip-a-requires c κs = search rules
 
-returns : tie.Need-returns
-returns c =
+returns-then-rest-a : tie.Need-returns-then-rest-a
+returns-then-rest-a c =
     let s = c.before.before.before.args in
     let rest = s.rest.now in
-    let skipped = c.before.skip.ensures in
-    let end : c.before.skip.result ≡ length rest = omega (arith, skipped.inside) in
+    let skipped = c.before.skip-a.ensures in
+    let end : c.before.skip-a.result ≡ length rest = omega (arith, skipped.inside) in
     let none : (from : ℕ) → tokens_in from rest s.at ≡ ends (from + length rest) = λ from. skipped.same_tokens from ∙ rw end (tokens_end rest from) in
     (skipped.inside, λ x y z from. rw (none from) (rw end))
 
-shared-slice-read-c : tie.Need-shared-slice-read-c
-shared-slice-read-c c = search rules
+bounds-rest-a : tie.Need-bounds-rest-a
+bounds-rest-a c = search rules
 
-begins-sign-requires : tie.Need-begins-sign-requires
-begins-sign-requires c κs = search rules
+begins_sign-requires : tie.Need-begins_sign-requires
+begins_sign-requires c κs = search rules
 
-returns-2 : tie.Need-returns-2
-returns-2 c =
+returns-then-begins_sign : tie.Need-returns-then-begins_sign
+returns-then-begins_sign c =
     let f = c.before.before.before in
     let s = f.before.before.before.args in
-    let skipped = f.before.skip.ensures in
-    let a = f.before.skip.result in
+    let skipped = f.before.skip-a.ensures in
+    let a = f.before.skip-a.result in
     let x = get_or s.rest.now a 0 in
-    let found = sign_is s.rest.now a f.if1.false x refl (sym c.before.begins_sign.ensures ∙ c.if2.true) in
+    let found = sign_is s.rest.now a f.if-rest-a.false x refl (sym c.before.begins_sign.ensures ∙ c.if-begins_sign.true) in
     from_later s.rest.now s.at a (Sign x a) skipped.onward skipped.same_tokens found
 
-returns-3 : tie.Need-returns-3
-returns-3 c =
+returns : tie.Need-returns
+returns c =
     let f = c.before.before.before in
     let s = f.before.before.before.args in
     let rest = s.rest.now in
-    let skipped = f.before.skip.ensures in
-    let a = f.before.skip.result in
-    let h = f.if1.false in
-    let no_sign = sym c.before.begins_sign.ensures ∙ c.if2.false in
+    let skipped = f.before.skip-a.ensures in
+    let a = f.before.skip-a.result in
+    let h = f.if-rest-a.false in
+    let no_sign = sym c.before.begins_sign.ensures ∙ c.if-begins_sign.false in
     let stops = no_sign_stops rest a h (skipped.no_separator h) (skipped.no_remark h) no_sign in
     (skipped.inside, λ x y z from. rw (skipped.same_tokens from) (stops x y z from))
 
 pub ahead_spec : {M : Type 1} → statement M
 ahead_spec =
     tie.close
-    (tie.spec skip-requires returns shared-slice-read-c begins-sign-requires returns-2 returns-3)
+    (tie.spec
+    skip-a-requires
+    returns-then-rest-a
+    bounds-rest-a
+    begins_sign-requires
+    returns-then-begins_sign
+    returns)

@@ -13,36 +13,36 @@ use Rattle.load_tokens.proofs.next.next_is.Tie as tie
 ahead-requires : tie.Need-ahead-requires
 ahead-requires c κs = search rules
 
-enum-known-c : tie.Need-enum-known-c
-enum-known-c c = search rules
+enum_known-c : tie.Need-enum_known-c
+enum_known-c c = search rules
 
-behind-sign-requires : tie.Need-behind-sign-requires
-behind-sign-requires c κs =
+behind_sign-requires : tie.Need-behind_sign-requires
+behind_sign-requires c κs =
     let g = c.before.before.c.given in
-    let a = c.before.before.before.before.before.before.args in
-    let f : FrontIs a.rest.now a.at (Sign g.0.0 g.0.1.0) = rw g.1 at c.before.before.before.before.ahead.ensures in
+    let a = c.before.before.before.before.args in
+    let f : FrontIs a.rest.now a.at (Sign g.0.0 g.0.1.0) = rw g.1 at c.before.before.ahead.ensures in
     omega (arith, f.1, behind_past g.0.0 g.0.1.0)
 
-returns : tie.Need-returns
-returns c =
+returns-then-c-sign : tie.Need-returns-then-c-sign
+returns-then-c-sign c =
     let g = c.before.before.before.c.given in
-    let a = c.before.before.before.before.before.before.before.args in
-    next_sign a.rest.now a.at g.0.0 g.0.1.0 a.sign c.behind-sign.result (rw g.1 at c.before.before.before.before.before.ahead.ensures) c.before.if1.true c.behind-sign.ensures
-
-enum-known-a : tie.Need-enum-known-a
-enum-known-a c = search rules
-
-returns-2 : tie.Need-returns-2
-returns-2 c =
-    let g = c.before.before.c.given in
-    let a = c.before.before.before.before.before.before.args in
-    let other = ne_eqb g.0.0 a.sign c.if1.false in
-    not_sign a.rest.now a.at a.sign a.sign a.sign g.0.0 g.0.1.0 (rw g.1 at c.before.before.before.before.ahead.ensures) other other other
-
-returns-3 : tie.Need-returns-3
-returns-3 c =
     let a = c.before.before.before.before.before.args in
-    let none : MarkIs a.rest.now a.at (NoSign c.before.a.given.0.0) = rw c.before.a.given.1 at c.before.before.before.ahead.ensures in
+    next_sign a.rest.now a.at g.0.0 g.0.1.0 a.sign c.behind_sign.result (rw g.1 at c.before.before.before.ahead.ensures) c.before.if-c-sign.true c.behind_sign.ensures
+
+enum_known-a : tie.Need-enum_known-a
+enum_known-a c = search rules
+
+returns-else-c-sign : tie.Need-returns-else-c-sign
+returns-else-c-sign c =
+    let g = c.before.before.c.given in
+    let a = c.before.before.before.before.args in
+    let other = ne_eqb g.0.0 a.sign c.if-c-sign.false in
+    not_sign a.rest.now a.at a.sign a.sign a.sign g.0.0 g.0.1.0 (rw g.1 at c.before.before.ahead.ensures) other other other
+
+returns-in-NoSign : tie.Need-returns-in-NoSign
+returns-in-NoSign c =
+    let a = c.before.before.before.args in
+    let none : MarkIs a.rest.now a.at (NoSign c.in-NoSign.a) = rw c.in-NoSign.is at c.before.ahead.ensures in
     (none.0, none.1 a.sign a.sign a.sign)
 
 pub next_is_spec : {M : Type 1} → statement M
@@ -50,9 +50,9 @@ next_is_spec =
     tie.close
     (tie.spec
     ahead-requires
-    enum-known-c
-    behind-sign-requires
-    returns
-    enum-known-a
-    returns-2
-    returns-3)
+    enum_known-c
+    behind_sign-requires
+    returns-then-c-sign
+    enum_known-a
+    returns-else-c-sign
+    returns-in-NoSign)

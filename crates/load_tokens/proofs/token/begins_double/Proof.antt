@@ -6,27 +6,31 @@ use Rattle.load_tokens.specs.Fronts.{double_sign}
 use Rattle.load_tokens.proofs.token.begins_double.Statement.{statement}
 use Rattle.load_tokens.proofs.token.begins_double.Tie as tie
 
-returns : tie.Need-returns
+returns-in-58 : tie.Need-returns-in-58
 unfolding tokens_words double_sign
-returns c = rw c.match.keys1
+returns-in-58 c = rw c.in-58.is
 
-returns-2 : tie.Need-returns-2
+returns-in-63 : tie.Need-returns-in-63
 unfolding tokens_words double_sign
-returns-2 c = rw c.match.keys2
+returns-in-63 c = rw c.in-63.is
 
-returns-3 : tie.Need-returns-3
+returns-in-61 : tie.Need-returns-in-61
 unfolding tokens_words double_sign
-returns-3 c = rw c.match.keys3
+returns-in-61 c = rw c.in-61.is
 
-returns-4 : tie.Need-returns-4
+returns-in_default : tie.Need-returns-in_default
 unfolding tokens_words double_sign
-returns-4 c =
+returns-in_default c =
     let x = c.before.args.c in
     rw (
-      ne_eqb x 58 c.match.rest.0.0.1,
-      ne_eqb x 63 c.match.rest.0.1,
-      ne_eqb x 61 c.match.rest.1,
+      ne_eqb x 58 c.in_default.in_default-own.rest.0.0.1,
+      ne_eqb x 63 c.in_default.in_default-own.rest.0.1,
+      ne_eqb x 61 c.in_default.in_default-own.rest.1,
     )
 
 pub begins_double_spec : {M : Type 1} → statement M
-begins_double_spec = tie.close (tie.spec returns returns-2 returns-3 returns-4)
+begins_double_spec = tie.close (tie.spec
+    returns-in-58
+    returns-in-63
+    returns-in-61
+    returns-in_default)

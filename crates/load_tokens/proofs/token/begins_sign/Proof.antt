@@ -5,48 +5,48 @@ use borrow.Author.Rules.{rules}
 use Rattle.load_tokens.proofs.token.begins_sign.Statement.{statement}
 use Rattle.load_tokens.proofs.token.begins_sign.Tie as tie
 
-single-sign-requires : tie.Need-single-sign-requires
-single-sign-requires c κs = search rules
+single_sign-requires : tie.Need-single_sign-requires
+single_sign-requires c κs = search rules
 
-returns : tie.Need-returns
+returns-then-single_sign : tie.Need-returns-then-single_sign
 unfolding begins_sign
-returns c = rw (sym c.before.single_sign.ensures ∙ c.if1.true)
+returns-then-single_sign c = rw (sym c.before.single_sign.ensures ∙ c.if-single_sign.true)
 
-begins-double-requires : tie.Need-begins-double-requires
-begins-double-requires c κs = search rules
+begins_double-requires : tie.Need-begins_double-requires
+begins_double-requires c κs = search rules
 
-second-byte-requires : tie.Need-second-byte-requires
-second-byte-requires c κs = search rules
+second_byte-requires : tie.Need-second_byte-requires
+second_byte-requires c κs = search rules
 
 followed-requires : tie.Need-followed-requires
 followed-requires c κs = search rules
 
-returns-2 : tie.Need-returns-2
+returns-then-begins_double : tie.Need-returns-then-begins_double
 unfolding begins_sign
-returns-2 c =
+returns-then-begins_double c =
     let d = c.before.before in
     let s = d.before.before in
     rw (
-      sym s.before.single_sign.ensures ∙ s.if1.false,
-      sym d.before.begins-double.ensures ∙ d.if2.true,
-      ← c.before.second-byte.ensures,
+      sym s.before.single_sign.ensures ∙ s.if-single_sign.false,
+      sym d.before.begins_double.ensures ∙ d.if-begins_double.true,
+      ← c.before.second_byte.ensures,
       c.followed.ensures,
     )
 
-returns-3 : tie.Need-returns-3
+returns : tie.Need-returns
 unfolding begins_sign
-returns-3 c =
+returns c =
     let s = c.before.before in
-    rw (sym s.before.single_sign.ensures ∙ s.if1.false, sym c.before.begins-double.ensures ∙ c.if2.false)
+    rw (sym s.before.single_sign.ensures ∙ s.if-single_sign.false, sym c.before.begins_double.ensures ∙ c.if-begins_double.false)
 
 pub begins_sign_spec : {M : Type 1} → statement M
 begins_sign_spec =
     tie.close
     (tie.spec
-    single-sign-requires
-    returns
-    begins-double-requires
-    second-byte-requires
+    single_sign-requires
+    returns-then-single_sign
+    begins_double-requires
+    second_byte-requires
     followed-requires
-    returns-2
-    returns-3)
+    returns-then-begins_double
+    returns)

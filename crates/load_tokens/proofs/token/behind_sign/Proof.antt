@@ -7,22 +7,27 @@ use Rattle.load_tokens.specs.Fronts.{behind}
 use Rattle.load_tokens.proofs.token.behind_sign.Statement.{statement}
 use Rattle.load_tokens.proofs.token.behind_sign.Tie as tie
 
-begins-double-requires : tie.Need-begins-double-requires
-begins-double-requires c κs = search rules
+begins_double-requires : tie.Need-begins_double-requires
+begins_double-requires c κs = search rules
 
-add-result : tie.Need-overflow-add-result
-add-result c = search rules
+overflow_add-result : tie.Need-overflow_add-result
+overflow_add-result c = search rules
 
-add-result-2 : tie.Need-overflow-add-result-2
-add-result-2 c = search rules
+overflow_add-result-else-begins_double : tie.Need-overflow_add-result-else-begins_double
+overflow_add-result-else-begins_double c = search rules
 
-returns : tie.Need-returns
+returns-then-begins_double : tie.Need-returns-then-begins_double
 unfolding behind if◌then◌else◌
-returns c = rw (sym c.before.begins-double.ensures ∙ c.if1.true)
+returns-then-begins_double c = rw (sym c.before.begins_double.ensures ∙ c.if-begins_double.true)
 
-returns-2 : tie.Need-returns-2
+returns-else-begins_double : tie.Need-returns-else-begins_double
 unfolding behind if◌then◌else◌
-returns-2 c = rw (sym c.before.begins-double.ensures ∙ c.if1.false)
+returns-else-begins_double c = rw (sym c.before.begins_double.ensures ∙ c.if-begins_double.false)
 
 pub behind_sign_spec : {M : Type 1} → statement M
-behind_sign_spec = tie.close (tie.spec begins-double-requires add-result add-result-2 returns returns-2)
+behind_sign_spec = tie.close (tie.spec
+    begins_double-requires
+    overflow_add-result
+    overflow_add-result-else-begins_double
+    returns-then-begins_double
+    returns-else-begins_double)

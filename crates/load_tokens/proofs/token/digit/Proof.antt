@@ -5,13 +5,15 @@ use Rattle.meaning.specs.Tokens.{tokens_words}
 use Rattle.load_tokens.proofs.token.digit.Statement.{statement}
 use Rattle.load_tokens.proofs.token.digit.Tie as tie
 
-returns : tie.Need-returns
+returns-then-c-ge48 : tie.Need-returns-then-c-ge48
 unfolding tokens_words
-returns c = rw (le-leb 48 c.before.args.c c.if1.true)
+returns-then-c-ge48 c = rw (le-leb 48 c.before.args.c c.if-c-ge48.true)
 
-returns-2 : tie.Need-returns-2
+returns-else-c-ge48 : tie.Need-returns-else-c-ge48
 unfolding tokens_words
-returns-2 c = rw (lt-leb 48 c.before.args.c c.if1.false)
+returns-else-c-ge48 c = rw (lt-leb 48 c.before.args.c c.if-c-ge48.false)
 
 pub digit_spec : {M : Type 1} → statement M
-digit_spec = tie.close (tie.spec returns returns-2)
+digit_spec = tie.close (tie.spec
+    returns-then-c-ge48
+    returns-else-c-ge48)

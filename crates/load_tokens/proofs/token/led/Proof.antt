@@ -18,11 +18,11 @@ lowercase-requires c κs = search rules
 name-requires : tie.Need-name-requires
 name-requires c κs = search rules
 
-returns : tie.Need-returns
-returns c =
+returns-then-lowercase : tie.Need-returns-then-lowercase
+returns-then-lowercase c =
     let s = c.before.before.before.before in
     let a = s.args in
-    let small : lowercase (get_or a.rest.now a.a 0) ≡ true = rw s.requires.2 (sym c.before.before.lowercase.ensures ∙ c.before.if1.true) in
+    let small : lowercase (get_or a.rest.now a.a 0) ≡ true = rw s.requires.2 (sym c.before.before.lowercase.ensures ∙ c.before.if-lowercase.true) in
     rw c.name.ensures (named a.rest.now a.a a.e s.requires.0 s.requires.1 small)
 
 uppercase-requires : tie.Need-uppercase-requires
@@ -31,10 +31,10 @@ uppercase-requires c κs = search rules
 variable-requires : tie.Need-variable-requires
 variable-requires c κs =
     let s = c.before.before.before.before.before in
-    (s.requires.0, s.requires.1, rw s.requires.2 (sym c.before.uppercase.ensures ∙ c.if2.true))
+    (s.requires.0, s.requires.1, rw s.requires.2 (sym c.before.uppercase.ensures ∙ c.if-uppercase.true))
 
-returns-2 : tie.Need-returns-2
-returns-2 c = search rules
+returns-then-uppercase : tie.Need-returns-then-uppercase
+returns-then-uppercase c = search rules
 
 digit-requires : tie.Need-digit-requires
 digit-requires c κs = search rules
@@ -42,20 +42,20 @@ digit-requires c κs = search rules
 unsigned-requires : tie.Need-unsigned-requires
 unsigned-requires c κs =
     let s = c.before.before.before.before.before.before.before in
-    (s.requires.0, s.requires.1, rw s.requires.2 (sym c.before.digit.ensures ∙ c.if3.true))
+    (s.requires.0, s.requires.1, rw s.requires.2 (sym c.before.digit.ensures ∙ c.if-digit.true))
 
-returns-3 : tie.Need-returns-3
-returns-3 c = search rules
+returns-then-digit : tie.Need-returns-then-digit
+returns-then-digit c = search rules
 
-returns-4 : tie.Need-returns-4
-returns-4 c =
+returns : tie.Need-returns
+returns c =
     let d = c.before.before in
     let l = d.before.before in
     let s = l.before.before.before in
     let a = s.args in
-    let small = sym l.before.lowercase.ensures ∙ l.if1.false in
-    let large = sym d.before.uppercase.ensures ∙ d.if2.false in
-    let number = sym c.before.digit.ensures ∙ c.if3.false in
+    let small = sym l.before.lowercase.ensures ∙ l.if-lowercase.false in
+    let large = sym d.before.uppercase.ensures ∙ d.if-uppercase.false in
+    let number = sym c.before.digit.ensures ∙ c.if-digit.false in
     let line : underscore a.c ≡ true = rw (small, large, number) at (sym (row_is_the_former_test a.c) ∙ s.requires.3) in
     let behind = drop (a.a + 1) a.rest.now in
     bad_in_front a.rest.now a.a s.requires.0 (length (run behind)) (rw s.requires.2 (underscore_leads a.c behind line))
@@ -66,11 +66,11 @@ led_spec =
     (tie.spec
     lowercase-requires
     name-requires
-    returns
+    returns-then-lowercase
     uppercase-requires
     variable-requires
-    returns-2
+    returns-then-uppercase
     digit-requires
     unsigned-requires
-    returns-3
-    returns-4)
+    returns-then-digit
+    returns)

@@ -5,13 +5,15 @@ use Rattle.meaning.specs.Tokens.{tokens_words}
 use Rattle.load_tokens.proofs.token.lowercase.Statement.{statement}
 use Rattle.load_tokens.proofs.token.lowercase.Tie as tie
 
-returns : tie.Need-returns
+returns-then-c-ge97 : tie.Need-returns-then-c-ge97
 unfolding tokens_words
-returns c = rw (le-leb 97 c.before.args.c c.if1.true)
+returns-then-c-ge97 c = rw (le-leb 97 c.before.args.c c.if-c-ge97.true)
 
-returns-2 : tie.Need-returns-2
+returns-else-c-ge97 : tie.Need-returns-else-c-ge97
 unfolding tokens_words
-returns-2 c = rw (lt-leb 97 c.before.args.c c.if1.false)
+returns-else-c-ge97 c = rw (lt-leb 97 c.before.args.c c.if-c-ge97.false)
 
 pub lowercase_spec : {M : Type 1} → statement M
-lowercase_spec = tie.close (tie.spec returns returns-2)
+lowercase_spec = tie.close (tie.spec
+    returns-then-c-ge97
+    returns-else-c-ge97)

@@ -6,16 +6,19 @@ use Rattle.meaning.specs.Bytes.{if◌then◌else◌}
 use Rattle.load_tokens.proofs.token.name.Statement.{statement}
 use Rattle.load_tokens.proofs.token.name.Tie as tie
 
-sub-if1 : tie.Need-overflow-sub-if1
-sub-if1 c = search rules
+overflow_sub-e : tie.Need-overflow_sub-e
+overflow_sub-e c = search rules
 
-returns : tie.Need-returns
+returns-then-e-a-le31 : tie.Need-returns-then-e-a-le31
 unfolding if◌then◌else◌
-returns c = rw (le-leb _ 31 c.if1.true)
+returns-then-e-a-le31 c = rw (le-leb _ 31 c.if-e-a-le31.true)
 
-returns-2 : tie.Need-returns-2
+returns-else-e-a-le31 : tie.Need-returns-else-e-a-le31
 unfolding if◌then◌else◌
-returns-2 c = rw (lt-leb _ 31 c.if1.false)
+returns-else-e-a-le31 c = rw (lt-leb _ 31 c.if-e-a-le31.false)
 
 pub name_spec : {M : Type 1} → statement M
-name_spec = tie.close (tie.spec sub-if1 returns returns-2)
+name_spec = tie.close (tie.spec
+    overflow_sub-e
+    returns-then-e-a-le31
+    returns-else-e-a-le31)

@@ -8,61 +8,61 @@ use Rattle.load_tokens.proofs.Integers.{minus_zero_is, long_negative_is, negativ
 use Rattle.load_tokens.proofs.token.negative.Statement.{statement}
 use Rattle.load_tokens.proofs.token.negative.Tie as tie
 
-add-if1 : tie.Need-overflow-add-if1
-add-if1 c = search rules
+overflow_add-a : tie.Need-overflow_add-a
+overflow_add-a c = search rules
 
-shared-slice-read-if1 : tie.Need-shared-slice-read-if1
-shared-slice-read-if1 c = search rules
+bounds-rest-a : tie.Need-bounds-rest-a
+bounds-rest-a c = search rules
 
-returns : tie.Need-returns
-returns c =
+returns-then-rest-a-eq48 : tie.Need-returns-then-rest-a-eq48
+returns-then-rest-a-eq48 c =
     let s = c.before.before.before in
-    minus_zero_is s.args.rest.now s.args.a s.args.e s.requires.0 s.requires.1 s.requires.2 s.requires.3 c.if1.true
+    minus_zero_is s.args.rest.now s.args.a s.args.e s.requires.0 s.requires.1 s.requires.2 s.requires.3 c.if-rest-a-eq48.true
 
-sub-if2 : tie.Need-overflow-sub-if2
-sub-if2 c = search rules
+overflow_sub-e : tie.Need-overflow_sub-e
+overflow_sub-e c = search rules
 
-returns-2 : tie.Need-returns-2
-returns-2 c =
+returns-then-e-a-gt11 : tie.Need-returns-then-e-a-gt11
+returns-then-e-a-gt11 c =
     let s = c.before.before.before.before in
-    long_negative_is s.args.rest.now s.args.a s.args.e s.requires.0 s.requires.1 s.requires.2 s.requires.3 c.before.if1.false c.if2.true
+    long_negative_is s.args.rest.now s.args.a s.args.e s.requires.0 s.requires.1 s.requires.2 s.requires.3 c.before.if-rest-a-eq48.false c.if-e-a-gt11.true
 
-add-digits-value : tie.Need-overflow-add-digits-value
-add-digits-value c = search rules
+overflow_add-a-2 : tie.Need-overflow_add-a-2
+overflow_add-a-2 c = search rules
 
-digits-value-requires : tie.Need-digits-value-requires
-digits-value-requires c κs =
+digits_value-v-requires : tie.Need-digits_value-v-requires
+digits_value-v-requires c κs =
     let s = c.before.before.before.before in
     (omega arith, omega (arith, run_inside s.args.rest.now (s.args.a + 1) (omega arith)), omega arith)
 
-sub-t10 : tie.Need-overflow-sub-t10
-sub-t10 c = search rules
+overflow_sub-result : tie.Need-overflow_sub-result
+overflow_sub-result c = search rules
 
-returns-3 : tie.Need-returns-3
-returns-3 c =
+returns-then-v-le2147483648 : tie.Need-returns-then-v-le2147483648
+returns-then-v-le2147483648 c =
     let r = c.before in
     let s = r.before.before.before.before.before in
-    negative_within_is s.args.rest.now s.args.a s.args.e s.requires.0 s.requires.1 s.requires.2 s.requires.3 r.before.before.if1.false
-    r.digits_value.result r.digits_value.ensures c.if3.true
+    negative_within_is s.args.rest.now s.args.a s.args.e s.requires.0 s.requires.1 s.requires.2 s.requires.3 r.before.before.if-rest-a-eq48.false
+    r.digits_value-v.result r.digits_value-v.ensures c.if-v-le2147483648.true
 
-returns-4 : tie.Need-returns-4
-returns-4 c =
+returns-else-v-le2147483648 : tie.Need-returns-else-v-le2147483648
+returns-else-v-le2147483648 c =
     let r = c.before in
     let s = r.before.before.before.before.before in
-    negative_beyond_is s.args.rest.now s.args.a s.args.e s.requires.0 s.requires.1 s.requires.2 s.requires.3 r.before.before.if1.false
-    r.digits_value.result r.digits_value.ensures c.if3.false
+    negative_beyond_is s.args.rest.now s.args.a s.args.e s.requires.0 s.requires.1 s.requires.2 s.requires.3 r.before.before.if-rest-a-eq48.false
+    r.digits_value-v.result r.digits_value-v.ensures c.if-v-le2147483648.false
 
 pub negative_spec : {M : Type 1} → statement M
 negative_spec =
     tie.close
     (tie.spec
-    add-if1
-    shared-slice-read-if1
-    returns
-    sub-if2
-    returns-2
-    add-digits-value
-    digits-value-requires
-    sub-t10
-    returns-3
-    returns-4)
+    overflow_add-a
+    bounds-rest-a
+    returns-then-rest-a-eq48
+    overflow_sub-e
+    returns-then-e-a-gt11
+    overflow_add-a-2
+    digits_value-v-requires
+    overflow_sub-result
+    returns-then-v-le2147483648
+    returns-else-v-le2147483648)

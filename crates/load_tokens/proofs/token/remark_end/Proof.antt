@@ -12,55 +12,55 @@ use Rattle.load_tokens.proofs.Ends.{remark_goes_on, remark_stops, remark_at_end}
 use Rattle.load_tokens.proofs.token.remark_end.Statement.{statement}
 use Rattle.load_tokens.proofs.token.remark_end.Tie as tie
 
-abbrev invariant-loop : tie.invariant-loop
-invariant-loop rest at i₀ i = (i ≤ length rest) × (end_of_remark rest i ≡ end_of_remark rest at)
+abbrev invariant-loop-i : tie.invariant-loop-i
+invariant-loop-i rest at i₀ i = (i ≤ length rest) × (end_of_remark rest i ≡ end_of_remark rest at)
 
-abbrev decreases-loop : tie.decreases-loop
-decreases-loop rest at i₀ i = length rest - i
+abbrev decreases-loop-i : tie.decreases-loop-i
+decreases-loop-i rest at i₀ i = length rest - i
 
-loop-holds : tie.Need-loop-init invariant-loop decreases-loop
-loop-holds c = (omega arith, refl)
+loop-i-init : tie.Need-loop-i-init invariant-loop-i decreases-loop-i
+loop-i-init c = (omega arith, refl)
 
-shared-slice-read-if1 : tie.Need-shared-slice-read-if1 invariant-loop decreases-loop
-shared-slice-read-if1 c = search rules
+bounds-rest-i : tie.Need-bounds-rest-i invariant-loop-i decreases-loop-i
+bounds-rest-i c = search rules
 
-returns : tie.Need-returns invariant-loop decreases-loop
+returns-then-rest-i-eq10 : tie.Need-returns-then-rest-i-eq10 invariant-loop-i decreases-loop-i
 unfolding byte
+returns-then-rest-i-eq10 c =
+    let l = c.before.before.before in
+    let stops = remark_stops l.before.args.rest.now l.loop-i.i (omega arith) (eq-eqb _ _ c.if-rest-i-eq10.true) in
+    (sym stops ∙ l.loop-i.invariant.1, omega arith)
+
+overflow_add-i : tie.Need-overflow_add-i invariant-loop-i decreases-loop-i
+overflow_add-i c = search rules
+
+loop-i-smaller : tie.Need-loop-i-smaller invariant-loop-i decreases-loop-i
+loop-i-smaller c = search rules
+
+loop-i-preserved : tie.Need-loop-i-preserved invariant-loop-i decreases-loop-i
+unfolding byte
+loop-i-preserved c =
+    let l = c.before.before.before in
+    let on = remark_goes_on l.before.args.rest.now l.loop-i.i (omega arith) (ne_eqb _ _ c.if-rest-i-eq10.false) in
+    (omega arith, sym on ∙ l.loop-i.invariant.1)
+
+returns : tie.Need-returns invariant-loop-i decreases-loop-i
 returns c =
-    let l = c.before.before.before in
-    let stops = remark_stops l.before.args.rest.now l.loop.i (omega arith) (eq-eqb _ _ c.if1.true) in
-    (sym stops ∙ l.loop.invariant.1, omega arith)
-
-add-i : tie.Need-overflow-add-i invariant-loop decreases-loop
-add-i c = search rules
-
-loop-less : tie.Need-loop-smaller invariant-loop decreases-loop
-loop-less c = search rules
-
-loop-again : tie.Need-loop-preserved invariant-loop decreases-loop
-unfolding byte
-loop-again c =
-    let l = c.before.before.before in
-    let on = remark_goes_on l.before.args.rest.now l.loop.i (omega arith) (ne_eqb _ _ c.if1.false) in
-    (omega arith, sym on ∙ l.loop.invariant.1)
-
-returns-2 : tie.Need-returns-2 invariant-loop decreases-loop
-returns-2 c =
     let l = c.before in
     let rest = l.before.args.rest.now in
-    let all : l.loop.i ≡ length rest = omega arith in
-    (rw (← l.loop.invariant.1, all) (sym (remark_at_end rest)), omega arith)
+    let all : l.loop-i.i ≡ length rest = omega arith in
+    (rw (← l.loop-i.invariant.1, all) (sym (remark_at_end rest)), omega arith)
 
 pub remark_end_spec : {M : Type 1} → statement M
 remark_end_spec =
     tie.close
     (tie.spec
-    invariant-loop
-    decreases-loop
-    loop-holds
-    shared-slice-read-if1
-    returns
-    add-i
-    loop-less
-    loop-again
-    returns-2)
+    invariant-loop-i
+    decreases-loop-i
+    loop-i-init
+    bounds-rest-i
+    returns-then-rest-i-eq10
+    overflow_add-i
+    loop-i-smaller
+    loop-i-preserved
+    returns)

@@ -5,13 +5,15 @@ use Rattle.load_tokens.specs.Fronts.{second}
 use Rattle.load_tokens.proofs.token.second_byte.Statement.{statement}
 use Rattle.load_tokens.proofs.token.second_byte.Tie as tie
 
-returns : tie.Need-returns
+returns-then-c-eq61 : tie.Need-returns-then-c-eq61
 unfolding second if◌then◌else◌ byte
-returns c = rw (eq-eqb c.before.args.c 61 c.if1.true)
+returns-then-c-eq61 c = rw (eq-eqb c.before.args.c 61 c.if-c-eq61.true)
 
-returns-2 : tie.Need-returns-2
+returns-else-c-eq61 : tie.Need-returns-else-c-eq61
 unfolding second if◌then◌else◌ byte
-returns-2 c = rw (ne_eqb c.before.args.c 61 c.if1.false)
+returns-else-c-eq61 c = rw (ne_eqb c.before.args.c 61 c.if-c-eq61.false)
 
 pub second_byte_spec : {M : Type 1} → statement M
-second_byte_spec = tie.close (tie.spec returns returns-2)
+second_byte_spec = tie.close (tie.spec
+    returns-then-c-eq61
+    returns-else-c-eq61)

@@ -5,32 +5,37 @@ use Rattle.meaning.specs.Tokens.{tokens_words}
 use Rattle.load_tokens.proofs.token.separates.Statement.{statement}
 use Rattle.load_tokens.proofs.token.separates.Tie as tie
 
-returns : tie.Need-returns
+returns-in-32 : tie.Need-returns-in-32
 unfolding tokens_words
-returns c = rw c.match.keys1
+returns-in-32 c = rw c.in-32.is
 
-returns-2 : tie.Need-returns-2
+returns-in-9 : tie.Need-returns-in-9
 unfolding tokens_words
-returns-2 c = rw c.match.keys2
+returns-in-9 c = rw c.in-9.is
 
-returns-3 : tie.Need-returns-3
+returns-in-13 : tie.Need-returns-in-13
 unfolding tokens_words
-returns-3 c = rw c.match.keys3
+returns-in-13 c = rw c.in-13.is
 
-returns-4 : tie.Need-returns-4
+returns-in-10 : tie.Need-returns-in-10
 unfolding tokens_words
-returns-4 c = rw c.match.keys4
+returns-in-10 c = rw c.in-10.is
 
-returns-5 : tie.Need-returns-5
+returns-in_default : tie.Need-returns-in_default
 unfolding tokens_words
-returns-5 c =
+returns-in_default c =
     let x = c.before.args.c in
     rw (
-      ne_eqb x 32 c.match.rest.0.0.0.1,
-      ne_eqb x 9 c.match.rest.0.0.1,
-      ne_eqb x 13 c.match.rest.0.1,
-      ne_eqb x 10 c.match.rest.1,
+      ne_eqb x 32 c.in_default.in_default-own.rest.0.0.0.1,
+      ne_eqb x 9 c.in_default.in_default-own.rest.0.0.1,
+      ne_eqb x 13 c.in_default.in_default-own.rest.0.1,
+      ne_eqb x 10 c.in_default.in_default-own.rest.1,
     )
 
 pub separates_spec : {M : Type 1} → statement M
-separates_spec = tie.close (tie.spec returns returns-2 returns-3 returns-4 returns-5)
+separates_spec = tie.close (tie.spec
+    returns-in-32
+    returns-in-9
+    returns-in-13
+    returns-in-10
+    returns-in_default)

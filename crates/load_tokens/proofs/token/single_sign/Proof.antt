@@ -5,47 +5,55 @@ use Rattle.meaning.specs.Tokens.{tokens_words}
 use Rattle.load_tokens.proofs.token.single_sign.Statement.{statement}
 use Rattle.load_tokens.proofs.token.single_sign.Tie as tie
 
-returns : tie.Need-returns
+returns-in-40 : tie.Need-returns-in-40
 unfolding tokens_words
-returns c = rw c.match.keys1
+returns-in-40 c = rw c.in-40.is
 
-returns-2 : tie.Need-returns-2
+returns-in-41 : tie.Need-returns-in-41
 unfolding tokens_words
-returns-2 c = rw c.match.keys2
+returns-in-41 c = rw c.in-41.is
 
-returns-3 : tie.Need-returns-3
+returns-in-91 : tie.Need-returns-in-91
 unfolding tokens_words
-returns-3 c = rw c.match.keys3
+returns-in-91 c = rw c.in-91.is
 
-returns-4 : tie.Need-returns-4
+returns-in-93 : tie.Need-returns-in-93
 unfolding tokens_words
-returns-4 c = rw c.match.keys4
+returns-in-93 c = rw c.in-93.is
 
-returns-5 : tie.Need-returns-5
+returns-in-44 : tie.Need-returns-in-44
 unfolding tokens_words
-returns-5 c = rw c.match.keys5
+returns-in-44 c = rw c.in-44.is
 
-returns-6 : tie.Need-returns-6
+returns-in-124 : tie.Need-returns-in-124
 unfolding tokens_words
-returns-6 c = rw c.match.keys6
+returns-in-124 c = rw c.in-124.is
 
-returns-7 : tie.Need-returns-7
+returns-in-46 : tie.Need-returns-in-46
 unfolding tokens_words
-returns-7 c = rw c.match.keys7
+returns-in-46 c = rw c.in-46.is
 
-returns-8 : tie.Need-returns-8
+returns-in_default : tie.Need-returns-in_default
 unfolding tokens_words
-returns-8 c =
+returns-in_default c =
     let x = c.before.args.c in
     rw (
-      ne_eqb x 40 c.match.rest.0.0.0.0.0.0.1,
-      ne_eqb x 41 c.match.rest.0.0.0.0.0.1,
-      ne_eqb x 91 c.match.rest.0.0.0.0.1,
-      ne_eqb x 93 c.match.rest.0.0.0.1,
-      ne_eqb x 44 c.match.rest.0.0.1,
-      ne_eqb x 124 c.match.rest.0.1,
-      ne_eqb x 46 c.match.rest.1,
+      ne_eqb x 40 c.in_default.in_default-own.rest.0.0.0.0.0.0.1,
+      ne_eqb x 41 c.in_default.in_default-own.rest.0.0.0.0.0.1,
+      ne_eqb x 91 c.in_default.in_default-own.rest.0.0.0.0.1,
+      ne_eqb x 93 c.in_default.in_default-own.rest.0.0.0.1,
+      ne_eqb x 44 c.in_default.in_default-own.rest.0.0.1,
+      ne_eqb x 124 c.in_default.in_default-own.rest.0.1,
+      ne_eqb x 46 c.in_default.in_default-own.rest.1,
     )
 
 pub single_sign_spec : {M : Type 1} → statement M
-single_sign_spec = tie.close (tie.spec returns returns-2 returns-3 returns-4 returns-5 returns-6 returns-7 returns-8)
+single_sign_spec = tie.close (tie.spec
+    returns-in-40
+    returns-in-41
+    returns-in-91
+    returns-in-93
+    returns-in-44
+    returns-in-124
+    returns-in-46
+    returns-in_default)

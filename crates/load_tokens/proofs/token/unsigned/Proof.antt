@@ -7,59 +7,59 @@ use Rattle.load_tokens.proofs.Integers.{zero_is, zero_led_is, long_unsigned_is, 
 use Rattle.load_tokens.proofs.token.unsigned.Statement.{statement}
 use Rattle.load_tokens.proofs.token.unsigned.Tie as tie
 
-shared-slice-read-if1 : tie.Need-shared-slice-read-if1
-shared-slice-read-if1 c = search rules
+bounds-rest-a : tie.Need-bounds-rest-a
+bounds-rest-a c = search rules
 
-add-if2 : tie.Need-overflow-add-if2
-add-if2 c = search rules
+overflow_add-a : tie.Need-overflow_add-a
+overflow_add-a c = search rules
 
-returns : tie.Need-returns
-returns c =
+returns-then-e-a : tie.Need-returns-then-e-a
+returns-then-e-a c =
     let s = c.before.before.before.before in
-    zero_is s.args.rest.now s.args.a s.args.e s.requires.0 s.requires.1 s.requires.2 c.before.if1.true c.if2.true
+    zero_is s.args.rest.now s.args.a s.args.e s.requires.0 s.requires.1 s.requires.2 c.before.if-rest-a-eq48.true c.if-e-a.true
 
-returns-2 : tie.Need-returns-2
-returns-2 c =
+returns-then-rest-a-eq48 : tie.Need-returns-then-rest-a-eq48
+returns-then-rest-a-eq48 c =
     let s = c.before.before.before.before in
-    zero_led_is s.args.rest.now s.args.a s.args.e s.requires.0 s.requires.1 s.requires.2 c.before.if1.true c.if2.false
+    zero_led_is s.args.rest.now s.args.a s.args.e s.requires.0 s.requires.1 s.requires.2 c.before.if-rest-a-eq48.true c.if-e-a.false
 
-sub-if3 : tie.Need-overflow-sub-if3
-sub-if3 c = search rules
+overflow_sub-e : tie.Need-overflow_sub-e
+overflow_sub-e c = search rules
 
-returns-3 : tie.Need-returns-3
-returns-3 c =
+returns-then-e-a-gt10 : tie.Need-returns-then-e-a-gt10
+returns-then-e-a-gt10 c =
     let s = c.before.before.before.before in
-    long_unsigned_is s.args.rest.now s.args.a s.args.e s.requires.0 s.requires.1 s.requires.2 c.before.if1.false c.if3.true
+    long_unsigned_is s.args.rest.now s.args.a s.args.e s.requires.0 s.requires.1 s.requires.2 c.before.if-rest-a-eq48.false c.if-e-a-gt10.true
 
-digits-value-requires : tie.Need-digits-value-requires
-digits-value-requires c κs =
+digits_value-v-requires : tie.Need-digits_value-v-requires
+digits_value-v-requires c κs =
     let s = c.before.before.before.before in
     (omega arith, led_inside s.args.rest.now s.args.a s.args.e s.requires.0 s.requires.1, omega arith)
 
-returns-4 : tie.Need-returns-4
-returns-4 c =
+returns-then-v-le2147483647 : tie.Need-returns-then-v-le2147483647
+returns-then-v-le2147483647 c =
     let r = c.before in
     let s = r.before.before.before.before.before in
-    unsigned_within_is s.args.rest.now s.args.a s.args.e s.requires.0 s.requires.1 s.requires.2 r.before.before.if1.false
-    r.digits_value.result r.digits_value.ensures c.if4.true
+    unsigned_within_is s.args.rest.now s.args.a s.args.e s.requires.0 s.requires.1 s.requires.2 r.before.before.if-rest-a-eq48.false
+    r.digits_value-v.result r.digits_value-v.ensures c.if-v-le2147483647.true
 
-returns-5 : tie.Need-returns-5
-returns-5 c =
+returns-else-v-le2147483647 : tie.Need-returns-else-v-le2147483647
+returns-else-v-le2147483647 c =
     let r = c.before in
     let s = r.before.before.before.before.before in
-    unsigned_beyond_is s.args.rest.now s.args.a s.args.e s.requires.0 s.requires.1 s.requires.2 r.before.before.if1.false
-    r.digits_value.result r.digits_value.ensures c.if4.false
+    unsigned_beyond_is s.args.rest.now s.args.a s.args.e s.requires.0 s.requires.1 s.requires.2 r.before.before.if-rest-a-eq48.false
+    r.digits_value-v.result r.digits_value-v.ensures c.if-v-le2147483647.false
 
 pub unsigned_spec : {M : Type 1} → statement M
 unsigned_spec =
     tie.close
     (tie.spec
-    shared-slice-read-if1
-    add-if2
-    returns
-    returns-2
-    sub-if3
-    returns-3
-    digits-value-requires
-    returns-4
-    returns-5)
+    bounds-rest-a
+    overflow_add-a
+    returns-then-e-a
+    returns-then-rest-a-eq48
+    overflow_sub-e
+    returns-then-e-a-gt10
+    digits_value-v-requires
+    returns-then-v-le2147483647
+    returns-else-v-le2147483647)

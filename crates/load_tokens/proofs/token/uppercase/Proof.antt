@@ -5,13 +5,15 @@ use Rattle.meaning.specs.Tokens.{tokens_words}
 use Rattle.load_tokens.proofs.token.uppercase.Statement.{statement}
 use Rattle.load_tokens.proofs.token.uppercase.Tie as tie
 
-returns : tie.Need-returns
+returns-then-c-ge65 : tie.Need-returns-then-c-ge65
 unfolding tokens_words
-returns c = rw (le-leb 65 c.before.args.c c.if1.true)
+returns-then-c-ge65 c = rw (le-leb 65 c.before.args.c c.if-c-ge65.true)
 
-returns-2 : tie.Need-returns-2
+returns-else-c-ge65 : tie.Need-returns-else-c-ge65
 unfolding tokens_words
-returns-2 c = rw (lt-leb 65 c.before.args.c c.if1.false)
+returns-else-c-ge65 c = rw (lt-leb 65 c.before.args.c c.if-c-ge65.false)
 
 pub uppercase_spec : {M : Type 1} → statement M
-uppercase_spec = tie.close (tie.spec returns returns-2)
+uppercase_spec = tie.close (tie.spec
+    returns-then-c-ge65
+    returns-else-c-ge65)

@@ -13,70 +13,70 @@ use Rattle.run_table.proofs.table.against_constant.Tie as tie
 look-requires : tie.Need-look-requires
 look-requires c κs = search rules
 
-enum-known-z : tie.Need-enum-known-z
-enum-known-z c = search rules
+enum_known-z : tie.Need-enum_known-z
+enum_known-z c = search rules
 
 give-requires : tie.Need-give-requires
 give-requires c κs = search rules
 
-enum-known-z-2 : tie.Need-enum-known-z-2
-enum-known-z-2 c = search rules
+enum_known-z-in-Reader-1 : tie.Need-enum_known-z-in-Reader-1
+enum_known-z-in-Reader-1 c = search rules
 
 ask-requires : tie.Need-ask-requires
 ask-requires c κs = search rules
 
-returns : tie.Need-returns
+returns-then-h-w : tie.Need-returns-then-h-w
 unfolding writer_row reader_row constant_row compound_row equal_row row answer behind
-returns c =
+returns-then-h-w c =
     let start = c.before.before.before.before in
     done_by start.args.s.now start.args.s.now start.args.n start.args.h start.args.w _ agrees _
-    (constant_row_other (eqb start.args.h start.args.w) (seen start.args.w) (rw c.before.before.look.ensures at c.before.match.keys3) ∙ ap equal_row (eq-eqb start.args.h start.args.w c.if1.true)) refl refl
+    (constant_row_other (eqb start.args.h start.args.w) (seen start.args.w) (rw c.before.before.look.ensures at c.before.in_default.in_default-own.keys3) ∙ ap equal_row (eq-eqb start.args.h start.args.w c.if-h-w.true)) refl refl
 
-same_length : tie.Need-same-length
-same_length c = search rules
+shape_of-s-in-Writer : tie.Need-shape_of-s-in-Writer
+shape_of-s-in-Writer c = search rules
 
-returns-2 : tie.Need-returns-2
+returns-in-Writer : tie.Need-returns-in-Writer
 unfolding writer_row reader_row constant_row compound_row equal_row row answer behind
-returns-2 c =
-    let looked = c.before.before.before.before.before.before.before in
+returns-in-Writer c =
+    let looked = c.before.before.before.before.before in
     let start = looked.before.before in
-    let z = c.before.before.before.before.before.z.given.0.0 in
-    let at : seen start.args.w ≡ Writer z = sym looked.look.ensures ∙ c.before.before.before.before.before.z.given.1 in
-    done_by start.args.s.now c.before.before.give.new.0 start.args.n start.args.h start.args.w _ (gives_goal z) _
+    let z = c.before.before.before.before.in-Writer.z in
+    let at : seen start.args.w ≡ Writer z = sym looked.look.ensures ∙ c.before.before.before.before.in-Writer.is in
+    done_by start.args.s.now c.before.before.give.new.s start.args.n start.args.h start.args.w _ (gives_goal z) _
     (rw at) (rw c.before.before.give.ensures.0) c.before.before.give.ensures.1
 
-same-length-2 : tie.Need-same-length-2
-same-length-2 c = search rules
+shape_of-s-in-Reader : tie.Need-shape_of-s-in-Reader
+shape_of-s-in-Reader c = search rules
 
-returns-3 : tie.Need-returns-3
+returns-in-Reader : tie.Need-returns-in-Reader
 unfolding writer_row reader_row constant_row compound_row equal_row row answer behind
-returns-3 c =
-    let looked = c.before.before.before.before.before.before.before in
+returns-in-Reader c =
+    let looked = c.before.before.before.before.before in
     let start = looked.before.before in
-    let z = c.before.before.before.before.before.z2.given.0.0 in
-    let at : seen start.args.w ≡ Reader z = sym looked.look.ensures ∙ c.before.before.before.before.before.z2.given.1 in
-    done_by start.args.s.now c.before.before.ask.new.0 start.args.n start.args.h start.args.w _ (waits z) _
+    let z = c.before.before.before.before.in-Reader.z in
+    let at : seen start.args.w ≡ Reader z = sym looked.look.ensures ∙ c.before.before.before.before.in-Reader.is in
+    done_by start.args.s.now c.before.before.ask.new.s start.args.n start.args.h start.args.w _ (waits z) _
     (rw at) (rw c.before.before.ask.ensures.0) c.before.before.ask.ensures.1
 
-returns-4 : tie.Need-returns-4
+returns-else-h-w : tie.Need-returns-else-h-w
 unfolding writer_row reader_row constant_row compound_row equal_row row answer behind
-returns-4 c =
+returns-else-h-w c =
     let start = c.before.before.before.before in
     done_by start.args.s.now start.args.s.now start.args.n start.args.h start.args.w _ fails _
-    (constant_row_other (eqb start.args.h start.args.w) (seen start.args.w) (rw c.before.before.look.ensures at c.before.match.keys3) ∙ ap equal_row (ne_eqb start.args.h start.args.w c.if1.false)) refl refl
+    (constant_row_other (eqb start.args.h start.args.w) (seen start.args.w) (rw c.before.before.look.ensures at c.before.in_default.in_default-own.keys3) ∙ ap equal_row (ne_eqb start.args.h start.args.w c.if-h-w.false)) refl refl
 
 pub against_constant_spec : {M : Type 1} → statement M
 against_constant_spec =
     tie.close
     (tie.spec
     look-requires
-    enum-known-z
+    enum_known-z
     give-requires
-    enum-known-z-2
+    enum_known-z-in-Reader-1
     ask-requires
-    returns
-    same_length
-    returns-2
-    same-length-2
-    returns-3
-    returns-4)
+    returns-then-h-w
+    shape_of-s-in-Writer
+    returns-in-Writer
+    shape_of-s-in-Reader
+    returns-in-Reader
+    returns-else-h-w)

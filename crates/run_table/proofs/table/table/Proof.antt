@@ -13,89 +13,89 @@ use Rattle.run_table.proofs.table.table.Tie as tie
 look-requires : tie.Need-look-requires
 look-requires c κs = search rules
 
-enum-known-x : tie.Need-enum-known-x
-enum-known-x c = search rules
+enum_known-x : tie.Need-enum_known-x
+enum_known-x c = search rules
 
-against-writer-requires : tie.Need-against-writer-requires
-against-writer-requires c κs =
-    let looked = c.before.before.before.before in
+against_writer-requires : tie.Need-against_writer-requires
+against_writer-requires c κs =
+    let looked = c.before.before in
     let start = looked.before.before in
-    (omega arith, start.requires.2 c.before.before.x.given.0.0 (sym looked.look.ensures ∙ c.before.before.x.given.1))
+    (omega arith, start.requires.2 c.before.in-Writer.x (sym looked.look.ensures ∙ c.before.in-Writer.is))
 
-enum_told : tie.Need-enum-told
-enum_told c = search rules
+enum_told-1 : tie.Need-enum_told-1
+enum_told-1 c = search rules
 
-against-reader-requires : tie.Need-against-reader-requires
-against-reader-requires c κs = search rules
+against_reader-requires : tie.Need-against_reader-requires
+against_reader-requires c κs = search rules
 
-enum-known-p : tie.Need-enum-known-p
-enum-known-p c = search rules
+enum_known-p : tie.Need-enum_known-p
+enum_known-p c = search rules
 
-against-compound-requires : tie.Need-against-compound-requires
-against-compound-requires c κs = search rules
+against_compound-requires : tie.Need-against_compound-requires
+against_compound-requires c κs = search rules
 
-against-constant-requires : tie.Need-against-constant-requires
-against-constant-requires c κs = search rules
+against_constant-requires : tie.Need-against_constant-requires
+against_constant-requires c κs = search rules
 
-same_length : tie.Need-same-length
-same_length c = search rules
+shape_of-s-in-Writer : tie.Need-shape_of-s-in-Writer
+shape_of-s-in-Writer c = search rules
 
-returns : tie.Need-returns
+returns-in-Writer : tie.Need-returns-in-Writer
 unfolding writer_row reader_row constant_row compound_row equal_row row answer behind
-returns c =
-    let looked = c.before.before.before.before.before.before.before in
+returns-in-Writer c =
+    let looked = c.before.before.before.before.before in
     let start = looked.before.before in
-    let at : seen start.args.h ≡ Writer c.before.before.before.before.before.x.given.0.0 = sym looked.look.ensures ∙ c.before.before.before.before.before.x.given.1 in
-    rw at c.before.before.against-writer.ensures
+    let at : seen start.args.h ≡ Writer c.before.before.before.before.in-Writer.x = sym looked.look.ensures ∙ c.before.before.before.before.in-Writer.is in
+    rw at c.before.before.against_writer.ensures
 
-same-length-2 : tie.Need-same-length-2
-same-length-2 c = search rules
+shape_of-s-in-Reader : tie.Need-shape_of-s-in-Reader
+shape_of-s-in-Reader c = search rules
 
-returns-2 : tie.Need-returns-2
+returns-in-Reader : tie.Need-returns-in-Reader
 unfolding writer_row reader_row constant_row compound_row equal_row row answer behind
-returns-2 c =
-    let looked = c.before.before.before.before.before.before in
+returns-in-Reader c =
+    let looked = c.before.before.before.before.before in
     let start = looked.before.before in
-    let at : seen start.args.h ≡ Reader c.before.before.before.before.enum_told.given.0.0 = sym looked.look.ensures ∙ c.before.before.before.before.enum_told.given.1 in
-    rw at c.before.before.against-reader.ensures
+    let at : seen start.args.h ≡ Reader c.before.before.before.before.in-Reader.field-0 = sym looked.look.ensures ∙ c.before.before.before.before.in-Reader.is in
+    rw at c.before.before.against_reader.ensures
 
-same-length-3 : tie.Need-same-length-3
-same-length-3 c = search rules
+shape_of-s-in-Compound : tie.Need-shape_of-s-in-Compound
+shape_of-s-in-Compound c = search rules
 
-returns-3 : tie.Need-returns-3
+returns-in-Compound : tie.Need-returns-in-Compound
 unfolding writer_row reader_row constant_row compound_row equal_row row answer behind
-returns-3 c =
-    let looked = c.before.before.before.before.before.before.before in
+returns-in-Compound c =
+    let looked = c.before.before.before.before.before in
     let start = looked.before.before in
-    let at : seen start.args.h ≡ Compound c.before.before.before.before.before.p.given.0.0 = sym looked.look.ensures ∙ c.before.before.before.before.before.p.given.1 in
-    rw at c.before.before.against-compound.ensures
+    let at : seen start.args.h ≡ Compound c.before.before.before.before.in-Compound.p = sym looked.look.ensures ∙ c.before.before.before.before.in-Compound.is in
+    rw at c.before.before.against_compound.ensures
 
-same-length-4 : tie.Need-same-length-4
-same-length-4 c = search rules
+shape_of-s-in_default : tie.Need-shape_of-s-in_default
+shape_of-s-in_default c = search rules
 
-returns-4 : tie.Need-returns-4
+returns-in_default : tie.Need-returns-in_default
 unfolding writer_row reader_row constant_row compound_row equal_row row answer behind
-returns-4 c =
+returns-in_default c =
     let start = c.before.before.before.before.before.before.before in
-    rw (row_other (eqb start.args.h start.args.w) (seen start.args.h) (seen start.args.w) (rw c.before.before.before.before.before.look.ensures at c.before.before.before.before.match.keys4)) c.before.before.against-constant.ensures
+    rw (row_other (eqb start.args.h start.args.w) (seen start.args.h) (seen start.args.w) (rw c.before.before.before.before.before.look.ensures at c.before.before.before.before.in_default.in_default-own.keys4)) c.before.before.against_constant.ensures
 
 pub table_spec : {M : Type 1} → statement M
 table_spec =
     tie.close
     (tie.spec
     look-requires
-    enum-known-x
-    against-writer-requires
-    enum_told
-    against-reader-requires
-    enum-known-p
-    against-compound-requires
-    against-constant-requires
-    same_length
-    returns
-    same-length-2
-    returns-2
-    same-length-3
-    returns-3
-    same-length-4
-    returns-4)
+    enum_known-x
+    against_writer-requires
+    enum_told-1
+    against_reader-requires
+    enum_known-p
+    against_compound-requires
+    against_constant-requires
+    shape_of-s-in-Writer
+    returns-in-Writer
+    shape_of-s-in-Reader
+    returns-in-Reader
+    shape_of-s-in-Compound
+    returns-in-Compound
+    shape_of-s-in_default
+    returns-in_default)
