@@ -242,10 +242,13 @@ class Turn:
 
     def clause(self, path, at, fields, whole):
         """A clause by its name in place of its number."""
-        n = at + 1
-        if path[n : n + 1] and path[n].isdigit() and int(path[n]) < len(fields):
-            if path[n] != "1" or len(fields) == 2:
-                return path[:n] + [fields[int(path[n])]] + path[n + 1 :]
+        n, i = at + 1, 0
+        while i < len(fields) - 1 and path[n : n + 1] == ["1"]:
+            n, i = n + 1, i + 1
+        if i == len(fields) - 1:
+            return path[: at + 1] + [fields[i]] + path[n:]
+        if path[n : n + 1] == ["0"]:
+            return path[: at + 1] + [fields[i]] + path[n + 1 :]
         self.open.append(f"clauses {fields}: {whole}")
         return path
 

@@ -6,8 +6,8 @@ use borrow.Author.Rules.{rules}
 use Rattle.glp.proofs.answered.Statement.{statement}
 use Rattle.glp.proofs.answered.Tie as tie
 
-call-requires : tie.Need-call-requires
-call-requires c κs = search rules
+call-answer-requires : tie.Need-call-answer-requires
+call-answer-requires c κs = search rules
 
 show-requires : tie.Need-show-requires
 show-requires c κs = λ n e.
@@ -16,14 +16,19 @@ show-requires c κs = λ n e.
     let g = given a.text.now 10000 (room_of 1024 1024 128) a.s.now a.buffer.now in
     omega (arith, ran_fits g called.result called.new.1.1.1.1.1.1.0 called.new.1.1.1.1.1.0 called.ensures n e, called.auto.1.1.1.1.1.1.0)
 
-same_length : tie.Need-same-length
-same_length c = search rules
+shape_of-s : tie.Need-shape_of-s
+shape_of-s c = search rules
 
-same-length-2 : tie.Need-same-length-2
-same-length-2 c = search rules
+shape_of-buffer : tie.Need-shape_of-buffer
+shape_of-buffer c = search rules
 
 returns : tie.Need-returns
 returns c = search rules
 
 pub answered_spec : {M : Type 1} → statement M
-answered_spec = tie.close (tie.spec call-requires show-requires same_length same-length-2 returns)
+answered_spec = tie.close (tie.spec
+    call-answer-requires
+    show-requires
+    shape_of-s
+    shape_of-buffer
+    returns)

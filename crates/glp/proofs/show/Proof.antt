@@ -5,143 +5,143 @@ use borrow.Author.Rules.{rules}
 use Rattle.glp.proofs.show.Statement.{statement}
 use Rattle.glp.proofs.show.Tie as tie
 
-enum-known-answer : tie.Need-enum-known-answer
-enum-known-answer c = search rules
+enum_known-answer : tie.Need-enum_known-answer
+enum_known-answer c = search rules
 
-slice-aggregate-write-all : tie.Need-slice-aggregate-write-all
-slice-aggregate-write-all c = simp length-take (omega (arith, c.before.before.before.before.before.requires c.before.before.answer.given.0.0 c.before.before.answer.given.1))
+slice_bounds-write_all-end : tie.Need-slice_bounds-write_all-end
+slice_bounds-write_all-end c = simp length-take (omega (arith, c.before.before.before.before.before.requires c.answer.given.0.0 c.answer.given.1))
 
-write-all-requires : tie.Need-write-all-requires
-write-all-requires c κs = search rules
+write_all-requires : tie.Need-write_all-requires
+write_all-requires c κs = search rules
 
-enum_told : tie.Need-enum-told
-enum_told c = search rules
+enum_told-1 : tie.Need-enum_told-1
+enum_told-1 c = search rules
 
 refused-requires : tie.Need-refused-requires
 refused-requires c κs = search rules
 
-enum-told-2 : tie.Need-enum-told-2
-enum-told-2 c = search rules
+enum_told-in-ScratchShort : tie.Need-enum_told-in-ScratchShort
+enum_told-in-ScratchShort c = search rules
 
-refused-requires-2 : tie.Need-refused-requires-2
-refused-requires-2 c κs = search rules
+refused-requires-in-ScratchShort : tie.Need-refused-requires-in-ScratchShort
+refused-requires-in-ScratchShort c κs = search rules
 
-enum-told-3 : tie.Need-enum-told-3
-enum-told-3 c = search rules
+enum_told-in-TextLong : tie.Need-enum_told-in-TextLong
+enum_told-in-TextLong c = search rules
 
-refused-requires-3 : tie.Need-refused-requires-3
-refused-requires-3 c κs = search rules
+refused-requires-in-TextLong : tie.Need-refused-requires-in-TextLong
+refused-requires-in-TextLong c κs = search rules
 
-enum-known-answer-2 : tie.Need-enum-known-answer-2
-enum-known-answer-2 c = search rules
+enum_known-answer-in-Refused-1 : tie.Need-enum_known-answer-in-Refused-1
+enum_known-answer-in-Refused-1 c = search rules
 
-enum-known-why : tie.Need-enum-known-why
-enum-known-why c = search rules
+enum_known-why : tie.Need-enum_known-why
+enum_known-why c = search rules
 
-refused-requires-4 : tie.Need-refused-requires-4
-refused-requires-4 c κs = search rules
+refused-requires-in-NoItems : tie.Need-refused-requires-in-NoItems
+refused-requires-in-NoItems c κs = search rules
 
-enum-known-why-2 : tie.Need-enum-known-why-2
-enum-known-why-2 c = search rules
+enum_known-why-in-Refused : tie.Need-enum_known-why-in-Refused
+enum_known-why-in-Refused c = search rules
 
-refused-requires-5 : tie.Need-refused-requires-5
-refused-requires-5 c κs = search rules
+refused-requires-in-GuardRefused : tie.Need-refused-requires-in-GuardRefused
+refused-requires-in-GuardRefused c κs = search rules
 
-enum-known-why-3 : tie.Need-enum-known-why-3
-enum-known-why-3 c = search rules
+enum_known-why-in-Refused-2 : tie.Need-enum_known-why-in-Refused-2
+enum_known-why-in-Refused-2 c = search rules
 
-rule-number-requires : tie.Need-rule-number-requires
-rule-number-requires c κs = search rules
+rule_number-requires : tie.Need-rule_number-requires
+rule_number-requires c κs = search rules
 
-cast-refused : tie.Need-overflow-cast-refused
-cast-refused c = search rules
+overflow_cast-rule_number : tie.Need-overflow_cast-rule_number
+overflow_cast-rule_number c = search rules
 
-refused-requires-6 : tie.Need-refused-requires-6
-refused-requires-6 c κs = search rules
+refused-requires-in-OccurrenceBroken : tie.Need-refused-requires-in-OccurrenceBroken
+refused-requires-in-OccurrenceBroken c κs = search rules
 
-enum-known-why-4 : tie.Need-enum-known-why-4
-enum-known-why-4 c = search rules
+enum_known-why-in-Refused-3 : tie.Need-enum_known-why-in-Refused-3
+enum_known-why-in-Refused-3 c = search rules
 
-refused-requires-7 : tie.Need-refused-requires-7
-refused-requires-7 c κs = search rules
+refused-requires-in-FigurePassed : tie.Need-refused-requires-in-FigurePassed
+refused-requires-in-FigurePassed c κs = search rules
 
-enum-told-4 : tie.Need-enum-told-4
-enum-told-4 c = search rules
+enum_told-in-QueriesPassRoom : tie.Need-enum_told-in-QueriesPassRoom
+enum_told-in-QueriesPassRoom c = search rules
 
-refused-requires-8 : tie.Need-refused-requires-8
-refused-requires-8 c κs = search rules
+refused-requires-in-QueriesPassRoom : tie.Need-refused-requires-in-QueriesPassRoom
+refused-requires-in-QueriesPassRoom c κs = search rules
 
-enum-told-5 : tie.Need-enum-told-5
-enum-told-5 c = search rules
+enum_told-in-ReportLong : tie.Need-enum_told-in-ReportLong
+enum_told-in-ReportLong c = search rules
 
-refused-requires-9 : tie.Need-refused-requires-9
-refused-requires-9 c κs = search rules
+refused-requires-in-ReportLong : tie.Need-refused-requires-in-ReportLong
+refused-requires-in-ReportLong c κs = search rules
 
-returns : tie.Need-returns
-returns c = search rules
+returns-in-Ran : tie.Need-returns-in-Ran
+returns-in-Ran c = search rules
 
-returns-2 : tie.Need-returns-2
-returns-2 c = search rules
+returns-in-OutOfRange : tie.Need-returns-in-OutOfRange
+returns-in-OutOfRange c = search rules
 
-returns-3 : tie.Need-returns-3
-returns-3 c = search rules
+returns-in-ScratchShort : tie.Need-returns-in-ScratchShort
+returns-in-ScratchShort c = search rules
 
-returns-4 : tie.Need-returns-4
-returns-4 c = search rules
+returns-in-TextLong : tie.Need-returns-in-TextLong
+returns-in-TextLong c = search rules
 
-returns-5 : tie.Need-returns-5
-returns-5 c = search rules
+returns-in-NoItems : tie.Need-returns-in-NoItems
+returns-in-NoItems c = search rules
 
-returns-6 : tie.Need-returns-6
-returns-6 c = search rules
+returns-in-GuardRefused : tie.Need-returns-in-GuardRefused
+returns-in-GuardRefused c = search rules
 
-returns-7 : tie.Need-returns-7
-returns-7 c = search rules
+returns-in-OccurrenceBroken : tie.Need-returns-in-OccurrenceBroken
+returns-in-OccurrenceBroken c = search rules
 
-returns-8 : tie.Need-returns-8
-returns-8 c = search rules
+returns-in-FigurePassed : tie.Need-returns-in-FigurePassed
+returns-in-FigurePassed c = search rules
 
-returns-9 : tie.Need-returns-9
-returns-9 c = search rules
+returns-in-QueriesPassRoom : tie.Need-returns-in-QueriesPassRoom
+returns-in-QueriesPassRoom c = search rules
 
-returns-10 : tie.Need-returns-10
-returns-10 c = search rules
+returns-in-ReportLong : tie.Need-returns-in-ReportLong
+returns-in-ReportLong c = search rules
 
 pub show_spec : {M : Type 1} → statement M
 show_spec =
     tie.close
     (tie.spec
-    enum-known-answer
-    slice-aggregate-write-all
-    write-all-requires
-    enum_told
+    enum_known-answer
+    slice_bounds-write_all-end
+    write_all-requires
+    enum_told-1
     refused-requires
-    enum-told-2
-    refused-requires-2
-    enum-told-3
-    refused-requires-3
-    enum-known-answer-2
-    enum-known-why
-    refused-requires-4
-    enum-known-why-2
-    refused-requires-5
-    enum-known-why-3
-    rule-number-requires
-    cast-refused
-    refused-requires-6
-    enum-known-why-4
-    refused-requires-7
-    enum-told-4
-    refused-requires-8
-    enum-told-5
-    refused-requires-9
-    returns
-    returns-2
-    returns-3
-    returns-4
-    returns-5
-    returns-6
-    returns-7
-    returns-8
-    returns-9
-    returns-10)
+    enum_told-in-ScratchShort
+    refused-requires-in-ScratchShort
+    enum_told-in-TextLong
+    refused-requires-in-TextLong
+    enum_known-answer-in-Refused-1
+    enum_known-why
+    refused-requires-in-NoItems
+    enum_known-why-in-Refused
+    refused-requires-in-GuardRefused
+    enum_known-why-in-Refused-2
+    rule_number-requires
+    overflow_cast-rule_number
+    refused-requires-in-OccurrenceBroken
+    enum_known-why-in-Refused-3
+    refused-requires-in-FigurePassed
+    enum_told-in-QueriesPassRoom
+    refused-requires-in-QueriesPassRoom
+    enum_told-in-ReportLong
+    refused-requires-in-ReportLong
+    returns-in-Ran
+    returns-in-OutOfRange
+    returns-in-ScratchShort
+    returns-in-TextLong
+    returns-in-NoItems
+    returns-in-GuardRefused
+    returns-in-OccurrenceBroken
+    returns-in-FigurePassed
+    returns-in-QueriesPassRoom
+    returns-in-ReportLong)

@@ -6,8 +6,8 @@ use borrow.Author.Rules.{rules}
 use Rattle.test_jobs.proofs.asked.Statement.{statement}
 use Rattle.test_jobs.proofs.asked.Tie as tie
 
-call-requires : tie.Need-call-requires
-call-requires c κs = search rules
+call-answer-requires : tie.Need-call-answer-requires
+call-answer-requires c κs = search rules
 
 show-requires : tie.Need-show-requires
 show-requires c κs = λ n e.
@@ -16,14 +16,19 @@ show-requires c κs = λ n e.
     let g = given a.text.now a.budget (room_of a.pairs a.compounds a.goals) a.s.now a.buffer.now in
     omega (arith, ran_fits g called.result called.new.1.1.1.1.1.1.0 called.new.1.1.1.1.1.0 called.ensures n e, called.auto.1.1.1.1.1.1.0)
 
-same_length : tie.Need-same-length
-same_length c = search rules
+shape_of-s : tie.Need-shape_of-s
+shape_of-s c = search rules
 
-same-length-2 : tie.Need-same-length-2
-same-length-2 c = search rules
+shape_of-buffer : tie.Need-shape_of-buffer
+shape_of-buffer c = search rules
 
 returns : tie.Need-returns
 returns c = search rules
 
 pub asked_spec : {M : Type 1} → statement M
-asked_spec = tie.close (tie.spec call-requires show-requires same_length same-length-2 returns)
+asked_spec = tie.close (tie.spec
+    call-answer-requires
+    show-requires
+    shape_of-s
+    shape_of-buffer
+    returns)

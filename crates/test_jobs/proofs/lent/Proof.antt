@@ -5,29 +5,29 @@ use borrow.Author.Rules.{rules}
 use Rattle.test_jobs.proofs.lent.Statement.{statement}
 use Rattle.test_jobs.proofs.lent.Tie as tie
 
-slice-aggregate-asked : tie.Need-slice-aggregate-asked
-slice-aggregate-asked c = simp length-take (omega arith)
+slice_bounds-asked-end : tie.Need-slice_bounds-asked-end
+slice_bounds-asked-end c = simp length-take (omega arith)
 
-slice-relend-prefix-asked : tie.Need-slice-relend-prefix-asked
-slice-relend-prefix-asked c = search rules
+slice_bounds-asked-end-2 : tie.Need-slice_bounds-asked-end-2
+slice_bounds-asked-end-2 c = search rules
 
-slice-aggregate-asked-2 : tie.Need-slice-aggregate-asked-2
-slice-aggregate-asked-2 c = simp length-take (omega arith)
+slice_bounds-asked-end-3 : tie.Need-slice_bounds-asked-end-3
+slice_bounds-asked-end-3 c = simp length-take (omega arith)
 
-slice-relend-prefix-asked-2 : tie.Need-slice-relend-prefix-asked-2
-slice-relend-prefix-asked-2 c = search rules
+slice_bounds-asked-end-4 : tie.Need-slice_bounds-asked-end-4
+slice_bounds-asked-end-4 c = search rules
 
-slice-aggregate-asked-3 : tie.Need-slice-aggregate-asked-3
-slice-aggregate-asked-3 c = simp length-take (omega arith)
+slice_bounds-asked-end-5 : tie.Need-slice_bounds-asked-end-5
+slice_bounds-asked-end-5 c = simp length-take (omega arith)
 
 asked-requires : tie.Need-asked-requires
 asked-requires c κs = search rules
 
-same_length : tie.Need-same-length
-same_length c = search rules
+shape_of-s : tie.Need-shape_of-s
+shape_of-s c = search rules
 
-same-length-2 : tie.Need-same-length-2
-same-length-2 c = search rules
+shape_of-buffer : tie.Need-shape_of-buffer
+shape_of-buffer c = search rules
 
 returns : tie.Need-returns
 returns c = search rules
@@ -36,12 +36,12 @@ pub lent_spec : {M : Type 1} → statement M
 lent_spec =
     tie.close
     (tie.spec
-    slice-aggregate-asked
-    slice-relend-prefix-asked
-    slice-aggregate-asked-2
-    slice-relend-prefix-asked-2
-    slice-aggregate-asked-3
+    slice_bounds-asked-end
+    slice_bounds-asked-end-2
+    slice_bounds-asked-end-3
+    slice_bounds-asked-end-4
+    slice_bounds-asked-end-5
     asked-requires
-    same_length
-    same-length-2
+    shape_of-s
+    shape_of-buffer
     returns)

@@ -5,20 +5,20 @@ use borrow.Author.Rules.{rules}
 use Rattle.test_jobs.proofs.text_read.Statement.{statement}
 use Rattle.test_jobs.proofs.text_read.Tie as tie
 
-add-m : tie.Need-overflow-add-m
-add-m c = search rules
+overflow_add-m : tie.Need-overflow_add-m
+overflow_add-m c = search rules
 
-slice-relend-prefix-read-full : tie.Need-slice-relend-prefix-read-full
-slice-relend-prefix-read-full c = search rules
+slice_bounds-read_full-end : tie.Need-slice_bounds-read_full-end
+slice_bounds-read_full-end c = search rules
 
-slice-aggregate-read-full : tie.Need-slice-aggregate-read-full
-slice-aggregate-read-full c = simp length-take (omega arith)
+slice_bounds-read_full-end-2 : tie.Need-slice_bounds-read_full-end-2
+slice_bounds-read_full-end-2 c = simp length-take (omega arith)
 
-read-full-requires : tie.Need-read-full-requires
-read-full-requires c κs = search rules
+read_full-requires : tie.Need-read_full-requires
+read_full-requires c κs = search rules
 
-same_length : tie.Need-same-length
-same_length c = search rules
+shape_of-text : tie.Need-shape_of-text
+shape_of-text c = search rules
 
 returns : tie.Need-returns
 returns c = search rules
@@ -27,9 +27,9 @@ pub text_read_spec : {M : Type 1} → statement M
 text_read_spec =
     tie.close
     (tie.spec
-    add-m
-    slice-relend-prefix-read-full
-    slice-aggregate-read-full
-    read-full-requires
-    same_length
+    overflow_add-m
+    slice_bounds-read_full-end
+    slice_bounds-read_full-end-2
+    read_full-requires
+    shape_of-text
     returns)

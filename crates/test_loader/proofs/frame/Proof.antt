@@ -5,38 +5,38 @@ use borrow.Author.Rules.{rules}
 use Rattle.test_loader.proofs.frame.Statement.{statement}
 use Rattle.test_loader.proofs.frame.Tie as tie
 
-number-requires : tie.Need-number-requires
-number-requires c κs = search rules
+number-times-requires : tie.Need-number-times-requires
+number-times-requires c κs = search rules
 
-number-requires-2 : tie.Need-number-requires-2
-number-requires-2 c κs = search rules
+number-n-requires : tie.Need-number-n-requires
+number-n-requires c κs = search rules
 
-same_length : tie.Need-same-length
-same_length c = search rules
+shape_of-line-then-n-gt20000 : tie.Need-shape_of-line-then-n-gt20000
+shape_of-line-then-n-gt20000 c = search rules
 
-returns : tie.Need-returns
-returns c = search rules
+returns-then-n-gt20000 : tie.Need-returns-then-n-gt20000
+returns-then-n-gt20000 c = search rules
 
-add-m : tie.Need-overflow-add-m
-add-m c = search rules
+overflow_add-m : tie.Need-overflow_add-m
+overflow_add-m c = search rules
 
-slice-relend-prefix-read-full : tie.Need-slice-relend-prefix-read-full
-slice-relend-prefix-read-full c = search rules
+slice_bounds-read_full-end : tie.Need-slice_bounds-read_full-end
+slice_bounds-read_full-end c = search rules
 
-slice-aggregate-read-full : tie.Need-slice-aggregate-read-full
-slice-aggregate-read-full c = simp length-take (omega arith)
+slice_bounds-read_full-end-2 : tie.Need-slice_bounds-read_full-end-2
+slice_bounds-read_full-end-2 c = simp length-take (omega arith)
 
-read-full-requires : tie.Need-read-full-requires
-read-full-requires c κs = search rules
+read_full-requires : tie.Need-read_full-requires
+read_full-requires c κs = search rules
 
-same-length-2 : tie.Need-same-length-2
-same-length-2 c = search rules
+shape_of-line-then-read_full-m : tie.Need-shape_of-line-then-read_full-m
+shape_of-line-then-read_full-m c = search rules
 
-same-length-3 : tie.Need-same-length-3
-same-length-3 c = search rules
+shape_of-text-then-read_full-m : tie.Need-shape_of-text-then-read_full-m
+shape_of-text-then-read_full-m c = search rules
 
-returns-2 : tie.Need-returns-2
-returns-2 c = search rules
+returns-then-read_full-m : tie.Need-returns-then-read_full-m
+returns-then-read_full-m c = search rules
 
 many-requires : tie.Need-many-requires
 many-requires c κs = search rules
@@ -44,36 +44,36 @@ many-requires c κs = search rules
 show-requires : tie.Need-show-requires
 show-requires c κs = search rules
 
-same-length-4 : tie.Need-same-length-4
-same-length-4 c = search rules
+shape_of-line : tie.Need-shape_of-line
+shape_of-line c = search rules
 
-same-length-5 : tie.Need-same-length-5
-same-length-5 c = search rules
+shape_of-text : tie.Need-shape_of-text
+shape_of-text c = search rules
 
-same-length-6 : tie.Need-same-length-6
-same-length-6 c = search rules
+shape_of-s : tie.Need-shape_of-s
+shape_of-s c = search rules
 
-returns-3 : tie.Need-returns-3
-returns-3 c = search rules
+returns : tie.Need-returns
+returns c = search rules
 
 pub frame_spec : {M : Type 1} → statement M
 frame_spec =
     tie.close
     (tie.spec
-    number-requires
-    number-requires-2
-    same_length
-    returns
-    add-m
-    slice-relend-prefix-read-full
-    slice-aggregate-read-full
-    read-full-requires
-    same-length-2
-    same-length-3
-    returns-2
+    number-times-requires
+    number-n-requires
+    shape_of-line-then-n-gt20000
+    returns-then-n-gt20000
+    overflow_add-m
+    slice_bounds-read_full-end
+    slice_bounds-read_full-end-2
+    read_full-requires
+    shape_of-line-then-read_full-m
+    shape_of-text-then-read_full-m
+    returns-then-read_full-m
     many-requires
     show-requires
-    same-length-4
-    same-length-5
-    same-length-6
-    returns-3)
+    shape_of-line
+    shape_of-text
+    shape_of-s
+    returns)

@@ -6,67 +6,67 @@ use borrow.Author.Rules.{rules}
 use Rattle.test_loader.proofs.frames.Statement.{statement}
 use Rattle.test_loader.proofs.frames.Tie as tie
 
-abbrev invariant-loop : tie.invariant-loop
-invariant-loop line₀ text₀ s₀ k₀ line text s k = (length line ≡ length line₀) × (length text ≡ length text₀) × (length s ≡ length s₀)
+abbrev invariant-loop-k : tie.invariant-loop-k
+invariant-loop-k line₀ text₀ s₀ k₀ line text s k = (length line ≡ length line₀) × (length text ≡ length text₀) × (length s ≡ length s₀)
 
-abbrev decreases-loop : tie.decreases-loop
-decreases-loop line₀ text₀ s₀ k₀ line text s k = 100000 - k
+abbrev decreases-loop-k : tie.decreases-loop-k
+decreases-loop-k line₀ text₀ s₀ k₀ line text s k = 100000 - k
 
-loop-holds : tie.Need-loop-init invariant-loop decreases-loop
-loop-holds c = search rules
+loop-k-init : tie.Need-loop-k-init invariant-loop-k decreases-loop-k
+loop-k-init c = search rules
 
-frame-requires : tie.Need-frame-requires invariant-loop decreases-loop
+frame-requires : tie.Need-frame-requires invariant-loop-k decreases-loop-k
 frame-requires c κs = search rules
 
-same_length : tie.Need-same-length invariant-loop decreases-loop
-same_length c = search rules
+shape_of-line-then-not-frame : tie.Need-shape_of-line-then-not-frame invariant-loop-k decreases-loop-k
+shape_of-line-then-not-frame c = search rules
 
-same-length-2 : tie.Need-same-length-2 invariant-loop decreases-loop
-same-length-2 c = search rules
+shape_of-text-then-not-frame : tie.Need-shape_of-text-then-not-frame invariant-loop-k decreases-loop-k
+shape_of-text-then-not-frame c = search rules
 
-same-length-3 : tie.Need-same-length-3 invariant-loop decreases-loop
-same-length-3 c = search rules
+shape_of-s-then-not-frame : tie.Need-shape_of-s-then-not-frame invariant-loop-k decreases-loop-k
+shape_of-s-then-not-frame c = search rules
 
-returns : tie.Need-returns invariant-loop decreases-loop
+returns-then-not-frame : tie.Need-returns-then-not-frame invariant-loop-k decreases-loop-k
+returns-then-not-frame c = search rules
+
+overflow_add-k : tie.Need-overflow_add-k invariant-loop-k decreases-loop-k
+overflow_add-k c = search rules
+
+loop-k-smaller : tie.Need-loop-k-smaller invariant-loop-k decreases-loop-k
+loop-k-smaller c = search rules
+
+loop-k-preserved : tie.Need-loop-k-preserved invariant-loop-k decreases-loop-k
+loop-k-preserved c = search rules
+
+shape_of-line : tie.Need-shape_of-line invariant-loop-k decreases-loop-k
+shape_of-line c = search rules
+
+shape_of-text : tie.Need-shape_of-text invariant-loop-k decreases-loop-k
+shape_of-text c = search rules
+
+shape_of-s : tie.Need-shape_of-s invariant-loop-k decreases-loop-k
+shape_of-s c = search rules
+
+returns : tie.Need-returns invariant-loop-k decreases-loop-k
 returns c = search rules
-
-add-k : tie.Need-overflow-add-k invariant-loop decreases-loop
-add-k c = search rules
-
-loop-less : tie.Need-loop-smaller invariant-loop decreases-loop
-loop-less c = search rules
-
-loop-again : tie.Need-loop-preserved invariant-loop decreases-loop
-loop-again c = search rules
-
-same-length-4 : tie.Need-same-length-4 invariant-loop decreases-loop
-same-length-4 c = search rules
-
-same-length-5 : tie.Need-same-length-5 invariant-loop decreases-loop
-same-length-5 c = search rules
-
-same-length-6 : tie.Need-same-length-6 invariant-loop decreases-loop
-same-length-6 c = search rules
-
-returns-2 : tie.Need-returns-2 invariant-loop decreases-loop
-returns-2 c = search rules
 
 pub frames_spec : {M : Type 1} → statement M
 frames_spec =
     tie.close
     (tie.spec
-    invariant-loop
-    decreases-loop
-    loop-holds
+    invariant-loop-k
+    decreases-loop-k
+    loop-k-init
     frame-requires
-    same_length
-    same-length-2
-    same-length-3
-    returns
-    add-k
-    loop-less
-    loop-again
-    same-length-4
-    same-length-5
-    same-length-6
-    returns-2)
+    shape_of-line-then-not-frame
+    shape_of-text-then-not-frame
+    shape_of-s-then-not-frame
+    returns-then-not-frame
+    overflow_add-k
+    loop-k-smaller
+    loop-k-preserved
+    shape_of-line
+    shape_of-text
+    shape_of-s
+    returns)

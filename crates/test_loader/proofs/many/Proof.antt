@@ -6,43 +6,43 @@ use borrow.Author.Rules.{rules}
 use Rattle.test_loader.proofs.many.Statement.{statement}
 use Rattle.test_loader.proofs.many.Tie as tie
 
-abbrev invariant-loop : tie.invariant-loop
-invariant-loop text n s₀ times answer₀ k₀ s answer k = length s ≡ length s₀
+abbrev invariant-loop-k : tie.invariant-loop-k
+invariant-loop-k text n s₀ times answer₀ k₀ s answer k = length s ≡ length s₀
 
-abbrev decreases-loop : tie.decreases-loop
-decreases-loop text n s₀ times answer₀ k₀ s answer k = times - k
+abbrev decreases-loop-k : tie.decreases-loop-k
+decreases-loop-k text n s₀ times answer₀ k₀ s answer k = times - k
 
-loop-holds : tie.Need-loop-init invariant-loop decreases-loop
-loop-holds c = search rules
+loop-k-init : tie.Need-loop-k-init invariant-loop-k decreases-loop-k
+loop-k-init c = search rules
 
-once-requires : tie.Need-once-requires invariant-loop decreases-loop
-once-requires c κs = search rules
+once-answer-requires : tie.Need-once-answer-requires invariant-loop-k decreases-loop-k
+once-answer-requires c κs = search rules
 
-add-k : tie.Need-overflow-add-k invariant-loop decreases-loop
-add-k c = search rules
+overflow_add-k : tie.Need-overflow_add-k invariant-loop-k decreases-loop-k
+overflow_add-k c = search rules
 
-loop-less : tie.Need-loop-smaller invariant-loop decreases-loop
-loop-less c = search rules
+loop-k-smaller : tie.Need-loop-k-smaller invariant-loop-k decreases-loop-k
+loop-k-smaller c = search rules
 
-loop-again : tie.Need-loop-preserved invariant-loop decreases-loop
-loop-again c = search rules
+loop-k-preserved : tie.Need-loop-k-preserved invariant-loop-k decreases-loop-k
+loop-k-preserved c = search rules
 
-same_length : tie.Need-same-length invariant-loop decreases-loop
-same_length c = search rules
+shape_of-s : tie.Need-shape_of-s invariant-loop-k decreases-loop-k
+shape_of-s c = search rules
 
-returns : tie.Need-returns invariant-loop decreases-loop
+returns : tie.Need-returns invariant-loop-k decreases-loop-k
 returns c = search rules
 
 pub many_spec : {M : Type 1} → statement M
 many_spec =
     tie.close
     (tie.spec
-    invariant-loop
-    decreases-loop
-    loop-holds
-    once-requires
-    add-k
-    loop-less
-    loop-again
-    same_length
+    invariant-loop-k
+    decreases-loop-k
+    loop-k-init
+    once-answer-requires
+    overflow_add-k
+    loop-k-smaller
+    loop-k-preserved
+    shape_of-s
     returns)

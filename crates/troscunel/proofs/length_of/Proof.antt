@@ -8,46 +8,46 @@ use borrow.Author.Rules.{rules}
 use Rattle.troscunel.proofs.length_of.Statement.{statement}
 use Rattle.troscunel.proofs.length_of.Tie as tie
 
-enum-known-a : tie.Need-enum-known-a
-enum-known-a c = search rules
+enum_known-a : tie.Need-enum_known-a
+enum_known-a c = search rules
 
-enum-known-a-2 : tie.Need-enum-known-a-2
-enum-known-a-2 c = search rules
+enum_known-a-in-ReportLong-1 : tie.Need-enum_known-a-in-ReportLong-1
+enum_known-a-in-ReportLong-1 c = search rules
 
-enum_told : tie.Need-enum-told
-enum_told c = search rules
+enum_told-1 : tie.Need-enum_told-1
+enum_told-1 c = search rules
 
-enum-told-2 : tie.Need-enum-told-2
-enum-told-2 c = search rules
+enum_told-in-ScratchShort : tie.Need-enum_told-in-ScratchShort
+enum_told-in-ScratchShort c = search rules
 
-enum-told-3 : tie.Need-enum-told-3
-enum-told-3 c = search rules
+enum_told-in-TextLong : tie.Need-enum_told-in-TextLong
+enum_told-in-TextLong c = search rules
 
-enum-told-4 : tie.Need-enum-told-4
-enum-told-4 c = search rules
+enum_told-in-Refused : tie.Need-enum_told-in-Refused
+enum_told-in-Refused c = search rules
 
-enum-told-5 : tie.Need-enum-told-5
-enum-told-5 c = search rules
+enum_told-in-QueriesPassRoom : tie.Need-enum_told-in-QueriesPassRoom
+enum_told-in-QueriesPassRoom c = search rules
 
-returns : tie.Need-returns
+returns-in-Ran : tie.Need-returns-in-Ran
 unfolding length_of
-returns c = search rules
+returns-in-Ran c = search rules
 
-returns-2 : tie.Need-returns-2
+returns-in-ReportLong : tie.Need-returns-in-ReportLong
 unfolding length_of
-returns-2 c = search rules
+returns-in-ReportLong c = search rules
 
-returns-3 : tie.Need-returns-3
+returns-in-OutOfRange : tie.Need-returns-in-OutOfRange
 unfolding length_of
-returns-3 c = search rules
+returns-in-OutOfRange c = search rules
 
-returns-4 : tie.Need-returns-4
+returns-in-ScratchShort : tie.Need-returns-in-ScratchShort
 unfolding length_of
-returns-4 c = search rules
+returns-in-ScratchShort c = search rules
 
-returns-5 : tie.Need-returns-5
+returns-in-TextLong : tie.Need-returns-in-TextLong
 unfolding length_of
-returns-5 c = search rules
+returns-in-TextLong c = search rules
 
 -- No refusal of the text has a length.
 refused_length : (why : Refusal) → 0 ≡ length_of (refusal_answer why)
@@ -57,28 +57,28 @@ refused_length (GuardRefused at) = refl
 refused_length (OccurrenceBroken rule at offset) = refl
 refused_length (FigurePassed at) = refl
 
-returns-6 : tie.Need-returns-6
-returns-6 c = rw c.enum-told4.given.1 (refused_length c.enum-told4.given.0.0)
+returns-in-Refused : tie.Need-returns-in-Refused
+returns-in-Refused c = rw c.in-Refused.is (refused_length c.in-Refused.field-0)
 
-returns-7 : tie.Need-returns-7
+returns-in-QueriesPassRoom : tie.Need-returns-in-QueriesPassRoom
 unfolding length_of
-returns-7 c = search rules
+returns-in-QueriesPassRoom c = search rules
 
 pub length_of_spec : {M : Type 1} → statement M
 length_of_spec =
     tie.close
     (tie.spec
-    enum-known-a
-    enum-known-a-2
-    enum_told
-    enum-told-2
-    enum-told-3
-    enum-told-4
-    enum-told-5
-    returns
-    returns-2
-    returns-3
-    returns-4
-    returns-5
-    returns-6
-    returns-7)
+    enum_known-a
+    enum_known-a-in-ReportLong-1
+    enum_told-1
+    enum_told-in-ScratchShort
+    enum_told-in-TextLong
+    enum_told-in-Refused
+    enum_told-in-QueriesPassRoom
+    returns-in-Ran
+    returns-in-ReportLong
+    returns-in-OutOfRange
+    returns-in-ScratchShort
+    returns-in-TextLong
+    returns-in-Refused
+    returns-in-QueriesPassRoom)

@@ -5,101 +5,101 @@ use borrow.Author.Rules.{rules}
 use Rattle.troscunel.proofs.line_of.Statement.{statement}
 use Rattle.troscunel.proofs.line_of.Tie as tie
 
-enum-known-a : tie.Need-enum-known-a
-enum-known-a c = search rules
+enum_known-a : tie.Need-enum_known-a
+enum_known-a c = search rules
 
-enum-known-why : tie.Need-enum-known-why
-enum-known-why c = search rules
+enum_known-why : tie.Need-enum_known-why
+enum_known-why c = search rules
 
-enum-known-why-2 : tie.Need-enum-known-why-2
-enum-known-why-2 c = search rules
+enum_known-why-in-Refused : tie.Need-enum_known-why-in-Refused
+enum_known-why-in-Refused c = search rules
 
-enum-known-why-3 : tie.Need-enum-known-why-3
-enum-known-why-3 c = search rules
+enum_known-why-in-Refused-2 : tie.Need-enum_known-why-in-Refused-2
+enum_known-why-in-Refused-2 c = search rules
 
-enum-known-why-4 : tie.Need-enum-known-why-4
-enum-known-why-4 c = search rules
+enum_known-why-in-Refused-3 : tie.Need-enum_known-why-in-Refused-3
+enum_known-why-in-Refused-3 c = search rules
 
-enum_told : tie.Need-enum-told
-enum_told c = search rules
+enum_told-1 : tie.Need-enum_told-1
+enum_told-1 c = search rules
 
-enum-told-2 : tie.Need-enum-told-2
-enum-told-2 c = search rules
+enum_told-in-OutOfRange : tie.Need-enum_told-in-OutOfRange
+enum_told-in-OutOfRange c = search rules
 
-enum-told-3 : tie.Need-enum-told-3
-enum-told-3 c = search rules
+enum_told-in-ScratchShort : tie.Need-enum_told-in-ScratchShort
+enum_told-in-ScratchShort c = search rules
 
-enum-told-4 : tie.Need-enum-told-4
-enum-told-4 c = search rules
+enum_told-in-TextLong : tie.Need-enum_told-in-TextLong
+enum_told-in-TextLong c = search rules
 
-enum-told-5 : tie.Need-enum-told-5
-enum-told-5 c = search rules
+enum_told-in-QueriesPassRoom : tie.Need-enum_told-in-QueriesPassRoom
+enum_told-in-QueriesPassRoom c = search rules
 
-enum-told-6 : tie.Need-enum-told-6
-enum-told-6 c = search rules
+enum_told-in-ReportLong : tie.Need-enum_told-in-ReportLong
+enum_told-in-ReportLong c = search rules
 
-returns : tie.Need-returns
+returns-in-NoItems : tie.Need-returns-in-NoItems
 unfolding line_of
-returns c = search rules
+returns-in-NoItems c = search rules
 
-returns-2 : tie.Need-returns-2
+returns-in-GuardRefused : tie.Need-returns-in-GuardRefused
 unfolding line_of
-returns-2 c = search rules
+returns-in-GuardRefused c = search rules
 
-returns-3 : tie.Need-returns-3
+returns-in-OccurrenceBroken : tie.Need-returns-in-OccurrenceBroken
 unfolding line_of
-returns-3 c = rw (c.before.before.before.before.a.given.1, c.before.why3.given.1) refl
+returns-in-OccurrenceBroken c = rw (c.before.in-Refused.is, c.in-OccurrenceBroken.is) refl
 
-returns-4 : tie.Need-returns-4
+returns-in-FigurePassed : tie.Need-returns-in-FigurePassed
 unfolding line_of
-returns-4 c = search rules
+returns-in-FigurePassed c = search rules
 
-returns-5 : tie.Need-returns-5
+returns-in-Ran : tie.Need-returns-in-Ran
 unfolding line_of
-returns-5 c = search rules
+returns-in-Ran c = search rules
 
-returns-6 : tie.Need-returns-6
+returns-in-OutOfRange : tie.Need-returns-in-OutOfRange
 unfolding line_of
-returns-6 c = search rules
+returns-in-OutOfRange c = search rules
 
-returns-7 : tie.Need-returns-7
+returns-in-ScratchShort : tie.Need-returns-in-ScratchShort
 unfolding line_of
-returns-7 c = search rules
+returns-in-ScratchShort c = search rules
 
-returns-8 : tie.Need-returns-8
+returns-in-TextLong : tie.Need-returns-in-TextLong
 unfolding line_of
-returns-8 c = search rules
+returns-in-TextLong c = search rules
 
-returns-9 : tie.Need-returns-9
+returns-in-QueriesPassRoom : tie.Need-returns-in-QueriesPassRoom
 unfolding line_of
-returns-9 c = search rules
+returns-in-QueriesPassRoom c = search rules
 
-returns-10 : tie.Need-returns-10
+returns-in-ReportLong : tie.Need-returns-in-ReportLong
 unfolding line_of
-returns-10 c = search rules
+returns-in-ReportLong c = search rules
 
 pub line_of_spec : {M : Type 1} → statement M
 line_of_spec =
     tie.close
     (tie.spec
-    enum-known-a
-    enum-known-why
-    enum-known-why-2
-    enum-known-why-3
-    enum-known-why-4
-    enum_told
-    enum-told-2
-    enum-told-3
-    enum-told-4
-    enum-told-5
-    enum-told-6
-    returns
-    returns-2
-    returns-3
-    returns-4
-    returns-5
-    returns-6
-    returns-7
-    returns-8
-    returns-9
-    returns-10)
+    enum_known-a
+    enum_known-why
+    enum_known-why-in-Refused
+    enum_known-why-in-Refused-2
+    enum_known-why-in-Refused-3
+    enum_told-1
+    enum_told-in-OutOfRange
+    enum_told-in-ScratchShort
+    enum_told-in-TextLong
+    enum_told-in-QueriesPassRoom
+    enum_told-in-ReportLong
+    returns-in-NoItems
+    returns-in-GuardRefused
+    returns-in-OccurrenceBroken
+    returns-in-FigurePassed
+    returns-in-Ran
+    returns-in-OutOfRange
+    returns-in-ScratchShort
+    returns-in-TextLong
+    returns-in-QueriesPassRoom
+    returns-in-ReportLong)

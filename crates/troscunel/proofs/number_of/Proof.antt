@@ -4,105 +4,105 @@ use borrow.Author.Rules.{rules}
 use Rattle.troscunel.proofs.number_of.Statement.{statement}
 use Rattle.troscunel.proofs.number_of.Tie as tie
 
-enum_told : tie.Need-enum-told
-enum_told c = search rules
+enum_told-1 : tie.Need-enum_told-1
+enum_told-1 c = search rules
 
-enum-told-2 : tie.Need-enum-told-2
-enum-told-2 c = search rules
+enum_told-in-OutOfRange : tie.Need-enum_told-in-OutOfRange
+enum_told-in-OutOfRange c = search rules
 
-enum-told-3 : tie.Need-enum-told-3
-enum-told-3 c = search rules
+enum_told-in-ScratchShort : tie.Need-enum_told-in-ScratchShort
+enum_told-in-ScratchShort c = search rules
 
-enum-told-4 : tie.Need-enum-told-4
-enum-told-4 c = search rules
+enum_told-in-TextLong : tie.Need-enum_told-in-TextLong
+enum_told-in-TextLong c = search rules
 
-enum-known-a : tie.Need-enum-known-a
-enum-known-a c = search rules
+enum_known-a : tie.Need-enum_known-a
+enum_known-a c = search rules
 
-enum-told-5 : tie.Need-enum-told-5
-enum-told-5 c = search rules
+enum_told-in-NoItems : tie.Need-enum_told-in-NoItems
+enum_told-in-NoItems c = search rules
 
-enum-told-6 : tie.Need-enum-told-6
-enum-told-6 c = search rules
+enum_told-in-GuardRefused : tie.Need-enum_told-in-GuardRefused
+enum_told-in-GuardRefused c = search rules
 
-enum-known-why : tie.Need-enum-known-why
-enum-known-why c = search rules
+enum_known-why : tie.Need-enum_known-why
+enum_known-why c = search rules
 
-rule-number-requires : tie.Need-rule-number-requires
-rule-number-requires c κs = search rules
+rule_number-requires : tie.Need-rule_number-requires
+rule_number-requires c κs = search rules
 
-enum-told-7 : tie.Need-enum-told-7
-enum-told-7 c = search rules
+enum_told-in-FigurePassed : tie.Need-enum_told-in-FigurePassed
+enum_told-in-FigurePassed c = search rules
 
-enum-told-8 : tie.Need-enum-told-8
-enum-told-8 c = search rules
+enum_told-in-QueriesPassRoom : tie.Need-enum_told-in-QueriesPassRoom
+enum_told-in-QueriesPassRoom c = search rules
 
-enum-told-9 : tie.Need-enum-told-9
-enum-told-9 c = search rules
+enum_told-in-ReportLong : tie.Need-enum_told-in-ReportLong
+enum_told-in-ReportLong c = search rules
 
-returns : tie.Need-returns
+returns-in-Ran : tie.Need-returns-in-Ran
 unfolding number
-returns c = search rules
+returns-in-Ran c = search rules
 
-returns-2 : tie.Need-returns-2
+returns-in-OutOfRange : tie.Need-returns-in-OutOfRange
 unfolding number
-returns-2 c = search rules
+returns-in-OutOfRange c = search rules
 
-returns-3 : tie.Need-returns-3
+returns-in-ScratchShort : tie.Need-returns-in-ScratchShort
 unfolding number
-returns-3 c = search rules
+returns-in-ScratchShort c = search rules
 
-returns-4 : tie.Need-returns-4
+returns-in-TextLong : tie.Need-returns-in-TextLong
 unfolding number
-returns-4 c = search rules
+returns-in-TextLong c = search rules
 
-returns-5 : tie.Need-returns-5
+returns-in-NoItems : tie.Need-returns-in-NoItems
 unfolding number
-returns-5 c = search rules
+returns-in-NoItems c = search rules
 
-returns-6 : tie.Need-returns-6
+returns-in-GuardRefused : tie.Need-returns-in-GuardRefused
 unfolding number
-returns-6 c = search rules
+returns-in-GuardRefused c = search rules
 
-returns-7 : tie.Need-returns-7
+returns-in-OccurrenceBroken : tie.Need-returns-in-OccurrenceBroken
 unfolding number
-returns-7 c = rw (c.before.before.before.before.before.a.given.1, c.before.before.why.given.1) c.rule_number.ensures
+returns-in-OccurrenceBroken c = rw (c.before.before.in-Refused.is, c.before.in-OccurrenceBroken.is) c.rule_number.ensures
 
-returns-8 : tie.Need-returns-8
+returns-in-FigurePassed : tie.Need-returns-in-FigurePassed
 unfolding number
-returns-8 c = search rules
+returns-in-FigurePassed c = search rules
 
-returns-9 : tie.Need-returns-9
+returns-in-QueriesPassRoom : tie.Need-returns-in-QueriesPassRoom
 unfolding number
-returns-9 c = search rules
+returns-in-QueriesPassRoom c = search rules
 
-returns-10 : tie.Need-returns-10
+returns-in-ReportLong : tie.Need-returns-in-ReportLong
 unfolding number
-returns-10 c = search rules
+returns-in-ReportLong c = search rules
 
 pub number_of_spec : {M : Type 1} → statement M
 number_of_spec =
     tie.close
     (tie.spec
-    enum_told
-    enum-told-2
-    enum-told-3
-    enum-told-4
-    enum-known-a
-    enum-told-5
-    enum-told-6
-    enum-known-why
-    rule-number-requires
-    enum-told-7
-    enum-told-8
-    enum-told-9
-    returns
-    returns-2
-    returns-3
-    returns-4
-    returns-5
-    returns-6
-    returns-7
-    returns-8
-    returns-9
-    returns-10)
+    enum_told-1
+    enum_told-in-OutOfRange
+    enum_told-in-ScratchShort
+    enum_told-in-TextLong
+    enum_known-a
+    enum_told-in-NoItems
+    enum_told-in-GuardRefused
+    enum_known-why
+    rule_number-requires
+    enum_told-in-FigurePassed
+    enum_told-in-QueriesPassRoom
+    enum_told-in-ReportLong
+    returns-in-Ran
+    returns-in-OutOfRange
+    returns-in-ScratchShort
+    returns-in-TextLong
+    returns-in-NoItems
+    returns-in-GuardRefused
+    returns-in-OccurrenceBroken
+    returns-in-FigurePassed
+    returns-in-QueriesPassRoom
+    returns-in-ReportLong)

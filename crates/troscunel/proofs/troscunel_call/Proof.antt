@@ -5,30 +5,30 @@ use borrow.Author.Rules.{rules}
 use Rattle.troscunel.proofs.troscunel_call.Statement.{statement}
 use Rattle.troscunel.proofs.troscunel_call.Tie as tie
 
-call-requires : tie.Need-call-requires
-call-requires c κs = search rules
+call-answer-requires : tie.Need-call-answer-requires
+call-answer-requires c κs = search rules
 
-line-of-requires : tie.Need-line-of-requires
-line-of-requires c κs = search rules
+line_of-requires : tie.Need-line_of-requires
+line_of-requires c κs = search rules
 
-length-of-requires : tie.Need-length-of-requires
-length-of-requires c κs = search rules
+length_of-requires : tie.Need-length_of-requires
+length_of-requires c κs = search rules
 
-offset-of-requires : tie.Need-offset-of-requires
-offset-of-requires c κs = search rules
+offset_of-requires : tie.Need-offset_of-requires
+offset_of-requires c κs = search rules
 
-number-of-requires : tie.Need-number-of-requires
-number-of-requires c κs = search rules
+number_of-requires : tie.Need-number_of-requires
+number_of-requires c κs = search rules
 
-same_length : tie.Need-same-length
-same_length c = search rules
+shape_of-scratch : tie.Need-shape_of-scratch
+shape_of-scratch c = search rules
 
-same-length-2 : tie.Need-same-length-2
-same-length-2 c = search rules
+shape_of-buffer : tie.Need-shape_of-buffer
+shape_of-buffer c = search rules
 
 returns : tie.Need-returns
 returns c =
-    let e = c.before.before.before.before.before.before.before.before.call.ensures in
+    let e = c.before.before.before.before.before.before.before.before.call-answer.ensures in
     record {
       number_is = c.number_of.ensures ∙ ap (λ (o : Outcome). number o.answer) e;
       line_is = c.before.before.before.line_of.ensures ∙ ap (λ (o : Outcome). line_of o.answer) e;
@@ -42,11 +42,11 @@ pub troscunel_call_spec : {M : Type 1} → statement M
 troscunel_call_spec =
     tie.close
     (tie.spec
-    call-requires
-    line-of-requires
-    length-of-requires
-    offset-of-requires
-    number-of-requires
-    same_length
-    same-length-2
+    call-answer-requires
+    line_of-requires
+    length_of-requires
+    offset_of-requires
+    number_of-requires
+    shape_of-scratch
+    shape_of-buffer
     returns)

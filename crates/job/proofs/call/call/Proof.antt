@@ -13,71 +13,71 @@ use Rattle.job.proofs.call.call.Tie as tie
 within-requires : tie.Need-within-requires
 within-requires c κs = search rules
 
-returns : tie.Need-returns
-returns c =
+returns-then-not-within : tie.Need-returns-then-not-within
+returns-then-not-within c =
     let a = c.before.before.before.before.before.args in
     let room = room_of a.pairs a.compounds a.goals in
     let w = c.before.within in
-    call_1 a.text.now a.budget room a.s.now a.buffer.now (sym w.ensures ∙ not-true w.result c.if1.true)
+    call_1 a.text.now a.budget room a.s.now a.buffer.now (sym w.ensures ∙ not-true w.result c.if-not-within.true)
 
-need-requires : tie.Need-need-requires
-need-requires c κs =
+need-words-requires : tie.Need-need-words-requires
+need-words-requires c κs =
     let a = c.before.before.before.before.before.args in
     let room = room_of a.pairs a.compounds a.goals in
     let w = c.before.within in
-    let h : in_range a.budget room ≡ true = sym w.ensures ∙ not-false w.result c.if1.false in
+    let h : in_range a.budget room ≡ true = sym w.ensures ∙ not-false w.result c.if-not-within.false in
     let bounds = in_range_within a.budget a.pairs a.compounds a.goals h in
     record { pairs = bounds.pairs; compounds = bounds.compounds; goals = bounds.goals }
 
-returns-2 : tie.Need-returns-2
-returns-2 c =
+returns-then-s-words : tie.Need-returns-then-s-words
+returns-then-s-words c =
     let a = c.before.before.before.before.before.before.before.args in
     let room = room_of a.pairs a.compounds a.goals in
     let w = c.before.before.before.within in
-    let h : in_range a.budget room ≡ true = sym w.ensures ∙ not-false w.result c.before.before.if1.false in
-    call_2 a.text.now a.budget room a.s.now a.buffer.now h (omega (arith, c.before.need.ensures))
+    let h : in_range a.budget room ≡ true = sym w.ensures ∙ not-false w.result c.before.before.if-not-within.false in
+    call_2 a.text.now a.budget room a.s.now a.buffer.now h (omega (arith, c.before.need-words.ensures))
 
-returns-3 : tie.Need-returns-3
-returns-3 c =
+returns-then-text-gt16384 : tie.Need-returns-then-text-gt16384
+returns-then-text-gt16384 c =
     let a = c.before.before.before.before.before.before.before.before.args in
     let room = room_of a.pairs a.compounds a.goals in
     let w = c.before.before.before.before.within in
-    let h : in_range a.budget room ≡ true = sym w.ensures ∙ not-false w.result c.before.before.before.if1.false in
-    call_3 a.text.now a.budget room a.s.now a.buffer.now h (omega (arith, c.before.before.need.ensures)) (omega arith)
+    let h : in_range a.budget room ≡ true = sym w.ensures ∙ not-false w.result c.before.before.before.if-not-within.false in
+    call_3 a.text.now a.budget room a.s.now a.buffer.now h (omega (arith, c.before.before.need-words.ensures)) (omega arith)
 
 taken-requires : tie.Need-taken-requires
 taken-requires c κs =
     let a = c.before.before.before.before.before.before.before.before.before.before.args in
     let room = room_of a.pairs a.compounds a.goals in
     let w = c.before.before.before.before.before.before.within in
-    let h : in_range a.budget room ≡ true = sym w.ensures ∙ not-false w.result c.before.before.before.before.before.if1.false in
+    let h : in_range a.budget room ≡ true = sym w.ensures ∙ not-false w.result c.before.before.before.before.before.if-not-within.false in
     let bounds = in_range_within a.budget a.pairs a.compounds a.goals h in
-    (record { pairs = bounds.pairs; compounds = bounds.compounds; goals = bounds.goals }, omega (arith, c.before.before.before.before.need.ensures), bounds.budget, omega arith)
+    (record { pairs = bounds.pairs; compounds = bounds.compounds; goals = bounds.goals }, omega (arith, c.before.before.before.before.need-words.ensures), bounds.budget, omega arith)
 
-same_length : tie.Need-same-length
-same_length c = search rules
+shape_of-s : tie.Need-shape_of-s
+shape_of-s c = search rules
 
-same-length-2 : tie.Need-same-length-2
-same-length-2 c = search rules
+shape_of-buffer : tie.Need-shape_of-buffer
+shape_of-buffer c = search rules
 
-returns-4 : tie.Need-returns-4
-returns-4 c =
+returns : tie.Need-returns
+returns c =
     let a = c.before.before.before.before.before.before.before.before.before.before.before.before.before.before.before.args in
     let room = room_of a.pairs a.compounds a.goals in
     let w = c.before.before.before.before.before.before.before.before.before.before.before.within in
-    let h : in_range a.budget room ≡ true = sym w.ensures ∙ not-false w.result c.before.before.before.before.before.before.before.before.before.before.if1.false in
-    call_4 a.text.now a.budget room a.s.now a.buffer.now h (omega (arith, c.before.before.before.before.before.before.before.before.before.need.ensures)) (omega arith) c.before.before.before.before.taken.ensures
+    let h : in_range a.budget room ≡ true = sym w.ensures ∙ not-false w.result c.before.before.before.before.before.before.before.before.before.before.if-not-within.false in
+    call_4 a.text.now a.budget room a.s.now a.buffer.now h (omega (arith, c.before.before.before.before.before.before.before.before.before.need-words.ensures)) (omega arith) c.before.before.before.before.taken.ensures
 
 pub call_spec : {M : Type 1} → statement M
 call_spec =
     tie.close
     (tie.spec
     within-requires
-    returns
-    need-requires
-    returns-2
-    returns-3
+    returns-then-not-within
+    need-words-requires
+    returns-then-s-words
+    returns-then-text-gt16384
     taken-requires
-    same_length
-    same-length-2
-    returns-4)
+    shape_of-s
+    shape_of-buffer
+    returns)

@@ -10,11 +10,11 @@ use Rattle.report.specs.Promise.{with_report}
 use Rattle.job.proofs.call.ended.Statement.{statement}
 use Rattle.job.proofs.call.ended.Tie as tie
 
-need-requires : tie.Need-need-requires
-need-requires c κs = search rules
+need-all-requires : tie.Need-need-all-requires
+need-all-requires c κs = search rules
 
-report-requires : tie.Need-report-requires
-report-requires c κs = search rules
+report-n-requires : tie.Need-report-n-requires
+report-n-requires c κs = search rules
 
 clear-requires : tie.Need-clear-requires
 clear-requires c κs = search rules
@@ -22,11 +22,11 @@ clear-requires c κs = search rules
 told-requires : tie.Need-told-requires
 told-requires c κs = search rules
 
-same_length : tie.Need-same-length
-same_length c = search rules
+shape_of-s : tie.Need-shape_of-s
+shape_of-s c = search rules
 
-same-length-2 : tie.Need-same-length-2
-same-length-2 c = search rules
+shape_of-buffer : tie.Need-shape_of-buffer
+shape_of-buffer c = search rules
 
 returns : tie.Need-returns
 unfolding with_report
@@ -34,20 +34,20 @@ returns c = λ names j limit f q short.
     let a = c.before.before.before.before.before.before.before.before.before.before.before.before.before.before.before.before.args in
     let room = figures a.room in
     let written = report j.queries (run j limit room) in
-    let got = c.before.before.before.before.before.before.before.before.before.report.ensures names j limit f q short in
+    let got = c.before.before.before.before.before.before.before.before.before.report-n.ensures names j limit f q short in
     delivered_is (need_of room) a.text.now limit room written a.s.now a.buffer.now
     (c.told.ensures (length written) got.length_is) got.buffer_is
-    (cleared_by (need_of room) c.before.before.before.before.before.before.before.before.before.before.before.before.need.result a.s.now c.before.before.before.before.before.before.before.before.before.report.new.1.0
-    c.before.before.before.before.before.before.before.before.before.before.before.before.need.ensures got.size (λ k h. got.behind k (omega arith)) c.before.before.before.clear.ensures)
+    (cleared_by (need_of room) c.before.before.before.before.before.before.before.before.before.before.before.before.need-all.result a.s.now c.before.before.before.before.before.before.before.before.before.report-n.new.s
+    c.before.before.before.before.before.before.before.before.before.before.before.before.need-all.ensures got.size (λ k h. got.behind k (omega arith)) c.before.before.before.clear.ensures)
 
 pub ended_spec : {M : Type 1} → statement M
 ended_spec =
     tie.close
     (tie.spec
-    need-requires
-    report-requires
+    need-all-requires
+    report-n-requires
     clear-requires
     told-requires
-    same_length
-    same-length-2
+    shape_of-s
+    shape_of-buffer
     returns)

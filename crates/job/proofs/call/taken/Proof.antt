@@ -8,48 +8,48 @@ use Rattle.job.proofs.call.taken.Tie as tie
 load-requires : tie.Need-load-requires
 load-requires c κs = search rules
 
-enum-known-clauses : tie.Need-enum-known-clauses
-enum-known-clauses c = search rules
+enum_known-clauses : tie.Need-enum_known-clauses
+enum_known-clauses c = search rules
 
 loaded-requires : tie.Need-loaded-requires
 loaded-requires c κs =
-    let a = c.before.before.before.before.before.before.before.before.before.before.before.before.args in
-    let q = c.before.before.before.before.before.before.before.before.before.before.before.before.requires in
+    let a = c.before.before.before.before.before.before.before.before.before.before.args in
+    let q = c.before.before.before.before.before.before.before.before.before.before.requires in
     let room = figures a.room in
-    let t = c.before.before.before.before.before.before.before.load.new.1.0 in
-    let got = rw c.before.before.before.clauses.given.1 at c.before.before.before.before.before.before.before.load.ensures in
+    let t = c.before.before.before.before.before.load.new.s in
+    let got = rw c.before.before.in-Job.is at c.before.before.before.before.before.load.ensures in
     (got.5, got.0, got.6, q.2, got.2, got.3, q.3)
 
-enum-known-why : tie.Need-enum-known-why
-enum-known-why c = search rules
+enum_known-why : tie.Need-enum_known-why
+enum_known-why c = search rules
 
-same_length : tie.Need-same-length
-same_length c = search rules
+shape_of-s-in-Job : tie.Need-shape_of-s-in-Job
+shape_of-s-in-Job c = search rules
 
-same-length-2 : tie.Need-same-length-2
-same-length-2 c = search rules
+shape_of-buffer : tie.Need-shape_of-buffer
+shape_of-buffer c = search rules
 
-returns : tie.Need-returns
-returns c =
-    let a = c.before.before.before.before.before.before.before.before.before.before.before.before.before.before.before.before.before.args in
-    let q = c.before.before.before.before.before.before.before.before.before.before.before.before.before.before.before.before.before.requires in
+returns-in-Job : tie.Need-returns-in-Job
+returns-in-Job c =
+    let a = c.before.before.before.before.before.before.before.before.before.before.before.before.before.before.before.args in
+    let q = c.before.before.before.before.before.before.before.before.before.before.before.before.before.before.before.requires in
     let room = figures a.room in
-    let t = c.before.before.before.before.before.before.before.before.before.before.before.before.load.new.1.0 in
-    let got = rw c.before.before.before.before.before.before.before.before.clauses.given.1 at c.before.before.before.before.before.before.before.before.before.before.before.before.load.ensures in
+    let t = c.before.before.before.before.before.before.before.before.before.before.load.new.s in
+    let got = rw c.before.before.before.before.before.before.before.in-Job.is at c.before.before.before.before.before.before.before.before.before.before.load.ensures in
     taken_job (need_of room) a.text.now a.budget room got.0 a.s.now t a.buffer.now got.1
     (cleared_same (need_of room) a.s.now t got.7.size got.7.above)
     (c.before.before.before.before.loaded.ensures got.5 got.0 got.6 got.2 got.3 q.3)
 
-same-length-3 : tie.Need-same-length-3
-same-length-3 c = search rules
+shape_of-s-in-Refused : tie.Need-shape_of-s-in-Refused
+shape_of-s-in-Refused c = search rules
 
-returns-2 : tie.Need-returns-2
-returns-2 c =
-    let a = c.before.before.before.before.before.before.before.before.before.before.args in
-    let q = c.before.before.before.before.before.before.before.before.before.before.requires in
+returns-in-Refused : tie.Need-returns-in-Refused
+returns-in-Refused c =
+    let a = c.before.before.before.before.before.before.before.before.args in
+    let q = c.before.before.before.before.before.before.before.before.requires in
     let room = figures a.room in
-    let t = c.before.before.before.before.before.load.new.1.0 in
-    let got = rw c.before.why.given.1 at c.before.before.before.before.before.load.ensures in
+    let t = c.before.before.before.load.new.s in
+    let got = rw c.in-Refused.is at c.before.before.before.load.ensures in
     taken_refused (need_of room) a.text.now a.budget room got.0 a.s.now t a.buffer.now got.1
     got.2 got.3
 
@@ -58,11 +58,11 @@ taken_spec =
     tie.close
     (tie.spec
     load-requires
-    enum-known-clauses
+    enum_known-clauses
     loaded-requires
-    enum-known-why
-    same_length
-    same-length-2
-    returns
-    same-length-3
-    returns-2)
+    enum_known-why
+    shape_of-s-in-Job
+    shape_of-buffer
+    returns-in-Job
+    shape_of-s-in-Refused
+    returns-in-Refused)

@@ -12,32 +12,32 @@ use Rattle.load_elements.proofs.elements.ninth.Tie as tie
 starts-requires : tie.Need-starts-requires
 starts-requires c κs = search rules
 
-enum_told : tie.Need-enum-told
-enum_told c = search rules
+enum_told-1 : tie.Need-enum_told-1
+enum_told-1 c = search rules
 
-enum-known-a : tie.Need-enum-known-a
-enum-known-a c = search rules
+enum_known-a : tie.Need-enum_known-a
+enum_known-a c = search rules
 
-returns : tie.Need-returns
-returns c =
-    let the_enum_told = c.enum_told in
-    let the_starts = c.before.before.starts in
-    let entry = c.before.before.before.before in
+returns-in-Can : tie.Need-returns-in-Can
+returns-in-Can c =
+    let the_enum_told = c.in-Can in
+    let the_starts = c.before.starts in
+    let entry = c.before.before.before in
     let a = entry.args in
-    let k = rw the_enum_told.given.1 at the_starts.ensures in
+    let k = rw the_enum_told.is at the_starts.ensures in
     λ from counted es.
     let ts = tokens_in from a.rest.now a.at in
     body_many es counted (piece ts) (piece_goes begins_term ts (k from))
 
-returns-2 : tie.Need-returns-2
-returns-2 c =
-    let the_a = c.before.a in
-    let back1 = c.before.before.before in
+returns-in-Cannot : tie.Need-returns-in-Cannot
+returns-in-Cannot c =
+    let the_a = c.in-Cannot in
+    let back1 = c.before in
     let the_starts = back1.starts in
     let entry = back1.before.before in
     let a = entry.args in
-    let k = rw the_a.given.1 at the_starts.ensures in
-    let place = the_a.given.0.0 in (
+    let k = rw the_a.is at the_starts.ensures in
+    let place = the_a.a in (
       k.0,
       λ from counted es.
           let ts = tokens_in from a.rest.now a.at in
@@ -49,7 +49,7 @@ ninth_spec =
     tie.close
     (tie.spec
     starts-requires
-    enum_told
-    enum-known-a
-    returns
-    returns-2)
+    enum_told-1
+    enum_known-a
+    returns-in-Can
+    returns-in-Cannot)

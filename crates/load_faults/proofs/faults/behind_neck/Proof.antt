@@ -5,12 +5,14 @@ use Rattle.meaning.specs.Bytes.{byte}
 use Rattle.load_faults.proofs.faults.behind_neck.Statement.{statement}
 use Rattle.load_faults.proofs.faults.behind_neck.Tie as tie
 
-returns : tie.Need-returns
-returns c = search rules
+returns-then-implied : tie.Need-returns-then-implied
+returns-then-implied c = search rules
 
-returns-2 : tie.Need-returns-2
+returns : tie.Need-returns
 unfolding byte
-returns-2 c = rw c.if1.false refl
+returns c = rw c.if-implied.false refl
 
 pub behind_neck_spec : {M : Type 1} → statement M
-behind_neck_spec = tie.close (tie.spec returns returns-2)
+behind_neck_spec = tie.close (tie.spec
+    returns-then-implied
+    returns)

@@ -4,17 +4,21 @@ use borrow.Author.Rules.{rules}
 use Rattle.load_faults.proofs.faults.excused.Statement.{statement}
 use Rattle.load_faults.proofs.faults.excused.Tie as tie
 
-mul-result : tie.Need-overflow-mul-result
-mul-result c = search rules
+offset_bounds-licensed-n : tie.Need-offset_bounds-licensed-n
+offset_bounds-licensed-n c = search rules
 
-shared-slice-read-result : tie.Need-shared-slice-read-result
-shared-slice-read-result c = search rules
+bounds-licensed-n : tie.Need-bounds-licensed-n
+bounds-licensed-n c = search rules
+
+returns-then-pardon : tie.Need-returns-then-pardon
+returns-then-pardon c = rw c.before.if-pardon.true refl
 
 returns : tie.Need-returns
-returns c = rw c.before.if1.true refl
-
-returns-2 : tie.Need-returns-2
-returns-2 c = search rules
+returns c = search rules
 
 pub excused_spec : {M : Type 1} → statement M
-excused_spec = tie.close (tie.spec mul-result shared-slice-read-result returns returns-2)
+excused_spec = tie.close (tie.spec
+    offset_bounds-licensed-n
+    bounds-licensed-n
+    returns-then-pardon
+    returns)

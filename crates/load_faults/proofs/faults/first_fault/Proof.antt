@@ -21,351 +21,351 @@ use Rattle.load_faults.proofs.Walked.{left_at, weight, at_first, no_end, no_bad,
 use Rattle.load_faults.proofs.faults.first_fault.Statement.{statement}
 use Rattle.load_faults.proofs.faults.first_fault.Tie as tie
 
-abbrev invariant-loop : tie.invariant-loop
-invariant-loop rest item count both begins bar licensed seen₀ at₀ implied₀ seen at implied =
+abbrev invariant-loop-e : tie.invariant-loop-e
+invariant-loop-e rest item count both begins bar licensed seen₀ at₀ implied₀ seen at implied =
     (at ≤ length rest)
     × ((from : ℕ) (places : List Place) (free : Bytes → Bool) (after : Option Tokens) (f : Fault) → Searches rest from item count both begins bar licensed places free after f
     → Reached both places free (pairing after (piece (tokens_in from rest begins))) implied seen (left_at implied after (piece (tokens_in from rest at))) f)
 
 -- Behind the `:-` the walk goes on behind the bar, wherever that is; that happens once.
-abbrev decreases-loop : tie.decreases-loop
-decreases-loop rest item count both begins bar licensed seen₀ at₀ implied₀ seen at implied = weight implied (length rest) + (length rest - at)
+abbrev decreases-loop-e : tie.decreases-loop-e
+decreases-loop-e rest item count both begins bar licensed seen₀ at₀ implied₀ seen at implied = weight implied (length rest) + (length rest - at)
 
-loop-holds : tie.Need-loop-init invariant-loop decreases-loop
+loop-e-init : tie.Need-loop-e-init invariant-loop-e decreases-loop-e
 unfolding left_at
-loop-holds c =
+loop-e-init c =
     let start = c.before.before.before in
     let a = start.args in (
-      start.requires.0,
+      start.requires.begins_in_bounds,
       λ from places free after f s. at_first a.both places free (pairing after (piece (tokens_in from a.rest.now a.begins))) s.searched.table.few f s.found
           s.walkable,
     )
 
-front-requires : tie.Need-front-requires invariant-loop decreases-loop
-front-requires c κs = c.loop.invariant.0
+front-requires : tie.Need-front-requires invariant-loop-e decreases-loop-e
+front-requires c κs = c.loop-e.invariant.0
 
-enum-known-e : tie.Need-enum-known-e invariant-loop decreases-loop
-enum-known-e c = search rules
+enum_known-e : tie.Need-enum_known-e invariant-loop-e decreases-loop-e
+enum_known-e c = search rules
 
-loop-less : tie.Need-loop-smaller invariant-loop decreases-loop
-loop-less c =
-    let front = c.before.before.before in
-    let t = rw c.before.e.given.1 at front.front.ensures in
+loop-e-smaller-in-Name : tie.Need-loop-e-smaller-in-Name invariant-loop-e decreases-loop-e
+loop-e-smaller-in-Name c =
+    let front = c.before in
+    let t = rw c.in-Name.is at front.front.ensures in
     omega (arith, t.0, t.1, t.2)
 
-loop-again : tie.Need-loop-preserved invariant-loop decreases-loop
-loop-again c =
-    let front = c.before.before.before in
+loop-e-preserved-in-Name : tie.Need-loop-e-preserved-in-Name invariant-loop-e decreases-loop-e
+loop-e-preserved-in-Name c =
+    let front = c.before in
     let at = front.before in
     let a = at.before.before.before.before.args in
-    let g = c.before.e.given in
-    let t = rw g.1 at front.front.ensures in (
+    let g = c.in-Name in
+    let t = rw g.is at front.front.ensures in (
       t.2,
       λ from places free after f s.
-          over_name a.both places free (pairing after (piece (tokens_in from a.rest.now a.begins))) at.loop.implied at.loop.seen f after (from + g.0.0)
-          (slice g.0.0 g.0.1.0 a.rest.now) (tokens_in from a.rest.now g.0.1.0)
-          (rw (t.4 from) at (at.loop.invariant.1 from places free after f s)),
+          over_name a.both places free (pairing after (piece (tokens_in from a.rest.now a.begins))) at.loop-e.implied at.loop-e.seen f after (from + g.field-0)
+          (slice g.field-0 g.e a.rest.now) (tokens_in from a.rest.now g.e)
+          (rw (t.4 from) at (at.loop-e.invariant.1 from places free after f s)),
     )
 
-enum-known-a : tie.Need-enum-known-a invariant-loop decreases-loop
-enum-known-a c = search rules
+enum_known-a : tie.Need-enum_known-a invariant-loop-e decreases-loop-e
+enum_known-a c = search rules
 
-judge-requires : tie.Need-judge-requires invariant-loop decreases-loop
+judge-requires : tie.Need-judge-requires invariant-loop-e decreases-loop-e
 unfolding half_from
 judge-requires c κs =
-    let front = c.before.before.before.before in
-    let start = c.before.before.before.before.before.before.before.before.before in
-    let t = rw c.before.before.a.given.1 at front.front.ensures in
-    let s = start.requires.1 in
+    let front = c.before.before in
+    let start = c.before.before.before.before.before.before.before in
+    let t = rw c.before.in-Writer.is at front.front.ensures in
+    let s = start.requires.by_index in
     ((omega (arith, t.1), omega (arith, t.2)), ((writer, refl), (s.1, s.2, pairing s.3 (piece (tokens_in s.0 start.args.rest.now start.args.begins)), s.5.searched)))
 
-enum_told : tie.Need-enum-told invariant-loop decreases-loop
-enum_told c = search rules
+enum_told-1 : tie.Need-enum_told-1 invariant-loop-e decreases-loop-e
+enum_told-1 c = search rules
 
-returns : tie.Need-returns invariant-loop decreases-loop
+returns-in-Twice : tie.Need-returns-in-Twice invariant-loop-e decreases-loop-e
 unfolding half_from pardons alone
-returns c from places free after f s =
-    let j = c.before.before in
-    let front = j.before.before.before.before.before in
+returns-in-Twice c from places free after f s =
+    let j = c.before in
+    let front = j.before.before.before in
     let at = front.before in
     let a = at.before.before.before.before.args in
-    let g = j.before.before.before.a.given in
-    let t = rw g.1 at front.front.ensures in
+    let g = j.before.before.in-Writer in
+    let t = rw g.is at front.front.ensures in
     let whole = pairing after (piece (tokens_in from a.rest.now a.begins)) in
-    let r = at_variable a.both places free whole at.loop.implied at.loop.seen f after (from + g.0.0) writer (slice g.0.0 g.0.1.0 a.rest.now)
-    (tokens_in from a.rest.now g.0.1.0)
-    (rw (t.4 from) at (at.loop.invariant.1 from places free after f s)) in
-    says twice from g.0.0 (length a.rest.now) f (omega (arith, t.1, t.2))
-    (rw c.enum_told.given.1 at (j.judge.ensures writer places free whole at.loop.implied (from + g.0.0)
-    (left_at at.loop.implied after (piece (tokens_in from a.rest.now g.0.1.0))) f refl refl s.searched r))
+    let r = at_variable a.both places free whole at.loop-e.implied at.loop-e.seen f after (from + g.a) writer (slice g.a g.e a.rest.now)
+    (tokens_in from a.rest.now g.e)
+    (rw (t.4 from) at (at.loop-e.invariant.1 from places free after f s)) in
+    says twice from g.a (length a.rest.now) f (omega (arith, t.1, t.2))
+    (rw c.in-Twice.is at (j.judge.ensures writer places free whole at.loop-e.implied (from + g.a)
+    (left_at at.loop-e.implied after (piece (tokens_in from a.rest.now g.e))) f refl refl s.searched r))
 
-enum-told-2 : tie.Need-enum-told-2 invariant-loop decreases-loop
-enum-told-2 c = search rules
+enum_told-in-Alone : tie.Need-enum_told-in-Alone invariant-loop-e decreases-loop-e
+enum_told-in-Alone c = search rules
 
-returns-2 : tie.Need-returns-2 invariant-loop decreases-loop
+returns-in-Alone : tie.Need-returns-in-Alone invariant-loop-e decreases-loop-e
 unfolding half_from pardons alone
-returns-2 c from places free after f s =
-    let j = c.before.before in
-    let front = j.before.before.before.before.before in
+returns-in-Alone c from places free after f s =
+    let j = c.before in
+    let front = j.before.before.before in
     let at = front.before in
     let a = at.before.before.before.before.args in
-    let g = j.before.before.before.a.given in
-    let t = rw g.1 at front.front.ensures in
+    let g = j.before.before.in-Writer in
+    let t = rw g.is at front.front.ensures in
     let whole = pairing after (piece (tokens_in from a.rest.now a.begins)) in
-    let r = at_variable a.both places free whole at.loop.implied at.loop.seen f after (from + g.0.0) writer (slice g.0.0 g.0.1.0 a.rest.now)
-    (tokens_in from a.rest.now g.0.1.0)
-    (rw (t.4 from) at (at.loop.invariant.1 from places free after f s)) in
-    says writer_alone from g.0.0 (length a.rest.now) f (omega (arith, t.1, t.2))
-    (rw c.enum-told2.given.1 at (j.judge.ensures writer places free whole at.loop.implied (from + g.0.0)
-    (left_at at.loop.implied after (piece (tokens_in from a.rest.now g.0.1.0))) f refl refl s.searched r))
+    let r = at_variable a.both places free whole at.loop-e.implied at.loop-e.seen f after (from + g.a) writer (slice g.a g.e a.rest.now)
+    (tokens_in from a.rest.now g.e)
+    (rw (t.4 from) at (at.loop-e.invariant.1 from places free after f s)) in
+    says writer_alone from g.a (length a.rest.now) f (omega (arith, t.1, t.2))
+    (rw c.in-Alone.is at (j.judge.ensures writer places free whole at.loop-e.implied (from + g.a)
+    (left_at at.loop-e.implied after (piece (tokens_in from a.rest.now g.e))) f refl refl s.searched r))
 
-enum-told-3 : tie.Need-enum-told-3 invariant-loop decreases-loop
-enum-told-3 c = search rules
+enum_told-in-Clear : tie.Need-enum_told-in-Clear invariant-loop-e decreases-loop-e
+enum_told-in-Clear c = search rules
 
-loop-less-2 : tie.Need-loop-smaller-2 invariant-loop decreases-loop
-loop-less-2 c =
-    let front = c.before.before.before.before.before.before.before in
-    let t = rw c.before.before.before.before.before.a.given.1 at front.front.ensures in
+loop-e-smaller-in-Clear : tie.Need-loop-e-smaller-in-Clear invariant-loop-e decreases-loop-e
+loop-e-smaller-in-Clear c =
+    let front = c.before.before.before.before in
+    let t = rw c.before.before.before.in-Writer.is at front.front.ensures in
     omega (arith, t.0, t.1, t.2)
 
-loop-again-2 : tie.Need-loop-preserved-2 invariant-loop decreases-loop
+loop-e-preserved-in-Clear : tie.Need-loop-e-preserved-in-Clear invariant-loop-e decreases-loop-e
 unfolding half_from pardons
-loop-again-2 c =
-    let j = c.before.before in
-    let front = j.before.before.before.before.before in
+loop-e-preserved-in-Clear c =
+    let j = c.before in
+    let front = j.before.before.before in
     let at = front.before in
     let a = at.before.before.before.before.args in
-    let g = j.before.before.before.a.given in
-    let t = rw g.1 at front.front.ensures in (
+    let g = j.before.before.in-Writer in
+    let t = rw g.is at front.front.ensures in (
       t.2,
       λ from places free after f s.
           let whole = pairing after (piece (tokens_in from a.rest.now a.begins)) in
-          let r = at_variable a.both places free whole at.loop.implied at.loop.seen f after (from + g.0.0) writer (slice g.0.0 g.0.1.0 a.rest.now)
-          (tokens_in from a.rest.now g.0.1.0)
-          (rw (t.4 from) at (at.loop.invariant.1 from places free after f s)) in
-          rw c.enum-told3.given.1 at (j.judge.ensures writer places free whole at.loop.implied (from + g.0.0)
-          (left_at at.loop.implied after (piece (tokens_in from a.rest.now g.0.1.0))) f refl refl s.searched r),
+          let r = at_variable a.both places free whole at.loop-e.implied at.loop-e.seen f after (from + g.a) writer (slice g.a g.e a.rest.now)
+          (tokens_in from a.rest.now g.e)
+          (rw (t.4 from) at (at.loop-e.invariant.1 from places free after f s)) in
+          rw c.in-Clear.is at (j.judge.ensures writer places free whole at.loop-e.implied (from + g.a)
+          (left_at at.loop-e.implied after (piece (tokens_in from a.rest.now g.e))) f refl refl s.searched r),
     )
 
-enum-known-a-2 : tie.Need-enum-known-a-2 invariant-loop decreases-loop
-enum-known-a-2 c = search rules
+enum_known-a-in-Reader-1 : tie.Need-enum_known-a-in-Reader-1 invariant-loop-e decreases-loop-e
+enum_known-a-in-Reader-1 c = search rules
 
-judge-requires-2 : tie.Need-judge-requires-2 invariant-loop decreases-loop
+judge-requires-in-Reader : tie.Need-judge-requires-in-Reader invariant-loop-e decreases-loop-e
 unfolding half_from
-judge-requires-2 c κs =
-    let front = c.before.before.before.before in
-    let start = c.before.before.before.before.before.before.before.before.before in
-    let t = rw c.before.before.a2.given.1 at front.front.ensures in
-    let s = start.requires.1 in
+judge-requires-in-Reader c κs =
+    let front = c.before.before in
+    let start = c.before.before.before.before.before.before.before in
+    let t = rw c.before.in-Reader.is at front.front.ensures in
+    let s = start.requires.by_index in
     ((omega (arith, t.1), omega (arith, t.2)), ((reader, refl), (s.1, s.2, pairing s.3 (piece (tokens_in s.0 start.args.rest.now start.args.begins)), s.5.searched)))
 
-enum-told-4 : tie.Need-enum-told-4 invariant-loop decreases-loop
-enum-told-4 c = search rules
+enum_told-in-Twice-judge : tie.Need-enum_told-in-Twice-judge invariant-loop-e decreases-loop-e
+enum_told-in-Twice-judge c = search rules
 
-returns-3 : tie.Need-returns-3 invariant-loop decreases-loop
+returns-in-Twice-judge : tie.Need-returns-in-Twice-judge invariant-loop-e decreases-loop-e
 unfolding half_from pardons alone
-returns-3 c from places free after f s =
-    let j = c.before.before in
-    let front = j.before.before.before.before.before in
+returns-in-Twice-judge c from places free after f s =
+    let j = c.before in
+    let front = j.before.before.before in
     let at = front.before in
     let a = at.before.before.before.before.args in
-    let g = j.before.before.before.a2.given in
-    let t = rw g.1 at front.front.ensures in
+    let g = j.before.before.in-Reader in
+    let t = rw g.is at front.front.ensures in
     let whole = pairing after (piece (tokens_in from a.rest.now a.begins)) in
-    let r = at_variable a.both places free whole at.loop.implied at.loop.seen f after (from + g.0.0) reader (slice g.0.0 g.0.1.0 a.rest.now)
-    (tokens_in from a.rest.now (g.0.1.0 + 1))
-    (rw (t.4 from) at (at.loop.invariant.1 from places free after f s)) in
-    says twice from g.0.0 (length a.rest.now) f (omega (arith, t.1, t.2))
-    (rw c.enum-told4.given.1 at (j.judge2.ensures reader places free whole at.loop.implied (from + g.0.0)
-    (left_at at.loop.implied after (piece (tokens_in from a.rest.now (g.0.1.0 + 1)))) f refl refl s.searched r))
+    let r = at_variable a.both places free whole at.loop-e.implied at.loop-e.seen f after (from + g.a) reader (slice g.a g.e a.rest.now)
+    (tokens_in from a.rest.now (g.e + 1))
+    (rw (t.4 from) at (at.loop-e.invariant.1 from places free after f s)) in
+    says twice from g.a (length a.rest.now) f (omega (arith, t.1, t.2))
+    (rw c.in-Twice-judge.is at (j.judge-in-Reader.ensures reader places free whole at.loop-e.implied (from + g.a)
+    (left_at at.loop-e.implied after (piece (tokens_in from a.rest.now (g.e + 1)))) f refl refl s.searched r))
 
-enum-told-5 : tie.Need-enum-told-5 invariant-loop decreases-loop
-enum-told-5 c = search rules
+enum_told-in-Alone-judge : tie.Need-enum_told-in-Alone-judge invariant-loop-e decreases-loop-e
+enum_told-in-Alone-judge c = search rules
 
-returns-4 : tie.Need-returns-4 invariant-loop decreases-loop
+returns-in-Alone-judge : tie.Need-returns-in-Alone-judge invariant-loop-e decreases-loop-e
 unfolding half_from pardons alone
-returns-4 c from places free after f s =
-    let j = c.before.before in
-    let front = j.before.before.before.before.before in
+returns-in-Alone-judge c from places free after f s =
+    let j = c.before in
+    let front = j.before.before.before in
     let at = front.before in
     let a = at.before.before.before.before.args in
-    let g = j.before.before.before.a2.given in
-    let t = rw g.1 at front.front.ensures in
+    let g = j.before.before.in-Reader in
+    let t = rw g.is at front.front.ensures in
     let whole = pairing after (piece (tokens_in from a.rest.now a.begins)) in
-    let r = at_variable a.both places free whole at.loop.implied at.loop.seen f after (from + g.0.0) reader (slice g.0.0 g.0.1.0 a.rest.now)
-    (tokens_in from a.rest.now (g.0.1.0 + 1))
-    (rw (t.4 from) at (at.loop.invariant.1 from places free after f s)) in
-    says reader_alone from g.0.0 (length a.rest.now) f (omega (arith, t.1, t.2))
-    (rw c.enum-told5.given.1 at (j.judge2.ensures reader places free whole at.loop.implied (from + g.0.0)
-    (left_at at.loop.implied after (piece (tokens_in from a.rest.now (g.0.1.0 + 1)))) f refl refl s.searched r))
+    let r = at_variable a.both places free whole at.loop-e.implied at.loop-e.seen f after (from + g.a) reader (slice g.a g.e a.rest.now)
+    (tokens_in from a.rest.now (g.e + 1))
+    (rw (t.4 from) at (at.loop-e.invariant.1 from places free after f s)) in
+    says reader_alone from g.a (length a.rest.now) f (omega (arith, t.1, t.2))
+    (rw c.in-Alone-judge.is at (j.judge-in-Reader.ensures reader places free whole at.loop-e.implied (from + g.a)
+    (left_at at.loop-e.implied after (piece (tokens_in from a.rest.now (g.e + 1)))) f refl refl s.searched r))
 
-enum-told-6 : tie.Need-enum-told-6 invariant-loop decreases-loop
-enum-told-6 c = search rules
+enum_told-in-Clear-judge : tie.Need-enum_told-in-Clear-judge invariant-loop-e decreases-loop-e
+enum_told-in-Clear-judge c = search rules
 
-add_at : tie.Need-overflow-add-at invariant-loop decreases-loop
-add_at c =
-    let front = c.before.before.before.before.before.before.before in
-    let t = rw c.before.before.before.before.before.a2.given.1 at front.front.ensures in
-    let start = c.before.before.before.before.before.before.before.before.before.before.before.before in
-    omega (arith, t.2, start.well-formed.0)
+overflow_add-at : tie.Need-overflow_add-at invariant-loop-e decreases-loop-e
+overflow_add-at c =
+    let front = c.before.before.before.before in
+    let t = rw c.before.before.before.in-Reader.is at front.front.ensures in
+    let start = c.before.before.before.before.before.before.before.before.before in
+    omega (arith, t.2, start.well_formed.0)
 
-loop-less-3 : tie.Need-loop-smaller-3 invariant-loop decreases-loop
-loop-less-3 c =
-    let front = c.before.before.before.before.before.before.before in
-    let t = rw c.before.before.before.before.before.a2.given.1 at front.front.ensures in
+loop-e-smaller-in-Clear-judge : tie.Need-loop-e-smaller-in-Clear-judge invariant-loop-e decreases-loop-e
+loop-e-smaller-in-Clear-judge c =
+    let front = c.before.before.before.before in
+    let t = rw c.before.before.before.in-Reader.is at front.front.ensures in
     omega (arith, t.0, t.1, t.2)
 
-loop-again-3 : tie.Need-loop-preserved-3 invariant-loop decreases-loop
+loop-e-preserved-in-Clear-judge : tie.Need-loop-e-preserved-in-Clear-judge invariant-loop-e decreases-loop-e
 unfolding half_from pardons
-loop-again-3 c =
-    let j = c.before.before in
-    let front = j.before.before.before.before.before in
+loop-e-preserved-in-Clear-judge c =
+    let j = c.before in
+    let front = j.before.before.before in
     let at = front.before in
     let a = at.before.before.before.before.args in
-    let g = j.before.before.before.a2.given in
-    let t = rw g.1 at front.front.ensures in (
+    let g = j.before.before.in-Reader in
+    let t = rw g.is at front.front.ensures in (
       omega (arith, t.2),
       λ from places free after f s.
           let whole = pairing after (piece (tokens_in from a.rest.now a.begins)) in
-          let r = at_variable a.both places free whole at.loop.implied at.loop.seen f after (from + g.0.0) reader (slice g.0.0 g.0.1.0 a.rest.now)
-          (tokens_in from a.rest.now (g.0.1.0 + 1))
-          (rw (t.4 from) at (at.loop.invariant.1 from places free after f s)) in
-          rw c.enum-told6.given.1 at (j.judge2.ensures reader places free whole at.loop.implied (from + g.0.0)
-          (left_at at.loop.implied after (piece (tokens_in from a.rest.now (g.0.1.0 + 1)))) f refl refl s.searched r),
+          let r = at_variable a.both places free whole at.loop-e.implied at.loop-e.seen f after (from + g.a) reader (slice g.a g.e a.rest.now)
+          (tokens_in from a.rest.now (g.e + 1))
+          (rw (t.4 from) at (at.loop-e.invariant.1 from places free after f s)) in
+          rw c.in-Clear-judge.is at (j.judge-in-Reader.ensures reader places free whole at.loop-e.implied (from + g.a)
+          (left_at at.loop-e.implied after (piece (tokens_in from a.rest.now (g.e + 1)))) f refl refl s.searched r),
     )
 
-enum-known-e-2 : tie.Need-enum-known-e-2 invariant-loop decreases-loop
-enum-known-e-2 c = search rules
+enum_known-e-in-Integer-1 : tie.Need-enum_known-e-in-Integer-1 invariant-loop-e decreases-loop-e
+enum_known-e-in-Integer-1 c = search rules
 
-loop-less-4 : tie.Need-loop-smaller-4 invariant-loop decreases-loop
-loop-less-4 c =
-    let front = c.before.before.before in
-    let t = rw c.before.e2.given.1 at front.front.ensures in
+loop-e-smaller-in-Integer : tie.Need-loop-e-smaller-in-Integer invariant-loop-e decreases-loop-e
+loop-e-smaller-in-Integer c =
+    let front = c.before in
+    let t = rw c.in-Integer.is at front.front.ensures in
     omega (arith, t.0, t.1, t.2)
 
-loop-again-4 : tie.Need-loop-preserved-4 invariant-loop decreases-loop
-loop-again-4 c =
-    let front = c.before.before.before in
+loop-e-preserved-in-Integer : tie.Need-loop-e-preserved-in-Integer invariant-loop-e decreases-loop-e
+loop-e-preserved-in-Integer c =
+    let front = c.before in
     let at = front.before in
     let a = at.before.before.before.before.args in
-    let g = c.before.e2.given in
-    let t = rw g.1 at front.front.ensures in (
+    let g = c.in-Integer in
+    let t = rw g.is at front.front.ensures in (
       t.2,
       λ from places free after f s.
-          over_integer a.both places free (pairing after (piece (tokens_in from a.rest.now a.begins))) at.loop.implied at.loop.seen f after (from + g.0.1.0) t.4
-          (tokens_in from a.rest.now g.0.1.1.0)
-          (rw (t.6 from) at (at.loop.invariant.1 from places free after f s)),
+          over_integer a.both places free (pairing after (piece (tokens_in from a.rest.now a.begins))) at.loop-e.implied at.loop-e.seen f after (from + g.field-1) t.4
+          (tokens_in from a.rest.now g.e)
+          (rw (t.6 from) at (at.loop-e.invariant.1 from places free after f s)),
     )
 
-enum-known-c : tie.Need-enum-known-c invariant-loop decreases-loop
-enum-known-c c = search rules
+enum_known-c : tie.Need-enum_known-c invariant-loop-e decreases-loop-e
+enum_known-c c = search rules
 
-onward-requires : tie.Need-onward-requires invariant-loop decreases-loop
-onward-requires c κs =
+onward-at-requires : tie.Need-onward-at-requires invariant-loop-e decreases-loop-e
+onward-at-requires c κs =
+    let front = c.before in
+    let g = c.in-Sign in
+    let t = rw g.is at front.front.ensures in
+    let start = c.before.before.before.before.before.before in
+    omega (arith, t.1, behind_more g.c g.a, start.well_formed.0)
+
+behind_neck-implied-requires : tie.Need-behind_neck-implied-requires invariant-loop-e decreases-loop-e
+behind_neck-implied-requires c κs = search rules
+
+loop-e-smaller : tie.Need-loop-e-smaller invariant-loop-e decreases-loop-e
+loop-e-smaller c =
     let front = c.before.before.before in
-    let g = c.before.c.given in
-    let t = rw g.1 at front.front.ensures in
-    let start = c.before.before.before.before.before.before.before.before in
-    omega (arith, t.1, behind_more g.0.0 g.0.1.0, start.well-formed.0)
-
-behind-neck-requires : tie.Need-behind-neck-requires invariant-loop decreases-loop
-behind-neck-requires c κs = search rules
-
-loop-less-5 : tie.Need-loop-smaller-5 invariant-loop decreases-loop
-loop-less-5 c =
-    let front = c.before.before.before.before.before in
     let at = front.before in
     let start = at.before.before.before.before in
     let a = start.args in
-    let g = c.before.before.before.c.given in
-    let t = rw g.1 at front.front.ensures in
-    let s = start.requires.1 in
-    rw (c.before.onward.ensures, c.behind-neck.ensures)
-    (sign_less (length a.rest.now) at.loop.at g.0.0 g.0.1.0 a.bar at.loop.implied t.0 t.1 (bar_inside a.rest.now s.0 a.bar s.3 s.5.bar_is))
+    let g = c.before.before.in-Sign in
+    let t = rw g.is at front.front.ensures in
+    let s = start.requires.by_index in
+    rw (c.before.onward-at.ensures, c.behind_neck-implied.ensures)
+    (sign_less (length a.rest.now) at.loop-e.at g.c g.a a.bar at.loop-e.implied t.0 t.1 (bar_inside a.rest.now s.0 a.bar s.3 s.5.bar_is))
 
-loop-again-5 : tie.Need-loop-preserved-5 invariant-loop decreases-loop
+loop-e-preserved : tie.Need-loop-e-preserved invariant-loop-e decreases-loop-e
 unfolding is
-loop-again-5 c =
-    let front = c.before.before.before.before.before in
+loop-e-preserved c =
+    let front = c.before.before.before in
     let at = front.before in
     let start = at.before.before.before.before in
     let a = start.args in
-    let g = c.before.before.before.c.given in
-    let t = rw g.1 at front.front.ensures in
-    let s₀ = start.requires.1 in
-    rw (c.before.onward.ensures, c.behind-neck.ensures) (
-      sign_inside (length a.rest.now) g.0.0 g.0.1.0 a.bar at.loop.implied t.1 (bar_inside a.rest.now s₀.0 a.bar s₀.3 s₀.5.bar_is),
+    let g = c.before.before.in-Sign in
+    let t = rw g.is at front.front.ensures in
+    let s₀ = start.requires.by_index in
+    rw (c.before.onward-at.ensures, c.behind_neck-implied.ensures) (
+      sign_inside (length a.rest.now) g.c g.a a.bar at.loop-e.implied t.1 (bar_inside a.rest.now s₀.0 a.bar s₀.3 s₀.5.bar_is),
       λ from places free after f s.
-          over_sign a.both places free (pairing after (piece (tokens_in from a.rest.now a.begins))) at.loop.implied at.loop.seen f
-          a.rest.now from a.bar after s.bar_is (from + g.0.1.0) g.0.0 g.0.1.0
-          (rw (t.2 from) at (at.loop.invariant.1 from places free after f s)),
+          over_sign a.both places free (pairing after (piece (tokens_in from a.rest.now a.begins))) at.loop-e.implied at.loop-e.seen f
+          a.rest.now from a.bar after s.bar_is (from + g.a) g.c g.a
+          (rw (t.2 from) at (at.loop-e.invariant.1 from places free after f s)),
     )
 
-enum-known-a-3 : tie.Need-enum-known-a-3 invariant-loop decreases-loop
-enum-known-a-3 c = search rules
+enum_known-a-in-Bad-1 : tie.Need-enum_known-a-in-Bad-1 invariant-loop-e decreases-loop-e
+enum_known-a-in-Bad-1 c = search rules
 
-returns-5 : tie.Need-returns-5 invariant-loop decreases-loop
-returns-5 c from places free after f s =
-    let front = c.before.before.before in
+returns-in-Bad : tie.Need-returns-in-Bad invariant-loop-e decreases-loop-e
+returns-in-Bad c from places free after f s =
+    let front = c.before in
     let at = front.before in
     let a = at.before.before.before.before.args in
-    let g = c.before.a3.given in
-    let t = rw g.1 at front.front.ensures in
+    let g = c.in-Bad in
+    let t = rw g.is at front.front.ensures in
     let others = t.2 from in
-    absurd (no_bad a.both places free (pairing after (piece (tokens_in from a.rest.now a.begins))) at.loop.implied at.loop.seen f after (from + g.0.0) others.0
-    (rw others.1 at (at.loop.invariant.1 from places free after f s)))
+    absurd (no_bad a.both places free (pairing after (piece (tokens_in from a.rest.now a.begins))) at.loop-e.implied at.loop-e.seen f after (from + g.a) others.0
+    (rw others.1 at (at.loop-e.invariant.1 from places free after f s)))
 
-enum-told-7 : tie.Need-enum-told-7 invariant-loop decreases-loop
-enum-told-7 c = search rules
+enum_told-in-End : tie.Need-enum_told-in-End invariant-loop-e decreases-loop-e
+enum_told-in-End c = search rules
 
-returns-6 : tie.Need-returns-6 invariant-loop decreases-loop
-returns-6 c from places free after f s =
-    let front = c.before.before in
+returns-in-End : tie.Need-returns-in-End invariant-loop-e decreases-loop-e
+returns-in-End c from places free after f s =
+    let front = c.before in
     let at = front.before in
     let a = at.before.before.before.before.args in
-    let t = rw c.enum-told7.given.1 at front.front.ensures in
-    absurd (no_end a.both places free (pairing after (piece (tokens_in from a.rest.now a.begins))) at.loop.implied at.loop.seen f after (from + length a.rest.now)
-    (rw (t from) at (at.loop.invariant.1 from places free after f s)))
+    let t = rw c.in-End.is at front.front.ensures in
+    absurd (no_end a.both places free (pairing after (piece (tokens_in from a.rest.now a.begins))) at.loop-e.implied at.loop-e.seen f after (from + length a.rest.now)
+    (rw (t from) at (at.loop-e.invariant.1 from places free after f s)))
 
 pub first_fault_spec : {M : Type 1} → statement M
 first_fault_spec =
     tie.close
     (tie.spec
-    invariant-loop
-    decreases-loop
-    loop-holds
+    invariant-loop-e
+    decreases-loop-e
+    loop-e-init
     front-requires
-    enum-known-e
-    loop-less
-    loop-again
-    enum-known-a
+    enum_known-e
+    loop-e-smaller-in-Name
+    loop-e-preserved-in-Name
+    enum_known-a
     judge-requires
-    enum_told
-    returns
-    enum-told-2
-    returns-2
-    enum-told-3
-    loop-less-2
-    loop-again-2
-    enum-known-a-2
-    judge-requires-2
-    enum-told-4
-    returns-3
-    enum-told-5
-    returns-4
-    enum-told-6
-    add_at
-    loop-less-3
-    loop-again-3
-    enum-known-e-2
-    loop-less-4
-    loop-again-4
-    enum-known-c
-    onward-requires
-    behind-neck-requires
-    loop-less-5
-    loop-again-5
-    enum-known-a-3
-    returns-5
-    enum-told-7
-    returns-6)
+    enum_told-1
+    returns-in-Twice
+    enum_told-in-Alone
+    returns-in-Alone
+    enum_told-in-Clear
+    loop-e-smaller-in-Clear
+    loop-e-preserved-in-Clear
+    enum_known-a-in-Reader-1
+    judge-requires-in-Reader
+    enum_told-in-Twice-judge
+    returns-in-Twice-judge
+    enum_told-in-Alone-judge
+    returns-in-Alone-judge
+    enum_told-in-Clear-judge
+    overflow_add-at
+    loop-e-smaller-in-Clear-judge
+    loop-e-preserved-in-Clear-judge
+    enum_known-e-in-Integer-1
+    loop-e-smaller-in-Integer
+    loop-e-preserved-in-Integer
+    enum_known-c
+    onward-at-requires
+    behind_neck-implied-requires
+    loop-e-smaller
+    loop-e-preserved
+    enum_known-a-in-Bad-1
+    returns-in-Bad
+    enum_told-in-End
+    returns-in-End)

@@ -9,16 +9,20 @@ use Rattle.load_faults.proofs.faults.onward.Tie as tie
 jumps-requires : tie.Need-jumps-requires
 jumps-requires c κs = search rules
 
+returns-then-jumps : tie.Need-returns-then-jumps
+unfolding on_at if◌then◌else◌
+returns-then-jumps c = rw (sym c.before.jumps.ensures ∙ c.if-jumps.true) refl
+
+behind_sign-requires : tie.Need-behind_sign-requires
+behind_sign-requires c κs = search rules
+
 returns : tie.Need-returns
 unfolding on_at if◌then◌else◌
-returns c = rw (sym c.before.jumps.ensures ∙ c.if1.true) refl
-
-behind-sign-requires : tie.Need-behind-sign-requires
-behind-sign-requires c κs = search rules
-
-returns-2 : tie.Need-returns-2
-unfolding on_at if◌then◌else◌
-returns-2 c = rw (sym c.before.before.jumps.ensures ∙ c.before.if1.false) c.behind-sign.ensures
+returns c = rw (sym c.before.before.jumps.ensures ∙ c.before.if-jumps.false) c.behind_sign.ensures
 
 pub onward_spec : {M : Type 1} → statement M
-onward_spec = tie.close (tie.spec jumps-requires returns behind-sign-requires returns-2)
+onward_spec = tie.close (tie.spec
+    jumps-requires
+    returns-then-jumps
+    behind_sign-requires
+    returns)

@@ -11,75 +11,75 @@ use borrow.Author.Rules.{rules}
 use Rattle.load_goals.proofs.goals.goal.Statement.{statement}
 use Rattle.load_goals.proofs.goals.goal.Tie as tie
 
-goal-name-requires : tie.Need-goal-name-requires
-goal-name-requires c κs = search rules
+goal_name-requires : tie.Need-goal_name-requires
+goal_name-requires c κs = search rules
 
-enum-known-n : tie.Need-enum-known-n
-enum-known-n c = search rules
+enum_known-n : tie.Need-enum_known-n
+enum_known-n c = search rules
 
 compound-requires : tie.Need-compound-requires
 compound-requires c κs =
-    let a = c.before.before.before.before.before.before.before.before.before.before.before.before.before.before.before.args in
-    let st = c.before.before.before.before.before.before.before.before.before.before.before.before.before.before.before.requires.1 in
-    let o = rw c.before.before.before.before.n.given.1 at (c.before.before.before.before.before.before.before.before.goal-name.ensures st.0 st.1 a.item.now st.2) in
-    ((omega arith, c.before.before.before.before.before.before.before.before.before.before.before.before.before.before.before.requires.0.0, c.before.before.before.before.before.before.before.before.before.before.before.before.before.before.before.requires.0.1), (with_place o.1 o.0 st.0, st.1, o.3.stands, o.0, o.3.number_is))
+    let a = c.before.before.before.before.before.before.before.before.before.before.before.before.before.args in
+    let st = c.before.before.before.before.before.before.before.before.before.before.before.before.before.requires.stands in
+    let o = rw c.before.before.before.in-Named.is at (c.before.before.before.before.before.before.goal_name.ensures st.0 st.1 a.item.now st.2) in
+    ((omega arith, c.before.before.before.before.before.before.before.before.before.before.before.before.before.requires.base_in_bounds.0, c.before.before.before.before.before.before.before.before.before.before.before.before.before.requires.base_in_bounds.1), (with_place o.1 o.0 st.0, st.1, o.3.stands, o.0, o.3.number_is))
 
-enum-known-a : tie.Need-enum-known-a
-enum-known-a c = search rules
+enum_known-a : tie.Need-enum_known-a
+enum_known-a c = search rules
 
-enum_told : tie.Need-enum-told
-enum_told c = search rules
+enum_told-1 : tie.Need-enum_told-1
+enum_told-1 c = search rules
 
-same_length : tie.Need-same-length
-same_length c = search rules
+shape_of-s : tie.Need-shape_of-s
+shape_of-s c = search rules
 
-same-length-2 : tie.Need-same-length-2
-same-length-2 c = search rules
+shape_of-names-in-Named : tie.Need-shape_of-names-in-Named
+shape_of-names-in-Named c = search rules
 
-same-length-3 : tie.Need-same-length-3
-same-length-3 c = search rules
+shape_of-item : tie.Need-shape_of-item
+shape_of-item c = search rules
 
-returns : tie.Need-returns
-returns c =
-    let a = c.before.before.before.before.before.before.before.before.before.before.before.before.before.before.before.before.before.before.before.before.before.before.args in
+returns-in-Named : tie.Need-returns-in-Named
+returns-in-Named c =
+    let a = c.before.before.before.before.before.before.before.before.before.before.before.before.before.before.before.before.before.before.before.before.args in
     λ known vars st.
-    let o = rw c.before.before.before.before.before.before.before.before.before.before.before.n.given.1 at (c.before.before.before.before.before.before.before.before.before.before.before.before.before.before.before.goal-name.ensures known vars a.item.now st) in
-    goal_is a.text.now a.rest.now a.from a.base known vars a.c c.before.before.before.before.before.before.before.before.before.before.before.n.given.0.1.0 a.s.now c.before.before.before.before.before.before.before.before.before.before.before.before.before.before.before.goal-name.new.1.1.1.0 a.item.now c.before.before.before.before.before.before.compound.new.1.1.1.0 c.before.before.before.before.before.before.compound.new.1.1.1.1.0 c.before.before.before.before.before.before.compound.new.1.1.1.1.1.0 c.before.before.before.before.before.before.before.before.before.before.before.n.given.0.0 o.1 o.2 o.0 o.3 c.before.before.before.before.before.before.compound.result (c.before.before.before.before.before.before.compound.ensures (with_place o.1 o.0 known) vars o.3.stands o.0 o.3.number_is)
+    let o = rw c.before.before.before.before.before.before.before.before.before.before.in-Named.is at (c.before.before.before.before.before.before.before.before.before.before.before.before.before.goal_name.ensures known vars a.item.now st) in
+    goal_is a.text.now a.rest.now a.from a.base known vars a.c c.before.before.before.before.before.before.before.before.before.before.in-Named.d a.s.now c.before.before.before.before.before.before.before.before.before.before.before.before.before.goal_name.new.names a.item.now c.before.before.before.before.before.before.compound.new.s c.before.before.before.before.before.before.compound.new.names c.before.before.before.before.before.before.compound.new.item c.before.before.before.before.before.before.before.before.before.before.in-Named.n o.1 o.2 o.0 o.3 c.before.before.before.before.before.before.compound.result (c.before.before.before.before.before.before.compound.ensures (with_place o.1 o.0 known) vars o.3.stands o.0 o.3.number_is)
 
-same-length-4 : tie.Need-same-length-4
-same-length-4 c = search rules
+shape_of-names-in-NotNamed : tie.Need-shape_of-names-in-NotNamed
+shape_of-names-in-NotNamed c = search rules
 
-returns-2 : tie.Need-returns-2
-returns-2 c =
-    let a = c.before.before.before.before.before.before.before.before.before.before.before.before.args in
+returns-in-NotNamed : tie.Need-returns-in-NotNamed
+returns-in-NotNamed c =
+    let a = c.before.before.before.before.before.before.before.before.before.before.args in
     λ known vars st.
-    let o = rw c.before.a.given.1 at (c.before.before.before.before.before.goal-name.ensures known vars a.item.now st) in
+    let o = rw c.in-NotNamed.is at (c.before.before.before.goal_name.ensures known vars a.item.now st) in
     (o.0, o.1, only_same (item_start a.base) (item_end a.base) a.s.now)
 
-same-length-5 : tie.Need-same-length-5
-same-length-5 c = search rules
+shape_of-names-in-Overfull : tie.Need-shape_of-names-in-Overfull
+shape_of-names-in-Overfull c = search rules
 
-returns-3 : tie.Need-returns-3
-returns-3 c =
-    let a = c.before.before.before.before.before.before.before.before.before.before.before.args in
+returns-in-Overfull : tie.Need-returns-in-Overfull
+returns-in-Overfull c =
+    let a = c.before.before.before.before.before.before.before.before.before.before.args in
     λ known vars st.
-    let o = rw c.enum_told.given.1 at (c.before.before.before.before.goal-name.ensures known vars a.item.now st) in
+    let o = rw c.in-Overfull.is at (c.before.before.before.goal_name.ensures known vars a.item.now st) in
     (o, only_same (item_start a.base) (item_end a.base) a.s.now)
 
 pub goal_spec : {M : Type 1} → statement M
 goal_spec =
     tie.close
     (tie.spec
-    goal-name-requires
-    enum-known-n
+    goal_name-requires
+    enum_known-n
     compound-requires
-    enum-known-a
-    enum_told
-    same_length
-    same-length-2
-    same-length-3
-    returns
-    same-length-4
-    returns-2
-    same-length-5
-    returns-3)
+    enum_known-a
+    enum_told-1
+    shape_of-s
+    shape_of-names-in-Named
+    shape_of-item
+    returns-in-Named
+    shape_of-names-in-NotNamed
+    returns-in-NotNamed
+    shape_of-names-in-Overfull
+    returns-in-Overfull)

@@ -19,262 +19,262 @@ use borrow.Author.Rules.{rules}
 use Rattle.load_goals.proofs.goals.goals.Statement.{statement}
 use Rattle.load_goals.proofs.goals.goals.Tie as tie
 
-abbrev invariant-loop : tie.invariant-loop
-invariant-loop text rest from s₀ names₀ item₀ base place d₀ i₀ s names item d i = ((known : List Place) (vars : List Place) → Stands text rest from names₀ item₀ d₀ known vars
+abbrev invariant-loop-i : tie.invariant-loop-i
+invariant-loop-i text rest from s₀ names₀ item₀ base place d₀ i₀ s names item d i = ((known : List Place) (vars : List Place) → Stands text rest from names₀ item₀ d₀ known vars
     → (gs : List Named) × (ps : List Placed) × (length gs ≡ i) × Partly text rest from base place known vars d₀ s₀ item₀ s names item d gs ps)
     × (i ≤ 8)
     × (length s ≡ length s₀)
     × (length names ≡ length names₀)
     × (length item ≡ length item₀)
 
-abbrev decreases-loop : tie.decreases-loop
-decreases-loop text rest from s₀ names₀ item₀ base place d₀ i₀ s names item d i = 8 - i
+abbrev decreases-loop-i : tie.decreases-loop-i
+decreases-loop-i text rest from s₀ names₀ item₀ base place d₀ i₀ s names item d i = 8 - i
 
-loop-holds : tie.Need-loop-init invariant-loop decreases-loop
-loop-holds c =
+loop-i-init : tie.Need-loop-i-init invariant-loop-i decreases-loop-i
+loop-i-init c =
     let a = c.before.before.before.before.before.args in
     (λ known vars st. ([], [], refl, partly_none a.text.now a.rest.now a.from a.base a.place known vars a.c a.s.now a.names.now a.item.now st), omega arith, refl, refl, refl)
 
-goal-requires : tie.Need-goal-requires invariant-loop decreases-loop
+goal-requires : tie.Need-goal-requires invariant-loop-i decreases-loop-i
 goal-requires c κs =
     let a = c.before.before.before.before.before.before.before.before.before.before.args in
-    let l = c.before.before.before.before.loop in
-    let p = c.before.before.before.before.before.before.before.before.before.before.requires.1 in
+    let l = c.before.before.before.before.loop-i in
+    let p = c.before.before.before.before.before.before.before.before.before.before.requires.stands in
     let t = l.invariant.0 p.0 p.1 p.2 in
     ((omega arith, omega arith), (names_over t.1 p.0, variables_over a.from t.1 p.1, t.3.stands))
 
-enum-known-w : tie.Need-enum-known-w invariant-loop decreases-loop
-enum-known-w c = search rules
+enum_known-w : tie.Need-enum_known-w invariant-loop-i decreases-loop-i
+enum_known-w c = search rules
 
-add-s : tie.Need-overflow-add-s invariant-loop decreases-loop
-add-s c = search rules
+overflow_add-s : tie.Need-overflow_add-s invariant-loop-i decreases-loop-i
+overflow_add-s c = search rules
 
-mul-s : tie.Need-overflow-mul-s invariant-loop decreases-loop
-mul-s c = search rules
+offset_bounds-s-place : tie.Need-offset_bounds-s-place invariant-loop-i decreases-loop-i
+offset_bounds-s-place c = search rules
 
-slice-write-s : tie.Need-slice-write-s invariant-loop decreases-loop
-slice-write-s c = search rules
+bounds-s-place : tie.Need-bounds-s-place invariant-loop-i decreases-loop-i
+bounds-s-place c = search rules
 
-add-i : tie.Need-overflow-add-i invariant-loop decreases-loop
-add-i c = search rules
+overflow_add-i : tie.Need-overflow_add-i invariant-loop-i decreases-loop-i
+overflow_add-i c = search rules
 
-next-of-requires : tie.Need-next-of-requires invariant-loop decreases-loop
-next-of-requires c κs =
-    let a = c.before.before.before.before.before.before.before.before.before.before.before.before.before.before.before.before.before.before.before.before.args in
-    let l = c.before.before.before.before.before.before.before.before.before.before.before.before.before.before.loop in
-    let p = c.before.before.before.before.before.before.before.before.before.before.before.before.before.before.before.before.before.before.before.before.requires.1 in
+next_of-requires : tie.Need-next_of-requires invariant-loop-i decreases-loop-i
+next_of-requires c κs =
+    let a = c.before.before.before.before.before.before.before.before.before.before.before.before.before.before.before.before.before.before.args in
+    let l = c.before.before.before.before.before.before.before.before.before.before.before.before.loop-i in
+    let p = c.before.before.before.before.before.before.before.before.before.before.before.before.before.before.before.before.before.before.requires.stands in
     let t = l.invariant.0 p.0 p.1 p.2 in
     let known = p.0 in
     let vars = p.1 in
-    let gave = rw c.before.w.given.1 at (c.before.before.before.before.before.before.before.before.before.goal.ensures (names_over t.1 known) (variables_over a.from t.1 vars) t.3.stands) in
+    let gave = rw c.in-Got.is at (c.before.before.before.before.before.before.before.goal.ensures (names_over t.1 known) (variables_over a.from t.1 vars) t.3.stands) in
     gave.2.stands.inside
 
-enum-known-behind : tie.Need-enum-known-behind invariant-loop decreases-loop
-enum-known-behind c = search rules
+enum_known-behind : tie.Need-enum_known-behind invariant-loop-i decreases-loop-i
+enum_known-behind c = search rules
 
-loop-less : tie.Need-loop-smaller invariant-loop decreases-loop
-loop-less c = search rules
+loop-i-smaller : tie.Need-loop-i-smaller invariant-loop-i decreases-loop-i
+loop-i-smaller c = search rules
 
-loop-again : tie.Need-loop-preserved invariant-loop decreases-loop
-loop-again c =
-    let a = c.before.before.before.before.before.before.before.before.before.before.before.before.before.before.before.before.before.before.before.before.before.before.before.before.args in
-    let l = c.before.before.before.before.before.before.before.before.before.before.before.before.before.before.before.before.before.before.loop in (
+loop-i-preserved : tie.Need-loop-i-preserved invariant-loop-i decreases-loop-i
+loop-i-preserved c =
+    let a = c.before.before.before.before.before.before.before.before.before.before.before.before.before.before.before.before.before.before.before.before.args in
+    let l = c.before.before.before.before.before.before.before.before.before.before.before.before.before.before.loop-i in (
       (λ known vars st.
           let t = l.invariant.0 known vars st in
-          let gave = rw c.before.before.before.before.before.w.given.1 at (c.before.before.before.before.before.before.before.before.before.before.before.before.before.goal.ensures (names_over t.1 known) (variables_over a.from t.1 vars) t.3.stands) in
-          let room : length t.0 < 8 = omega (arith, t.2, c.before.before.before.before.before.before.before.before.before.before.before.before.before.before.before.before.before.loop-test.true) in
-          let next = rw c.before.behind.given.1 at c.before.before.before.next_of.ensures in
-          let new = partly_comma a.text.now a.rest.now a.from a.base a.place known vars a.c a.s.now a.item.now l.s l.names l.item l.d t.0 t.1 t.3 room c.before.before.before.before.before.before.before.before.before.before.before.before.before.goal.new.1.1.1.0 c.before.before.before.before.before.before.before.before.before.before.before.before.before.goal.new.1.1.1.1.0 c.before.before.before.before.before.before.before.before.before.before.before.before.before.goal.new.1.1.1.1.1.0 c.before.before.before.before.before.w.given.0.0 c.before.before.before.before.before.w.given.0.1.0 gave.0 gave.1 gave.2 c.before.before.before.before.before.before.before.before.before.before.before.before.before.before.before.before.before.before.before.before.before.before.before.before.requires.0.0 c.before.before.before.before.before.before.before.before.before.before.before.before.before.before.before.before.before.before.before.before.before.before.before.before.requires.0.1 c.before.behind.given.0.0 next in
+          let gave = rw c.before.before.in-Got.is at (c.before.before.before.before.before.before.before.before.before.goal.ensures (names_over t.1 known) (variables_over a.from t.1 vars) t.3.stands) in
+          let room : length t.0 < 8 = omega (arith, t.2, c.before.before.before.before.before.before.before.before.before.before.before.before.before.loop-i-test.true) in
+          let next = rw c.in-First.is at c.before.next_of.ensures in
+          let new = partly_comma a.text.now a.rest.now a.from a.base a.place known vars a.c a.s.now a.item.now l.s l.names l.item l.d t.0 t.1 t.3 room c.before.before.before.before.before.before.before.before.before.goal.new.s c.before.before.before.before.before.before.before.before.before.goal.new.names c.before.before.before.before.before.before.before.before.before.goal.new.item c.before.before.in-Got.w c.before.before.in-Got.e gave.0 gave.1 gave.2 c.before.before.before.before.before.before.before.before.before.before.before.before.before.before.before.before.before.before.before.before.requires.item_compounds_bound.0 c.before.before.before.before.before.before.before.before.before.before.before.before.before.before.before.before.before.before.before.before.requires.item_compounds_bound.1 c.in-First.behind next in
           (_, _, length_snoc t.0 gave.0 ∙ ap (λ n. n + 1) t.2, rw t.2 at new)),
       omega arith,
-      simp length-set (c.before.before.before.before.before.before.before.before.before.before.before.before.before.goal.auto.1.1.1.0 ∙ l.invariant.2),
-      c.before.before.before.before.before.before.before.before.before.before.before.before.before.goal.auto.1.1.1.1.0 ∙ l.invariant.3,
-      c.before.before.before.before.before.before.before.before.before.before.before.before.before.goal.auto.1.1.1.1.1.0 ∙ l.invariant.4,
+      simp length-set (c.before.before.before.before.before.before.before.before.before.goal.auto.s ∙ l.invariant.2),
+      c.before.before.before.before.before.before.before.before.before.goal.auto.names ∙ l.invariant.3,
+      c.before.before.before.before.before.before.before.before.before.goal.auto.item ∙ l.invariant.4,
     )
 
-enum-known-behind-2 : tie.Need-enum-known-behind-2 invariant-loop decreases-loop
-enum-known-behind-2 c = search rules
+enum_known-behind-in-Second-1 : tie.Need-enum_known-behind-in-Second-1 invariant-loop-i decreases-loop-i
+enum_known-behind-in-Second-1 c = search rules
 
-word-requires : tie.Need-word-requires invariant-loop decreases-loop
+word-requires : tie.Need-word-requires invariant-loop-i decreases-loop-i
 word-requires c κs = search rules
 
-same_length : tie.Need-same-length invariant-loop decreases-loop
-same_length c = simp length-set (c.before.before.before.before.before.before.before.before.before.before.before.before.before.before.goal.auto.1.1.1.0 ∙ c.before.before.before.before.before.before.before.before.before.before.before.before.before.before.before.before.before.before.before.loop.invariant.2)
+shape_of-s-in-Second : tie.Need-shape_of-s-in-Second invariant-loop-i decreases-loop-i
+shape_of-s-in-Second c = simp length-set (c.before.before.before.before.before.before.before.before.before.before.goal.auto.s ∙ c.before.before.before.before.before.before.before.before.before.before.before.before.before.before.before.loop-i.invariant.2)
 
-same-length-2 : tie.Need-same-length-2 invariant-loop decreases-loop
-same-length-2 c = c.before.before.before.before.before.before.before.before.before.before.before.before.before.before.goal.auto.1.1.1.1.0 ∙ c.before.before.before.before.before.before.before.before.before.before.before.before.before.before.before.before.before.before.before.loop.invariant.3
+shape_of-names-in-Second : tie.Need-shape_of-names-in-Second invariant-loop-i decreases-loop-i
+shape_of-names-in-Second c = c.before.before.before.before.before.before.before.before.before.before.goal.auto.names ∙ c.before.before.before.before.before.before.before.before.before.before.before.before.before.before.before.loop-i.invariant.3
 
-same-length-3 : tie.Need-same-length-3 invariant-loop decreases-loop
-same-length-3 c = c.before.before.before.before.before.before.before.before.before.before.before.before.before.before.goal.auto.1.1.1.1.1.0 ∙ c.before.before.before.before.before.before.before.before.before.before.before.before.before.before.before.before.before.before.before.loop.invariant.4
+shape_of-item-in-Second : tie.Need-shape_of-item-in-Second invariant-loop-i decreases-loop-i
+shape_of-item-in-Second c = c.before.before.before.before.before.before.before.before.before.before.goal.auto.item ∙ c.before.before.before.before.before.before.before.before.before.before.before.before.before.before.before.loop-i.invariant.4
 
-returns : tie.Need-returns invariant-loop decreases-loop
-returns c =
-    let a = c.before.before.before.before.before.before.before.before.before.before.before.before.before.before.before.before.before.before.before.before.before.before.before.before.before.args in
-    let l = c.before.before.before.before.before.before.before.before.before.before.before.before.before.before.before.before.before.before.before.loop in
+returns-in-Second : tie.Need-returns-in-Second invariant-loop-i decreases-loop-i
+returns-in-Second c =
+    let a = c.before.before.before.before.before.before.before.before.before.before.before.before.before.before.before.before.before.before.before.before.before.args in
+    let l = c.before.before.before.before.before.before.before.before.before.before.before.before.before.before.before.loop-i in
     λ known vars st.
     let t = l.invariant.0 known vars st in
-    let gave = rw c.before.before.before.before.before.before.w.given.1 at (c.before.before.before.before.before.before.before.before.before.before.before.before.before.before.goal.ensures (names_over t.1 known) (variables_over a.from t.1 vars) t.3.stands) in
-    let room : length t.0 < 8 = omega (arith, t.2, c.before.before.before.before.before.before.before.before.before.before.before.before.before.before.before.before.before.before.loop-test.true) in
-    let next = rw c.before.before.behind2.given.1 at c.before.before.before.before.next_of.ensures in
+    let gave = rw c.before.before.before.in-Got.is at (c.before.before.before.before.before.before.before.before.before.before.goal.ensures (names_over t.1 known) (variables_over a.from t.1 vars) t.3.stands) in
+    let room : length t.0 < 8 = omega (arith, t.2, c.before.before.before.before.before.before.before.before.before.before.before.before.before.before.loop-i-test.true) in
+    let next = rw c.before.in-Second.is at c.before.before.next_of.ensures in
     let count : c.word.result ≡ length t.0 + 1 = omega (arith, t.2, c.word.ensures) in
-    let new = partly_stop a.text.now a.rest.now a.from a.base a.place known vars a.c a.s.now a.item.now l.s l.names l.item l.d t.0 t.1 t.3 room c.before.before.before.before.before.before.before.before.before.before.before.before.before.before.goal.new.1.1.1.0 c.before.before.before.before.before.before.before.before.before.before.before.before.before.before.goal.new.1.1.1.1.0 c.before.before.before.before.before.before.before.before.before.before.before.before.before.before.goal.new.1.1.1.1.1.0 c.before.before.before.before.before.before.w.given.0.0 c.before.before.before.before.before.before.w.given.0.1.0 gave.0 gave.1 gave.2 c.before.before.before.before.before.before.before.before.before.before.before.before.before.before.before.before.before.before.before.before.before.before.before.before.before.requires.0.0 c.before.before.before.before.before.before.before.before.before.before.before.before.before.before.before.before.before.before.before.before.before.before.before.before.before.requires.0.1 c.before.before.behind2.given.0.0 c.word.result count next.1 in
+    let new = partly_stop a.text.now a.rest.now a.from a.base a.place known vars a.c a.s.now a.item.now l.s l.names l.item l.d t.0 t.1 t.3 room c.before.before.before.before.before.before.before.before.before.before.goal.new.s c.before.before.before.before.before.before.before.before.before.before.goal.new.names c.before.before.before.before.before.before.before.before.before.before.goal.new.item c.before.before.before.in-Got.w c.before.before.before.in-Got.e gave.0 gave.1 gave.2 c.before.before.before.before.before.before.before.before.before.before.before.before.before.before.before.before.before.before.before.before.before.requires.item_compounds_bound.0 c.before.before.before.before.before.before.before.before.before.before.before.before.before.before.before.before.before.before.before.before.before.requires.item_compounds_bound.1 c.before.in-Second.behind c.word.result count next.1 in
     (_, _, _, rw t.2 at new)
 
-enum-known-a : tie.Need-enum-known-a invariant-loop decreases-loop
-enum-known-a c = search rules
+enum_known-a : tie.Need-enum_known-a invariant-loop-i decreases-loop-i
+enum_known-a c = search rules
 
-same-length-4 : tie.Need-same-length-4 invariant-loop decreases-loop
-same-length-4 c = simp length-set (c.before.before.before.before.before.before.before.before.before.before.before.before.before.goal.auto.1.1.1.0 ∙ c.before.before.before.before.before.before.before.before.before.before.before.before.before.before.before.before.before.before.loop.invariant.2)
+shape_of-s-in-Third : tie.Need-shape_of-s-in-Third invariant-loop-i decreases-loop-i
+shape_of-s-in-Third c = simp length-set (c.before.before.before.before.before.before.before.before.before.goal.auto.s ∙ c.before.before.before.before.before.before.before.before.before.before.before.before.before.before.loop-i.invariant.2)
 
-same-length-5 : tie.Need-same-length-5 invariant-loop decreases-loop
-same-length-5 c = c.before.before.before.before.before.before.before.before.before.before.before.before.before.goal.auto.1.1.1.1.0 ∙ c.before.before.before.before.before.before.before.before.before.before.before.before.before.before.before.before.before.before.loop.invariant.3
+shape_of-names-in-Third : tie.Need-shape_of-names-in-Third invariant-loop-i decreases-loop-i
+shape_of-names-in-Third c = c.before.before.before.before.before.before.before.before.before.goal.auto.names ∙ c.before.before.before.before.before.before.before.before.before.before.before.before.before.before.loop-i.invariant.3
 
-same-length-6 : tie.Need-same-length-6 invariant-loop decreases-loop
-same-length-6 c = c.before.before.before.before.before.before.before.before.before.before.before.before.before.goal.auto.1.1.1.1.1.0 ∙ c.before.before.before.before.before.before.before.before.before.before.before.before.before.before.before.before.before.before.loop.invariant.4
+shape_of-item-in-Third : tie.Need-shape_of-item-in-Third invariant-loop-i decreases-loop-i
+shape_of-item-in-Third c = c.before.before.before.before.before.before.before.before.before.goal.auto.item ∙ c.before.before.before.before.before.before.before.before.before.before.before.before.before.before.loop-i.invariant.4
 
-returns-2 : tie.Need-returns-2 invariant-loop decreases-loop
-returns-2 c =
-    let k = rw c.before.a.given.1 at c.before.before.before.next_of.ensures in
+returns-in-Third : tie.Need-returns-in-Third invariant-loop-i decreases-loop-i
+returns-in-Third c =
+    let k = rw c.in-Third.is at c.before.next_of.ensures in
     λ known vars st. never k.1
 
-enum-known-a-2 : tie.Need-enum-known-a-2 invariant-loop decreases-loop
-enum-known-a-2 c = search rules
+enum_known-a-in-Other-1 : tie.Need-enum_known-a-in-Other-1 invariant-loop-i decreases-loop-i
+enum_known-a-in-Other-1 c = search rules
 
-same-length-7 : tie.Need-same-length-7 invariant-loop decreases-loop
-same-length-7 c = simp length-set (c.before.before.before.before.before.before.before.before.before.before.before.before.before.goal.auto.1.1.1.0 ∙ c.before.before.before.before.before.before.before.before.before.before.before.before.before.before.before.before.before.before.loop.invariant.2)
+shape_of-s-in-Other : tie.Need-shape_of-s-in-Other invariant-loop-i decreases-loop-i
+shape_of-s-in-Other c = simp length-set (c.before.before.before.before.before.before.before.before.before.goal.auto.s ∙ c.before.before.before.before.before.before.before.before.before.before.before.before.before.before.loop-i.invariant.2)
 
-same-length-8 : tie.Need-same-length-8 invariant-loop decreases-loop
-same-length-8 c = c.before.before.before.before.before.before.before.before.before.before.before.before.before.goal.auto.1.1.1.1.0 ∙ c.before.before.before.before.before.before.before.before.before.before.before.before.before.before.before.before.before.before.loop.invariant.3
+shape_of-names-in-Other : tie.Need-shape_of-names-in-Other invariant-loop-i decreases-loop-i
+shape_of-names-in-Other c = c.before.before.before.before.before.before.before.before.before.goal.auto.names ∙ c.before.before.before.before.before.before.before.before.before.before.before.before.before.before.loop-i.invariant.3
 
-same-length-9 : tie.Need-same-length-9 invariant-loop decreases-loop
-same-length-9 c = c.before.before.before.before.before.before.before.before.before.before.before.before.before.goal.auto.1.1.1.1.1.0 ∙ c.before.before.before.before.before.before.before.before.before.before.before.before.before.before.before.before.before.before.loop.invariant.4
+shape_of-item-in-Other : tie.Need-shape_of-item-in-Other invariant-loop-i decreases-loop-i
+shape_of-item-in-Other c = c.before.before.before.before.before.before.before.before.before.goal.auto.item ∙ c.before.before.before.before.before.before.before.before.before.before.before.before.before.before.loop-i.invariant.4
 
-returns-3 : tie.Need-returns-3 invariant-loop decreases-loop
-returns-3 c =
-    let a = c.before.before.before.before.before.before.before.before.before.before.before.before.before.before.before.before.before.before.before.before.before.before.before.before.args in
-    let l = c.before.before.before.before.before.before.before.before.before.before.before.before.before.before.before.before.before.before.loop in
-    λ known vars st.
-    let t = l.invariant.0 known vars st in
-    let gave = rw c.before.before.before.before.before.w.given.1 at (c.before.before.before.before.before.before.before.before.before.before.before.before.before.goal.ensures (names_over t.1 known) (variables_over a.from t.1 vars) t.3.stands) in
-    let room : length t.0 < 8 = omega (arith, t.2, c.before.before.before.before.before.before.before.before.before.before.before.before.before.before.before.before.before.loop-test.true) in
-    let stops = rw c.before.a2.given.1 at c.before.before.before.next_of.ensures in
-    (partly_other a.text.now a.rest.now a.from a.base a.place known vars a.c a.s.now a.item.now l.s l.names l.item l.d t.0 t.1 t.3 room c.before.before.before.before.before.before.before.before.before.before.before.before.before.goal.new.1.1.1.0 c.before.before.before.before.before.before.before.before.before.before.before.before.before.goal.new.1.1.1.1.0 c.before.before.before.before.before.before.before.before.before.before.before.before.before.goal.new.1.1.1.1.1.0 c.before.before.before.before.before.w.given.0.0 c.before.before.before.before.before.w.given.0.1.0 gave.0 gave.1 gave.2 c.before.before.before.before.before.before.before.before.before.before.before.before.before.before.before.before.before.before.before.before.before.before.before.before.requires.0.0 c.before.before.before.before.before.before.before.before.before.before.before.before.before.before.before.before.before.before.before.before.before.before.before.before.requires.0.1 (a.from + c.before.a2.given.0.0) (stops.1 a.from), stops.0, rw t.2 at (grown_only a.text.now a.rest.now a.from a.base a.place known vars a.c a.s.now a.item.now l.s l.names l.item l.d t.0 t.1 t.3 room c.before.before.before.before.before.before.before.before.before.before.before.before.before.goal.new.1.1.1.0 c.before.before.before.before.before.before.before.before.before.before.before.before.before.goal.new.1.1.1.1.0 c.before.before.before.before.before.before.before.before.before.before.before.before.before.goal.new.1.1.1.1.1.0 c.before.before.before.before.before.w.given.0.0 c.before.before.before.before.before.w.given.0.1.0 gave.0 gave.1 gave.2 c.before.before.before.before.before.before.before.before.before.before.before.before.before.before.before.before.before.before.before.before.before.before.before.before.requires.0.0 c.before.before.before.before.before.before.before.before.before.before.before.before.before.before.before.before.before.before.before.before.before.before.before.before.requires.0.1))
-
-enum-known-a-3 : tie.Need-enum-known-a-3 invariant-loop decreases-loop
-enum-known-a-3 c = search rules
-
-same-length-10 : tie.Need-same-length-10 invariant-loop decreases-loop
-same-length-10 c = c.before.before.before.before.before.before.before.before.before.goal.auto.1.1.1.0 ∙ c.before.before.before.before.before.before.before.before.before.before.before.before.before.before.loop.invariant.2
-
-same-length-11 : tie.Need-same-length-11 invariant-loop decreases-loop
-same-length-11 c = c.before.before.before.before.before.before.before.before.before.goal.auto.1.1.1.1.0 ∙ c.before.before.before.before.before.before.before.before.before.before.before.before.before.before.loop.invariant.3
-
-same-length-12 : tie.Need-same-length-12 invariant-loop decreases-loop
-same-length-12 c = c.before.before.before.before.before.before.before.before.before.goal.auto.1.1.1.1.1.0 ∙ c.before.before.before.before.before.before.before.before.before.before.before.before.before.before.loop.invariant.4
-
-returns-4 : tie.Need-returns-4 invariant-loop decreases-loop
-returns-4 c =
+returns-in-Other : tie.Need-returns-in-Other invariant-loop-i decreases-loop-i
+returns-in-Other c =
     let a = c.before.before.before.before.before.before.before.before.before.before.before.before.before.before.before.before.before.before.before.before.args in
-    let l = c.before.before.before.before.before.before.before.before.before.before.before.before.before.before.loop in
+    let l = c.before.before.before.before.before.before.before.before.before.before.before.before.before.before.loop-i in
     λ known vars st.
     let t = l.invariant.0 known vars st in
-    let room : length t.0 < 8 = omega (arith, t.2, c.before.before.before.before.before.before.before.before.before.before.before.before.before.loop-test.true) in
-    let bad = rw c.before.a3.given.1 at (c.before.before.before.before.before.before.before.before.before.goal.ensures (names_over t.1 known) (variables_over a.from t.1 vars) t.3.stands) in
-    (partly_malformed a.text.now a.rest.now a.from a.base a.place known vars a.c a.s.now a.item.now l.s l.names l.item l.d t.0 t.1 t.3 room (a.from + c.before.a3.given.0.0) bad.0, bad.1, only_then 0 trial_region a.s.now l.s c.before.before.before.before.before.before.before.before.before.goal.new.1.1.1.0 t.3.only (only_wider (item_start a.base) (item_end a.base) 0 trial_region l.s c.before.before.before.before.before.before.before.before.before.goal.new.1.1.1.0 (omega arith) (omega (arith, c.before.before.before.before.before.before.before.before.before.before.before.before.before.before.before.before.before.before.before.before.requires.0.0)) bad.2))
+    let gave = rw c.before.before.in-Got.is at (c.before.before.before.before.before.before.before.before.before.goal.ensures (names_over t.1 known) (variables_over a.from t.1 vars) t.3.stands) in
+    let room : length t.0 < 8 = omega (arith, t.2, c.before.before.before.before.before.before.before.before.before.before.before.before.before.loop-i-test.true) in
+    let stops = rw c.in-Other.is at c.before.next_of.ensures in
+    (partly_other a.text.now a.rest.now a.from a.base a.place known vars a.c a.s.now a.item.now l.s l.names l.item l.d t.0 t.1 t.3 room c.before.before.before.before.before.before.before.before.before.goal.new.s c.before.before.before.before.before.before.before.before.before.goal.new.names c.before.before.before.before.before.before.before.before.before.goal.new.item c.before.before.in-Got.w c.before.before.in-Got.e gave.0 gave.1 gave.2 c.before.before.before.before.before.before.before.before.before.before.before.before.before.before.before.before.before.before.before.before.requires.item_compounds_bound.0 c.before.before.before.before.before.before.before.before.before.before.before.before.before.before.before.before.before.before.before.before.requires.item_compounds_bound.1 (a.from + c.in-Other.a) (stops.1 a.from), stops.0, rw t.2 at (grown_only a.text.now a.rest.now a.from a.base a.place known vars a.c a.s.now a.item.now l.s l.names l.item l.d t.0 t.1 t.3 room c.before.before.before.before.before.before.before.before.before.goal.new.s c.before.before.before.before.before.before.before.before.before.goal.new.names c.before.before.before.before.before.before.before.before.before.goal.new.item c.before.before.in-Got.w c.before.before.in-Got.e gave.0 gave.1 gave.2 c.before.before.before.before.before.before.before.before.before.before.before.before.before.before.before.before.before.before.before.before.requires.item_compounds_bound.0 c.before.before.before.before.before.before.before.before.before.before.before.before.before.before.before.before.before.before.before.before.requires.item_compounds_bound.1))
 
-enum_told : tie.Need-enum-told invariant-loop decreases-loop
-enum_told c = search rules
+enum_known-a-in-Malformed-1 : tie.Need-enum_known-a-in-Malformed-1 invariant-loop-i decreases-loop-i
+enum_known-a-in-Malformed-1 c = search rules
 
-same-length-13 : tie.Need-same-length-13 invariant-loop decreases-loop
-same-length-13 c = c.before.before.before.before.before.before.before.before.goal.auto.1.1.1.0 ∙ c.before.before.before.before.before.before.before.before.before.before.before.before.before.loop.invariant.2
+shape_of-s-in-Malformed : tie.Need-shape_of-s-in-Malformed invariant-loop-i decreases-loop-i
+shape_of-s-in-Malformed c = c.before.before.before.before.before.before.before.goal.auto.s ∙ c.before.before.before.before.before.before.before.before.before.before.before.before.loop-i.invariant.2
 
-same-length-14 : tie.Need-same-length-14 invariant-loop decreases-loop
-same-length-14 c = c.before.before.before.before.before.before.before.before.goal.auto.1.1.1.1.0 ∙ c.before.before.before.before.before.before.before.before.before.before.before.before.before.loop.invariant.3
+shape_of-names-in-Malformed : tie.Need-shape_of-names-in-Malformed invariant-loop-i decreases-loop-i
+shape_of-names-in-Malformed c = c.before.before.before.before.before.before.before.goal.auto.names ∙ c.before.before.before.before.before.before.before.before.before.before.before.before.loop-i.invariant.3
 
-same-length-15 : tie.Need-same-length-15 invariant-loop decreases-loop
-same-length-15 c = c.before.before.before.before.before.before.before.before.goal.auto.1.1.1.1.1.0 ∙ c.before.before.before.before.before.before.before.before.before.before.before.before.before.loop.invariant.4
+shape_of-item-in-Malformed : tie.Need-shape_of-item-in-Malformed invariant-loop-i decreases-loop-i
+shape_of-item-in-Malformed c = c.before.before.before.before.before.before.before.goal.auto.item ∙ c.before.before.before.before.before.before.before.before.before.before.before.before.loop-i.invariant.4
 
-returns-5 : tie.Need-returns-5 invariant-loop decreases-loop
-returns-5 c =
-    let a = c.before.before.before.before.before.before.before.before.before.before.before.before.before.before.before.before.before.before.before.args in
-    let l = c.before.before.before.before.before.before.before.before.before.before.before.before.before.loop in
+returns-in-Malformed : tie.Need-returns-in-Malformed invariant-loop-i decreases-loop-i
+returns-in-Malformed c =
+    let a = c.before.before.before.before.before.before.before.before.before.before.before.before.before.before.before.before.before.before.args in
+    let l = c.before.before.before.before.before.before.before.before.before.before.before.before.loop-i in
     λ known vars st.
     let t = l.invariant.0 known vars st in
-    let room : length t.0 < 8 = omega (arith, t.2, c.before.before.before.before.before.before.before.before.before.before.before.before.loop-test.true) in
-    let bad = rw c.enum_told.given.1 at (c.before.before.before.before.before.before.before.before.goal.ensures (names_over t.1 known) (variables_over a.from t.1 vars) t.3.stands) in
-    (partly_passed a.text.now a.rest.now a.from a.base a.place known vars a.c a.s.now a.item.now l.s l.names l.item l.d t.0 t.1 t.3 room bad.0, only_then 0 trial_region a.s.now l.s c.before.before.before.before.before.before.before.before.goal.new.1.1.1.0 t.3.only (only_wider (item_start a.base) (item_end a.base) 0 trial_region l.s c.before.before.before.before.before.before.before.before.goal.new.1.1.1.0 (omega arith) (omega (arith, c.before.before.before.before.before.before.before.before.before.before.before.before.before.before.before.before.before.before.before.requires.0.0)) bad.1))
+    let room : length t.0 < 8 = omega (arith, t.2, c.before.before.before.before.before.before.before.before.before.before.before.loop-i-test.true) in
+    let bad = rw c.in-Malformed.is at (c.before.before.before.before.before.before.before.goal.ensures (names_over t.1 known) (variables_over a.from t.1 vars) t.3.stands) in
+    (partly_malformed a.text.now a.rest.now a.from a.base a.place known vars a.c a.s.now a.item.now l.s l.names l.item l.d t.0 t.1 t.3 room (a.from + c.in-Malformed.a) bad.0, bad.1, only_then 0 trial_region a.s.now l.s c.before.before.before.before.before.before.before.goal.new.s t.3.only (only_wider (item_start a.base) (item_end a.base) 0 trial_region l.s c.before.before.before.before.before.before.before.goal.new.s (omega arith) (omega (arith, c.before.before.before.before.before.before.before.before.before.before.before.before.before.before.before.before.before.before.requires.item_compounds_bound.0)) bad.2))
 
-ninth-requires : tie.Need-ninth-requires invariant-loop decreases-loop
+enum_told-1 : tie.Need-enum_told-1 invariant-loop-i decreases-loop-i
+enum_told-1 c = search rules
+
+shape_of-s-in-Exceeded : tie.Need-shape_of-s-in-Exceeded invariant-loop-i decreases-loop-i
+shape_of-s-in-Exceeded c = c.before.before.before.before.before.before.before.goal.auto.s ∙ c.before.before.before.before.before.before.before.before.before.before.before.before.loop-i.invariant.2
+
+shape_of-names-in-Exceeded : tie.Need-shape_of-names-in-Exceeded invariant-loop-i decreases-loop-i
+shape_of-names-in-Exceeded c = c.before.before.before.before.before.before.before.goal.auto.names ∙ c.before.before.before.before.before.before.before.before.before.before.before.before.loop-i.invariant.3
+
+shape_of-item-in-Exceeded : tie.Need-shape_of-item-in-Exceeded invariant-loop-i decreases-loop-i
+shape_of-item-in-Exceeded c = c.before.before.before.before.before.before.before.goal.auto.item ∙ c.before.before.before.before.before.before.before.before.before.before.before.before.loop-i.invariant.4
+
+returns-in-Exceeded : tie.Need-returns-in-Exceeded invariant-loop-i decreases-loop-i
+returns-in-Exceeded c =
+    let a = c.before.before.before.before.before.before.before.before.before.before.before.before.before.before.before.before.before.before.args in
+    let l = c.before.before.before.before.before.before.before.before.before.before.before.before.loop-i in
+    λ known vars st.
+    let t = l.invariant.0 known vars st in
+    let room : length t.0 < 8 = omega (arith, t.2, c.before.before.before.before.before.before.before.before.before.before.before.loop-i-test.true) in
+    let bad = rw c.in-Exceeded.is at (c.before.before.before.before.before.before.before.goal.ensures (names_over t.1 known) (variables_over a.from t.1 vars) t.3.stands) in
+    (partly_passed a.text.now a.rest.now a.from a.base a.place known vars a.c a.s.now a.item.now l.s l.names l.item l.d t.0 t.1 t.3 room bad.0, only_then 0 trial_region a.s.now l.s c.before.before.before.before.before.before.before.goal.new.s t.3.only (only_wider (item_start a.base) (item_end a.base) 0 trial_region l.s c.before.before.before.before.before.before.before.goal.new.s (omega arith) (omega (arith, c.before.before.before.before.before.before.before.before.before.before.before.before.before.before.before.before.before.before.requires.item_compounds_bound.0)) bad.1))
+
+ninth-requires : tie.Need-ninth-requires invariant-loop-i decreases-loop-i
 ninth-requires c κs =
     let a = c.before.before.before.before.before.before.before.args in
-    let l = c.before.loop in
-    let p = c.before.before.before.before.before.before.before.requires.1 in
+    let l = c.before.loop-i in
+    let p = c.before.before.before.before.before.before.before.requires.stands in
     let t = l.invariant.0 p.0 p.1 p.2 in
     t.3.stands.inside
 
-same-length-16 : tie.Need-same-length-16 invariant-loop decreases-loop
-same-length-16 c = c.before.before.loop.invariant.2
+shape_of-s : tie.Need-shape_of-s invariant-loop-i decreases-loop-i
+shape_of-s c = c.before.before.loop-i.invariant.2
 
-same-length-17 : tie.Need-same-length-17 invariant-loop decreases-loop
-same-length-17 c = c.before.before.loop.invariant.3
+shape_of-names : tie.Need-shape_of-names invariant-loop-i decreases-loop-i
+shape_of-names c = c.before.before.loop-i.invariant.3
 
-same-length-18 : tie.Need-same-length-18 invariant-loop decreases-loop
-same-length-18 c = c.before.before.loop.invariant.4
+shape_of-item : tie.Need-shape_of-item invariant-loop-i decreases-loop-i
+shape_of-item c = c.before.before.loop-i.invariant.4
 
-returns-6 : tie.Need-returns-6 invariant-loop decreases-loop
-returns-6 c =
+returns : tie.Need-returns invariant-loop-i decreases-loop-i
+returns c =
     let a = c.before.before.before.before.before.before.before.before.args in
-    let l = c.before.before.loop in
+    let l = c.before.before.loop-i in
     λ known vars st.
     let t = l.invariant.0 known vars st in
-    let full : length t.0 ≡ 8 = omega (arith, t.2, l.invariant.1, c.before.loop-test.false) in
+    let full : length t.0 ≡ 8 = omega (arith, t.2, l.invariant.1, c.before.loop-i-test.false) in
     partly_ninth a.text.now a.rest.now a.from a.base a.place known vars a.c a.s.now a.item.now l.s l.names l.item l.d t.0 t.1 t.3 full c.ninth.result c.ninth.ensures
 
 pub goals_spec : {M : Type 1} → statement M
 goals_spec =
     tie.close
     (tie.spec
-    invariant-loop
-    decreases-loop
-    loop-holds
+    invariant-loop-i
+    decreases-loop-i
+    loop-i-init
     goal-requires
-    enum-known-w
-    add-s
-    mul-s
-    slice-write-s
-    add-i
-    next-of-requires
-    enum-known-behind
-    loop-less
-    loop-again
-    enum-known-behind-2
+    enum_known-w
+    overflow_add-s
+    offset_bounds-s-place
+    bounds-s-place
+    overflow_add-i
+    next_of-requires
+    enum_known-behind
+    loop-i-smaller
+    loop-i-preserved
+    enum_known-behind-in-Second-1
     word-requires
-    same_length
-    same-length-2
-    same-length-3
-    returns
-    enum-known-a
-    same-length-4
-    same-length-5
-    same-length-6
-    returns-2
-    enum-known-a-2
-    same-length-7
-    same-length-8
-    same-length-9
-    returns-3
-    enum-known-a-3
-    same-length-10
-    same-length-11
-    same-length-12
-    returns-4
-    enum_told
-    same-length-13
-    same-length-14
-    same-length-15
-    returns-5
+    shape_of-s-in-Second
+    shape_of-names-in-Second
+    shape_of-item-in-Second
+    returns-in-Second
+    enum_known-a
+    shape_of-s-in-Third
+    shape_of-names-in-Third
+    shape_of-item-in-Third
+    returns-in-Third
+    enum_known-a-in-Other-1
+    shape_of-s-in-Other
+    shape_of-names-in-Other
+    shape_of-item-in-Other
+    returns-in-Other
+    enum_known-a-in-Malformed-1
+    shape_of-s-in-Malformed
+    shape_of-names-in-Malformed
+    shape_of-item-in-Malformed
+    returns-in-Malformed
+    enum_told-1
+    shape_of-s-in-Exceeded
+    shape_of-names-in-Exceeded
+    shape_of-item-in-Exceeded
+    returns-in-Exceeded
     ninth-requires
-    same-length-16
-    same-length-17
-    same-length-18
-    returns-6)
+    shape_of-s
+    shape_of-names
+    shape_of-item
+    returns)

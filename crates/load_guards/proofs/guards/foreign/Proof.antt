@@ -11,98 +11,98 @@ use Rattle.load_guards.proofs.Foreign.{fine, has_writer, has_reader, no_reader, 
 use Rattle.load_guards.proofs.guards.foreign.Statement.{statement}
 use Rattle.load_guards.proofs.guards.foreign.Tie as tie
 
-abbrev invariant-loop : tie.invariant-loop
-invariant-loop item heads pairs n₀ n = (all (fine item heads) (up_to n) ≡ true) × (n ≤ pairs)
+abbrev invariant-loop-n : tie.invariant-loop-n
+invariant-loop-n item heads pairs n₀ n = (all (fine item heads) (up_to n) ≡ true) × (n ≤ pairs)
 
-abbrev decreases-loop : tie.decreases-loop
-decreases-loop item heads pairs n₀ n = pairs - n
+abbrev decreases-loop-n : tie.decreases-loop-n
+decreases-loop-n item heads pairs n₀ n = pairs - n
 
-loop-holds : tie.Need-loop-init invariant-loop decreases-loop
-loop-holds c = (all_none (fine c.args.item.now c.args.heads.now), omega arith)
+loop-n-init : tie.Need-loop-n-init invariant-loop-n decreases-loop-n
+loop-n-init c = (all_none (fine c.args.item.now c.args.heads.now), omega arith)
 
-add-if1 : tie.Need-overflow-add-if1 invariant-loop decreases-loop
-add-if1 c = search rules
+overflow_add-n : tie.Need-overflow_add-n invariant-loop-n decreases-loop-n
+overflow_add-n c = search rules
 
-mul-if1 : tie.Need-overflow-mul-if1 invariant-loop decreases-loop
-mul-if1 c = search rules
+offset_bounds-item-n : tie.Need-offset_bounds-item-n invariant-loop-n decreases-loop-n
+offset_bounds-item-n c = search rules
 
-shared-slice-read-if1 : tie.Need-shared-slice-read-if1 invariant-loop decreases-loop
-shared-slice-read-if1 c = search rules
+bounds-item-n : tie.Need-bounds-item-n invariant-loop-n decreases-loop-n
+bounds-item-n c = search rules
 
-returns : tie.Need-returns invariant-loop decreases-loop
-returns c head es gs k e =
+returns-then-item-n-ne0 : tie.Need-returns-then-item-n-ne0 invariant-loop-n decreases-loop-n
+returns-then-item-n-ne0 c head es gs k e =
     let at = c.before.before.before in
     let start = at.before in
     let a = start.args in
     rw (sym (all_fine a.item.now a.heads.now a.pairs start.requires.2 head es gs k e)
-    ∙ all_fails (fine a.item.now a.heads.now) a.pairs at.loop.n (omega arith) (has_writer a.item.now a.heads.now at.loop.n c.if1.true)) refl
+    ∙ all_fails (fine a.item.now a.heads.now) a.pairs at.loop-n.n (omega arith) (has_writer a.item.now a.heads.now at.loop-n.n c.if-item-n-ne0.true)) refl
 
-add-if2 : tie.Need-overflow-add-if2 invariant-loop decreases-loop
-add-if2 c = search rules
+overflow_add-n-in-loop-n : tie.Need-overflow_add-n-in-loop-n invariant-loop-n decreases-loop-n
+overflow_add-n-in-loop-n c = search rules
 
-mul-if2 : tie.Need-overflow-mul-if2 invariant-loop decreases-loop
-mul-if2 c = search rules
+offset_bounds-item-n-in-loop-n : tie.Need-offset_bounds-item-n-in-loop-n invariant-loop-n decreases-loop-n
+offset_bounds-item-n-in-loop-n c = search rules
 
-shared-slice-read-if2 : tie.Need-shared-slice-read-if2 invariant-loop decreases-loop
-shared-slice-read-if2 c = search rules
+bounds-item-n-in-loop-n : tie.Need-bounds-item-n-in-loop-n invariant-loop-n decreases-loop-n
+bounds-item-n-in-loop-n c = search rules
 
-mul-if3 : tie.Need-overflow-mul-if3 invariant-loop decreases-loop
-mul-if3 c = search rules
+offset_bounds-heads-n : tie.Need-offset_bounds-heads-n invariant-loop-n decreases-loop-n
+offset_bounds-heads-n c = search rules
 
-shared-slice-read-if3 : tie.Need-shared-slice-read-if3 invariant-loop decreases-loop
-shared-slice-read-if3 c = search rules
+bounds-heads-n : tie.Need-bounds-heads-n invariant-loop-n decreases-loop-n
+bounds-heads-n c = search rules
 
-returns-2 : tie.Need-returns-2 invariant-loop decreases-loop
-returns-2 c head es gs k e =
+returns-then-heads-n-eq0 : tie.Need-returns-then-heads-n-eq0 invariant-loop-n decreases-loop-n
+returns-then-heads-n-eq0 c head es gs k e =
     let at = c.before.before.before.before.before.before.before in
     let start = at.before in
     let a = start.args in
     rw (sym (all_fine a.item.now a.heads.now a.pairs start.requires.2 head es gs k e)
-    ∙ all_fails (fine a.item.now a.heads.now) a.pairs at.loop.n (omega arith)
-    (has_reader a.item.now a.heads.now at.loop.n c.before.before.if2.true c.if3.true)) refl
+    ∙ all_fails (fine a.item.now a.heads.now) a.pairs at.loop-n.n (omega arith)
+    (has_reader a.item.now a.heads.now at.loop-n.n c.before.before.if-item-n-ne0-2.true c.if-heads-n-eq0.true)) refl
 
-add-n : tie.Need-overflow-add-n invariant-loop decreases-loop
-add-n c = search rules
+overflow_add-n-in-loop-n-2 : tie.Need-overflow_add-n-in-loop-n-2 invariant-loop-n decreases-loop-n
+overflow_add-n-in-loop-n-2 c = search rules
 
-loop-less : tie.Need-loop-smaller invariant-loop decreases-loop
-loop-less c = search rules
+loop-n-smaller : tie.Need-loop-n-smaller invariant-loop-n decreases-loop-n
+loop-n-smaller c = search rules
 
-loop-again : tie.Need-loop-preserved invariant-loop decreases-loop
-loop-again c =
+loop-n-preserved : tie.Need-loop-n-preserved invariant-loop-n decreases-loop-n
+loop-n-preserved c =
     let at = c.before.before.before.before.before in
     let a = at.before.args in
-    let no_writer = c.before.before.if1.false in (
-      all_next (fine a.item.now a.heads.now) at.loop.n at.loop.invariant.0
-          (⊎_elim (λ w. in_head a.item.now a.heads.now at.loop.n no_writer w.2.left) (λ w. no_reader a.item.now a.heads.now at.loop.n no_writer w.left) c.if2.branch),
+    let no_writer = c.before.before.if-item-n-ne0.false in (
+      all_next (fine a.item.now a.heads.now) at.loop-n.n at.loop-n.invariant.0
+          (⊎_elim (λ w. in_head a.item.now a.heads.now at.loop-n.n no_writer w.2.left) (λ w. no_reader a.item.now a.heads.now at.loop-n.n no_writer w.left) c.if-item-n-ne0-2.branch),
       omega arith,
     )
 
-returns-3 : tie.Need-returns-3 invariant-loop decreases-loop
-returns-3 c head es gs k e =
+returns : tie.Need-returns invariant-loop-n decreases-loop-n
+returns c head es gs k e =
     let at = c.before in
     let start = at.before in
     let a = start.args in
-    let all_of : at.loop.n ≡ a.pairs = omega arith in
-    rw (sym (all_fine a.item.now a.heads.now a.pairs start.requires.2 head es gs k e) ∙ rw all_of at at.loop.invariant.0) refl
+    let all_of : at.loop-n.n ≡ a.pairs = omega arith in
+    rw (sym (all_fine a.item.now a.heads.now a.pairs start.requires.2 head es gs k e) ∙ rw all_of at at.loop-n.invariant.0) refl
 
 pub foreign_spec : {M : Type 1} → statement M
 foreign_spec =
     tie.close
     (tie.spec
-    invariant-loop
-    decreases-loop
-    loop-holds
-    add-if1
-    mul-if1
-    shared-slice-read-if1
-    returns
-    add-if2
-    mul-if2
-    shared-slice-read-if2
-    mul-if3
-    shared-slice-read-if3
-    returns-2
-    add-n
-    loop-less
-    loop-again
-    returns-3)
+    invariant-loop-n
+    decreases-loop-n
+    loop-n-init
+    overflow_add-n
+    offset_bounds-item-n
+    bounds-item-n
+    returns-then-item-n-ne0
+    overflow_add-n-in-loop-n
+    offset_bounds-item-n-in-loop-n
+    bounds-item-n-in-loop-n
+    offset_bounds-heads-n
+    bounds-heads-n
+    returns-then-heads-n-eq0
+    overflow_add-n-in-loop-n-2
+    loop-n-smaller
+    loop-n-preserved
+    returns)

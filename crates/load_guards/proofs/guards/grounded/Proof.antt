@@ -12,70 +12,70 @@ use Rattle.load_guards.proofs.guards.grounded.Tie as tie
 index-requires : tie.Need-index-requires
 index-requires c κs = search rules
 
-means-ground-requires : tie.Need-means-ground-requires
-means-ground-requires c κs =
+means_ground-requires : tie.Need-means_ground-requires
+means_ground-requires c κs =
     let start = c.before.before in
-    let (base, known, g, t) = start.requires.1 in
+    let (base, known, g, t) = start.requires.by_index in
     omega (arith, c.index.ensures, test_row start.args.s.now start.args.w base known g t, t.in_table.number_few)
 
-index-requires-2 : tie.Need-index-requires-2
-index-requires-2 c κs = search rules
+index-requires-then-means_ground : tie.Need-index-requires-then-means_ground
+index-requires-then-means_ground c κs = search rules
 
-add-argument : tie.Need-overflow-add-argument
-add-argument c =
+overflow_add-argument : tie.Need-overflow_add-argument
+overflow_add-argument c =
     let start = c.before.before.before.before.before in
-    let (base, known, g, t) = start.requires.1 in
-    omega (arith, c.index2.ensures, start.requires.0, (test_place start.args.s.now start.args.w base known g t).1)
+    let (base, known, g, t) = start.requires.by_index in
+    omega (arith, c.index-then-means_ground.ensures, start.requires.s_len_bound, (test_place start.args.s.now start.args.w base known g t).1)
 
-mul-argument : tie.Need-overflow-mul-argument
-mul-argument c =
+offset_bounds-s-index : tie.Need-offset_bounds-s-index
+offset_bounds-s-index c =
     let start = c.before.before.before.before.before in
-    let (base, known, g, t) = start.requires.1 in
-    omega (arith, c.index2.ensures, start.requires.0, (test_place start.args.s.now start.args.w base known g t).1)
+    let (base, known, g, t) = start.requires.by_index in
+    omega (arith, c.index-then-means_ground.ensures, start.requires.s_len_bound, (test_place start.args.s.now start.args.w base known g t).1)
 
-shared-slice-read-argument : tie.Need-shared-slice-read-argument
-shared-slice-read-argument c =
+bounds-s-index : tie.Need-bounds-s-index
+bounds-s-index c =
     let start = c.before.before.before.before.before.before in
-    let (base, known, g, t) = start.requires.1 in
-    omega (arith, c.before.index2.ensures, start.requires.0, (test_place start.args.s.now start.args.w base known g t).1)
+    let (base, known, g, t) = start.requires.by_index in
+    omega (arith, c.before.index-then-means_ground.ensures, start.requires.s_len_bound, (test_place start.args.s.now start.args.w base known g t).1)
 
-index-requires-3 : tie.Need-index-requires-3
-index-requires-3 c κs = search rules
+index-requires-then-argument-eq-READER : tie.Need-index-requires-then-argument-eq-READER
+index-requires-then-argument-eq-READER c κs = search rules
 
-returns : tie.Need-returns
-returns c base known g t m few =
+returns-then-argument-eq-READER : tie.Need-returns-then-argument-eq-READER
+returns-then-argument-eq-READER c base known g t m few =
     let a = c.before.before.before.before.before.before.before.before.args in
     let test = c.before.before.before.before.before in
     let row : test.means_ground.result ≡ (row_at guard_table (a.w % 8)).means_ground = test.means_ground.ensures ∙ rw test.before.index.ensures refl in
-    rw (c.index3.ensures, c.before.before.before.index2.ensures)
-    (licenses_reader a.s.now a.w base known g t test.means_ground.result row c.before.before.before.before.if1.true
-    (rw c.before.before.before.index2.ensures at c.before.if2.true) m)
+    rw (c.index-then-argument-eq-READER.ensures, c.before.before.before.index-then-means_ground.ensures)
+    (licenses_reader a.s.now a.w base known g t test.means_ground.result row c.before.before.before.before.if-means_ground.true
+    (rw c.before.before.before.index-then-means_ground.ensures at c.before.if-argument-eq-READER.true) m)
 
-returns-2 : tie.Need-returns-2
-returns-2 c base known g t m few =
+returns-else-argument-eq-READER : tie.Need-returns-else-argument-eq-READER
+returns-else-argument-eq-READER c base known g t m few =
     let a = c.before.before.before.before.before.before.before.args in
     let test = c.before.before.before.before in
     let row : test.means_ground.result ≡ (row_at guard_table (a.w % 8)).means_ground = test.means_ground.ensures ∙ rw test.before.index.ensures refl in
-    licenses_other a.s.now a.w base known g t test.means_ground.result row c.before.before.before.if1.true (rw c.before.before.index2.ensures at c.if2.false) m few
+    licenses_other a.s.now a.w base known g t test.means_ground.result row c.before.before.before.if-means_ground.true (rw c.before.before.index-then-means_ground.ensures at c.if-argument-eq-READER.false) m few
 
-returns-3 : tie.Need-returns-3
-returns-3 c base known g t m few =
+returns-else-means_ground : tie.Need-returns-else-means_ground
+returns-else-means_ground c base known g t m few =
     let a = c.before.before.before.before.args in
     let test = c.before in
     let row : test.means_ground.result ≡ (row_at guard_table (a.w % 8)).means_ground = test.means_ground.ensures ∙ rw test.before.index.ensures refl in
-    licenses_none a.s.now a.w base known g t test.means_ground.result row c.if1.false m few
+    licenses_none a.s.now a.w base known g t test.means_ground.result row c.if-means_ground.false m few
 
 pub grounded_spec : {M : Type 1} → statement M
 grounded_spec =
     tie.close
     (tie.spec
     index-requires
-    means-ground-requires
-    index-requires-2
-    add-argument
-    mul-argument
-    shared-slice-read-argument
-    index-requires-3
-    returns
-    returns-2
-    returns-3)
+    means_ground-requires
+    index-requires-then-means_ground
+    overflow_add-argument
+    offset_bounds-s-index
+    bounds-s-index
+    index-requires-then-argument-eq-READER
+    returns-then-argument-eq-READER
+    returns-else-argument-eq-READER
+    returns-else-means_ground)

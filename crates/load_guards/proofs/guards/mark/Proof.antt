@@ -7,22 +7,27 @@ use Rattle.load_guards.specs.Judged.{marked}
 use Rattle.load_guards.proofs.guards.mark.Statement.{statement}
 use Rattle.load_guards.proofs.guards.mark.Tie as tie
 
+returns-then-m-ge16 : tie.Need-returns-then-m-ge16
+unfolding marked if◌then◌else◌
+returns-then-m-ge16 c = rw (le-leb 16 c.before.args.m c.if-m-ge16.true) refl
+
+offset_bounds-licensed-m : tie.Need-offset_bounds-licensed-m
+offset_bounds-licensed-m c = search rules
+
+bounds-licensed-m : tie.Need-bounds-licensed-m
+bounds-licensed-m c = search rules
+
+shape_of-licensed : tie.Need-shape_of-licensed
+shape_of-licensed c = search rules
+
 returns : tie.Need-returns
 unfolding marked if◌then◌else◌
-returns c = rw (le-leb 16 c.before.args.m c.if1.true) refl
-
-mul-licensed : tie.Need-overflow-mul-licensed
-mul-licensed c = search rules
-
-slice-write-licensed : tie.Need-slice-write-licensed
-slice-write-licensed c = search rules
-
-same_length : tie.Need-same-length
-same_length c = search rules
-
-returns-2 : tie.Need-returns-2
-unfolding marked if◌then◌else◌
-returns-2 c = rw (lt-leb 16 c.before.args.m c.if1.false) refl
+returns c = rw (lt-leb 16 c.before.args.m c.if-m-ge16.false) refl
 
 pub mark_spec : {M : Type 1} → statement M
-mark_spec = tie.close (tie.spec returns mul-licensed slice-write-licensed same_length returns-2)
+mark_spec = tie.close (tie.spec
+    returns-then-m-ge16
+    offset_bounds-licensed-m
+    bounds-licensed-m
+    shape_of-licensed
+    returns)

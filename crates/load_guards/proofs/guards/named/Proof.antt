@@ -6,55 +6,55 @@ use borrow.Author.Rules.{rules}
 use Rattle.load_guards.proofs.guards.named.Statement.{statement}
 use Rattle.load_guards.proofs.guards.named.Tie as tie
 
-mul-index : tie.Need-overflow-mul-index
-mul-index c = search rules
+overflow_mul-f : tie.Need-overflow_mul-f
+overflow_mul-f c = search rules
 
-mul-index-2 : tie.Need-overflow-mul-index-2
-mul-index-2 c = search rules
+offset_bounds-names-f : tie.Need-offset_bounds-names-f
+offset_bounds-names-f c = search rules
 
-shared-slice-read-index : tie.Need-shared-slice-read-index
-shared-slice-read-index c = search rules
+bounds-names-f : tie.Need-bounds-names-f
+bounds-names-f c = search rules
 
-index-requires : tie.Need-index-requires
-index-requires c κs = search rules
+index-start-requires : tie.Need-index-start-requires
+index-start-requires c κs = search rules
 
-mul-index-3 : tie.Need-overflow-mul-index-3
-mul-index-3 c = search rules
+overflow_mul-f-2 : tie.Need-overflow_mul-f-2
+overflow_mul-f-2 c = search rules
 
-add-index : tie.Need-overflow-add-index
-add-index c = search rules
+overflow_add-f : tie.Need-overflow_add-f
+overflow_add-f c = search rules
 
-mul-index-4 : tie.Need-overflow-mul-index-4
-mul-index-4 c = search rules
+offset_bounds-names-f-2 : tie.Need-offset_bounds-names-f-2
+offset_bounds-names-f-2 c = search rules
 
-shared-slice-read-index-2 : tie.Need-shared-slice-read-index-2
-shared-slice-read-index-2 c = search rules
+bounds-names-f-2 : tie.Need-bounds-names-f-2
+bounds-names-f-2 c = search rules
 
-index-requires-2 : tie.Need-index-requires-2
-index-requires-2 c κs = search rules
+index-size-requires : tie.Need-index-size-requires
+index-size-requires c κs = search rules
 
-row-of-requires : tie.Need-row-of-requires
-row-of-requires c κs = search rules
+row_of-requires : tie.Need-row_of-requires
+row_of-requires c κs = search rules
 
 returns : tie.Need-returns
 returns c name st =
     let a = c.before.before.before.before.before.before.before.args in
-    let start : c.before.before.before.index.result ≡ get_or a.names.now (2 * a.f) 0 = c.before.before.before.index.ensures in
-    let size : c.before.index2.result ≡ length name = c.before.index2.ensures ∙ st.size in
+    let start : c.before.before.before.index-start.result ≡ get_or a.names.now (2 * a.f) 0 = c.before.before.before.index-start.ensures in
+    let size : c.before.index-size.result ≡ length name = c.before.index-size.ensures ∙ st.size in
     c.row_of.ensures ∙ rw (start, size, st.spelled) refl
 
 pub named_spec : {M : Type 1} → statement M
 named_spec =
     tie.close
     (tie.spec
-    mul-index
-    mul-index-2
-    shared-slice-read-index
-    index-requires
-    mul-index-3
-    add-index
-    mul-index-4
-    shared-slice-read-index-2
-    index-requires-2
-    row-of-requires
+    overflow_mul-f
+    offset_bounds-names-f
+    bounds-names-f
+    index-start-requires
+    overflow_mul-f-2
+    overflow_add-f
+    offset_bounds-names-f-2
+    bounds-names-f-2
+    index-size-requires
+    row_of-requires
     returns)

@@ -14,39 +14,39 @@ index-requires c κs = search rules
 word-requires : tie.Need-word-requires
 word-requires c κs = search rules
 
-mul-word : tie.Need-overflow-mul-word
-mul-word c = search rules
+overflow_mul-base : tie.Need-overflow_mul-base
+overflow_mul-base c = search rules
+
+word-requires-then-row-index : tie.Need-word-requires-then-row-index
+word-requires-then-row-index c κs = search rules
+
+overflow_mul-result : tie.Need-overflow_mul-result
+overflow_mul-result c = search rules
+
+overflow_add-result : tie.Need-overflow_add-result
+overflow_add-result c = search rules
+
+returns-then-row-index : tie.Need-returns-then-row-index
+unfolding if◌then◌else◌
+returns-then-row-index c =
+    let a = c.before.before.before.before.args in
+    let six : a.row ≡ 6 = c.before.before.if-row-index.true ∙ c.before.before.before.index.ensures in
+    rw (eq-eqb a.row 6 six) (omega (arith, c.before.word.ensures, c.word-then-row-index.ensures))
 
 word-requires-2 : tie.Need-word-requires-2
 word-requires-2 c κs = search rules
 
-mul-result : tie.Need-overflow-mul-result
-mul-result c = search rules
+overflow_mul-result-2 : tie.Need-overflow_mul-result-2
+overflow_mul-result-2 c = search rules
 
-add-result : tie.Need-overflow-add-result
-add-result c = search rules
+overflow_add-result-2 : tie.Need-overflow_add-result-2
+overflow_add-result-2 c = search rules
 
 returns : tie.Need-returns
 unfolding if◌then◌else◌
 returns c =
-    let a = c.before.before.before.before.args in
-    let six : a.row ≡ 6 = c.before.before.if1.true ∙ c.before.before.before.index.ensures in
-    rw (eq-eqb a.row 6 six) (omega (arith, c.before.word.ensures, c.word2.ensures))
-
-word-requires-3 : tie.Need-word-requires-3
-word-requires-3 c κs = search rules
-
-mul-result-2 : tie.Need-overflow-mul-result-2
-mul-result-2 c = search rules
-
-add-result-2 : tie.Need-overflow-add-result-2
-add-result-2 c = search rules
-
-returns-2 : tie.Need-returns-2
-unfolding if◌then◌else◌
-returns-2 c =
     let a = c.before.before.before.args in
-    rw (ne_eqb a.row 6 (λ q. c.before.if1.false (q ∙ sym c.before.before.index.ensures))) (omega (arith, c.word3.ensures))
+    rw (ne_eqb a.row 6 (λ q. c.before.if-row-index.false (q ∙ sym c.before.before.index.ensures))) (omega (arith, c.word-2.ensures))
 
 pub test_word_spec : {M : Type 1} → statement M
 test_word_spec =
@@ -54,12 +54,12 @@ test_word_spec =
     (tie.spec
     index-requires
     word-requires
-    mul-word
+    overflow_mul-base
+    word-requires-then-row-index
+    overflow_mul-result
+    overflow_add-result
+    returns-then-row-index
     word-requires-2
-    mul-result
-    add-result
-    returns
-    word-requires-3
-    mul-result-2
-    add-result-2
-    returns-2)
+    overflow_mul-result-2
+    overflow_add-result-2
+    returns)

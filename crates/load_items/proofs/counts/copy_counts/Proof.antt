@@ -8,60 +8,60 @@ use Rattle.load_items.proofs.Halfway.{Halfway, halfway_none, halfway_next}
 use Rattle.load_items.proofs.counts.copy_counts.Statement.{statement}
 use Rattle.load_items.proofs.counts.copy_counts.Tie as tie
 
-abbrev invariant-loop : tie.invariant-loop
-invariant-loop source table₀ i₀ table i = Halfway (λ j. get_or source j 0) table₀ table i
+abbrev invariant-loop-i : tie.invariant-loop-i
+invariant-loop-i source table₀ i₀ table i = Halfway (λ j. get_or source j 0) table₀ table i
 
-abbrev decreases-loop : tie.decreases-loop
-decreases-loop source table₀ i₀ table i = 64 - i
+abbrev decreases-loop-i : tie.decreases-loop-i
+decreases-loop-i source table₀ i₀ table i = 64 - i
 
-loop-holds : tie.Need-loop-init invariant-loop decreases-loop
-loop-holds c = halfway_none (λ j. get_or c.args.source.now j 0) c.args.table.now c.requires.1
+loop-i-init : tie.Need-loop-i-init invariant-loop-i decreases-loop-i
+loop-i-init c = halfway_none (λ j. get_or c.args.source.now j 0) c.args.table.now c.requires.1
 
-mul-table : tie.Need-overflow-mul-table invariant-loop decreases-loop
-mul-table c = search rules
+offset_bounds-source-i : tie.Need-offset_bounds-source-i invariant-loop-i decreases-loop-i
+offset_bounds-source-i c = search rules
 
-shared-slice-read-table : tie.Need-shared-slice-read-table invariant-loop decreases-loop
-shared-slice-read-table c = search rules
+bounds-source-i : tie.Need-bounds-source-i invariant-loop-i decreases-loop-i
+bounds-source-i c = search rules
 
-mul-table-2 : tie.Need-overflow-mul-table-2 invariant-loop decreases-loop
-mul-table-2 c = search rules
+offset_bounds-table-i : tie.Need-offset_bounds-table-i invariant-loop-i decreases-loop-i
+offset_bounds-table-i c = search rules
 
-slice-write-table : tie.Need-slice-write-table invariant-loop decreases-loop
-slice-write-table c = omega (arith, c.before.before.loop.invariant.size)
+bounds-table-i : tie.Need-bounds-table-i invariant-loop-i decreases-loop-i
+bounds-table-i c = omega (arith, c.before.before.loop-i.invariant.size)
 
-add-i : tie.Need-overflow-add-i invariant-loop decreases-loop
-add-i c = search rules
+overflow_add-i : tie.Need-overflow_add-i invariant-loop-i decreases-loop-i
+overflow_add-i c = search rules
 
-loop-less : tie.Need-loop-smaller invariant-loop decreases-loop
-loop-less c = search rules
+loop-i-smaller : tie.Need-loop-i-smaller invariant-loop-i decreases-loop-i
+loop-i-smaller c = search rules
 
-loop-again : tie.Need-loop-preserved invariant-loop decreases-loop
-loop-again c =
-    let l = c.before.before.loop in
+loop-i-preserved : tie.Need-loop-i-preserved invariant-loop-i decreases-loop-i
+loop-i-preserved c =
+    let l = c.before.before.loop-i in
     let a = c.before.before.before.args in
     halfway_next (λ j. get_or a.source.now j 0) a.table.now l.table l.i (get_or a.source.now l.i 0) l.invariant (omega arith) refl
 
-same_length : tie.Need-same-length invariant-loop decreases-loop
-same_length c = omega (arith, c.before.loop.invariant.size, c.before.before.requires.1)
+shape_of-table : tie.Need-shape_of-table invariant-loop-i decreases-loop-i
+shape_of-table c = omega (arith, c.before.loop-i.invariant.size, c.before.before.requires.1)
 
-returns : tie.Need-returns invariant-loop decreases-loop
+returns : tie.Need-returns invariant-loop-i decreases-loop-i
 returns c =
-    let h = c.before.loop.invariant in
+    let h = c.before.loop-i.invariant in
     record { counts = λ i l. h.done (32 + i) (omega arith) (omega arith); places = h.first }
 
 pub copy_counts_spec : {M : Type 1} → statement M
 copy_counts_spec =
     tie.close
     (tie.spec
-    invariant-loop
-    decreases-loop
-    loop-holds
-    mul-table
-    shared-slice-read-table
-    mul-table-2
-    slice-write-table
-    add-i
-    loop-less
-    loop-again
-    same_length
+    invariant-loop-i
+    decreases-loop-i
+    loop-i-init
+    offset_bounds-source-i
+    bounds-source-i
+    offset_bounds-table-i
+    bounds-table-i
+    overflow_add-i
+    loop-i-smaller
+    loop-i-preserved
+    shape_of-table
     returns)

@@ -13,22 +13,22 @@ use Rattle.load_items.proofs.Clauses.{clause_passes, clause_malformed, clause_pa
 use Rattle.load_items.proofs.items.clause.Statement.{statement}
 use Rattle.load_items.proofs.items.clause.Tie as tie
 
-returns : tie.Need-returns
-returns c =
+returns-then-k-ge128 : tie.Need-returns-then-k-ge128
+returns-then-k-ge128 c =
     let start = c.before.before.before.before.before.before.before in
     let a = start.args in
     let q = start.requires in
-    let x = q.1.1 in
-    λ known queries b. (clause_passes a.rest.now a.from known a.k queries a.begins x.0 x.1 x.3 c.if1.true, x.2, only_same 0 trial_region a.s.now)
+    let x = q.begins_in_bounds in
+    λ known queries b. (clause_passes a.rest.now a.from known a.k queries a.begins x.0 x.1 x.3 c.if-k-ge128.true, x.2, only_same 0 trial_region a.s.now)
 
-slice-aggregate-rule : tie.Need-slice-aggregate-rule
-slice-aggregate-rule c = search rules
+slice_bounds-rule-end : tie.Need-slice_bounds-rule-end
+slice_bounds-rule-end c = search rules
 
-slice-aggregate-rule-2 : tie.Need-slice-aggregate-rule-2
-slice-aggregate-rule-2 c = search rules
+slice_bounds-rule-end-2 : tie.Need-slice_bounds-rule-end-2
+slice_bounds-rule-end-2 c = search rules
 
-slice-aggregate-rule-3 : tie.Need-slice-aggregate-rule-3
-slice-aggregate-rule-3 c = search rules
+slice_bounds-rule-end-3 : tie.Need-slice_bounds-rule-end-3
+slice_bounds-rule-end-3 c = search rules
 
 first-requires : tie.Need-first-requires
 first-requires c κs = search rules
@@ -39,30 +39,30 @@ rule-requires c κs =
     let start = at_if1.before.before.before.before.before.before.before in
     let a = start.args in
     let q = start.requires in
-    let known = q.1.0.0 in
-    let b = q.1.0.1 in
+    let known = q.begins.0 in
+    let b = q.begins.1 in
     let f = c.first.ensures in
     let st = begin_stands a.text.now a.rest.now a.from a.names.now a.item.now a.known known b c.first.result (omega (arith, f.0)) f.1 f.2 f.3 in
-    let l = q.0 in (
-      (at_if1.if1.false, l.enough, l.fits, l.heads_size, f.3),
+    let l = q.lent in (
+      (at_if1.if-k-ge128.false, l.enough, l.fits, l.heads_size, f.3),
       ((length-replicate {A = ℕ} 64 0, refl, refl), (known, [], st)),
     )
 
-enum-known-guards : tie.Need-enum-known-guards
-enum-known-guards c = search rules
+enum_known-guards : tie.Need-enum_known-guards
+enum_known-guards c = search rules
 
-slice-aggregate-judged : tie.Need-slice-aggregate-judged
-slice-aggregate-judged c = search rules
+slice_bounds-judged-end : tie.Need-slice_bounds-judged-end
+slice_bounds-judged-end c = search rules
 
-slice-aggregate-judged-2 : tie.Need-slice-aggregate-judged-2
-slice-aggregate-judged-2 c = search rules
+slice_bounds-judged-end-in-Got : tie.Need-slice_bounds-judged-end-in-Got
+slice_bounds-judged-end-in-Got c = search rules
 
-slice-aggregate-judged-3 : tie.Need-slice-aggregate-judged-3
-slice-aggregate-judged-3 c = search rules
+slice_bounds-judged-end-in-Got-2 : tie.Need-slice_bounds-judged-end-in-Got-2
+slice_bounds-judged-end-in-Got-2 c = search rules
 
 judged-requires : tie.Need-judged-requires
 judged-requires c κs =
-    let at_guards = c.before.before.before.before.before.before in
+    let at_guards = c.before.before.before.before in
     let at_rule = at_guards.before.before.before.before.before.before.before.before.before.before.before.before.before in
     let at_first = at_rule.before in
     let at_if1 = at_first.before.before.before.before.before.before.before.before in
@@ -100,31 +100,31 @@ judged-requires c κs =
     let l = q.0 in
     ((at_if1.if1.false, omega (arith, l.enough, at_rule.rule.auto.1.1.1.0), omega (arith, l.fits, at_rule.rule.auto.1.1.1.0)), (w, j))
 
-enum_told : tie.Need-enum-told
-enum_told c = search rules
+enum_told-1 : tie.Need-enum_told-1
+enum_told-1 c = search rules
 
-enum-known-a : tie.Need-enum-known-a
-enum-known-a c = search rules
+enum_known-a : tie.Need-enum_known-a
+enum_known-a c = search rules
 
-enum-told-2 : tie.Need-enum-told-2
-enum-told-2 c = search rules
+enum_told-in-Exceeded : tie.Need-enum_told-in-Exceeded
+enum_told-in-Exceeded c = search rules
 
-same_length : tie.Need-same-length
-same_length c = search rules
+shape_of-s-in-Got : tie.Need-shape_of-s-in-Got
+shape_of-s-in-Got c = search rules
 
-same-length-2 : tie.Need-same-length-2
-same-length-2 c = search rules
+shape_of-names-in-Got : tie.Need-shape_of-names-in-Got
+shape_of-names-in-Got c = search rules
 
-same-length-3 : tie.Need-same-length-3
-same-length-3 c = search rules
+shape_of-item-in-Got : tie.Need-shape_of-item-in-Got
+shape_of-item-in-Got c = search rules
 
-same-length-4 : tie.Need-same-length-4
-same-length-4 c = search rules
+shape_of-heads-in-Got : tie.Need-shape_of-heads-in-Got
+shape_of-heads-in-Got c = search rules
 
-returns-2 : tie.Need-returns-2
-returns-2 c =
+returns-in-Got : tie.Need-returns-in-Got
+returns-in-Got c =
     let at_judged = c.before.before in
-    let at_guards = at_judged.before.before.before.before.before.before.before in
+    let at_guards = at_judged.before.before.before.before.before in
     let at_rule = at_guards.before.before.before.before.before.before.before.before.before.before.before.before.before in
     let at_first = at_rule.before in
     let start = at_first.before.before.before.before.before.before.before.before.before.before.before.before.before.before.before in
@@ -159,131 +159,131 @@ returns-2 c =
     { was_read = got.4; empty = b.empty; at_first = (f.0, f.3); tokens = x.3; inside = x.2 } in
     at_judged.judged.ensures w j queries
 
-same-length-5 : tie.Need-same-length-5
-same-length-5 c = search rules
+shape_of-s-in-Unknown : tie.Need-shape_of-s-in-Unknown
+shape_of-s-in-Unknown c = search rules
 
-same-length-6 : tie.Need-same-length-6
-same-length-6 c = search rules
+shape_of-names-in-Unknown : tie.Need-shape_of-names-in-Unknown
+shape_of-names-in-Unknown c = search rules
 
-same-length-7 : tie.Need-same-length-7
-same-length-7 c = search rules
+shape_of-item-in-Unknown : tie.Need-shape_of-item-in-Unknown
+shape_of-item-in-Unknown c = search rules
 
-same-length-8 : tie.Need-same-length-8
-same-length-8 c = search rules
+shape_of-heads-in-Unknown : tie.Need-shape_of-heads-in-Unknown
+shape_of-heads-in-Unknown c = search rules
 
-returns-3 : tie.Need-returns-3
-returns-3 c =
-    let at_rule = c.before.before.before.before.before.before.before.before.before.before.before.before.before in
+returns-in-Unknown : tie.Need-returns-in-Unknown
+returns-in-Unknown c =
+    let at_rule = c.before.before.before.before.before.before.before.before.before.before.before.before in
     let at_first = at_rule.before in
     let at_if1 = at_first.before.before.before.before.before.before.before.before in
     let start = at_if1.before.before.before.before.before.before.before in
     let a = start.args in
     let q = start.requires in
-    let x = q.1.1 in
+    let x = q.begins_in_bounds in
     λ known queries b.
     let f = at_first.first.ensures in
     let st = begin_stands a.text.now a.rest.now a.from a.names.now a.item.now a.known known b at_first.first.result (omega (arith, f.0)) f.1 f.2 f.3 in
-    let bad = rw c.enum_told.given.1 at (at_rule.rule.ensures known [] st) in (
-      clause_unknown a.rest.now a.from known a.k queries a.begins x.0 x.1 x.3 at_if1.if1.false at_first.first.result f.0 f.3 bad.0 bad.1 bad.2
+    let bad = rw c.in-Unknown.is at (at_rule.rule.ensures known [] st) in (
+      clause_unknown a.rest.now a.from known a.k queries a.begins x.0 x.1 x.3 at_if1.if-k-ge128.false at_first.first.result f.0 f.3 bad.0 bad.1 bad.2
           bad.3 bad.4,
       x.2,
       bad.5,
     )
 
-same-length-9 : tie.Need-same-length-9
-same-length-9 c = search rules
+shape_of-s-in-Malformed : tie.Need-shape_of-s-in-Malformed
+shape_of-s-in-Malformed c = search rules
 
-same-length-10 : tie.Need-same-length-10
-same-length-10 c = search rules
+shape_of-names-in-Malformed : tie.Need-shape_of-names-in-Malformed
+shape_of-names-in-Malformed c = search rules
 
-same-length-11 : tie.Need-same-length-11
-same-length-11 c = search rules
+shape_of-item-in-Malformed : tie.Need-shape_of-item-in-Malformed
+shape_of-item-in-Malformed c = search rules
 
-same-length-12 : tie.Need-same-length-12
-same-length-12 c = search rules
+shape_of-heads-in-Malformed : tie.Need-shape_of-heads-in-Malformed
+shape_of-heads-in-Malformed c = search rules
 
-returns-4 : tie.Need-returns-4
-returns-4 c =
-    let at_a = c.before in
-    let at_rule = at_a.before.before.before.before.before.before.before.before.before.before.before.before.before in
+returns-in-Malformed : tie.Need-returns-in-Malformed
+returns-in-Malformed c =
+    let at_a = c in
+    let at_rule = at_a.before.before.before.before.before.before.before.before.before.before.before.before in
     let at_first = at_rule.before in
     let at_if1 = at_first.before.before.before.before.before.before.before.before in
     let start = at_if1.before.before.before.before.before.before.before in
     let a = start.args in
     let q = start.requires in
-    let x = q.1.1 in
+    let x = q.begins_in_bounds in
     λ known queries b.
     let f = at_first.first.ensures in
     let st = begin_stands a.text.now a.rest.now a.from a.names.now a.item.now a.known known b at_first.first.result (omega (arith, f.0)) f.1 f.2 f.3 in
-    let bad = rw at_a.a.given.1 at (at_rule.rule.ensures known [] st) in (
-      clause_malformed a.rest.now a.from known a.k queries a.begins x.0 x.1 x.3 at_if1.if1.false at_first.first.result f.0 f.3 at_a.a.given.0.0
+    let bad = rw at_a.in-Malformed.is at (at_rule.rule.ensures known [] st) in (
+      clause_malformed a.rest.now a.from known a.k queries a.begins x.0 x.1 x.3 at_if1.if-k-ge128.false at_first.first.result f.0 f.3 at_a.in-Malformed.a
           bad.0,
       bad.1,
       bad.2,
     )
 
-same-length-13 : tie.Need-same-length-13
-same-length-13 c = search rules
+shape_of-s-in-Exceeded : tie.Need-shape_of-s-in-Exceeded
+shape_of-s-in-Exceeded c = search rules
 
-same-length-14 : tie.Need-same-length-14
-same-length-14 c = search rules
+shape_of-names-in-Exceeded : tie.Need-shape_of-names-in-Exceeded
+shape_of-names-in-Exceeded c = search rules
 
-same-length-15 : tie.Need-same-length-15
-same-length-15 c = search rules
+shape_of-item-in-Exceeded : tie.Need-shape_of-item-in-Exceeded
+shape_of-item-in-Exceeded c = search rules
 
-same-length-16 : tie.Need-same-length-16
-same-length-16 c = search rules
+shape_of-heads-in-Exceeded : tie.Need-shape_of-heads-in-Exceeded
+shape_of-heads-in-Exceeded c = search rules
 
-returns-5 : tie.Need-returns-5
-returns-5 c =
-    let at_rule = c.before.before.before.before.before.before.before.before.before.before.before.before.before in
+returns-in-Exceeded : tie.Need-returns-in-Exceeded
+returns-in-Exceeded c =
+    let at_rule = c.before.before.before.before.before.before.before.before.before.before.before.before in
     let at_first = at_rule.before in
     let at_if1 = at_first.before.before.before.before.before.before.before.before in
     let start = at_if1.before.before.before.before.before.before.before in
     let a = start.args in
     let q = start.requires in
-    let x = q.1.1 in
+    let x = q.begins_in_bounds in
     λ known queries b.
     let f = at_first.first.ensures in
     let st = begin_stands a.text.now a.rest.now a.from a.names.now a.item.now a.known known b at_first.first.result (omega (arith, f.0)) f.1 f.2 f.3 in
-    let bad = rw c.enum-told2.given.1 at (at_rule.rule.ensures known [] st) in
-    (clause_passed a.rest.now a.from known a.k queries a.begins x.0 x.1 x.3 at_if1.if1.false at_first.first.result f.0 f.3 bad.0, x.2, bad.1)
+    let bad = rw c.in-Exceeded.is at (at_rule.rule.ensures known [] st) in
+    (clause_passed a.rest.now a.from known a.k queries a.begins x.0 x.1 x.3 at_if1.if-k-ge128.false at_first.first.result f.0 f.3 bad.0, x.2, bad.1)
 
 pub clause_spec : {M : Type 1} → statement M
 clause_spec =
     tie.close
     (tie.spec
-    returns
-    slice-aggregate-rule
-    slice-aggregate-rule-2
-    slice-aggregate-rule-3
+    returns-then-k-ge128
+    slice_bounds-rule-end
+    slice_bounds-rule-end-2
+    slice_bounds-rule-end-3
     first-requires
     rule-requires
-    enum-known-guards
-    slice-aggregate-judged
-    slice-aggregate-judged-2
-    slice-aggregate-judged-3
+    enum_known-guards
+    slice_bounds-judged-end
+    slice_bounds-judged-end-in-Got
+    slice_bounds-judged-end-in-Got-2
     judged-requires
-    enum_told
-    enum-known-a
-    enum-told-2
-    same_length
-    same-length-2
-    same-length-3
-    same-length-4
-    returns-2
-    same-length-5
-    same-length-6
-    same-length-7
-    same-length-8
-    returns-3
-    same-length-9
-    same-length-10
-    same-length-11
-    same-length-12
-    returns-4
-    same-length-13
-    same-length-14
-    same-length-15
-    same-length-16
-    returns-5)
+    enum_told-1
+    enum_known-a
+    enum_told-in-Exceeded
+    shape_of-s-in-Got
+    shape_of-names-in-Got
+    shape_of-item-in-Got
+    shape_of-heads-in-Got
+    returns-in-Got
+    shape_of-s-in-Unknown
+    shape_of-names-in-Unknown
+    shape_of-item-in-Unknown
+    shape_of-heads-in-Unknown
+    returns-in-Unknown
+    shape_of-s-in-Malformed
+    shape_of-names-in-Malformed
+    shape_of-item-in-Malformed
+    shape_of-heads-in-Malformed
+    returns-in-Malformed
+    shape_of-s-in-Exceeded
+    shape_of-names-in-Exceeded
+    shape_of-item-in-Exceeded
+    shape_of-heads-in-Exceeded
+    returns-in-Exceeded)

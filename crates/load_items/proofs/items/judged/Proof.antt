@@ -12,57 +12,57 @@ use Rattle.load_items.proofs.Clauses.{part_counts, counts_are, clause_strange, b
 use Rattle.load_items.proofs.items.judged.Statement.{statement}
 use Rattle.load_items.proofs.items.judged.Tie as tie
 
-sub-counts : tie.Need-overflow-sub-counts
-sub-counts c = search rules
+slice_bounds-counts-count : tie.Need-slice_bounds-counts-count
+slice_bounds-counts-count c = search rules
 
-part-counts-start : tie.Need-slice-bounds-counts-start
-part-counts-start c = search rules
+slice-bounds-counts-start : tie.Need-slice-bounds-counts-start
+slice-bounds-counts-start c = search rules
 
-part-counts-end : tie.Need-slice-bounds-counts-end
-part-counts-end c = search rules
+slice-bounds-counts-end : tie.Need-slice-bounds-counts-end
+slice-bounds-counts-end c = search rules
 
 foreign-requires : tie.Need-foreign-requires
 foreign-requires c κs = search rules
 
-returns : tie.Need-returns
-returns c =
+returns-then-foreign : tie.Need-returns-then-foreign
+returns-then-foreign c =
     let at_foreign = c.before in
     let start = at_foreign.before.before.before.before.before.before.before.before in
     let a = start.args in
     let q = start.requires in
     λ w j queries. (
       clause_strange a.rest.now a.s.now a.item.now a.in_head.now a.in-guards.now a.licensed.now a.k a.begins a.guards a.bar a.goals
-          a.c w q.0.0 j (take (length a.in_head.now - 32) (drop 32 a.in_head.now)) (part_counts a.in_head.now) queries at_foreign.foreign.result
+          a.c w q.k_bound.0 j (take (length a.in_head.now - 32) (drop 32 a.in_head.now)) (part_counts a.in_head.now) queries at_foreign.foreign.result
           (at_foreign.foreign.ensures w.rule.head w.rule.body.guards w.guards (counts_are a.rest.now a.s.now a.item.now a.in_head.now a.in-guards.now
-          a.licensed.now a.k a.begins a.guards a.bar a.goals a.c w q.0.0 j (take (length a.in_head.now - 32) (drop 32 a.in_head.now))
-          (part_counts a.in_head.now)) j.was_read.guards_are.in_table) c.if1.true,
+          a.licensed.now a.k a.begins a.guards a.bar a.goals a.c w q.k_bound.0 j (take (length a.in_head.now - 32) (drop 32 a.in_head.now))
+          (part_counts a.in_head.now)) j.was_read.guards_are.in_table) c.if-foreign.true,
       j.inside,
       j.was_read.ended.only,
     )
 
-clause-rules-requires : tie.Need-clause-rules-requires
-clause-rules-requires c κs = search rules
+clause_rules-requires : tie.Need-clause_rules-requires
+clause_rules-requires c κs = search rules
 
-first-fault-requires : tie.Need-first-fault-requires
-first-fault-requires c κs =
+first_fault-fault-requires : tie.Need-first_fault-fault-requires
+first_fault-fault-requires c κs =
     let at_clause_rules = c.before in
     let at_if1 = at_clause_rules.before in
     let at_foreign = at_if1.before in
     let start = at_foreign.before.before.before.before.before.before.before.before in
     let a = start.args in
     let q = start.requires in
-    let (w, j) = q.1 in
+    let (w, j) = q.judging in
     let queries : ℕ = 0 in
-    let told = broken a.rest.now a.s.now a.item.now a.in_head.now a.in-guards.now a.licensed.now a.k a.begins a.guards a.bar a.goals a.c w q.0.0
+    let told = broken a.rest.now a.s.now a.item.now a.in_head.now a.in-guards.now a.licensed.now a.k a.begins a.guards a.bar a.goals a.c w q.k_bound.0
     j (take (length a.in_head.now - 32) (drop 32 a.in_head.now)) (part_counts a.in_head.now) queries at_foreign.foreign.result
     (at_foreign.foreign.ensures w.rule.head w.rule.body.guards w.guards (counts_are a.rest.now a.s.now a.item.now a.in_head.now a.in-guards.now
-    a.licensed.now a.k a.begins a.guards a.bar a.goals a.c w q.0.0 j (take (length a.in_head.now - 32) (drop 32 a.in_head.now))
-    (part_counts a.in_head.now)) j.was_read.guards_are.in_table) at_if1.if1.false (sym at_clause_rules.clause_rules.ensures ∙ not-true
-    at_clause_rules.clause_rules.result c.if2.true) in
+    a.licensed.now a.k a.begins a.guards a.bar a.goals a.c w q.k_bound.0 j (take (length a.in_head.now - 32) (drop 32 a.in_head.now))
+    (part_counts a.in_head.now)) j.was_read.guards_are.in_table) at_if1.if-foreign.false (sym at_clause_rules.clause_rules.ensures ∙ not-true
+    at_clause_rules.clause_rules.result c.if-not-clause_rules.true) in
     (omega arith, (w.from, (variables_over w.from w.passed []), (free w.guards (spellings (variables_over w.from w.passed []))), w.rule.body.behind, told.0, told.2))
 
-returns-2 : tie.Need-returns-2
-returns-2 c =
+returns-then-not-clause_rules : tie.Need-returns-then-not-clause_rules
+returns-then-not-clause_rules c =
     let at_if2 = c.before in
     let at_clause_rules = at_if2.before in
     let at_if1 = at_clause_rules.before in
@@ -71,85 +71,85 @@ returns-2 c =
     let a = start.args in
     let q = start.requires in
     λ w j queries.
-    let told = broken a.rest.now a.s.now a.item.now a.in_head.now a.in-guards.now a.licensed.now a.k a.begins a.guards a.bar a.goals a.c w q.0.0
+    let told = broken a.rest.now a.s.now a.item.now a.in_head.now a.in-guards.now a.licensed.now a.k a.begins a.guards a.bar a.goals a.c w q.k_bound.0
     j (take (length a.in_head.now - 32) (drop 32 a.in_head.now)) (part_counts a.in_head.now) queries at_foreign.foreign.result
     (at_foreign.foreign.ensures w.rule.head w.rule.body.guards w.guards (counts_are a.rest.now a.s.now a.item.now a.in_head.now a.in-guards.now
-    a.licensed.now a.k a.begins a.guards a.bar a.goals a.c w q.0.0 j (take (length a.in_head.now - 32) (drop 32 a.in_head.now))
-    (part_counts a.in_head.now)) j.was_read.guards_are.in_table) at_if1.if1.false (sym at_clause_rules.clause_rules.ensures ∙ not-true
-    at_clause_rules.clause_rules.result at_if2.if2.true) in (
+    a.licensed.now a.k a.begins a.guards a.bar a.goals a.c w q.k_bound.0 j (take (length a.in_head.now - 32) (drop 32 a.in_head.now))
+    (part_counts a.in_head.now)) j.was_read.guards_are.in_table) at_if1.if-foreign.false (sym at_clause_rules.clause_rules.ensures ∙ not-true
+    at_clause_rules.clause_rules.result at_if2.if-not-clause_rules.true) in (
       told.0,
       told.1,
-      c.first_fault.ensures w.from (variables_over w.from w.passed []) (free w.guards (spellings (variables_over w.from w.passed [])))
+      c.first_fault-fault.ensures w.from (variables_over w.from w.passed []) (free w.guards (spellings (variables_over w.from w.passed [])))
           w.rule.body.behind told.0 told.2,
       j.inside,
       j.was_read.ended.only,
     )
 
-mul-record : tie.Need-overflow-mul-record
-mul-record c = search rules
+overflow_mul-record : tie.Need-overflow_mul-record
+overflow_mul-record c = search rules
 
-add-record : tie.Need-overflow-add-record
-add-record c = search rules
+overflow_add-record : tie.Need-overflow_add-record
+overflow_add-record c = search rules
 
 word-requires : tie.Need-word-requires
 word-requires c κs = search rules
 
-add-s : tie.Need-overflow-add-s
-add-s c = search rules
+overflow_add-s : tie.Need-overflow_add-s
+overflow_add-s c = search rules
 
-mul-s : tie.Need-overflow-mul-s
-mul-s c = search rules
+offset_bounds-s-record : tie.Need-offset_bounds-s-record
+offset_bounds-s-record c = search rules
 
-slice-write-s : tie.Need-slice-write-s
-slice-write-s c = search rules
+bounds-s-record : tie.Need-bounds-s-record
+bounds-s-record c = search rules
 
 word-requires-2 : tie.Need-word-requires-2
 word-requires-2 c κs = search rules
 
-add-s-2 : tie.Need-overflow-add-s-2
-add-s-2 c = search rules
+overflow_add-s-2 : tie.Need-overflow_add-s-2
+overflow_add-s-2 c = search rules
 
-mul-s-2 : tie.Need-overflow-mul-s-2
-mul-s-2 c = search rules
+offset_bounds-s-record-2 : tie.Need-offset_bounds-s-record-2
+offset_bounds-s-record-2 c = search rules
 
-slice-write-s-2 : tie.Need-slice-write-s-2
-slice-write-s-2 c =
+bounds-s-record-2 : tie.Need-bounds-s-record-2
+bounds-s-record-2 c =
     let start = c.before.before.before.before.before.before.before.before.before.before.before.before.before in
     let q = start.requires in
-    simp length-set (omega (arith, q.0.0, q.0.1))
+    simp length-set (omega (arith, q.k_bound.0, q.k_bound.1))
 
-add-s-3 : tie.Need-overflow-add-s-3
-add-s-3 c = search rules
+overflow_add-s-3 : tie.Need-overflow_add-s-3
+overflow_add-s-3 c = search rules
 
-mul-s-3 : tie.Need-overflow-mul-s-3
-mul-s-3 c = search rules
+offset_bounds-s-record-3 : tie.Need-offset_bounds-s-record-3
+offset_bounds-s-record-3 c = search rules
 
-slice-write-s-3 : tie.Need-slice-write-s-3
-slice-write-s-3 c =
+bounds-s-record-3 : tie.Need-bounds-s-record-3
+bounds-s-record-3 c =
     let start = c.before.before.before.before.before.before.before.before.before.before.before.before.before in
     let q = start.requires in
-    simp length-set (omega (arith, q.0.0, q.0.1))
+    simp length-set (omega (arith, q.k_bound.0, q.k_bound.1))
 
 word-requires-3 : tie.Need-word-requires-3
 word-requires-3 c κs = search rules
 
-add-s-4 : tie.Need-overflow-add-s-4
-add-s-4 c = search rules
+overflow_add-s-4 : tie.Need-overflow_add-s-4
+overflow_add-s-4 c = search rules
 
-mul-s-4 : tie.Need-overflow-mul-s-4
-mul-s-4 c = search rules
+offset_bounds-s-record-4 : tie.Need-offset_bounds-s-record-4
+offset_bounds-s-record-4 c = search rules
 
-slice-write-s-4 : tie.Need-slice-write-s-4
-slice-write-s-4 c =
+bounds-s-record-4 : tie.Need-bounds-s-record-4
+bounds-s-record-4 c =
     let start = c.before.before.before.before.before.before.before.before.before.before.before.before.before.before in
     let q = start.requires in
-    simp length-set (omega (arith, q.0.0, q.0.1))
+    simp length-set (omega (arith, q.k_bound.0, q.k_bound.1))
 
-same_length : tie.Need-same-length
-same_length c = search rules
+shape_of-s : tie.Need-shape_of-s
+shape_of-s c = search rules
 
-returns-3 : tie.Need-returns-3
-returns-3 c =
+returns : tie.Need-returns
+returns c =
     let at_word2 = c.before in
     let at_word = at_word2.before in
     let at_if2 = at_word.before in
@@ -160,42 +160,42 @@ returns-3 c =
     let a = start.args in
     let q = start.requires in
     λ w j queries.
-    clause_took a.rest.now a.s.now a.item.now a.in_head.now a.in-guards.now a.licensed.now a.k a.begins a.guards a.bar a.goals a.c w q.0.0 j
+    clause_took a.rest.now a.s.now a.item.now a.in_head.now a.in-guards.now a.licensed.now a.k a.begins a.guards a.bar a.goals a.c w q.k_bound.0 j
     (take (length a.in_head.now - 32) (drop 32 a.in_head.now)) (part_counts a.in_head.now) queries at_foreign.foreign.result
     (at_foreign.foreign.ensures w.rule.head w.rule.body.guards w.guards (counts_are a.rest.now a.s.now a.item.now a.in_head.now a.in-guards.now
-    a.licensed.now a.k a.begins a.guards a.bar a.goals a.c w q.0.0 j (take (length a.in_head.now - 32) (drop 32 a.in_head.now))
-    (part_counts a.in_head.now)) j.was_read.guards_are.in_table) at_if1.if1.false at_word.word.result at_word2.word2.result c.word3.result
-    (sym at_clause_rules.clause_rules.ensures ∙ not-false at_clause_rules.clause_rules.result at_if2.if2.false) at_word.word.ensures at_word2.word2.ensures
-    c.word3.ensures
+    a.licensed.now a.k a.begins a.guards a.bar a.goals a.c w q.k_bound.0 j (take (length a.in_head.now - 32) (drop 32 a.in_head.now))
+    (part_counts a.in_head.now)) j.was_read.guards_are.in_table) at_if1.if-foreign.false at_word.word.result at_word2.word-2.result c.word-3.result
+    (sym at_clause_rules.clause_rules.ensures ∙ not-false at_clause_rules.clause_rules.result at_if2.if-not-clause_rules.false) at_word.word.ensures at_word2.word-2.ensures
+    c.word-3.ensures
 
 pub judged_spec : {M : Type 1} → statement M
 judged_spec =
     tie.close
     (tie.spec
-    sub-counts
-    part-counts-start
-    part-counts-end
+    slice_bounds-counts-count
+    (λ c. search rules)
+    (λ c. search rules)
     foreign-requires
-    returns
-    clause-rules-requires
-    first-fault-requires
-    returns-2
-    mul-record
-    add-record
+    returns-then-foreign
+    clause_rules-requires
+    first_fault-fault-requires
+    returns-then-not-clause_rules
+    overflow_mul-record
+    overflow_add-record
     word-requires
-    add-s
-    mul-s
-    slice-write-s
+    overflow_add-s
+    offset_bounds-s-record
+    bounds-s-record
     word-requires-2
-    add-s-2
-    mul-s-2
-    slice-write-s-2
-    add-s-3
-    mul-s-3
-    slice-write-s-3
+    overflow_add-s-2
+    offset_bounds-s-record-2
+    bounds-s-record-2
+    overflow_add-s-3
+    offset_bounds-s-record-3
+    bounds-s-record-3
     word-requires-3
-    add-s-4
-    mul-s-4
-    slice-write-s-4
-    same_length
-    returns-3)
+    overflow_add-s-4
+    offset_bounds-s-record-4
+    bounds-s-record-4
+    shape_of-s
+    returns)

@@ -11,126 +11,126 @@ use Rattle.load_items.proofs.items.next_item.Tie as tie
 front-requires : tie.Need-front-requires
 front-requires c κs = search rules
 
-enum-known-a : tie.Need-enum-known-a
-enum-known-a c = search rules
+enum_known-a : tie.Need-enum_known-a
+enum_known-a c = search rules
 
 clause-requires : tie.Need-clause-requires
 clause-requires c κs =
-    let a = c.before.before.before.before.before.before.before.before.before.before.before.before.before.before.args in
-    let h = rw c.before.before.before.before.before.a.given.1 at c.before.before.before.before.before.before.before.front.ensures in
-    (c.before.before.before.before.before.before.before.before.before.before.before.before.before.before.requires.0, (c.before.before.before.before.before.before.before.before.before.before.before.before.before.before.requires.1, (_, _, omega (arith, h.1, h.2), h.4 a.from)))
+    let a = c.before.before.before.before.before.before.before.before.before.before.before.before.args in
+    let h = rw c.before.before.before.before.in-Name.is at c.before.before.before.before.before.front.ensures in
+    (c.before.before.before.before.before.before.before.before.before.before.before.before.requires.lent, (c.before.before.before.before.before.before.before.before.before.before.before.before.requires.begins, (_, _, omega (arith, h.1, h.2), h.4 a.from)))
 
-enum-known-c : tie.Need-enum-known-c
-enum-known-c c = search rules
+enum_known-c : tie.Need-enum_known-c
+enum_known-c c = search rules
 
 query-requires : tie.Need-query-requires
 query-requires c κs =
-    let a = c.before.before.before.before.before.before.before.before.before.before.before.before.before.before.before.args in
-    let h = rw c.before.before.before.before.before.before.c.given.1 at c.before.before.before.before.before.before.before.before.front.ensures in
-    (c.before.before.before.before.before.before.before.before.before.before.before.before.before.before.before.requires.0, (c.before.before.before.before.before.before.before.before.before.before.before.before.before.before.before.requires.1, query_sign a.rest.now a.from c.before.before.before.before.before.before.c.given.0.0 c.before.before.before.before.before.before.c.given.0.1.0 c.before.before.before.before.if1.true h))
+    let a = c.before.before.before.before.before.before.before.before.before.before.before.before.before.args in
+    let h = rw c.before.before.before.before.before.in-Sign.is at c.before.before.before.before.before.before.front.ensures in
+    (c.before.before.before.before.before.before.before.before.before.before.before.before.before.requires.lent, (c.before.before.before.before.before.before.before.before.before.before.before.before.before.requires.begins, query_sign a.rest.now a.from c.before.before.before.before.before.in-Sign.c c.before.before.before.before.before.in-Sign.a c.before.before.before.before.if-c-eq63.true h))
 
-same_length : tie.Need-same-length
-same_length c = c.before.before.before.before.before.before.before.before.query.auto.1.1.1.0
+shape_of-s-then-c-eq63 : tie.Need-shape_of-s-then-c-eq63
+shape_of-s-then-c-eq63 c = c.before.before.before.before.before.before.before.before.query.auto.s
 
-same-length-2 : tie.Need-same-length-2
-same-length-2 c = c.before.before.before.before.before.before.before.before.query.auto.1.1.1.1.0
+shape_of-names-then-c-eq63 : tie.Need-shape_of-names-then-c-eq63
+shape_of-names-then-c-eq63 c = c.before.before.before.before.before.before.before.before.query.auto.names
 
-same-length-3 : tie.Need-same-length-3
-same-length-3 c = c.before.before.before.before.before.before.before.before.query.auto.1.1.1.1.1.0
+shape_of-item-then-c-eq63 : tie.Need-shape_of-item-then-c-eq63
+shape_of-item-then-c-eq63 c = c.before.before.before.before.before.before.before.before.query.auto.item
 
-same-length-4 : tie.Need-same-length-4
-same-length-4 c = c.before.before.before.before.before.before.before.before.query.auto.1.1.1.1.1.1.0
+shape_of-heads-then-c-eq63 : tie.Need-shape_of-heads-then-c-eq63
+shape_of-heads-then-c-eq63 c = c.before.before.before.before.before.before.before.before.query.auto.heads
 
-returns : tie.Need-returns
-returns c = λ known b. c.before.before.before.before.before.before.before.before.query.ensures known c.before.before.before.before.before.before.before.before.before.before.before.before.before.before.before.before.before.before.before.before.before.before.before.before.args.clauses b
+returns-then-c-eq63 : tie.Need-returns-then-c-eq63
+returns-then-c-eq63 c = λ known b. c.before.before.before.before.before.before.before.before.query.ensures known c.before.before.before.before.before.before.before.before.before.before.before.before.before.before.before.before.before.before.before.before.before.before.args.clauses b
 
-enum-known-a-2 : tie.Need-enum-known-a-2
-enum-known-a-2 c = search rules
+enum_known-a-in-Writer-1 : tie.Need-enum_known-a-in-Writer-1
+enum_known-a-in-Writer-1 c = search rules
 
-enum-known-a-3 : tie.Need-enum-known-a-3
-enum-known-a-3 c = search rules
+enum_known-a-in-Reader-1 : tie.Need-enum_known-a-in-Reader-1
+enum_known-a-in-Reader-1 c = search rules
 
-enum-known-a-4 : tie.Need-enum-known-a-4
-enum-known-a-4 c = search rules
+enum_known-a-in-Integer-1 : tie.Need-enum_known-a-in-Integer-1
+enum_known-a-in-Integer-1 c = search rules
 
-enum-known-a-5 : tie.Need-enum-known-a-5
-enum-known-a-5 c = search rules
+enum_known-a-in-Bad-1 : tie.Need-enum_known-a-in-Bad-1
+enum_known-a-in-Bad-1 c = search rules
 
-enum_told : tie.Need-enum-told
-enum_told c = search rules
+enum_told-1 : tie.Need-enum_told-1
+enum_told-1 c = search rules
 
-same-length-5 : tie.Need-same-length-5
-same-length-5 c = c.before.before.before.before.before.before.before.before.clause.auto.1.1.1.0
+shape_of-s : tie.Need-shape_of-s
+shape_of-s c = c.before.before.before.before.before.before.before.before.clause.auto.s
 
-same-length-6 : tie.Need-same-length-6
-same-length-6 c = c.before.before.before.before.before.before.before.before.clause.auto.1.1.1.1.0
+shape_of-names : tie.Need-shape_of-names
+shape_of-names c = c.before.before.before.before.before.before.before.before.clause.auto.names
 
-same-length-7 : tie.Need-same-length-7
-same-length-7 c = c.before.before.before.before.before.before.before.before.clause.auto.1.1.1.1.1.0
+shape_of-item : tie.Need-shape_of-item
+shape_of-item c = c.before.before.before.before.before.before.before.before.clause.auto.item
 
-same-length-8 : tie.Need-same-length-8
-same-length-8 c = c.before.before.before.before.before.before.before.before.clause.auto.1.1.1.1.1.1.0
+shape_of-heads : tie.Need-shape_of-heads
+shape_of-heads c = c.before.before.before.before.before.before.before.before.clause.auto.heads
 
-returns-2 : tie.Need-returns-2
-returns-2 c = λ known b. c.before.before.before.before.before.before.before.before.clause.ensures known c.before.before.before.before.before.before.before.before.before.before.before.before.before.before.before.before.before.before.before.before.before.before.before.args.queries b
+returns-in-Name : tie.Need-returns-in-Name
+returns-in-Name c = λ known b. c.before.before.before.before.before.before.before.before.clause.ensures known c.before.before.before.before.before.before.before.before.before.before.before.before.before.before.before.before.before.before.before.before.before.args.queries b
 
-returns-3 : tie.Need-returns-3
-returns-3 c =
-    let a = c.before.before.before.before.before.before.before.before.before.before.before.args in
-    λ known b. starts_sign a.text.now a.rest.now a.from known a.clauses a.queries a.s.now a.heads.now a.names.now c.before.before.c.given.0.0 c.before.before.c.given.0.1.0 c.if1.false (rw c.before.before.c.given.1 at c.before.before.before.before.front.ensures)
-
-returns-4 : tie.Need-returns-4
-returns-4 c =
-    let a = c.before.before.before.before.before.before.before.before.before.before.args in
-    λ known b. starts_writer a.text.now a.rest.now a.from known a.clauses a.queries a.s.now a.heads.now a.names.now c.before.a2.given.0.0 c.before.a2.given.0.1.0 (rw c.before.a2.given.1 at c.before.before.before.front.ensures)
-
-returns-5 : tie.Need-returns-5
-returns-5 c =
-    let a = c.before.before.before.before.before.before.before.before.before.before.args in
-    λ known b. starts_reader a.text.now a.rest.now a.from known a.clauses a.queries a.s.now a.heads.now a.names.now c.before.a3.given.0.0 c.before.a3.given.0.1.0 (rw c.before.a3.given.1 at c.before.before.before.front.ensures)
-
-returns-6 : tie.Need-returns-6
-returns-6 c =
-    let a = c.before.before.before.before.before.before.before.before.before.before.args in
-    λ known b. starts_integer a.text.now a.rest.now a.from known a.clauses a.queries a.s.now a.heads.now a.names.now c.before.a4.given.0.0 c.before.a4.given.0.1.0 c.before.a4.given.0.1.1.0 (rw c.before.a4.given.1 at c.before.before.before.front.ensures)
-
-returns-7 : tie.Need-returns-7
-returns-7 c =
-    let a = c.before.before.before.before.before.before.before.before.before.before.args in
-    λ known b. starts_bad a.text.now a.rest.now a.from known a.clauses a.queries a.s.now a.heads.now a.names.now c.before.a5.given.0.0 (rw c.before.a5.given.1 at c.before.before.before.front.ensures)
-
-returns-8 : tie.Need-returns-8
-returns-8 c =
+returns-else-c-eq63 : tie.Need-returns-else-c-eq63
+returns-else-c-eq63 c =
     let a = c.before.before.before.before.before.before.before.before.before.args in
-    λ known b. starts_nothing a.text.now a.rest.now a.from known a.clauses a.queries a.s.now a.heads.now a.names.now (rw c.enum_told.given.1 at c.before.before.front.ensures)
+    λ known b. starts_sign a.text.now a.rest.now a.from known a.clauses a.queries a.s.now a.heads.now a.names.now c.before.in-Sign.c c.before.in-Sign.a c.if-c-eq63.false (rw c.before.in-Sign.is at c.before.before.front.ensures)
+
+returns-in-Writer : tie.Need-returns-in-Writer
+returns-in-Writer c =
+    let a = c.before.before.before.before.before.before.before.before.args in
+    λ known b. starts_writer a.text.now a.rest.now a.from known a.clauses a.queries a.s.now a.heads.now a.names.now c.in-Writer.a c.in-Writer.field-1 (rw c.in-Writer.is at c.before.front.ensures)
+
+returns-in-Reader : tie.Need-returns-in-Reader
+returns-in-Reader c =
+    let a = c.before.before.before.before.before.before.before.before.args in
+    λ known b. starts_reader a.text.now a.rest.now a.from known a.clauses a.queries a.s.now a.heads.now a.names.now c.in-Reader.a c.in-Reader.field-1 (rw c.in-Reader.is at c.before.front.ensures)
+
+returns-in-Integer : tie.Need-returns-in-Integer
+returns-in-Integer c =
+    let a = c.before.before.before.before.before.before.before.before.args in
+    λ known b. starts_integer a.text.now a.rest.now a.from known a.clauses a.queries a.s.now a.heads.now a.names.now c.in-Integer.field-0 c.in-Integer.a c.in-Integer.field-2 (rw c.in-Integer.is at c.before.front.ensures)
+
+returns-in-Bad : tie.Need-returns-in-Bad
+returns-in-Bad c =
+    let a = c.before.before.before.before.before.before.before.before.args in
+    λ known b. starts_bad a.text.now a.rest.now a.from known a.clauses a.queries a.s.now a.heads.now a.names.now c.in-Bad.a (rw c.in-Bad.is at c.before.front.ensures)
+
+returns-in-End : tie.Need-returns-in-End
+returns-in-End c =
+    let a = c.before.before.before.before.before.before.before.before.args in
+    λ known b. starts_nothing a.text.now a.rest.now a.from known a.clauses a.queries a.s.now a.heads.now a.names.now (rw c.in-End.is at c.before.front.ensures)
 
 pub next_item_spec : {M : Type 1} → statement M
 next_item_spec =
     tie.close
     (tie.spec
     front-requires
-    enum-known-a
+    enum_known-a
     clause-requires
-    enum-known-c
+    enum_known-c
     query-requires
-    same_length
-    same-length-2
-    same-length-3
-    same-length-4
-    returns
-    enum-known-a-2
-    enum-known-a-3
-    enum-known-a-4
-    enum-known-a-5
-    enum_told
-    same-length-5
-    same-length-6
-    same-length-7
-    same-length-8
-    returns-2
-    returns-3
-    returns-4
-    returns-5
-    returns-6
-    returns-7
-    returns-8)
+    shape_of-s-then-c-eq63
+    shape_of-names-then-c-eq63
+    shape_of-item-then-c-eq63
+    shape_of-heads-then-c-eq63
+    returns-then-c-eq63
+    enum_known-a-in-Writer-1
+    enum_known-a-in-Reader-1
+    enum_known-a-in-Integer-1
+    enum_known-a-in-Bad-1
+    enum_told-1
+    shape_of-s
+    shape_of-names
+    shape_of-item
+    shape_of-heads
+    returns-in-Name
+    returns-else-c-eq63
+    returns-in-Writer
+    returns-in-Reader
+    returns-in-Integer
+    returns-in-Bad
+    returns-in-End)

@@ -18,32 +18,32 @@ use borrow.Author.Rules.{rules}
 use Rattle.load_items.proofs.items.query.Statement.{statement}
 use Rattle.load_items.proofs.items.query.Tie as tie
 
-returns : tie.Need-returns
-returns c =
+returns-then-k-ge8 : tie.Need-returns-then-k-ge8
+returns-then-k-ge8 c =
     let a = c.before.before.before.before.before.before.before.args in
-    let x = c.before.before.before.before.before.before.before.requires.1.1 in
-    λ known clauses b. (query_passes a.text.now a.rest.now a.from a.names.now a.item.now a.known known b clauses a.k a.begins a.s.now a.heads.now x.1 c.if1.true, omega (arith, x.0), only_same 0 trial_region a.s.now)
+    let x = c.before.before.before.before.before.before.before.requires.begins_in_bounds in
+    λ known clauses b. (query_passes a.text.now a.rest.now a.from a.names.now a.item.now a.known known b clauses a.k a.begins a.s.now a.heads.now x.1 c.if-k-ge8.true, omega (arith, x.0), only_same 0 trial_region a.s.now)
 
-mul-record : tie.Need-overflow-mul-record
-mul-record c = search rules
+overflow_mul-record : tie.Need-overflow_mul-record
+overflow_mul-record c = search rules
 
-add-record : tie.Need-overflow-add-record
-add-record c = search rules
+overflow_add-record : tie.Need-overflow_add-record
+overflow_add-record c = search rules
 
-add_goals : tie.Need-overflow-add-goals
-add_goals c = search rules
+overflow_add-k : tie.Need-overflow_add-k
+overflow_add-k c = search rules
 
-mul-goals : tie.Need-overflow-mul-goals
-mul-goals c = search rules
+overflow_mul-k : tie.Need-overflow_mul-k
+overflow_mul-k c = search rules
 
-add-goals-2 : tie.Need-overflow-add-goals-2
-add-goals-2 c = search rules
+overflow_add-k-2 : tie.Need-overflow_add-k-2
+overflow_add-k-2 c = search rules
 
-add-goals-3 : tie.Need-overflow-add-goals-3
-add-goals-3 c = search rules
+overflow_add-record-2 : tie.Need-overflow_add-record-2
+overflow_add-record-2 c = search rules
 
-add-first : tie.Need-overflow-add-first
-add-first c = omega (arith, c.before.before.before.before.before.before.before.before.before.before.requires.1.1.0)
+overflow_add-begins : tie.Need-overflow_add-begins
+overflow_add-begins c = omega (arith, c.before.before.before.before.before.before.before.before.before.before.requires.begins_in_bounds.0)
 
 first-requires : tie.Need-first-requires
 first-requires c κs = search rules
@@ -51,225 +51,225 @@ first-requires c κs = search rules
 goals-requires : tie.Need-goals-requires
 goals-requires c κs =
     let a = c.before.before.before.before.before.before.before.before.before.before.before.args in
-    let known = c.before.before.before.before.before.before.before.before.before.before.before.requires.1.0.0 in
-    let b = c.before.before.before.before.before.before.before.before.before.before.before.requires.1.0.1 in
+    let known = c.before.before.before.before.before.before.before.before.before.before.before.requires.begins.0 in
+    let b = c.before.before.before.before.before.before.before.before.before.before.before.requires.begins.1 in
     let f = c.first.ensures in
-    let st = begin_stands a.text.now a.rest.now a.from a.names.now a.item.now a.known known b c.first.result (omega (arith, f.0, c.before.before.before.before.before.before.before.before.before.before.before.requires.1.1.0)) f.1 f.2 f.3 in
-    let l = c.before.before.before.before.before.before.before.before.before.before.before.requires.0 in
-    ((omega (arith, c.before.before.before.before.if1.false), omega (arith, c.before.before.before.before.if1.false), l.enough, l.fits), (known, [], st))
+    let st = begin_stands a.text.now a.rest.now a.from a.names.now a.item.now a.known known b c.first.result (omega (arith, f.0, c.before.before.before.before.before.before.before.before.before.before.before.requires.begins_in_bounds.0)) f.1 f.2 f.3 in
+    let l = c.before.before.before.before.before.before.before.before.before.before.before.requires.lent in
+    ((omega (arith, c.before.before.before.before.if-k-ge8.false), omega (arith, c.before.before.before.before.if-k-ge8.false), l.enough, l.fits), (known, [], st))
 
-enum-known-count : tie.Need-enum-known-count
-enum-known-count c = search rules
+enum_known-count : tie.Need-enum_known-count
+enum_known-count c = search rules
 
-nothing-twice-requires : tie.Need-nothing-twice-requires
-nothing-twice-requires c κs =
+nothing_twice-requires : tie.Need-nothing_twice-requires
+nothing_twice-requires c κs =
     let a = c.before.before.before.before.before.before.before.before.before.before.before.before.before.before.before.before.before.before.before.before.before.before.args in
     let known = c.before.before.before.before.before.before.before.before.before.before.before.before.before.before.before.before.before.before.before.before.before.before.requires.1.0.0 in
     let b = c.before.before.before.before.before.before.before.before.before.before.before.before.before.before.before.before.before.before.before.before.before.before.requires.1.0.1 in
-    let f = c.before.before.before.before.before.before.before.before.before.before.before.first.ensures in
-    let st = begin_stands a.text.now a.rest.now a.from a.names.now a.item.now a.known known b c.before.before.before.before.before.before.before.before.before.before.before.first.result (omega (arith, f.0, c.before.before.before.before.before.before.before.before.before.before.before.before.before.before.before.before.before.before.before.before.before.before.requires.1.1.0)) f.1 f.2 f.3 in
-    let got = rw c.before.before.count.given.1 at (c.before.before.before.before.before.before.before.before.before.before.goals.ensures known [] st) in
+    let f = c.before.before.before.before.before.before.before.before.before.first.ensures in
+    let st = begin_stands a.text.now a.rest.now a.from a.names.now a.item.now a.known known b c.before.before.before.before.before.before.before.before.before.first.result (omega (arith, f.0, c.before.before.before.before.before.before.before.before.before.before.before.before.before.before.before.before.before.before.before.before.before.before.requires.1.1.0)) f.1 f.2 f.3 in
+    let got = rw c.count.given.1 at (c.before.before.before.before.before.before.before.before.goals.ensures known [] st) in
     (got.3.stands.variables_in.size, omega (arith, got.3.stands.variables_count, got.3.stands.variables_in.few))
 
-add-first-fault : tie.Need-overflow-add-first-fault
-add-first-fault c = omega (arith, c.before.before.before.before.before.before.before.before.before.before.before.before.before.before.before.before.before.before.before.before.before.before.before.before.before.requires.1.1.0)
+overflow_add-begins-then-not-nothing_twice : tie.Need-overflow_add-begins-then-not-nothing_twice
+overflow_add-begins-then-not-nothing_twice c = omega (arith, c.before.before.before.before.before.before.before.before.before.before.before.before.before.before.before.before.before.before.before.before.before.before.before.before.before.requires.1.1.0)
 
-slice-aggregate-first-fault : tie.Need-slice-aggregate-first-fault
-slice-aggregate-first-fault c = search rules
+slice_bounds-first_fault-end : tie.Need-slice_bounds-first_fault-end
+slice_bounds-first_fault-end c = search rules
 
-first-fault-requires : tie.Need-first-fault-requires
-first-fault-requires c κs =
+first_fault-fault-requires : tie.Need-first_fault-fault-requires
+first_fault-fault-requires c κs =
     let e = c.before.before in
     let a = e.before.before.before.before.before.before.before.before.before.before.before.before.before.before.before.before.before.before.before.before.before.before.before.before.args in
     let x = e.before.before.before.before.before.before.before.before.before.before.before.before.before.before.before.before.before.before.before.before.before.before.before.before.requires.1.1 in
     let known = e.before.before.before.before.before.before.before.before.before.before.before.before.before.before.before.before.before.before.before.before.before.before.before.before.requires.1.0.0 in
     let b = e.before.before.before.before.before.before.before.before.before.before.before.before.before.before.before.before.before.before.before.before.before.before.before.before.requires.1.0.1 in
-    let f = e.before.before.before.before.before.before.before.before.before.before.before.before.before.first.ensures in
-    let st = begin_stands a.text.now a.rest.now a.from a.names.now a.item.now a.known known b e.before.before.before.before.before.before.before.before.before.before.before.before.before.first.result (omega (arith, f.0, e.before.before.before.before.before.before.before.before.before.before.before.before.before.before.before.before.before.before.before.before.before.before.before.before.requires.1.1.0)) f.1 f.2 f.3 in
-    let got = rw e.before.before.before.before.count.given.1 at (e.before.before.before.before.before.before.before.before.before.before.before.before.goals.ensures known [] st) in
-    let told = query_broken a.text.now a.rest.now a.from a.names.now a.item.now a.known known b 0 a.k a.begins a.s.now a.heads.now x.1 e.before.before.before.before.before.before.before.before.before.before.before.before.before.before.before.before.before.if1.false e.before.before.before.before.before.before.before.before.before.before.before.before.before.first.result f.0 f.3 e.before.before.before.before.before.before.before.before.before.before.before.before.goals.new.1.1.1.0 e.before.before.before.before.before.before.before.before.before.before.before.before.goals.new.1.1.1.1.0 e.before.before.before.before.before.before.before.before.before.before.before.before.goals.new.1.1.1.1.1.0 e.before.before.before.before.count.given.0.0 e.before.before.before.before.count.given.0.1.0 got.0 got.1 got.2 got.3 (sym e.before.nothing_twice.ensures ∙ not-true _ e.if2.true) in
+    let f = e.before.before.before.before.before.before.before.before.before.before.before.first.ensures in
+    let st = begin_stands a.text.now a.rest.now a.from a.names.now a.item.now a.known known b e.before.before.before.before.before.before.before.before.before.before.before.first.result (omega (arith, f.0, e.before.before.before.before.before.before.before.before.before.before.before.before.before.before.before.before.before.before.before.before.before.before.before.before.requires.1.1.0)) f.1 f.2 f.3 in
+    let got = rw e.before.before.count.given.1 at (e.before.before.before.before.before.before.before.before.before.before.goals.ensures known [] st) in
+    let told = query_broken a.text.now a.rest.now a.from a.names.now a.item.now a.known known b 0 a.k a.begins a.s.now a.heads.now x.1 e.before.before.before.before.before.before.before.before.before.before.before.before.before.before.before.if1.false e.before.before.before.before.before.before.before.before.before.before.before.first.result f.0 f.3 e.before.before.before.before.before.before.before.before.before.before.goals.new.1.1.1.0 e.before.before.before.before.before.before.before.before.before.before.goals.new.1.1.1.1.0 e.before.before.before.before.before.before.before.before.before.before.goals.new.1.1.1.1.1.0 e.before.before.count.given.0.0 e.before.before.count.given.0.1.0 got.0 got.1 got.2 got.3 (sym e.before.nothing_twice.ensures ∙ not-true _ e.if2.true) in
     (x.0, (a.from, variables_over a.from got.1 [], none_free, none, told.0, told.2))
 
-same_length : tie.Need-same-length
-same_length c = c.before.before.before.before.before.before.before.before.before.before.before.before.before.before.before.goals.auto.1.1.1.0
+shape_of-s-then-not-nothing_twice : tie.Need-shape_of-s-then-not-nothing_twice
+shape_of-s-then-not-nothing_twice c = c.before.before.before.before.before.before.before.before.before.before.before.before.before.goals.auto.1.1.1.0
 
-same-length-2 : tie.Need-same-length-2
-same-length-2 c = c.before.before.before.before.before.before.before.before.before.before.before.before.before.before.before.goals.auto.1.1.1.1.0
+shape_of-names-then-not-nothing_twice : tie.Need-shape_of-names-then-not-nothing_twice
+shape_of-names-then-not-nothing_twice c = c.before.before.before.before.before.before.before.before.before.before.before.before.before.goals.auto.1.1.1.1.0
 
-same-length-3 : tie.Need-same-length-3
-same-length-3 c = c.before.before.before.before.before.before.before.before.before.before.before.before.before.before.before.goals.auto.1.1.1.1.1.0
+shape_of-item-then-not-nothing_twice : tie.Need-shape_of-item-then-not-nothing_twice
+shape_of-item-then-not-nothing_twice c = c.before.before.before.before.before.before.before.before.before.before.before.before.before.goals.auto.1.1.1.1.1.0
 
-returns-2 : tie.Need-returns-2
-returns-2 c =
+returns-then-not-nothing_twice : tie.Need-returns-then-not-nothing_twice
+returns-then-not-nothing_twice c =
     let e = c.before.before.before in
     let a = e.before.before.before.before.before.before.before.before.before.before.before.before.before.before.before.before.before.before.before.before.before.before.before.before.args in
     let x = e.before.before.before.before.before.before.before.before.before.before.before.before.before.before.before.before.before.before.before.before.before.before.before.before.requires.1.1 in
     λ known clauses b.
-    let f = e.before.before.before.before.before.before.before.before.before.before.before.before.before.first.ensures in
-    let st = begin_stands a.text.now a.rest.now a.from a.names.now a.item.now a.known known b e.before.before.before.before.before.before.before.before.before.before.before.before.before.first.result (omega (arith, f.0, e.before.before.before.before.before.before.before.before.before.before.before.before.before.before.before.before.before.before.before.before.before.before.before.before.requires.1.1.0)) f.1 f.2 f.3 in
-    let got = rw e.before.before.before.before.count.given.1 at (e.before.before.before.before.before.before.before.before.before.before.before.before.goals.ensures known [] st) in
-    let told = query_broken a.text.now a.rest.now a.from a.names.now a.item.now a.known known b clauses a.k a.begins a.s.now a.heads.now x.1 e.before.before.before.before.before.before.before.before.before.before.before.before.before.before.before.before.before.if1.false e.before.before.before.before.before.before.before.before.before.before.before.before.before.first.result f.0 f.3 e.before.before.before.before.before.before.before.before.before.before.before.before.goals.new.1.1.1.0 e.before.before.before.before.before.before.before.before.before.before.before.before.goals.new.1.1.1.1.0 e.before.before.before.before.before.before.before.before.before.before.before.before.goals.new.1.1.1.1.1.0 e.before.before.before.before.count.given.0.0 e.before.before.before.before.count.given.0.1.0 got.0 got.1 got.2 got.3 (sym e.before.nothing_twice.ensures ∙ not-true _ e.if2.true) in
-    (told.0, told.1, c.first_fault.ensures a.from (variables_over a.from got.1 []) none_free none told.0 told.2, omega (arith, x.0), got.3.only)
+    let f = e.before.before.before.before.before.before.before.before.before.before.before.first.ensures in
+    let st = begin_stands a.text.now a.rest.now a.from a.names.now a.item.now a.known known b e.before.before.before.before.before.before.before.before.before.before.before.first.result (omega (arith, f.0, e.before.before.before.before.before.before.before.before.before.before.before.before.before.before.before.before.before.before.before.before.before.before.before.before.requires.1.1.0)) f.1 f.2 f.3 in
+    let got = rw e.before.before.count.given.1 at (e.before.before.before.before.before.before.before.before.before.before.goals.ensures known [] st) in
+    let told = query_broken a.text.now a.rest.now a.from a.names.now a.item.now a.known known b clauses a.k a.begins a.s.now a.heads.now x.1 e.before.before.before.before.before.before.before.before.before.before.before.before.before.before.before.if1.false e.before.before.before.before.before.before.before.before.before.before.before.first.result f.0 f.3 e.before.before.before.before.before.before.before.before.before.before.goals.new.1.1.1.0 e.before.before.before.before.before.before.before.before.before.before.goals.new.1.1.1.1.0 e.before.before.before.before.before.before.before.before.before.before.goals.new.1.1.1.1.1.0 e.before.before.count.given.0.0 e.before.before.count.given.0.1.0 got.0 got.1 got.2 got.3 (sym e.before.nothing_twice.ensures ∙ not-true _ e.if2.true) in
+    (told.0, told.1, c.first_fault-fault.ensures a.from (variables_over a.from got.1 []) none_free none told.0 told.2, omega (arith, x.0), got.3.only)
 
-mul-s : tie.Need-overflow-mul-s
-mul-s c = search rules
+offset_bounds-s-record : tie.Need-offset_bounds-s-record
+offset_bounds-s-record c = search rules
 
-slice-write-s : tie.Need-slice-write-s
-slice-write-s c = omega (arith, c.before.before.before.before.before.before.before.before.before.before.before.before.before.before.before.before.before.if1.false, c.before.before.before.before.before.before.before.before.before.before.before.before.before.before.before.before.before.before.before.before.before.before.before.before.requires.0.enough, c.before.before.before.before.before.before.before.before.before.before.before.before.goals.auto.1.1.1.0)
+bounds-s-record : tie.Need-bounds-s-record
+bounds-s-record c = omega (arith, c.before.before.before.before.before.before.before.before.before.before.before.before.before.before.before.if1.false, c.before.before.before.before.before.before.before.before.before.before.before.before.before.before.before.before.before.before.before.before.before.before.before.before.requires.0.enough, c.before.before.before.before.before.before.before.before.before.before.goals.auto.1.1.1.0)
 
 word-requires : tie.Need-word-requires
 word-requires c κs = search rules
 
-add-s : tie.Need-overflow-add-s
-add-s c = search rules
+overflow_add-s : tie.Need-overflow_add-s
+overflow_add-s c = search rules
 
-mul-s-2 : tie.Need-overflow-mul-s-2
-mul-s-2 c = search rules
+offset_bounds-s-record-in-Got : tie.Need-offset_bounds-s-record-in-Got
+offset_bounds-s-record-in-Got c = search rules
 
-slice-write-s-2 : tie.Need-slice-write-s-2
-slice-write-s-2 c = simp length-set (omega (arith, c.before.before.before.before.before.before.before.before.before.before.before.before.before.before.before.before.before.before.if1.false, c.before.before.before.before.before.before.before.before.before.before.before.before.before.before.before.before.before.before.before.before.before.before.before.before.before.requires.0.enough, c.before.before.before.before.before.before.before.before.before.before.before.before.before.goals.auto.1.1.1.0))
+bounds-s-record-in-Got : tie.Need-bounds-s-record-in-Got
+bounds-s-record-in-Got c = simp length-set (omega (arith, c.before.before.before.before.before.before.before.before.before.before.before.before.before.before.before.before.if1.false, c.before.before.before.before.before.before.before.before.before.before.before.before.before.before.before.before.before.before.before.before.before.before.before.before.before.requires.0.enough, c.before.before.before.before.before.before.before.before.before.before.before.goals.auto.1.1.1.0))
 
-word-requires-2 : tie.Need-word-requires-2
-word-requires-2 c κs = search rules
+word-requires-in-Got : tie.Need-word-requires-in-Got
+word-requires-in-Got c κs = search rules
 
-add-s-2 : tie.Need-overflow-add-s-2
-add-s-2 c = search rules
+overflow_add-s-in-Got : tie.Need-overflow_add-s-in-Got
+overflow_add-s-in-Got c = search rules
 
-mul-s-3 : tie.Need-overflow-mul-s-3
-mul-s-3 c = search rules
+offset_bounds-s-record-in-Got-2 : tie.Need-offset_bounds-s-record-in-Got-2
+offset_bounds-s-record-in-Got-2 c = search rules
 
-slice-write-s-3 : tie.Need-slice-write-s-3
-slice-write-s-3 c = simp length-set (omega (arith, c.before.before.before.before.before.before.before.before.before.before.before.before.before.before.before.before.before.before.before.if1.false, c.before.before.before.before.before.before.before.before.before.before.before.before.before.before.before.before.before.before.before.before.before.before.before.before.before.before.requires.0.enough, c.before.before.before.before.before.before.before.before.before.before.before.before.before.before.goals.auto.1.1.1.0))
+bounds-s-record-in-Got-2 : tie.Need-bounds-s-record-in-Got-2
+bounds-s-record-in-Got-2 c = simp length-set (omega (arith, c.before.before.before.before.before.before.before.before.before.before.before.before.before.before.before.before.before.if1.false, c.before.before.before.before.before.before.before.before.before.before.before.before.before.before.before.before.before.before.before.before.before.before.before.before.before.before.requires.0.enough, c.before.before.before.before.before.before.before.before.before.before.before.before.goals.auto.1.1.1.0))
 
-add-keep-places : tie.Need-overflow-add-keep-places
-add-keep-places c = search rules
+overflow_add-record-in-Got : tie.Need-overflow_add-record-in-Got
+overflow_add-record-in-Got c = search rules
 
-keep-places-requires : tie.Need-keep-places-requires
-keep-places-requires c κs =
+keep_places-requires : tie.Need-keep_places-requires
+keep_places-requires c κs =
     let a = c.before.before.before.before.before.before.before.before.before.before.before.before.before.before.before.before.before.before.before.before.before.before.before.before.before.before.before.before.args in
     let known = c.before.before.before.before.before.before.before.before.before.before.before.before.before.before.before.before.before.before.before.before.before.before.before.before.before.before.before.before.requires.1.0.0 in
     let b = c.before.before.before.before.before.before.before.before.before.before.before.before.before.before.before.before.before.before.before.before.before.before.before.before.before.before.before.before.requires.1.0.1 in
-    let f = c.before.before.before.before.before.before.before.before.before.before.before.before.before.before.before.before.before.first.ensures in
-    let st = begin_stands a.text.now a.rest.now a.from a.names.now a.item.now a.known known b c.before.before.before.before.before.before.before.before.before.before.before.before.before.before.before.before.before.first.result (omega (arith, f.0, c.before.before.before.before.before.before.before.before.before.before.before.before.before.before.before.before.before.before.before.before.before.before.before.before.before.before.before.before.requires.1.1.0)) f.1 f.2 f.3 in
-    let got = rw c.before.before.before.before.before.before.before.before.count.given.1 at (c.before.before.before.before.before.before.before.before.before.before.before.before.before.before.before.before.goals.ensures known [] st) in
+    let f = c.before.before.before.before.before.before.before.before.before.before.before.before.before.before.before.first.ensures in
+    let st = begin_stands a.text.now a.rest.now a.from a.names.now a.item.now a.known known b c.before.before.before.before.before.before.before.before.before.before.before.before.before.before.before.first.result (omega (arith, f.0, c.before.before.before.before.before.before.before.before.before.before.before.before.before.before.before.before.before.before.before.before.before.before.before.before.before.before.before.before.requires.1.1.0)) f.1 f.2 f.3 in
+    let got = rw c.before.before.before.before.before.before.count.given.1 at (c.before.before.before.before.before.before.before.before.before.before.before.before.before.before.goals.ensures known [] st) in
     let v = got.3.stands.variables_in in
     let n = got.3.stands.variables_count in
     let whole = length-drop a.from a.text.now in (
-      (simp length-set (omega (arith, c.before.before.before.before.before.before.before.before.before.before.before.before.before.before.before.before.before.before.before.before.before.if1.false, c.before.before.before.before.before.before.before.before.before.before.before.before.before.before.before.before.before.before.before.before.before.before.before.before.before.before.before.before.requires.0.enough, c.before.before.before.before.before.before.before.before.before.before.before.before.before.before.before.before.goals.auto.1.1.1.0, n, v.few)), omega (arith, n, v.few, v.size)),
+      (simp length-set (omega (arith, c.before.before.before.before.before.before.before.before.before.before.before.before.before.before.before.before.before.before.before.if1.false, c.before.before.before.before.before.before.before.before.before.before.before.before.before.before.before.before.before.before.before.before.before.before.before.before.before.before.before.before.requires.0.enough, c.before.before.before.before.before.before.before.before.before.before.before.before.before.before.goals.auto.1.1.1.0, n, v.few)), omega (arith, n, v.few, v.size)),
       (λ i l.
           let inside : i < length (variables_over a.from got.1 []) = omega (arith, n) in
           omega (arith, v.starts i inside, v.inside i inside, b.part.0, ap length b.part.1 ∙ whole, c.before.before.before.before.before.before.before.before.before.before.before.before.before.before.before.before.before.before.before.before.before.before.before.before.before.before.before.before.well-formed.0.0)),
     )
 
-enum-known-a : tie.Need-enum-known-a
-enum-known-a c = search rules
+enum_known-a : tie.Need-enum_known-a
+enum_known-a c = search rules
 
-enum_told : tie.Need-enum-told
-enum_told c = search rules
+enum_told-1 : tie.Need-enum_told-1
+enum_told-1 c = search rules
 
-same-length-4 : tie.Need-same-length-4
-same-length-4 c = c.before.before.keep-places.auto.0 ∙ simp length-set c.before.before.before.before.before.before.before.before.before.before.before.before.before.before.before.before.before.before.before.goals.auto.1.1.1.0
+shape_of-s-else-not-nothing_twice : tie.Need-shape_of-s-else-not-nothing_twice
+shape_of-s-else-not-nothing_twice c = c.before.before.keep_places.auto.s ∙ simp length-set c.before.before.before.before.before.before.before.before.before.before.before.before.before.before.before.before.before.goals.auto.1.1.1.0
 
-same-length-5 : tie.Need-same-length-5
-same-length-5 c = c.before.before.before.before.before.before.before.before.before.before.before.before.before.before.before.before.before.before.before.goals.auto.1.1.1.1.0
+shape_of-names-else-not-nothing_twice : tie.Need-shape_of-names-else-not-nothing_twice
+shape_of-names-else-not-nothing_twice c = c.before.before.before.before.before.before.before.before.before.before.before.before.before.before.before.before.before.goals.auto.1.1.1.1.0
 
-same-length-6 : tie.Need-same-length-6
-same-length-6 c = c.before.before.before.before.before.before.before.before.before.before.before.before.before.before.before.before.before.before.before.goals.auto.1.1.1.1.1.0
+shape_of-item-else-not-nothing_twice : tie.Need-shape_of-item-else-not-nothing_twice
+shape_of-item-else-not-nothing_twice c = c.before.before.before.before.before.before.before.before.before.before.before.before.before.before.before.before.before.goals.auto.1.1.1.1.1.0
 
-returns-3 : tie.Need-returns-3
-returns-3 c =
+returns-else-not-nothing_twice : tie.Need-returns-else-not-nothing_twice
+returns-else-not-nothing_twice c =
     let a = c.before.before.before.before.before.before.before.before.before.before.before.before.before.before.before.before.before.before.before.before.before.before.before.before.before.before.before.before.before.before.before.args in
     let x = c.before.before.before.before.before.before.before.before.before.before.before.before.before.before.before.before.before.before.before.before.before.before.before.before.before.before.before.before.before.before.before.requires.1.1 in
     λ known clauses b.
-    let f = c.before.before.before.before.before.before.before.before.before.before.before.before.before.before.before.before.before.before.before.before.first.ensures in
-    let st = begin_stands a.text.now a.rest.now a.from a.names.now a.item.now a.known known b c.before.before.before.before.before.before.before.before.before.before.before.before.before.before.before.before.before.before.before.before.first.result (omega (arith, f.0, c.before.before.before.before.before.before.before.before.before.before.before.before.before.before.before.before.before.before.before.before.before.before.before.before.before.before.before.before.before.before.before.requires.1.1.0)) f.1 f.2 f.3 in
-    let got = rw c.before.before.before.before.before.before.before.before.before.before.before.count.given.1 at (c.before.before.before.before.before.before.before.before.before.before.before.before.before.before.before.before.before.before.before.goals.ensures known [] st) in
-    query_took a.text.now a.rest.now a.from a.names.now a.item.now a.known known b clauses a.k a.begins a.s.now a.heads.now x.1 c.before.before.before.before.before.before.before.before.before.before.before.before.before.before.before.before.before.before.before.before.before.before.before.before.if1.false c.before.before.before.before.before.before.before.before.before.before.before.before.before.before.before.before.before.before.before.before.first.result f.0 f.3 c.before.before.before.before.before.before.before.before.before.before.before.before.before.before.before.before.before.before.before.goals.new.1.1.1.0 c.before.before.before.before.before.before.before.before.before.before.before.before.before.before.before.before.before.before.before.goals.new.1.1.1.1.0 c.before.before.before.before.before.before.before.before.before.before.before.before.before.before.before.before.before.before.before.goals.new.1.1.1.1.1.0 c.before.before.before.before.before.before.before.before.before.before.before.count.given.0.0 c.before.before.before.before.before.before.before.before.before.before.before.count.given.0.1.0 got.0 got.1 got.2 got.3 c.before.before.keep-places.new.0 c.before.before.before.before.before.before.word.result c.before.before.before.before.before.word2.result (sym c.before.before.before.before.before.before.before.before.nothing_twice.ensures ∙ not-false _ c.before.before.before.before.before.before.before.if2.false) c.before.before.before.before.before.before.word.ensures c.before.before.before.before.before.word2.ensures c.before.before.keep-places.ensures
+    let f = c.before.before.before.before.before.before.before.before.before.before.before.before.before.before.before.before.before.before.first.ensures in
+    let st = begin_stands a.text.now a.rest.now a.from a.names.now a.item.now a.known known b c.before.before.before.before.before.before.before.before.before.before.before.before.before.before.before.before.before.before.first.result (omega (arith, f.0, c.before.before.before.before.before.before.before.before.before.before.before.before.before.before.before.before.before.before.before.before.before.before.before.before.before.before.before.before.before.before.before.requires.1.1.0)) f.1 f.2 f.3 in
+    let got = rw c.before.before.before.before.before.before.before.before.before.count.given.1 at (c.before.before.before.before.before.before.before.before.before.before.before.before.before.before.before.before.before.goals.ensures known [] st) in
+    query_took a.text.now a.rest.now a.from a.names.now a.item.now a.known known b clauses a.k a.begins a.s.now a.heads.now x.1 c.before.before.before.before.before.before.before.before.before.before.before.before.before.before.before.before.before.before.before.before.before.before.if1.false c.before.before.before.before.before.before.before.before.before.before.before.before.before.before.before.before.before.before.first.result f.0 f.3 c.before.before.before.before.before.before.before.before.before.before.before.before.before.before.before.before.before.goals.new.1.1.1.0 c.before.before.before.before.before.before.before.before.before.before.before.before.before.before.before.before.before.goals.new.1.1.1.1.0 c.before.before.before.before.before.before.before.before.before.before.before.before.before.before.before.before.before.goals.new.1.1.1.1.1.0 c.before.before.before.before.before.before.before.before.before.count.given.0.0 c.before.before.before.before.before.before.before.before.before.count.given.0.1.0 got.0 got.1 got.2 got.3 c.before.before.keep_places.new.s c.before.before.before.before.before.before.word.result c.before.before.before.before.before.word2.result (sym c.before.before.before.before.before.before.before.before.nothing_twice.ensures ∙ not-false _ c.before.before.before.before.before.before.before.if2.false) c.before.before.before.before.before.before.word.ensures c.before.before.before.before.before.word2.ensures c.before.before.keep_places.ensures
 
-same-length-7 : tie.Need-same-length-7
-same-length-7 c = c.before.before.before.before.before.before.before.before.before.goals.auto.1.1.1.0
+shape_of-s-in-Malformed : tie.Need-shape_of-s-in-Malformed
+shape_of-s-in-Malformed c = c.before.before.before.before.before.before.before.goals.auto.s
 
-same-length-8 : tie.Need-same-length-8
-same-length-8 c = c.before.before.before.before.before.before.before.before.before.goals.auto.1.1.1.1.0
+shape_of-names-in-Malformed : tie.Need-shape_of-names-in-Malformed
+shape_of-names-in-Malformed c = c.before.before.before.before.before.before.before.goals.auto.names
 
-same-length-9 : tie.Need-same-length-9
-same-length-9 c = c.before.before.before.before.before.before.before.before.before.goals.auto.1.1.1.1.1.0
+shape_of-item-in-Malformed : tie.Need-shape_of-item-in-Malformed
+shape_of-item-in-Malformed c = c.before.before.before.before.before.before.before.goals.auto.item
 
-returns-4 : tie.Need-returns-4
-returns-4 c =
-    let a = c.before.before.before.before.before.before.before.before.before.before.before.before.before.before.before.before.before.before.before.before.before.args in
-    let x = c.before.before.before.before.before.before.before.before.before.before.before.before.before.before.before.before.before.before.before.before.before.requires.1.1 in
+returns-in-Malformed : tie.Need-returns-in-Malformed
+returns-in-Malformed c =
+    let a = c.before.before.before.before.before.before.before.before.before.before.before.before.before.before.before.before.before.before.before.args in
+    let x = c.before.before.before.before.before.before.before.before.before.before.before.before.before.before.before.before.before.before.before.requires.begins_in_bounds in
     λ known clauses b.
-    let f = c.before.before.before.before.before.before.before.before.before.before.first.ensures in
-    let st = begin_stands a.text.now a.rest.now a.from a.names.now a.item.now a.known known b c.before.before.before.before.before.before.before.before.before.before.first.result (omega (arith, f.0, c.before.before.before.before.before.before.before.before.before.before.before.before.before.before.before.before.before.before.before.before.before.requires.1.1.0)) f.1 f.2 f.3 in
-    let bad = rw c.before.a.given.1 at (c.before.before.before.before.before.before.before.before.before.goals.ensures known [] st) in
-    (query_malformed a.text.now a.rest.now a.from a.names.now a.item.now a.known known b clauses a.k a.begins a.s.now a.heads.now x.1 c.before.before.before.before.before.before.before.before.before.before.before.before.before.before.if1.false c.before.before.before.before.before.before.before.before.before.before.first.result f.0 f.3 c.before.a.given.0.0 bad.0, bad.1, bad.2)
+    let f = c.before.before.before.before.before.before.before.before.first.ensures in
+    let st = begin_stands a.text.now a.rest.now a.from a.names.now a.item.now a.known known b c.before.before.before.before.before.before.before.before.first.result (omega (arith, f.0, c.before.before.before.before.before.before.before.before.before.before.before.before.before.before.before.before.before.before.before.requires.begins_in_bounds.0)) f.1 f.2 f.3 in
+    let bad = rw c.in-Malformed.is at (c.before.before.before.before.before.before.before.goals.ensures known [] st) in
+    (query_malformed a.text.now a.rest.now a.from a.names.now a.item.now a.known known b clauses a.k a.begins a.s.now a.heads.now x.1 c.before.before.before.before.before.before.before.before.before.before.before.before.if-k-ge8.false c.before.before.before.before.before.before.before.before.first.result f.0 f.3 c.in-Malformed.a bad.0, bad.1, bad.2)
 
-same-length-10 : tie.Need-same-length-10
-same-length-10 c = c.before.before.before.before.before.before.before.before.goals.auto.1.1.1.0
+shape_of-s-in-Exceeded : tie.Need-shape_of-s-in-Exceeded
+shape_of-s-in-Exceeded c = c.before.before.before.before.before.before.before.goals.auto.s
 
-same-length-11 : tie.Need-same-length-11
-same-length-11 c = c.before.before.before.before.before.before.before.before.goals.auto.1.1.1.1.0
+shape_of-names-in-Exceeded : tie.Need-shape_of-names-in-Exceeded
+shape_of-names-in-Exceeded c = c.before.before.before.before.before.before.before.goals.auto.names
 
-same-length-12 : tie.Need-same-length-12
-same-length-12 c = c.before.before.before.before.before.before.before.before.goals.auto.1.1.1.1.1.0
+shape_of-item-in-Exceeded : tie.Need-shape_of-item-in-Exceeded
+shape_of-item-in-Exceeded c = c.before.before.before.before.before.before.before.goals.auto.item
 
-returns-5 : tie.Need-returns-5
-returns-5 c =
-    let a = c.before.before.before.before.before.before.before.before.before.before.before.before.before.before.before.before.before.before.before.before.args in
-    let x = c.before.before.before.before.before.before.before.before.before.before.before.before.before.before.before.before.before.before.before.before.requires.1.1 in
+returns-in-Exceeded : tie.Need-returns-in-Exceeded
+returns-in-Exceeded c =
+    let a = c.before.before.before.before.before.before.before.before.before.before.before.before.before.before.before.before.before.before.before.args in
+    let x = c.before.before.before.before.before.before.before.before.before.before.before.before.before.before.before.before.before.before.before.requires.begins_in_bounds in
     λ known clauses b.
-    let f = c.before.before.before.before.before.before.before.before.before.first.ensures in
-    let st = begin_stands a.text.now a.rest.now a.from a.names.now a.item.now a.known known b c.before.before.before.before.before.before.before.before.before.first.result (omega (arith, f.0, c.before.before.before.before.before.before.before.before.before.before.before.before.before.before.before.before.before.before.before.before.requires.1.1.0)) f.1 f.2 f.3 in
-    let bad = rw c.enum_told.given.1 at (c.before.before.before.before.before.before.before.before.goals.ensures known [] st) in
-    (query_passed a.text.now a.rest.now a.from a.names.now a.item.now a.known known b clauses a.k a.begins a.s.now a.heads.now x.1 c.before.before.before.before.before.before.before.before.before.before.before.before.before.if1.false c.before.before.before.before.before.before.before.before.before.first.result f.0 f.3 bad.0, omega (arith, x.0), bad.1)
+    let f = c.before.before.before.before.before.before.before.before.first.ensures in
+    let st = begin_stands a.text.now a.rest.now a.from a.names.now a.item.now a.known known b c.before.before.before.before.before.before.before.before.first.result (omega (arith, f.0, c.before.before.before.before.before.before.before.before.before.before.before.before.before.before.before.before.before.before.before.requires.begins_in_bounds.0)) f.1 f.2 f.3 in
+    let bad = rw c.in-Exceeded.is at (c.before.before.before.before.before.before.before.goals.ensures known [] st) in
+    (query_passed a.text.now a.rest.now a.from a.names.now a.item.now a.known known b clauses a.k a.begins a.s.now a.heads.now x.1 c.before.before.before.before.before.before.before.before.before.before.before.before.if-k-ge8.false c.before.before.before.before.before.before.before.before.first.result f.0 f.3 bad.0, omega (arith, x.0), bad.1)
 
 pub query_spec : {M : Type 1} → statement M
 query_spec =
     tie.close
     (tie.spec
-    returns
-    mul-record
-    add-record
-    add_goals
-    mul-goals
-    add-goals-2
-    add-goals-3
-    add-first
+    returns-then-k-ge8
+    overflow_mul-record
+    overflow_add-record
+    overflow_add-k
+    overflow_mul-k
+    overflow_add-k-2
+    overflow_add-record-2
+    overflow_add-begins
     first-requires
     goals-requires
-    enum-known-count
-    nothing-twice-requires
-    add-first-fault
-    slice-aggregate-first-fault
-    first-fault-requires
-    same_length
-    same-length-2
-    same-length-3
-    returns-2
-    mul-s
-    slice-write-s
+    enum_known-count
+    nothing_twice-requires
+    overflow_add-begins-then-not-nothing_twice
+    slice_bounds-first_fault-end
+    first_fault-fault-requires
+    shape_of-s-then-not-nothing_twice
+    shape_of-names-then-not-nothing_twice
+    shape_of-item-then-not-nothing_twice
+    returns-then-not-nothing_twice
+    offset_bounds-s-record
+    bounds-s-record
     word-requires
-    add-s
-    mul-s-2
-    slice-write-s-2
-    word-requires-2
-    add-s-2
-    mul-s-3
-    slice-write-s-3
-    add-keep-places
-    keep-places-requires
-    enum-known-a
-    enum_told
-    same-length-4
-    same-length-5
-    same-length-6
-    returns-3
-    same-length-7
-    same-length-8
-    same-length-9
-    returns-4
-    same-length-10
-    same-length-11
-    same-length-12
-    returns-5)
+    overflow_add-s
+    offset_bounds-s-record-in-Got
+    bounds-s-record-in-Got
+    word-requires-in-Got
+    overflow_add-s-in-Got
+    offset_bounds-s-record-in-Got-2
+    bounds-s-record-in-Got-2
+    overflow_add-record-in-Got
+    keep_places-requires
+    enum_known-a
+    enum_told-1
+    shape_of-s-else-not-nothing_twice
+    shape_of-names-else-not-nothing_twice
+    shape_of-item-else-not-nothing_twice
+    returns-else-not-nothing_twice
+    shape_of-s-in-Malformed
+    shape_of-names-in-Malformed
+    shape_of-item-in-Malformed
+    returns-in-Malformed
+    shape_of-s-in-Exceeded
+    shape_of-names-in-Exceeded
+    shape_of-item-in-Exceeded
+    returns-in-Exceeded)

@@ -21,27 +21,27 @@ use Rattle.load_items.proofs.Behind.{
 use Rattle.load_items.proofs.rule.body.Statement.{statement}
 use Rattle.load_items.proofs.rule.body.Tie as tie
 
-mul-record : tie.Need-overflow-mul-record
-mul-record c = search rules
+overflow_mul-record : tie.Need-overflow_mul-record
+overflow_mul-record c = search rules
 
-add-record : tie.Need-overflow-add-record
-add-record c = search rules
+overflow_add-record : tie.Need-overflow_add-record
+overflow_add-record c = search rules
 
-mul-base : tie.Need-overflow-mul-base
-mul-base c = search rules
+overflow_mul-base : tie.Need-overflow_mul-base
+overflow_mul-base c = search rules
 
-add-base : tie.Need-overflow-add-base
-add-base c = search rules
+overflow_add-base : tie.Need-overflow_add-base
+overflow_add-base c = search rules
 
-copy-counts-requires : tie.Need-copy-counts-requires
-copy-counts-requires c κs =
+copy_counts-requires : tie.Need-copy_counts-requires
+copy_counts-requires c κs =
     let start = c.before.before.before.before.before.before.before.before.before.before in
     let q = start.requires in
     let st = q.1.1.1.2 in
     (rw q.1.0.1 (length-replicate {A = ℕ} 64 0), st.variables_in.size)
 
-slice-aggregate-elements : tie.Need-slice-aggregate-elements
-slice-aggregate-elements c = search rules
+slice_bounds-elements-end : tie.Need-slice_bounds-elements-end
+slice_bounds-elements-end c = search rules
 
 elements-requires : tie.Need-elements-requires
 elements-requires c κs =
@@ -52,33 +52,33 @@ elements-requires c κs =
     let known = q.1.1.1.0 in
     let vars = q.1.1.1.1 in
     let st = q.1.1.1.2 in
-    let fresh = rw q.1.0.1 at at_copy_counts.copy-counts.ensures in (
+    let fresh = rw q.1.0.1 at at_copy_counts.copy_counts.ensures in (
       (omega (arith, q.0.0, q.0.1), q.0.2, omega (arith, length-replicate {A = ℕ} 8 0)),
       (
         known,
         vars,
         fresh_stands a.k q.0.0 a.text.now a.rest.now a.from known vars
-            a.c a.s.now a.names.now a.item.now a.in_head.now q.1.1.0 st at_copy_counts.copy-counts.new.1.0 at_copy_counts.copy-counts.auto.1.0 fresh,
+            a.c a.s.now a.names.now a.item.now a.in_head.now q.1.1.0 st at_copy_counts.copy_counts.new.table at_copy_counts.copy_counts.auto.table fresh,
       ),
     )
 
-enum-known-n : tie.Need-enum-known-n
-enum-known-n c = search rules
+enum_known-n : tie.Need-enum_known-n
+enum_known-n c = search rules
 
-slice-aggregate-set-goals : tie.Need-slice-aggregate-set-goals
-slice-aggregate-set-goals c = search rules
+slice_bounds-set_goals-end : tie.Need-slice_bounds-set_goals-end
+slice_bounds-set_goals-end c = search rules
 
-add-set-goals : tie.Need-overflow-add-set-goals
-add-set-goals c =
+overflow_add-record-in-Stop : tie.Need-overflow_add-record-in-Stop
+overflow_add-record-in-Stop c =
     let start = c.before.before.before.before.before.before.before.before.before.before.before.before.before.before.before.before.before.before.before.before.before.before.before.before.before.before.before.before.before.before in
     let a = start.args in
     let q = start.pre in
     omega (arith, q.0.0)
 
-set-goals-requires : tie.Need-set-goals-requires
-set-goals-requires c κs =
-    let at_n = c.before.before.before in
-    let at_elements = at_n.before.before.before.before.before.before.before.before.before in
+set_goals-requires : tie.Need-set_goals-requires
+set_goals-requires c κs =
+    let at_n = c.before.before in
+    let at_elements = at_n.before.before.before.before.before.before.before.before in
     let at_copy_counts = at_elements.before.before.before.before.before.before.before in
     let start = at_copy_counts.before.before.before.before.before.before.before.before.before.before.before in
     let a = start.args in
@@ -86,55 +86,55 @@ set-goals-requires c κs =
     let known = q.1.1.1.0 in
     let vars = q.1.1.1.1 in
     let st = q.1.1.1.2 in
-    let fresh = rw q.1.0.1 at at_copy_counts.copy-counts.ensures in
-    let told = rw at_n.n.given.1 at (at_elements.elements.ensures known vars (fresh_stands a.k q.0.0 a.text.now a.rest.now a.from known vars a.c a.s.now
-    a.names.now a.item.now a.in_head.now q.1.1.0 st at_copy_counts.copy-counts.new.1.0 at_copy_counts.copy-counts.auto.1.0 fresh)) in (
-      omega (arith, q.0.0, q.0.1, at_elements.elements.auto.1.1.1.0),
-      omega (arith, q.0.2, at_elements.elements.auto.1.1.1.0),
+    let fresh = rw q.1.0.1 at at_copy_counts.copy_counts.ensures in
+    let told = rw at_n.in-Stop.is at (at_elements.elements.ensures known vars (fresh_stands a.k q.0.0 a.text.now a.rest.now a.from known vars a.c a.s.now
+    a.names.now a.item.now a.in_head.now q.1.1.0 st at_copy_counts.copy_counts.new.table at_copy_counts.copy_counts.auto.table fresh)) in (
+      omega (arith, q.0.0, q.0.1, at_elements.elements.auto.s),
+      omega (arith, q.0.2, at_elements.elements.auto.s),
       told.2.gave.few,
       omega
-          (arith, at_elements.elements.auto.1.1.1.1.1.1.1.0, length-replicate {A = ℕ} 8 0),
+          (arith, at_elements.elements.auto.words, length-replicate {A = ℕ} 8 0),
     )
 
-same_length : tie.Need-same-length
-same_length c = search rules
+shape_of-s-then-not-set_goals : tie.Need-shape_of-s-then-not-set_goals
+shape_of-s-then-not-set_goals c = search rules
 
-same-length-2 : tie.Need-same-length-2
-same-length-2 c = search rules
+shape_of-names-then-not-set_goals : tie.Need-shape_of-names-then-not-set_goals
+shape_of-names-then-not-set_goals c = search rules
 
-same-length-3 : tie.Need-same-length-3
-same-length-3 c = search rules
+shape_of-item-then-not-set_goals : tie.Need-shape_of-item-then-not-set_goals
+shape_of-item-then-not-set_goals c = search rules
 
-same-length-4 : tie.Need-same-length-4
-same-length-4 c = search rules
+shape_of-in_guards-then-not-set_goals : tie.Need-shape_of-in_guards-then-not-set_goals
+shape_of-in_guards-then-not-set_goals c = search rules
 
-returns : tie.Need-returns
-returns c =
+returns-then-not-set_goals : tie.Need-returns-then-not-set_goals
+returns-then-not-set_goals c =
     let at_set_goals = c.before.before.before in
-    let at_n = at_set_goals.before.before.before.before in
-    let at_elements = at_n.before.before.before.before.before.before.before.before.before in
+    let at_n = at_set_goals.before.before.before in
+    let at_elements = at_n.before.before.before.before.before.before.before.before in
     let at_copy_counts = at_elements.before.before.before.before.before.before.before in
     let start = at_copy_counts.before.before.before.before.before.before.before.before.before.before.before in
     let a = start.args in
     let q = start.requires in
     λ known vars st.
-    let fresh = rw q.1.0.1 at at_copy_counts.copy-counts.ensures in
-    let told = rw at_n.n.given.1 at (at_elements.elements.ensures known vars (fresh_stands a.k q.0.0 a.text.now a.rest.now a.from known vars a.c a.s.now
-    a.names.now a.item.now a.in_head.now q.1.1.0 st at_copy_counts.copy-counts.new.1.0 at_copy_counts.copy-counts.auto.1.0 fresh)) in
-    let set_told = rw (not-true at_set_goals.set-goals.result c.if1.true) at (at_set_goals.set-goals.ensures (item_places (names_over told.1 known) (clause_base a.k))
+    let fresh = rw q.1.0.1 at at_copy_counts.copy_counts.ensures in
+    let told = rw at_n.in-Stop.is at (at_elements.elements.ensures known vars (fresh_stands a.k q.0.0 a.text.now a.rest.now a.from known vars a.c a.s.now
+    a.names.now a.item.now a.in_head.now q.1.1.0 st at_copy_counts.copy_counts.new.table at_copy_counts.copy_counts.auto.table fresh)) in
+    let set_told = rw (not-true at_set_goals.set_goals.result c.if-not-set_goals.true) at (at_set_goals.set_goals.ensures (item_places (names_over told.1 known) (clause_base a.k))
     told.0 (worded a.k q.0.0 a.text.now a.rest.now a.from known vars a.c a.s.now a.names.now a.item.now a.in_head.now q.1.1.0 st
-    at_copy_counts.copy-counts.new.1.0 at_copy_counts.copy-counts.auto.1.0 fresh (replicate 8 0) at_elements.elements.new.1.1.1.0
-    at_elements.elements.new.1.1.1.1.0 at_elements.elements.new.1.1.1.1.1.0 at_elements.elements.new.1.1.1.1.1.1.1.0 at_n.n.given.0.0
-    at_n.n.given.0.1.1.0 told.0 told.1 told.2.gave)) in
+    at_copy_counts.copy_counts.new.table at_copy_counts.copy_counts.auto.table fresh (replicate 8 0) at_elements.elements.new.s
+    at_elements.elements.new.names at_elements.elements.new.item at_elements.elements.new.words at_n.in-Stop.n
+    at_n.in-Stop.d told.0 told.1 told.2.gave)) in
     stop_not a.k q.0.0 a.text.now a.rest.now a.from known vars a.c a.s.now a.names.now a.item.now a.in_head.now q.1.1.0 st
-    at_copy_counts.copy-counts.new.1.0 at_copy_counts.copy-counts.auto.1.0 fresh (replicate 8 0) at_elements.elements.new.1.1.1.0
-    at_elements.elements.new.1.1.1.1.0 at_elements.elements.new.1.1.1.1.1.0 at_elements.elements.new.1.1.1.1.1.1.1.0 at_n.n.given.0.0
-    at_n.n.given.0.1.1.0 told.0 told.1 at_n.n.given.0.1.0 told.2 at_set_goals.set-goals.new.0 a.in-guards.now a.licensed.now set_told
+    at_copy_counts.copy_counts.new.table at_copy_counts.copy_counts.auto.table fresh (replicate 8 0) at_elements.elements.new.s
+    at_elements.elements.new.names at_elements.elements.new.item at_elements.elements.new.words at_n.in-Stop.n
+    at_n.in-Stop.d told.0 told.1 at_n.in-Stop.a told.2 at_set_goals.set_goals.new.s a.in-guards.now a.licensed.now set_told
 
-add-counts-requires : tie.Need-add-counts-requires
-add-counts-requires c κs =
-    let at_n = c.before.before.before.before.before.before.before.before in
-    let at_elements = at_n.before.before.before.before.before.before.before.before.before in
+add_counts-requires : tie.Need-add_counts-requires
+add_counts-requires c κs =
+    let at_n = c.before.before.before.before.before.before.before in
+    let at_elements = at_n.before.before.before.before.before.before.before.before in
     let at_copy_counts = at_elements.before.before.before.before.before.before.before in
     let start = at_copy_counts.before.before.before.before.before.before.before.before.before.before.before in
     let a = start.args in
@@ -142,20 +142,20 @@ add-counts-requires c κs =
     let known = q.1.1.1.0 in
     let vars = q.1.1.1.1 in
     let st = q.1.1.1.2 in
-    let fresh = rw q.1.0.1 at at_copy_counts.copy-counts.ensures in
-    let told = rw at_n.n.given.1 at (at_elements.elements.ensures known vars (fresh_stands a.k q.0.0 a.text.now a.rest.now a.from known vars a.c a.s.now
-    a.names.now a.item.now a.in_head.now q.1.1.0 st at_copy_counts.copy-counts.new.1.0 at_copy_counts.copy-counts.auto.1.0 fresh)) in
+    let fresh = rw q.1.0.1 at at_copy_counts.copy_counts.ensures in
+    let told = rw at_n.in-Stop.is at (at_elements.elements.ensures known vars (fresh_stands a.k q.0.0 a.text.now a.rest.now a.from known vars a.c a.s.now
+    a.names.now a.item.now a.in_head.now q.1.1.0 st at_copy_counts.copy_counts.new.table at_copy_counts.copy_counts.auto.table fresh)) in
     ((q.1.0.0, told.2.gave.stands.variables_in.size), λ i l. (omega (arith, q.1.1.0 i l, st.variables_in.counted i l), told.2.gave.stands.variables_in.counted i l))
 
 word-requires : tie.Need-word-requires
 word-requires c κs = search rules
 
-enum-known-n-2 : tie.Need-enum-known-n-2
-enum-known-n-2 c = search rules
+enum_known-n-in-Bar-1 : tie.Need-enum_known-n-in-Bar-1
+enum_known-n-in-Bar-1 c = search rules
 
-copy-counts-requires-2 : tie.Need-copy-counts-requires-2
-copy-counts-requires-2 c κs =
-    let at_n2 = c.before.before.before in
+copy_counts-requires-in-Bar : tie.Need-copy_counts-requires-in-Bar
+copy_counts-requires-in-Bar c κs =
+    let at_n2 = c.before in
     let at_elements = at_n2.before.before.before.before.before.before.before.before.before in
     let at_copy_counts = at_elements.before.before.before.before.before.before.before in
     let start = at_copy_counts.before.before.before.before.before.before.before.before.before.before.before in
@@ -169,9 +169,9 @@ copy-counts-requires-2 c κs =
     a.names.now a.item.now a.in_head.now q.1.1.0 st at_copy_counts.copy-counts.new.1.0 at_copy_counts.copy-counts.auto.1.0 fresh)) in
     (told.3.gave.stands.variables_in.size, rw q.1.0.1 (length-replicate {A = ℕ} 64 0))
 
-copy-counts-requires-3 : tie.Need-copy-counts-requires-3
-copy-counts-requires-3 c κs =
-    let at_n2 = c.before.before.before.before.before.before.before in
+copy_counts-requires-in-Bar-2 : tie.Need-copy_counts-requires-in-Bar-2
+copy_counts-requires-in-Bar-2 c κs =
+    let at_n2 = c.before.before.before.before.before in
     let at_elements = at_n2.before.before.before.before.before.before.before.before.before in
     let at_copy_counts = at_elements.before.before.before.before.before.before.before in
     let start = at_copy_counts.before.before.before.before.before.before.before.before.before.before.before in
@@ -185,19 +185,19 @@ copy-counts-requires-3 c κs =
     a.names.now a.item.now a.in_head.now q.1.1.0 st at_copy_counts.copy-counts.new.1.0 at_copy_counts.copy-counts.auto.1.0 fresh)) in
     (q.1.0.0, told.3.gave.stands.variables_in.size)
 
-slice-aggregate-tested : tie.Need-slice-aggregate-tested
-slice-aggregate-tested c = search rules
+slice_bounds-tested-end : tie.Need-slice_bounds-tested-end
+slice_bounds-tested-end c = search rules
 
-add-tested : tie.Need-overflow-add-tested
-add-tested c =
+overflow_add-record-in-Bar : tie.Need-overflow_add-record-in-Bar
+overflow_add-record-in-Bar c =
     let start = c.before.before.before.before.before.before.before.before.before.before.before.before.before.before.before.before.before.before.before.before.before.before.before.before.before.before.before.before.before.before.before.before.before.before.before.before.before.before.before.before in
     let a = start.args in
     let q = start.pre in
     omega (arith, q.0.0)
 
-tested-requires : tie.Need-tested-requires
-tested-requires c κs =
-    let at_n2 = c.before.before.before.before.before.before.before.before.before.before.before.before.before.before in
+tested-found-requires : tie.Need-tested-found-requires
+tested-found-requires c κs =
+    let at_n2 = c.before.before.before.before.before.before.before.before.before.before.before.before in
     let at_elements = at_n2.before.before.before.before.before.before.before.before.before in
     let at_copy_counts = at_elements.before.before.before.before.before.before.before in
     let start = at_copy_counts.before.before.before.before.before.before.before.before.before.before.before in
@@ -226,7 +226,7 @@ guarded-requires c κs =
     let at_tested = c.before.before.before.before.before.before.before in
     let at_copy_counts3 = at_tested.before.before.before.before.before.before.before in
     let at_copy_counts2 = at_copy_counts3.before.before.before.before in
-    let at_n2 = at_copy_counts2.before.before.before.before in
+    let at_n2 = at_copy_counts2.before.before in
     let at_elements = at_n2.before.before.before.before.before.before.before.before.before in
     let at_copy_counts = at_elements.before.before.before.before.before.before.before in
     let start = at_copy_counts.before.before.before.before.before.before.before.before.before.before.before in
@@ -243,9 +243,9 @@ guarded-requires c κs =
     let size_g : length at_copy_counts2.copy-counts2.new.1.0 ≡ 64 = omega (arith, at_copy_counts2.copy-counts2.auto.1.0, were) in (
       (
         q.0.0,
-        omega (arith, q.0.1, at_elements.elements.auto.1.1.1.0, at_tested.tested.auto.1.1.0),
+        omega (arith, q.0.1, at_elements.elements.auto.1.1.1.0, at_tested.tested-found.auto.s),
         omega
-            (arith, q.0.2, at_elements.elements.auto.1.1.1.0, at_tested.tested.auto.1.1.0),
+            (arith, q.0.2, at_elements.elements.auto.1.1.1.0, at_tested.tested-found.auto.s),
       ),
       (
         names_over told.1 known,
@@ -259,84 +259,84 @@ guarded-requires c κs =
       ),
     )
 
-enum-known-a : tie.Need-enum-known-a
-enum-known-a c = search rules
+enum_known-a : tie.Need-enum_known-a
+enum_known-a c = search rules
 
-enum_told : tie.Need-enum-told
-enum_told c = search rules
+enum_told-1 : tie.Need-enum_told-1
+enum_told-1 c = search rules
 
-same-length-5 : tie.Need-same-length-5
-same-length-5 c = search rules
+shape_of-s-else-not-set_goals : tie.Need-shape_of-s-else-not-set_goals
+shape_of-s-else-not-set_goals c = search rules
 
-same-length-6 : tie.Need-same-length-6
-same-length-6 c = search rules
+shape_of-names-else-not-set_goals : tie.Need-shape_of-names-else-not-set_goals
+shape_of-names-else-not-set_goals c = search rules
 
-same-length-7 : tie.Need-same-length-7
-same-length-7 c = search rules
+shape_of-item-else-not-set_goals : tie.Need-shape_of-item-else-not-set_goals
+shape_of-item-else-not-set_goals c = search rules
 
-same-length-8 : tie.Need-same-length-8
-same-length-8 c = search rules
+shape_of-in_guards-else-not-set_goals : tie.Need-shape_of-in_guards-else-not-set_goals
+shape_of-in_guards-else-not-set_goals c = search rules
 
-returns-2 : tie.Need-returns-2
-returns-2 c =
+returns-else-not-set_goals : tie.Need-returns-else-not-set_goals
+returns-else-not-set_goals c =
     let at_add_counts = c.before.before.before in
     let at_if1 = at_add_counts.before.before in
     let at_set_goals = at_if1.before.before.before in
-    let at_n = at_set_goals.before.before.before.before in
-    let at_elements = at_n.before.before.before.before.before.before.before.before.before in
+    let at_n = at_set_goals.before.before.before in
+    let at_elements = at_n.before.before.before.before.before.before.before.before in
     let at_copy_counts = at_elements.before.before.before.before.before.before.before in
     let start = at_copy_counts.before.before.before.before.before.before.before.before.before.before.before in
     let a = start.args in
     let q = start.requires in
     λ known vars st.
-    let fresh = rw q.1.0.1 at at_copy_counts.copy-counts.ensures in
-    let told = rw at_n.n.given.1 at (at_elements.elements.ensures known vars (fresh_stands a.k q.0.0 a.text.now a.rest.now a.from known vars a.c a.s.now
-    a.names.now a.item.now a.in_head.now q.1.1.0 st at_copy_counts.copy-counts.new.1.0 at_copy_counts.copy-counts.auto.1.0 fresh)) in
-    let set_told = rw (not-false at_set_goals.set-goals.result at_if1.if1.false) at (at_set_goals.set-goals.ensures (item_places (names_over told.1 known) (clause_base a.k))
+    let fresh = rw q.1.0.1 at at_copy_counts.copy_counts.ensures in
+    let told = rw at_n.in-Stop.is at (at_elements.elements.ensures known vars (fresh_stands a.k q.0.0 a.text.now a.rest.now a.from known vars a.c a.s.now
+    a.names.now a.item.now a.in_head.now q.1.1.0 st at_copy_counts.copy_counts.new.table at_copy_counts.copy_counts.auto.table fresh)) in
+    let set_told = rw (not-false at_set_goals.set_goals.result at_if1.if-not-set_goals.false) at (at_set_goals.set_goals.ensures (item_places (names_over told.1 known) (clause_base a.k))
     told.0 (worded a.k q.0.0 a.text.now a.rest.now a.from known vars a.c a.s.now a.names.now a.item.now a.in_head.now q.1.1.0 st
-    at_copy_counts.copy-counts.new.1.0 at_copy_counts.copy-counts.auto.1.0 fresh (replicate 8 0) at_elements.elements.new.1.1.1.0
-    at_elements.elements.new.1.1.1.1.0 at_elements.elements.new.1.1.1.1.1.0 at_elements.elements.new.1.1.1.1.1.1.1.0 at_n.n.given.0.0
-    at_n.n.given.0.1.1.0 told.0 told.1 told.2.gave)) in
+    at_copy_counts.copy_counts.new.table at_copy_counts.copy_counts.auto.table fresh (replicate 8 0) at_elements.elements.new.s
+    at_elements.elements.new.names at_elements.elements.new.item at_elements.elements.new.words at_n.in-Stop.n
+    at_n.in-Stop.d told.0 told.1 told.2.gave)) in
     stop_got a.k q.0.0 a.text.now a.rest.now a.from known vars a.c a.s.now a.names.now a.item.now a.in_head.now q.1.1.0 st
-    at_copy_counts.copy-counts.new.1.0 at_copy_counts.copy-counts.auto.1.0 fresh (replicate 8 0) at_elements.elements.new.1.1.1.0
-    at_elements.elements.new.1.1.1.1.0 at_elements.elements.new.1.1.1.1.1.0 at_elements.elements.new.1.1.1.1.1.1.1.0 at_n.n.given.0.0
-    at_n.n.given.0.1.1.0 told.0 told.1 at_n.n.given.0.1.0 told.2 at_set_goals.set-goals.new.0 at_add_counts.add-counts.new.0 a.in-guards.now
-    a.licensed.now c.word.result at_add_counts.add-counts.auto.0 at_add_counts.add-counts.ensures c.word.ensures q.1.0.1 q.1.0.2 set_told
+    at_copy_counts.copy_counts.new.table at_copy_counts.copy_counts.auto.table fresh (replicate 8 0) at_elements.elements.new.s
+    at_elements.elements.new.names at_elements.elements.new.item at_elements.elements.new.words at_n.in-Stop.n
+    at_n.in-Stop.d told.0 told.1 at_n.in-Stop.a told.2 at_set_goals.set_goals.new.s at_add_counts.add_counts.new.table a.in-guards.now
+    a.licensed.now c.word.result at_add_counts.add_counts.auto.table at_add_counts.add_counts.ensures c.word.ensures q.1.0.1 q.1.0.2 set_told
 
-same-length-9 : tie.Need-same-length-9
-same-length-9 c =
+shape_of-s-in-Bar : tie.Need-shape_of-s-in-Bar
+shape_of-s-in-Bar c =
     let at_guarded = c.before.before.before.before.before.before in
     let at_tested = at_guarded.before.before.before.before.before.before.before.before in
-    let at_elements = at_tested.before.before.before.before.before.before.before.before.before.before.before.before.before.before.before.before.before.before.before.before.before.before.before.before in
-    at_guarded.guarded.auto.1.1.1.0 ∙ at_tested.tested.auto.1.1.0 ∙ at_elements.elements.kept.1.1.1.0
+    let at_elements = at_tested.before.before.before.before.before.before.before.before.before.before.before.before.before.before.before.before.before.before.before.before.before.before in
+    at_guarded.guarded.auto.s ∙ at_tested.tested-found.auto.s ∙ at_elements.elements.kept.1.1.1.0
 
-same-length-10 : tie.Need-same-length-10
-same-length-10 c =
+shape_of-names-in-Bar : tie.Need-shape_of-names-in-Bar
+shape_of-names-in-Bar c =
     let at_guarded = c.before.before.before.before.before.before in
-    let at_elements = at_guarded.before.before.before.before.before.before.before.before.before.before.before.before.before.before.before.before.before.before.before.before.before.before.before.before.before.before.before.before.before.before.before.before in
-    at_guarded.guarded.auto.1.1.1.1.0 ∙ at_elements.elements.kept.1.1.1.1.0
+    let at_elements = at_guarded.before.before.before.before.before.before.before.before.before.before.before.before.before.before.before.before.before.before.before.before.before.before.before.before.before.before.before.before.before.before in
+    at_guarded.guarded.auto.names ∙ at_elements.elements.kept.1.1.1.1.0
 
-same-length-11 : tie.Need-same-length-11
-same-length-11 c =
+shape_of-item-in-Bar : tie.Need-shape_of-item-in-Bar
+shape_of-item-in-Bar c =
     let at_guarded = c.before.before.before.before.before.before in
     let at_copy_counts3 = at_guarded.before.before.before.before.before.before.before.before.before.before.before.before.before.before.before in
-    let at_elements = at_copy_counts3.before.before.before.before.before.before.before.before.before.before.before.before.before.before.before.before.before in
+    let at_elements = at_copy_counts3.before.before.before.before.before.before.before.before.before.before.before.before.before.before.before in
     let at_copy_counts = at_elements.before.before.before.before.before.before.before in
-    at_guarded.guarded.auto.1.1.1.1.1.0 ∙ at_copy_counts3.copy-counts3.auto.1.0 ∙ at_elements.elements.auto.1.1.1.1.1.0 ∙ at_copy_counts.copy-counts.auto.1.0
+    at_guarded.guarded.auto.item ∙ at_copy_counts3.copy-counts3.auto.1.0 ∙ at_elements.elements.auto.1.1.1.1.1.0 ∙ at_copy_counts.copy-counts.auto.1.0
 
-same-length-12 : tie.Need-same-length-12
-same-length-12 c = search rules
+shape_of-in_guards-in-Bar : tie.Need-shape_of-in_guards-in-Bar
+shape_of-in_guards-in-Bar c = search rules
 
-same-length-13 : tie.Need-same-length-13
-same-length-13 c = search rules
+shape_of-licensed : tie.Need-shape_of-licensed
+shape_of-licensed c = search rules
 
-returns-3 : tie.Need-returns-3
-returns-3 c =
+returns-in-Bar : tie.Need-returns-in-Bar
+returns-in-Bar c =
     let at_guarded = c.before.before.before.before.before.before in
     let at_tested = at_guarded.before.before.before.before.before.before.before.before in
     let at_copy_counts3 = at_tested.before.before.before.before.before.before.before in
     let at_copy_counts2 = at_copy_counts3.before.before.before.before in
-    let at_n2 = at_copy_counts2.before.before.before.before in
+    let at_n2 = at_copy_counts2.before.before in
     let at_elements = at_n2.before.before.before.before.before.before.before.before.before in
     let at_copy_counts = at_elements.before.before.before.before.before.before.before in
     let start = at_copy_counts.before.before.before.before.before.before.before.before.before.before.before in
@@ -350,7 +350,7 @@ returns-3 c =
     let were : length a.in-guards.now ≡ 64 = rw q.1.0.1 (length-replicate {A = ℕ} 64 0) in
     let size_g : length at_copy_counts2.copy-counts2.new.1.0 ≡ 64 = omega (arith, at_copy_counts2.copy-counts2.auto.1.0, were) in
     let many : 8 ≤ length at_elements.elements.new.1.1.1.1.1.1.1.0 = omega (arith, at_elements.elements.auto.1.1.1.1.1.1.1.0, length-replicate {A = ℕ} 8 0) in
-    let tested_told = at_tested.tested.ensures (names_over told.1 known) told.0 (listed a.k q.0.0 a.text.now a.rest.now a.from known vars a.c a.s.now
+    let tested_told = at_tested.tested-found.ensures (names_over told.1 known) told.0 (listed a.k q.0.0 a.text.now a.rest.now a.from known vars a.c a.s.now
     a.names.now a.item.now a.in_head.now q.1.1.0 st at_copy_counts.copy-counts.new.1.0 at_copy_counts.copy-counts.auto.1.0 fresh (replicate 8 0)
     at_elements.elements.new.1.1.1.0 at_elements.elements.new.1.1.1.1.0 at_elements.elements.new.1.1.1.1.1.0
     at_elements.elements.new.1.1.1.1.1.1.1.0 at_n2.n2.given.0.0 at_n2.n2.given.0.1.0 told.0 told.1 told.2 told.3 q.0.1 many) in
@@ -358,9 +358,9 @@ returns-3 c =
     at_copy_counts.copy-counts.new.1.0 at_copy_counts.copy-counts.auto.1.0 fresh (replicate 8 0) at_elements.elements.new.1.1.1.0
     at_elements.elements.new.1.1.1.1.0 at_elements.elements.new.1.1.1.1.1.0 at_elements.elements.new.1.1.1.1.1.1.1.0 at_n2.n2.given.0.0
     at_n2.n2.given.0.1.0 told.0 told.1 told.2 told.3 q.0.1 at_copy_counts2.copy-counts2.new.1.0 at_copy_counts3.copy-counts3.new.1.0
-    at_copy_counts3.copy-counts3.new.1.0 size_g kept_guards at_copy_counts3.copy-counts3.auto.1.0 at_copy_counts3.copy-counts3.ensures at_tested.tested.new.1.1.0
-    at_tested.tested.new.1.1.1.1.1.1.1.0 at_guarded.guarded.new.1.1.1.0 at_guarded.guarded.new.1.1.1.1.0 at_guarded.guarded.new.1.1.1.1.1.0
-    at_tested.tested.result tested_told at_guarded.guarded.result
+    at_copy_counts3.copy-counts3.new.1.0 size_g kept_guards at_copy_counts3.copy-counts3.auto.1.0 at_copy_counts3.copy-counts3.ensures at_tested.tested-found.new.s
+    at_tested.tested-found.new.licensed at_guarded.guarded.new.s at_guarded.guarded.new.names at_guarded.guarded.new.item
+    at_tested.tested-found.result tested_told at_guarded.guarded.result
     (at_guarded.guarded.ensures (names_over told.1 known) (variables_over a.from told.1 vars)
     (bar_stands a.k q.0.0 a.text.now a.rest.now a.from known vars a.c a.s.now a.names.now a.item.now a.in_head.now q.1.1.0 st
     at_copy_counts.copy-counts.new.1.0 at_copy_counts.copy-counts.auto.1.0 fresh (replicate 8 0) at_elements.elements.new.1.1.1.0
@@ -368,110 +368,110 @@ returns-3 c =
     at_n2.n2.given.0.1.0 told.0 told.1 told.2 told.3 q.0.1 at_copy_counts2.copy-counts2.new.1.0 at_copy_counts3.copy-counts3.new.1.0
     at_copy_counts3.copy-counts3.new.1.0 size_g kept_guards at_copy_counts3.copy-counts3.auto.1.0 at_copy_counts3.copy-counts3.ensures))
 
-same-length-14 : tie.Need-same-length-14
-same-length-14 c = search rules
+shape_of-s-in-Malformed : tie.Need-shape_of-s-in-Malformed
+shape_of-s-in-Malformed c = search rules
 
-same-length-15 : tie.Need-same-length-15
-same-length-15 c = search rules
+shape_of-names-in-Malformed : tie.Need-shape_of-names-in-Malformed
+shape_of-names-in-Malformed c = search rules
 
-same-length-16 : tie.Need-same-length-16
-same-length-16 c = search rules
+shape_of-item-in-Malformed : tie.Need-shape_of-item-in-Malformed
+shape_of-item-in-Malformed c = search rules
 
-same-length-17 : tie.Need-same-length-17
-same-length-17 c = search rules
+shape_of-in_guards-in-Malformed : tie.Need-shape_of-in_guards-in-Malformed
+shape_of-in_guards-in-Malformed c = search rules
 
-returns-4 : tie.Need-returns-4
-returns-4 c =
-    let at_a = c.before in
-    let at_elements = at_a.before.before.before.before.before.before.before.before.before in
+returns-in-Malformed : tie.Need-returns-in-Malformed
+returns-in-Malformed c =
+    let at_a = c in
+    let at_elements = at_a.before.before.before.before.before.before.before.before in
     let at_copy_counts = at_elements.before.before.before.before.before.before.before in
     let start = at_copy_counts.before.before.before.before.before.before.before.before.before.before.before in
     let a = start.args in
     let q = start.requires in
     λ known vars st.
-    let fresh = rw q.1.0.1 at at_copy_counts.copy-counts.ensures in
-    let told = rw at_a.a.given.1 at (at_elements.elements.ensures known vars (fresh_stands a.k q.0.0 a.text.now a.rest.now a.from known vars a.c a.s.now
-    a.names.now a.item.now a.in_head.now q.1.1.0 st at_copy_counts.copy-counts.new.1.0 at_copy_counts.copy-counts.auto.1.0 fresh)) in
+    let fresh = rw q.1.0.1 at at_copy_counts.copy_counts.ensures in
+    let told = rw at_a.in-Malformed.is at (at_elements.elements.ensures known vars (fresh_stands a.k q.0.0 a.text.now a.rest.now a.from known vars a.c a.s.now
+    a.names.now a.item.now a.in_head.now q.1.1.0 st at_copy_counts.copy_counts.new.table at_copy_counts.copy_counts.auto.table fresh)) in
     behind_malformed a.k q.0.0 a.text.now a.rest.now a.from known vars a.c a.s.now a.names.now a.item.now a.in_head.now q.1.1.0 st
-    at_copy_counts.copy-counts.new.1.0 at_copy_counts.copy-counts.auto.1.0 fresh at_elements.elements.new.1.1.1.0 at_elements.elements.new.1.1.1.1.0
-    at_elements.elements.new.1.1.1.1.1.0 a.in-guards.now a.licensed.now at_a.a.given.0.0 told.0 told.1 told.2
+    at_copy_counts.copy_counts.new.table at_copy_counts.copy_counts.auto.table fresh at_elements.elements.new.s at_elements.elements.new.names
+    at_elements.elements.new.item a.in-guards.now a.licensed.now at_a.in-Malformed.a told.0 told.1 told.2
 
-same-length-18 : tie.Need-same-length-18
-same-length-18 c = search rules
+shape_of-s-in-Exceeded : tie.Need-shape_of-s-in-Exceeded
+shape_of-s-in-Exceeded c = search rules
 
-same-length-19 : tie.Need-same-length-19
-same-length-19 c = search rules
+shape_of-names-in-Exceeded : tie.Need-shape_of-names-in-Exceeded
+shape_of-names-in-Exceeded c = search rules
 
-same-length-20 : tie.Need-same-length-20
-same-length-20 c = search rules
+shape_of-item-in-Exceeded : tie.Need-shape_of-item-in-Exceeded
+shape_of-item-in-Exceeded c = search rules
 
-same-length-21 : tie.Need-same-length-21
-same-length-21 c = search rules
+shape_of-in_guards-in-Exceeded : tie.Need-shape_of-in_guards-in-Exceeded
+shape_of-in_guards-in-Exceeded c = search rules
 
-returns-5 : tie.Need-returns-5
-returns-5 c =
-    let at_elements = c.before.before.before.before.before.before.before.before.before in
+returns-in-Exceeded : tie.Need-returns-in-Exceeded
+returns-in-Exceeded c =
+    let at_elements = c.before.before.before.before.before.before.before.before in
     let at_copy_counts = at_elements.before.before.before.before.before.before.before in
     let start = at_copy_counts.before.before.before.before.before.before.before.before.before.before.before in
     let a = start.args in
     let q = start.requires in
     λ known vars st.
-    let fresh = rw q.1.0.1 at at_copy_counts.copy-counts.ensures in
-    let told = rw c.enum_told.given.1 at (at_elements.elements.ensures known vars (fresh_stands a.k q.0.0 a.text.now a.rest.now a.from known vars a.c a.s.now
-    a.names.now a.item.now a.in_head.now q.1.1.0 st at_copy_counts.copy-counts.new.1.0 at_copy_counts.copy-counts.auto.1.0 fresh)) in
+    let fresh = rw q.1.0.1 at at_copy_counts.copy_counts.ensures in
+    let told = rw c.in-Exceeded.is at (at_elements.elements.ensures known vars (fresh_stands a.k q.0.0 a.text.now a.rest.now a.from known vars a.c a.s.now
+    a.names.now a.item.now a.in_head.now q.1.1.0 st at_copy_counts.copy_counts.new.table at_copy_counts.copy_counts.auto.table fresh)) in
     behind_passed a.k q.0.0 a.text.now a.rest.now a.from known vars a.c a.s.now a.names.now a.item.now a.in_head.now q.1.1.0 st
-    at_copy_counts.copy-counts.new.1.0 at_copy_counts.copy-counts.auto.1.0 fresh at_elements.elements.new.1.1.1.0 at_elements.elements.new.1.1.1.1.0
-    at_elements.elements.new.1.1.1.1.1.0 a.in-guards.now a.licensed.now told.0 told.1
+    at_copy_counts.copy_counts.new.table at_copy_counts.copy_counts.auto.table fresh at_elements.elements.new.s at_elements.elements.new.names
+    at_elements.elements.new.item a.in-guards.now a.licensed.now told.0 told.1
 
 pub body_spec : {M : Type 1} → statement M
 body_spec =
     tie.close
     (tie.spec
-    mul-record
-    add-record
-    mul-base
-    add-base
-    copy-counts-requires
-    slice-aggregate-elements
+    overflow_mul-record
+    overflow_add-record
+    overflow_mul-base
+    overflow_add-base
+    copy_counts-requires
+    slice_bounds-elements-end
     elements-requires
-    enum-known-n
-    slice-aggregate-set-goals
-    add-set-goals
-    set-goals-requires
-    same_length
-    same-length-2
-    same-length-3
-    same-length-4
-    returns
-    add-counts-requires
+    enum_known-n
+    slice_bounds-set_goals-end
+    overflow_add-record-in-Stop
+    set_goals-requires
+    shape_of-s-then-not-set_goals
+    shape_of-names-then-not-set_goals
+    shape_of-item-then-not-set_goals
+    shape_of-in_guards-then-not-set_goals
+    returns-then-not-set_goals
+    add_counts-requires
     word-requires
-    enum-known-n-2
-    copy-counts-requires-2
-    copy-counts-requires-3
-    slice-aggregate-tested
-    add-tested
-    tested-requires
+    enum_known-n-in-Bar-1
+    copy_counts-requires-in-Bar
+    copy_counts-requires-in-Bar-2
+    slice_bounds-tested-end
+    overflow_add-record-in-Bar
+    tested-found-requires
     guarded-requires
-    enum-known-a
-    enum_told
-    same-length-5
-    same-length-6
-    same-length-7
-    same-length-8
-    returns-2
-    same-length-9
-    same-length-10
-    same-length-11
-    same-length-12
-    same-length-13
-    returns-3
-    same-length-14
-    same-length-15
-    same-length-16
-    same-length-17
-    returns-4
-    same-length-18
-    same-length-19
-    same-length-20
-    same-length-21
-    returns-5)
+    enum_known-a
+    enum_told-1
+    shape_of-s-else-not-set_goals
+    shape_of-names-else-not-set_goals
+    shape_of-item-else-not-set_goals
+    shape_of-in_guards-else-not-set_goals
+    returns-else-not-set_goals
+    shape_of-s-in-Bar
+    shape_of-names-in-Bar
+    shape_of-item-in-Bar
+    shape_of-in_guards-in-Bar
+    shape_of-licensed
+    returns-in-Bar
+    shape_of-s-in-Malformed
+    shape_of-names-in-Malformed
+    shape_of-item-in-Malformed
+    shape_of-in_guards-in-Malformed
+    returns-in-Malformed
+    shape_of-s-in-Exceeded
+    shape_of-names-in-Exceeded
+    shape_of-item-in-Exceeded
+    shape_of-in_guards-in-Exceeded
+    returns-in-Exceeded)

@@ -14,66 +14,66 @@ use Rattle.load_items.proofs.Wholes.{Taken, taken_none, taken_all, taken_not, ta
 use Rattle.load_items.proofs.rule.set_goals.Statement.{statement}
 use Rattle.load_items.proofs.rule.set_goals.Tie as tie
 
-abbrev invariant-loop : tie.invariant-loop
-invariant-loop s₀ words n place i₀ s i =
+abbrev invariant-loop-i : tie.invariant-loop-i
+invariant-loop-i s₀ words n place i₀ s i =
     ((places : CellPlaces) (es : List Element) → Worded words n places es → Taken s₀ s place places es i)
     × (i ≤ n)
     × Only place (place + 8) s₀ s
 
-abbrev decreases-loop : tie.decreases-loop
-decreases-loop s₀ words n place i₀ s i = n - i
+abbrev decreases-loop-i : tie.decreases-loop-i
+decreases-loop-i s₀ words n place i₀ s i = n - i
 
-loop-holds : tie.Need-loop-init invariant-loop decreases-loop
-loop-holds c =
+loop-i-init : tie.Need-loop-i-init invariant-loop-i decreases-loop-i
+loop-i-init c =
     let a = c.args in
     ((λ places es w. taken_none a.s.now a.place places es), omega arith, only_same a.place (a.place + 8) a.s.now)
 
-mul-w : tie.Need-overflow-mul-w invariant-loop decreases-loop
-mul-w c = search rules
+offset_bounds-words-i : tie.Need-offset_bounds-words-i invariant-loop-i decreases-loop-i
+offset_bounds-words-i c = search rules
 
-shared-slice-read-w : tie.Need-shared-slice-read-w invariant-loop decreases-loop
-shared-slice-read-w c = search rules
+bounds-words-i : tie.Need-bounds-words-i invariant-loop-i decreases-loop-i
+bounds-words-i c = search rules
 
-same_length : tie.Need-same-length invariant-loop decreases-loop
-same_length c = c.before.before.before.loop.invariant.2.size
+shape_of-s-then-w-ne-COMPOUND : tie.Need-shape_of-s-then-w-ne-COMPOUND invariant-loop-i decreases-loop-i
+shape_of-s-then-w-ne-COMPOUND c = c.before.before.before.loop-i.invariant.2.size
 
-returns : tie.Need-returns invariant-loop decreases-loop
-returns c =
-    let l = c.before.before.before.loop in
+returns-then-w-ne-COMPOUND : tie.Need-returns-then-w-ne-COMPOUND invariant-loop-i decreases-loop-i
+returns-then-w-ne-COMPOUND c =
+    let l = c.before.before.before.loop-i in
     let a = c.before.before.before.before.args in
-    λ places es w. (taken_not a.s.now l.s a.words.now a.n a.place places es l.i w (l.invariant.0 places es w) (omega arith) (λ q. omega (arith, c.if1.true)), l.invariant.2)
+    λ places es w. (taken_not a.s.now l.s a.words.now a.n a.place places es l.i w (l.invariant.0 places es w) (omega arith) (λ q. omega (arith, c.if-w-ne-COMPOUND.true)), l.invariant.2)
 
-add-s : tie.Need-overflow-add-s invariant-loop decreases-loop
-add-s c = search rules
+overflow_add-s : tie.Need-overflow_add-s invariant-loop-i decreases-loop-i
+overflow_add-s c = search rules
 
-mul-s : tie.Need-overflow-mul-s invariant-loop decreases-loop
-mul-s c = search rules
+offset_bounds-s-place : tie.Need-offset_bounds-s-place invariant-loop-i decreases-loop-i
+offset_bounds-s-place c = search rules
 
-slice-write-s : tie.Need-slice-write-s invariant-loop decreases-loop
-slice-write-s c = omega (arith, c.before.before.before.loop.invariant.2.size)
+bounds-s-place : tie.Need-bounds-s-place invariant-loop-i decreases-loop-i
+bounds-s-place c = omega (arith, c.before.before.before.loop-i.invariant.2.size)
 
-add-i : tie.Need-overflow-add-i invariant-loop decreases-loop
-add-i c = search rules
+overflow_add-i : tie.Need-overflow_add-i invariant-loop-i decreases-loop-i
+overflow_add-i c = search rules
 
-loop-less : tie.Need-loop-smaller invariant-loop decreases-loop
-loop-less c = search rules
+loop-i-smaller : tie.Need-loop-i-smaller invariant-loop-i decreases-loop-i
+loop-i-smaller c = search rules
 
-loop-again : tie.Need-loop-preserved invariant-loop decreases-loop
-loop-again c =
-    let l = c.before.before.before.loop in
+loop-i-preserved : tie.Need-loop-i-preserved invariant-loop-i decreases-loop-i
+loop-i-preserved c =
+    let l = c.before.before.before.loop-i in
     let a = c.before.before.before.before.args in (
-      (λ places es w. taken_next a.s.now l.s a.words.now a.n a.place places es l.i w (l.invariant.0 places es w) (omega arith) (omega (arith, c.if1.false))),
+      (λ places es w. taken_next a.s.now l.s a.words.now a.n a.place places es l.i w (l.invariant.0 places es w) (omega arith) (omega (arith, c.if-w-ne-COMPOUND.false))),
       omega arith,
       only_then a.place (a.place + 8) a.s.now l.s (set l.s (a.place + l.i) (get_or a.words.now l.i 0)) l.invariant.2
           (only_set a.place (a.place + 8) l.s (a.place + l.i) (get_or a.words.now l.i 0) (omega arith) (omega arith)),
     )
 
-same-length-2 : tie.Need-same-length-2 invariant-loop decreases-loop
-same-length-2 c = c.before.loop.invariant.2.size
+shape_of-s : tie.Need-shape_of-s invariant-loop-i decreases-loop-i
+shape_of-s c = c.before.loop-i.invariant.2.size
 
-returns-2 : tie.Need-returns-2 invariant-loop decreases-loop
-returns-2 c =
-    let l = c.before.loop in
+returns : tie.Need-returns invariant-loop-i decreases-loop-i
+returns c =
+    let l = c.before.loop-i in
     let a = c.before.before.args in
     λ places es w.
     let t = l.invariant.0 places es w in
@@ -83,18 +83,18 @@ pub set_goals_spec : {M : Type 1} → statement M
 set_goals_spec =
     tie.close
     (tie.spec
-    invariant-loop
-    decreases-loop
-    loop-holds
-    mul-w
-    shared-slice-read-w
-    same_length
-    returns
-    add-s
-    mul-s
-    slice-write-s
-    add-i
-    loop-less
-    loop-again
-    same-length-2
-    returns-2)
+    invariant-loop-i
+    decreases-loop-i
+    loop-i-init
+    offset_bounds-words-i
+    bounds-words-i
+    shape_of-s-then-w-ne-COMPOUND
+    returns-then-w-ne-COMPOUND
+    overflow_add-s
+    offset_bounds-s-place
+    bounds-s-place
+    overflow_add-i
+    loop-i-smaller
+    loop-i-preserved
+    shape_of-s
+    returns)

@@ -11,14 +11,14 @@ use Rattle.load_items.proofs.rule.tested.Tie as tie
 resolve-requires : tie.Need-resolve-requires
 resolve-requires c κs = search rules
 
-same_length : tie.Need-same-length
-same_length c = search rules
+shape_of-s-then-not-resolve : tie.Need-shape_of-s-then-not-resolve
+shape_of-s-then-not-resolve c = search rules
 
-returns : tie.Need-returns
-returns c =
+returns-then-not-resolve : tie.Need-returns-then-not-resolve
+returns-then-not-resolve c =
     λ known es listed.
     let resolve = c.before.before.before.resolve in
-    rw (not-true resolve.result c.if1.true) at (resolve.ensures known es listed)
+    rw (not-true resolve.result c.if-not-resolve.true) at (resolve.ensures known es listed)
 
 licences-requires : tie.Need-licences-requires
 licences-requires c κs =
@@ -28,14 +28,14 @@ licences-requires c κs =
     let found = rw (not-false resolve.result c.before.before.if1.false) at (resolve.ensures known es listed) in
     ((start.requires.0.0, omega (arith, start.requires.0.1, resolve.auto.1.1.0)), (start.args.base, known, found.0, found.1.tests))
 
-same-length-2 : tie.Need-same-length-2
-same-length-2 c = search rules
+shape_of-s : tie.Need-shape_of-s
+shape_of-s c = search rules
 
-same-length-3 : tie.Need-same-length-3
-same-length-3 c = search rules
+shape_of-licensed : tie.Need-shape_of-licensed
+shape_of-licensed c = search rules
 
-returns-2 : tie.Need-returns-2
-returns-2 c =
+returns : tie.Need-returns
+returns c =
     let resolve = c.before.before.before.before.before.before.before.before.resolve in
     let start = c.before.before.before.before.before.before.before.before.before.before.before.before.before.before.before in
     let a = start.args in
@@ -55,9 +55,9 @@ tested_spec =
     tie.close
     (tie.spec
     resolve-requires
-    same_length
-    returns
+    shape_of-s-then-not-resolve
+    returns-then-not-resolve
     licences-requires
-    same-length-2
-    same-length-3
-    returns-2)
+    shape_of-s
+    shape_of-licensed
+    returns)

@@ -5,95 +5,95 @@ use borrow.Author.Rules.{rules}
 use Rattle.load_names.proofs.names.add.Statement.{statement}
 use Rattle.load_names.proofs.names.add.Tie as tie
 
-add-before : tie.Need-overflow-add-before
-add-before c = search rules
+overflow_add-before : tie.Need-overflow_add-before
+overflow_add-before c = search rules
 
-mul-before : tie.Need-overflow-mul-before
-mul-before c = search rules
+offset_bounds-table-h : tie.Need-offset_bounds-table-h
+offset_bounds-table-h c = search rules
 
-slice-read-before : tie.Need-slice-read-before
-slice-read-before c = search rules
+bounds-table-h : tie.Need-bounds-table-h
+bounds-table-h c = search rules
 
 word-requires : tie.Need-word-requires
 word-requires c κs = search rules
 
-mul-table : tie.Need-overflow-mul-table
-mul-table c = search rules
+overflow_mul-table : tie.Need-overflow_mul-table
+overflow_mul-table c = search rules
 
-mul-table-2 : tie.Need-overflow-mul-table-2
-mul-table-2 c = search rules
+offset_bounds-table-count : tie.Need-offset_bounds-table-count
+offset_bounds-table-count c = search rules
 
-slice-write-table : tie.Need-slice-write-table
-slice-write-table c = search rules
+bounds-table-count : tie.Need-bounds-table-count
+bounds-table-count c = search rules
 
 word-requires-2 : tie.Need-word-requires-2
 word-requires-2 c κs = search rules
 
-mul-table-3 : tie.Need-overflow-mul-table-3
-mul-table-3 c = search rules
+overflow_mul-table-2 : tie.Need-overflow_mul-table-2
+overflow_mul-table-2 c = search rules
 
-add-table : tie.Need-overflow-add-table
-add-table c = search rules
+overflow_add-table : tie.Need-overflow_add-table
+overflow_add-table c = search rules
 
-mul-table-4 : tie.Need-overflow-mul-table-4
-mul-table-4 c = search rules
+offset_bounds-table-count-2 : tie.Need-offset_bounds-table-count-2
+offset_bounds-table-count-2 c = search rules
 
-slice-write-table-2 : tie.Need-slice-write-table-2
-slice-write-table-2 c = simp length-set (omega arith)
+bounds-table-count-2 : tie.Need-bounds-table-count-2
+bounds-table-count-2 c = simp length-set (omega arith)
 
-add-table-2 : tie.Need-overflow-add-table-2
-add-table-2 c = search rules
+overflow_add-table-2 : tie.Need-overflow_add-table-2
+overflow_add-table-2 c = search rules
 
-mul-table-5 : tie.Need-overflow-mul-table-5
-mul-table-5 c = search rules
+offset_bounds-table-count-3 : tie.Need-offset_bounds-table-count-3
+offset_bounds-table-count-3 c = search rules
 
-slice-write-table-3 : tie.Need-slice-write-table-3
-slice-write-table-3 c = simp length-set (omega arith)
+bounds-table-count-3 : tie.Need-bounds-table-count-3
+bounds-table-count-3 c = simp length-set (omega arith)
 
-add-word : tie.Need-overflow-add-word
-add-word c = search rules
+overflow_add-count : tie.Need-overflow_add-count
+overflow_add-count c = search rules
 
 word-requires-3 : tie.Need-word-requires-3
 word-requires-3 c κs = search rules
 
-add-table-3 : tie.Need-overflow-add-table-3
-add-table-3 c = search rules
+overflow_add-table-3 : tie.Need-overflow_add-table-3
+overflow_add-table-3 c = search rules
 
-mul-table-6 : tie.Need-overflow-mul-table-6
-mul-table-6 c = search rules
+offset_bounds-table-h-2 : tie.Need-offset_bounds-table-h-2
+offset_bounds-table-h-2 c = search rules
 
-slice-write-table-4 : tie.Need-slice-write-table-4
-slice-write-table-4 c = simp length-set (omega arith)
+bounds-table-h-2 : tie.Need-bounds-table-h-2
+bounds-table-h-2 c = simp length-set (omega arith)
 
-same_length : tie.Need-same-length
-same_length c = search rules
+shape_of-table : tie.Need-shape_of-table
+shape_of-table c = search rules
 
 returns : tie.Need-returns
-returns c = rw (c.before.before.word.ensures, c.before.word2.ensures, c.word3.ensures)
+returns c = rw (c.before.before.word.ensures, c.before.word-2.ensures, c.word-3.ensures)
 
 pub add_spec : {M : Type 1} → statement M
 add_spec =
     tie.close
     (tie.spec
-    add-before
-    mul-before
-    slice-read-before
+    overflow_add-before
+    offset_bounds-table-h
+    bounds-table-h
     word-requires
-    mul-table
-    mul-table-2
-    slice-write-table
+    overflow_mul-table
+    offset_bounds-table-count
+    bounds-table-count
     word-requires-2
-    mul-table-3
-    add-table
-    mul-table-4
-    slice-write-table-2
-    add-table-2
-    mul-table-5
-    slice-write-table-3
-    add-word
+    overflow_mul-table-2
+    overflow_add-table
+    offset_bounds-table-count-2
+    bounds-table-count-2
+    overflow_add-table-2
+    offset_bounds-table-count-3
+    bounds-table-count-3
+    overflow_add-count
     word-requires-3
-    add-table-3
-    mul-table-6
-    slice-write-table-4
-    same_length
+    overflow_add-table-3
+    offset_bounds-table-h-2
+    bounds-table-h-2
+    shape_of-table
     returns)

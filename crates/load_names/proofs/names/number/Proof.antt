@@ -11,68 +11,68 @@ use Rattle.load_names.proofs.NameTable.{name_known, name_new, name_passed}
 use Rattle.load_names.proofs.names.number.Statement.{statement}
 use Rattle.load_names.proofs.names.number.Tie as tie
 
-hash-requires : tie.Need-hash-requires
-hash-requires c κs = search rules
+hash-h-requires : tie.Need-hash-h-requires
+hash-h-requires c κs = search rules
 
 find-requires : tie.Need-find-requires
 find-requires c κs = search rules
 
-enum-known-n : tie.Need-enum-known-n
-enum-known-n c = search rules
+enum_known-n : tie.Need-enum_known-n
+enum_known-n c = search rules
 
-same_length : tie.Need-same-length
-same_length c = search rules
+shape_of-table-in-At : tie.Need-shape_of-table-in-At
+shape_of-table-in-At c = search rules
 
-returns : tie.Need-returns
-returns c places kept counted =
+returns-in-At : tie.Need-returns-in-At
+returns-in-At c places kept counted =
     let start = c.before.before.before.before.before.before.before.before.before in
     let a = start.args in
-    let searched = c.before.before.before.find in
-    let n = c.before.n.given in
-    name_known a.text.now places a.table.now a.count (a.from + a.a) (slice a.a a.e a.rest.now) kept counted n.0.0
-    (sym (searched.ensures places kept) ∙ ap found n.1)
+    let searched = c.before.find in
+    let n = c.in-At in
+    name_known a.text.now places a.table.now a.count (a.from + a.a) (slice a.a a.e a.rest.now) kept counted n.n
+    (sym (searched.ensures places kept) ∙ ap found n.is)
 
-enum_told : tie.Need-enum-told
-enum_told c = search rules
+enum_told-1 : tie.Need-enum_told-1
+enum_told-1 c = search rules
 
-same-length-2 : tie.Need-same-length-2
-same-length-2 c = search rules
+shape_of-table-then-count-ge256 : tie.Need-shape_of-table-then-count-ge256
+shape_of-table-then-count-ge256 c = search rules
 
-returns-2 : tie.Need-returns-2
-returns-2 c places kept counted =
+returns-then-count-ge256 : tie.Need-returns-then-count-ge256
+returns-then-count-ge256 c places kept counted =
     let start = c.before.before.before.before.before.before.before.before.before in
     let a = start.args in
-    let searched = c.before.before.before.find in
+    let searched = c.before.before.find in
     name_passed a.text.now places a.table.now a.count (a.from + a.a) (slice a.a a.e a.rest.now) kept counted
-    (sym (searched.ensures places kept) ∙ ap found c.before.enum_told.given.1) c.if1.true
+    (sym (searched.ensures places kept) ∙ ap found c.before.in_default.is) c.if-count-ge256.true
 
-add-add : tie.Need-overflow-add-add
-add-add c = search rules
+overflow_add-from : tie.Need-overflow_add-from
+overflow_add-from c = search rules
 
-sub-add : tie.Need-overflow-sub-add
-sub-add c = search rules
+overflow_sub-e : tie.Need-overflow_sub-e
+overflow_sub-e c = search rules
 
 add-requires : tie.Need-add-requires
 add-requires c κs =
     let start = c.before.before.before.before.before.before.before.before.before.before in
-    (c.before.if1.false, rw c.before.before.before.before.before.before.hash.ensures (hash_fits _), start.requires.1.1.size)
+    (c.before.if-count-ge256.false, rw c.before.before.before.before.before.hash.ensures (hash_fits _), start.requires.1.1.size)
 
-add-t17 : tie.Need-overflow-add-t17
-add-t17 c = search rules
+overflow_add-result : tie.Need-overflow_add-result
+overflow_add-result c = search rules
 
-same-length-3 : tie.Need-same-length-3
-same-length-3 c = search rules
+shape_of-table : tie.Need-shape_of-table
+shape_of-table c = search rules
 
-returns-3 : tie.Need-returns-3
-returns-3 c places kept counted =
+returns : tie.Need-returns
+returns c places kept counted =
     let start = c.before.before.before.before.before.before.before.before.before.before.before.before.before in
     let a = start.args in
     let f = slice a.a a.e a.rest.now in
-    let searched = c.before.before.before.before.before.before.before.find in
-    let hashed = c.before.before.before.before.before.before.before.before.before.hash in
-    name_new a.text.now places a.table.now a.count (a.from + a.a) f kept counted hashed.result (a.e - a.a) c.before.before.add.new.0
-    (sym (searched.ensures places kept) ∙ ap found c.before.before.before.before.before.enum_told.given.1)
-    c.before.before.before.before.if1.false
+    let searched = c.before.before.before.before.before.before.find in
+    let hashed = c.before.before.before.before.before.before.before.before.hash in
+    name_new a.text.now places a.table.now a.count (a.from + a.a) f kept counted hashed.result (a.e - a.a) c.before.before.add.new.table
+    (sym (searched.ensures places kept) ∙ ap found c.before.before.before.before.before.in_default.is)
+    c.before.before.before.before.if-count-ge256.false
     (part_behind a.text.now a.rest.now a.from a.a a.e start.requires.0.0 start.requires.0.1 (omega arith) start.requires.0.3)
     hashed.ensures
     (sym (length-slice a.a a.e a.rest.now start.requires.0.3))
@@ -82,17 +82,17 @@ pub number_spec : {M : Type 1} → statement M
 number_spec =
     tie.close
     (tie.spec
-    hash-requires
+    hash-h-requires
     find-requires
-    enum-known-n
-    same_length
-    returns
-    enum_told
-    same-length-2
-    returns-2
-    add-add
-    sub-add
+    enum_known-n
+    shape_of-table-in-At
+    returns-in-At
+    enum_told-1
+    shape_of-table-then-count-ge256
+    returns-then-count-ge256
+    overflow_add-from
+    overflow_sub-e
     add-requires
-    add-t17
-    same-length-3
-    returns-3)
+    overflow_add-result
+    shape_of-table
+    returns)

@@ -12,57 +12,57 @@ use Rattle.load_names.proofs.Pairs.{each_pair}
 use Rattle.load_names.proofs.rules.clause_rules.Statement.{statement}
 use Rattle.load_names.proofs.rules.clause_rules.Tie as tie
 
-abbrev invariant-loop : tie.invariant-loop
-invariant-loop item heads licensed pairs n₀ n = (all (pair_kept item heads licensed) (up_to n) ≡ true) × (n ≤ pairs)
+abbrev invariant-loop-n : tie.invariant-loop-n
+invariant-loop-n item heads licensed pairs n₀ n = (all (pair_kept item heads licensed) (up_to n) ≡ true) × (n ≤ pairs)
 
-abbrev decreases-loop : tie.decreases-loop
-decreases-loop item heads licensed pairs n₀ n = pairs - n
+abbrev decreases-loop-n : tie.decreases-loop-n
+decreases-loop-n item heads licensed pairs n₀ n = pairs - n
 
-loop-holds : tie.Need-loop-init invariant-loop decreases-loop
-loop-holds c =
+loop-n-init : tie.Need-loop-n-init invariant-loop-n decreases-loop-n
+loop-n-init c =
     let a = c.before.before.before.args in
     (all_none (pair_kept a.item.now a.heads.now a.licensed.now), omega arith)
 
-pair-rules-requires : tie.Need-pair-rules-requires invariant-loop decreases-loop
-pair-rules-requires c κs = search rules
+pair_rules-requires : tie.Need-pair_rules-requires invariant-loop-n decreases-loop-n
+pair_rules-requires c κs = search rules
 
-returns : tie.Need-returns invariant-loop decreases-loop
-returns c =
+returns-then-not-pair_rules : tie.Need-returns-then-not-pair_rules invariant-loop-n decreases-loop-n
+returns-then-not-pair_rules c =
     let at = c.before.before.before in
     let a = at.before.before.before.before.args in
     sym (sym (each_pair a.item.now a.heads.now a.licensed.now a.pairs)
-    ∙ all_fails (pair_kept a.item.now a.heads.now a.licensed.now) a.pairs at.loop.n (omega arith) (sym c.before.pair-rules.ensures ∙ not-true _ c.if1.true))
+    ∙ all_fails (pair_kept a.item.now a.heads.now a.licensed.now) a.pairs at.loop-n.n (omega arith) (sym c.before.pair_rules.ensures ∙ not-true _ c.if-not-pair_rules.true))
 
-add-n : tie.Need-overflow-add-n invariant-loop decreases-loop
-add-n c = search rules
+overflow_add-n : tie.Need-overflow_add-n invariant-loop-n decreases-loop-n
+overflow_add-n c = search rules
 
-loop-less : tie.Need-loop-smaller invariant-loop decreases-loop
-loop-less c = search rules
+loop-n-smaller : tie.Need-loop-n-smaller invariant-loop-n decreases-loop-n
+loop-n-smaller c = search rules
 
-loop-again : tie.Need-loop-preserved invariant-loop decreases-loop
-loop-again c =
+loop-n-preserved : tie.Need-loop-n-preserved invariant-loop-n decreases-loop-n
+loop-n-preserved c =
     let at = c.before.before.before in
     let a = at.before.before.before.before.args in (
-      all_next (pair_kept a.item.now a.heads.now a.licensed.now) at.loop.n at.loop.invariant.0 (sym c.before.pair-rules.ensures ∙ not-false _ c.if1.false),
+      all_next (pair_kept a.item.now a.heads.now a.licensed.now) at.loop-n.n at.loop-n.invariant.0 (sym c.before.pair_rules.ensures ∙ not-false _ c.if-not-pair_rules.false),
       omega arith,
     )
 
-returns-2 : tie.Need-returns-2 invariant-loop decreases-loop
-returns-2 c =
+returns : tie.Need-returns invariant-loop-n decreases-loop-n
+returns c =
     let a = c.before.before.before.before.before.args in
-    let all_of : c.before.loop.n ≡ a.pairs = omega arith in
-    sym (sym (each_pair a.item.now a.heads.now a.licensed.now a.pairs) ∙ rw all_of at c.before.loop.invariant.0)
+    let all_of : c.before.loop-n.n ≡ a.pairs = omega arith in
+    sym (sym (each_pair a.item.now a.heads.now a.licensed.now a.pairs) ∙ rw all_of at c.before.loop-n.invariant.0)
 
 pub clause_rules_spec : {M : Type 1} → statement M
 clause_rules_spec =
     tie.close
     (tie.spec
-    invariant-loop
-    decreases-loop
-    loop-holds
-    pair-rules-requires
-    returns
-    add-n
-    loop-less
-    loop-again
-    returns-2)
+    invariant-loop-n
+    decreases-loop-n
+    loop-n-init
+    pair_rules-requires
+    returns-then-not-pair_rules
+    overflow_add-n
+    loop-n-smaller
+    loop-n-preserved
+    returns)

@@ -6,120 +6,120 @@ use Rattle.load_names.proofs.Pairs.{writer_in_head, reader_in_head, writer_twice
 use Rattle.load_names.proofs.rules.pair_rules.Statement.{statement}
 use Rattle.load_names.proofs.rules.pair_rules.Tie as tie
 
-mul-if1 : tie.Need-overflow-mul-if1
-mul-if1 c = search rules
+offset_bounds-heads-n : tie.Need-offset_bounds-heads-n
+offset_bounds-heads-n c = search rules
 
-shared-slice-read-if1 : tie.Need-shared-slice-read-if1
-shared-slice-read-if1 c = search rules
+bounds-heads-n : tie.Need-bounds-heads-n
+bounds-heads-n c = search rules
+
+returns-then-heads-n-gt1 : tie.Need-returns-then-heads-n-gt1
+returns-then-heads-n-gt1 c =
+    let a = c.before.before.before.before.before.args in
+    sym (writer_in_head a.item.now a.heads.now a.licensed.now a.n c.if-heads-n-gt1.true)
+
+overflow_add-n : tie.Need-overflow_add-n
+overflow_add-n c = search rules
+
+offset_bounds-heads-n-2 : tie.Need-offset_bounds-heads-n-2
+offset_bounds-heads-n-2 c = search rules
+
+bounds-heads-n-2 : tie.Need-bounds-heads-n-2
+bounds-heads-n-2 c = search rules
+
+returns-then-heads-n-gt1-2 : tie.Need-returns-then-heads-n-gt1-2
+returns-then-heads-n-gt1-2 c =
+    let a = c.before.before.before.before.before.before.before.args in
+    sym (reader_in_head a.item.now a.heads.now a.licensed.now a.n c.if-heads-n-gt1-2.true)
+
+overflow_add-n-2 : tie.Need-overflow_add-n-2
+overflow_add-n-2 c = search rules
+
+offset_bounds-item-n : tie.Need-offset_bounds-item-n
+offset_bounds-item-n c = search rules
+
+bounds-item-n : tie.Need-bounds-item-n
+bounds-item-n c = search rules
+
+returns-then-item-n-gt1 : tie.Need-returns-then-item-n-gt1
+returns-then-item-n-gt1 c =
+    let a = c.before.before.before.before.before.before.before.before.before.args in
+    sym (writer_twice a.item.now a.heads.now a.licensed.now a.n c.if-item-n-gt1.true)
+
+overflow_add-n-3 : tie.Need-overflow_add-n-3
+overflow_add-n-3 c = search rules
+
+offset_bounds-item-n-2 : tie.Need-offset_bounds-item-n-2
+offset_bounds-item-n-2 c = search rules
+
+bounds-item-n-2 : tie.Need-bounds-item-n-2
+bounds-item-n-2 c = search rules
+
+offset_bounds-licensed-n : tie.Need-offset_bounds-licensed-n
+offset_bounds-licensed-n c = search rules
+
+bounds-licensed-n : tie.Need-bounds-licensed-n
+bounds-licensed-n c = search rules
+
+returns-then-licensed-n-eq0 : tie.Need-returns-then-licensed-n-eq0
+returns-then-licensed-n-eq0 c =
+    let a = c.before.before.before.before.before.before.before.before.before.before.before.before.before.args in
+    sym (reader_twice a.item.now a.heads.now a.licensed.now a.n c.before.before.if-item-n-gt1-2.true c.if-licensed-n-eq0.true)
+
+overflow_add-n-4 : tie.Need-overflow_add-n-4
+overflow_add-n-4 c = search rules
+
+offset_bounds-item-n-3 : tie.Need-offset_bounds-item-n-3
+offset_bounds-item-n-3 c = search rules
+
+bounds-item-n-3 : tie.Need-bounds-item-n-3
+bounds-item-n-3 c = search rules
+
+overflow_add-n-5 : tie.Need-overflow_add-n-5
+overflow_add-n-5 c = search rules
+
+offset_bounds-item-n-4 : tie.Need-offset_bounds-item-n-4
+offset_bounds-item-n-4 c = search rules
+
+bounds-item-n-4 : tie.Need-bounds-item-n-4
+bounds-item-n-4 c = search rules
+
+both_or_none-requires : tie.Need-both_or_none-requires
+both_or_none-requires c κs = search rules
 
 returns : tie.Need-returns
 returns c =
-    let a = c.before.before.before.before.before.args in
-    sym (writer_in_head a.item.now a.heads.now a.licensed.now a.n c.if1.true)
-
-add-if2 : tie.Need-overflow-add-if2
-add-if2 c = search rules
-
-mul-if2 : tie.Need-overflow-mul-if2
-mul-if2 c = search rules
-
-shared-slice-read-if2 : tie.Need-shared-slice-read-if2
-shared-slice-read-if2 c = search rules
-
-returns-2 : tie.Need-returns-2
-returns-2 c =
-    let a = c.before.before.before.before.before.before.before.args in
-    sym (reader_in_head a.item.now a.heads.now a.licensed.now a.n c.if2.true)
-
-add-if3 : tie.Need-overflow-add-if3
-add-if3 c = search rules
-
-mul-if3 : tie.Need-overflow-mul-if3
-mul-if3 c = search rules
-
-shared-slice-read-if3 : tie.Need-shared-slice-read-if3
-shared-slice-read-if3 c = search rules
-
-returns-3 : tie.Need-returns-3
-returns-3 c =
-    let a = c.before.before.before.before.before.before.before.before.before.args in
-    sym (writer_twice a.item.now a.heads.now a.licensed.now a.n c.if3.true)
-
-add-if4 : tie.Need-overflow-add-if4
-add-if4 c = search rules
-
-mul-if4 : tie.Need-overflow-mul-if4
-mul-if4 c = search rules
-
-shared-slice-read-if4 : tie.Need-shared-slice-read-if4
-shared-slice-read-if4 c = search rules
-
-mul-if5 : tie.Need-overflow-mul-if5
-mul-if5 c = search rules
-
-shared-slice-read-if5 : tie.Need-shared-slice-read-if5
-shared-slice-read-if5 c = search rules
-
-returns-4 : tie.Need-returns-4
-returns-4 c =
-    let a = c.before.before.before.before.before.before.before.before.before.before.before.before.before.args in
-    sym (reader_twice a.item.now a.heads.now a.licensed.now a.n c.before.before.if4.true c.if5.true)
-
-add-both-or-none : tie.Need-overflow-add-both-or-none
-add-both-or-none c = search rules
-
-mul-both-or-none : tie.Need-overflow-mul-both-or-none
-mul-both-or-none c = search rules
-
-shared-slice-read-both-or-none : tie.Need-shared-slice-read-both-or-none
-shared-slice-read-both-or-none c = search rules
-
-add-both-or-none-2 : tie.Need-overflow-add-both-or-none-2
-add-both-or-none-2 c = search rules
-
-mul-both-or-none-2 : tie.Need-overflow-mul-both-or-none-2
-mul-both-or-none-2 c = search rules
-
-shared-slice-read-both-or-none-2 : tie.Need-shared-slice-read-both-or-none-2
-shared-slice-read-both-or-none-2 c = search rules
-
-both-or-none-requires : tie.Need-both-or-none-requires
-both-or-none-requires c κs = search rules
-
-returns-5 : tie.Need-returns-5
-returns-5 c =
     let join = c.before.before.before in
     let a = join.before.before.before.before.before.before.before.before.before.before.before.args in
     c.both_or_none.ensures
-    ∙ sym (else_both a.item.now a.heads.now a.licensed.now a.n join.before.before.before.before.before.before.if1.false
-    join.before.before.before.before.if2.false join.before.before.if3.false (⊎_elim (λ w. inl w.2.left) (λ w. inr w.left) join.if4.branch))
+    ∙ sym (else_both a.item.now a.heads.now a.licensed.now a.n join.before.before.before.before.before.before.if-heads-n-gt1.false
+    join.before.before.before.before.if-heads-n-gt1-2.false join.before.before.if-item-n-gt1.false (⊎_elim (λ w. inl w.2.left) (λ w. inr w.left) join.if-item-n-gt1-2.branch))
 
 pub pair_rules_spec : {M : Type 1} → statement M
 pair_rules_spec =
     tie.close
     (tie.spec
-    mul-if1
-    shared-slice-read-if1
-    returns
-    add-if2
-    mul-if2
-    shared-slice-read-if2
-    returns-2
-    add-if3
-    mul-if3
-    shared-slice-read-if3
-    returns-3
-    add-if4
-    mul-if4
-    shared-slice-read-if4
-    mul-if5
-    shared-slice-read-if5
-    returns-4
-    add-both-or-none
-    mul-both-or-none
-    shared-slice-read-both-or-none
-    add-both-or-none-2
-    mul-both-or-none-2
-    shared-slice-read-both-or-none-2
-    both-or-none-requires
-    returns-5)
+    offset_bounds-heads-n
+    bounds-heads-n
+    returns-then-heads-n-gt1
+    overflow_add-n
+    offset_bounds-heads-n-2
+    bounds-heads-n-2
+    returns-then-heads-n-gt1-2
+    overflow_add-n-2
+    offset_bounds-item-n
+    bounds-item-n
+    returns-then-item-n-gt1
+    overflow_add-n-3
+    offset_bounds-item-n-2
+    bounds-item-n-2
+    offset_bounds-licensed-n
+    bounds-licensed-n
+    returns-then-licensed-n-eq0
+    overflow_add-n-4
+    offset_bounds-item-n-3
+    bounds-item-n-3
+    overflow_add-n-5
+    offset_bounds-item-n-4
+    bounds-item-n-4
+    both_or_none-requires
+    returns)

@@ -8,48 +8,48 @@ use Rattle.load_names.proofs.variables.add.Tie as tie
 word-requires : tie.Need-word-requires
 word-requires c κs = search rules
 
-mul-table : tie.Need-overflow-mul-table
-mul-table c = search rules
+overflow_mul-table : tie.Need-overflow_mul-table
+overflow_mul-table c = search rules
 
-mul-table-2 : tie.Need-overflow-mul-table-2
-mul-table-2 c = search rules
+offset_bounds-table-count : tie.Need-offset_bounds-table-count
+offset_bounds-table-count c = search rules
 
-slice-write-table : tie.Need-slice-write-table
-slice-write-table c = search rules
+bounds-table-count : tie.Need-bounds-table-count
+bounds-table-count c = search rules
 
 word-requires-2 : tie.Need-word-requires-2
 word-requires-2 c κs = search rules
 
-mul-table-3 : tie.Need-overflow-mul-table-3
-mul-table-3 c = search rules
+overflow_mul-table-2 : tie.Need-overflow_mul-table-2
+overflow_mul-table-2 c = search rules
 
-add-table : tie.Need-overflow-add-table
-add-table c = search rules
+overflow_add-table : tie.Need-overflow_add-table
+overflow_add-table c = search rules
 
-mul-table-4 : tie.Need-overflow-mul-table-4
-mul-table-4 c = search rules
+offset_bounds-table-count-2 : tie.Need-offset_bounds-table-count-2
+offset_bounds-table-count-2 c = search rules
 
-slice-write-table-2 : tie.Need-slice-write-table-2
-slice-write-table-2 c = simp length-set (omega arith)
+bounds-table-count-2 : tie.Need-bounds-table-count-2
+bounds-table-count-2 c = simp length-set (omega arith)
 
-same_length : tie.Need-same-length
-same_length c = search rules
+shape_of-table : tie.Need-shape_of-table
+shape_of-table c = search rules
 
 returns : tie.Need-returns
-returns c = rw (c.before.word.ensures, c.word2.ensures)
+returns c = rw (c.before.word.ensures, c.word-2.ensures)
 
 pub add_spec : {M : Type 1} → statement M
 add_spec =
     tie.close
     (tie.spec
     word-requires
-    mul-table
-    mul-table-2
-    slice-write-table
+    overflow_mul-table
+    offset_bounds-table-count
+    bounds-table-count
     word-requires-2
-    mul-table-3
-    add-table
-    mul-table-4
-    slice-write-table-2
-    same_length
+    overflow_mul-table-2
+    overflow_add-table
+    offset_bounds-table-count-2
+    bounds-table-count-2
+    shape_of-table
     returns)

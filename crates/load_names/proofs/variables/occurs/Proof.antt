@@ -8,33 +8,33 @@ use borrow.Author.Rules.{rules}
 use Rattle.load_names.proofs.variables.occurs.Statement.{statement}
 use Rattle.load_names.proofs.variables.occurs.Tie as tie
 
-mul-often : tie.Need-overflow-mul-often
-mul-often c = search rules
+offset_bounds-table-place : tie.Need-offset_bounds-table-place
+offset_bounds-table-place c = search rules
 
-slice-read-often : tie.Need-slice-read-often
-slice-read-often c = search rules
+bounds-table-place : tie.Need-bounds-table-place
+bounds-table-place c = search rules
 
-add-table : tie.Need-overflow-add-table
-add-table c = search rules
+overflow_add-table : tie.Need-overflow_add-table
+overflow_add-table c = search rules
 
-mul-table : tie.Need-overflow-mul-table
-mul-table c = search rules
+offset_bounds-table-place-then-often-lt2 : tie.Need-offset_bounds-table-place-then-often-lt2
+offset_bounds-table-place-then-often-lt2 c = search rules
 
-slice-write-table : tie.Need-slice-write-table
-slice-write-table c = search rules
+bounds-table-place-then-often-lt2 : tie.Need-bounds-table-place-then-often-lt2
+bounds-table-place-then-often-lt2 c = search rules
 
-same_length : tie.Need-same-length
-same_length c = search rules
+shape_of-table : tie.Need-shape_of-table
+shape_of-table c = search rules
 
-returns : tie.Need-returns
-returns c =
+returns-then-often-lt2 : tie.Need-returns-then-often-lt2
+returns-then-often-lt2 c =
     let a = c.before.before.args in
     let often = get_or a.table.now a.place 0 in
     let counted : min 2 (often + 1) ≡ often + 1 = omega arith in
     rw counted
 
-returns-2 : tie.Need-returns-2
-returns-2 c =
+returns-else-often-lt2 : tie.Need-returns-else-often-lt2
+returns-else-often-lt2 c =
     let a = c.before.before.args in
     let often = get_or a.table.now a.place 0 in
     let counted : min 2 (often + 1) ≡ often = omega arith in
@@ -44,11 +44,11 @@ pub occurs_spec : {M : Type 1} → statement M
 occurs_spec =
     tie.close
     (tie.spec
-    mul-often
-    slice-read-often
-    add-table
-    mul-table
-    slice-write-table
-    same_length
-    returns
-    returns-2)
+    offset_bounds-table-place
+    bounds-table-place
+    overflow_add-table
+    offset_bounds-table-place-then-often-lt2
+    bounds-table-place-then-often-lt2
+    shape_of-table
+    returns-then-often-lt2
+    returns-else-often-lt2)

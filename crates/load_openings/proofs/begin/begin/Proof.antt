@@ -25,178 +25,178 @@ use Rattle.load_openings.proofs.begin.begin.Tie as tie
 front-requires : tie.Need-front-requires
 front-requires c κs = search rules
 
-enum-known-a : tie.Need-enum-known-a
-enum-known-a c = search rules
+enum_known-a : tie.Need-enum_known-a
+enum_known-a c = search rules
 
 number-requires : tie.Need-number-requires
 number-requires c κs =
-    let p = c.before.before.before.before.before.before.before.before.before.requires in
-    let g = c.before.before.a.given in
-    let f = rw g.1 at c.before.before.before.before.front.ensures in
+    let p = c.before.before.before.before.before.before.before.requires in
+    let g = c.before.in-Name in
+    let f = rw g.is at c.before.before.front.ensures in
     ((p.2.part.0, p.2.part.1, f.1, f.2, f.3), (p.0, p.2.names_in, p.2.names_count))
 
-enum-known-n : tie.Need-enum-known-n
-enum-known-n c = search rules
+enum_known-n : tie.Need-enum_known-n
+enum_known-n c = search rules
 
-behind-name-requires : tie.Need-behind-name-requires
-behind-name-requires c κs =
-    let p = c.before.before.before.before.before.before.before.before.before.before.before.before.before.before.before.requires in
-    let g = c.before.before.before.before.before.before.before.before.a.given in
-    let f = rw g.1 at c.before.before.before.before.before.before.before.before.before.before.front.ensures in
-    let v = rw c.before.n.given.1 at (c.before.before.before.before.before.number.ensures p.0 p.2.names_in p.2.names_count) in
+behind_name-requires : tie.Need-behind_name-requires
+behind_name-requires c κs =
+    let p = c.before.before.before.before.before.before.before.before.before.before.before.requires in
+    let g = c.before.before.before.before.before.in-Name in
+    let f = rw g.is at c.before.before.before.before.before.before.front.ensures in
+    let v = rw c.in-Number.is at (c.before.before.before.number.ensures p.0 p.2.names_in p.2.names_count) in
     (f.2, omega (arith, v.0.few, v.1, v.2))
 
-enum_told : tie.Need-enum-told
-enum_told c = search rules
+enum_told-1 : tie.Need-enum_told-1
+enum_told-1 c = search rules
 
-enum-known-a-2 : tie.Need-enum-known-a-2
-enum-known-a-2 c = search rules
+enum_known-a-in-Writer-1 : tie.Need-enum_known-a-in-Writer-1
+enum_known-a-in-Writer-1 c = search rules
 
 variable-requires : tie.Need-variable-requires
 variable-requires c κs =
-    let p = c.before.before.before.before.before.before.before.before.before.requires in
-    let g = c.before.before.a2.given in
-    let f = rw g.1 at c.before.before.before.before.front.ensures in
+    let p = c.before.before.before.before.before.before.before.requires in
+    let g = c.before.in-Writer in
+    let f = rw g.is at c.before.before.front.ensures in
     ((f.1, f.2, omega arith, omega arith), (p.1, p.2.variables_in, p.2.variables_count))
 
-enum-known-a-3 : tie.Need-enum-known-a-3
-enum-known-a-3 c = search rules
+enum_known-a-in-Reader-1 : tie.Need-enum_known-a-in-Reader-1
+enum_known-a-in-Reader-1 c = search rules
 
-add-variable : tie.Need-overflow-add-variable
-add-variable c =
-    let g = c.before.before.a3.given in
-    let f = rw g.1 at c.before.before.before.before.front.ensures in
+overflow_add-e : tie.Need-overflow_add-e
+overflow_add-e c =
+    let g = c.before.in-Reader in
+    let f = rw g.is at c.before.before.front.ensures in
     omega (arith, f.2)
 
-variable-requires-2 : tie.Need-variable-requires-2
-variable-requires-2 c κs =
-    let p = c.before.before.before.before.before.before.before.before.before.requires in
-    let g = c.before.before.a3.given in
-    let f = rw g.1 at c.before.before.before.before.front.ensures in
+variable-requires-in-Reader : tie.Need-variable-requires-in-Reader
+variable-requires-in-Reader c κs =
+    let p = c.before.before.before.before.before.before.before.requires in
+    let g = c.before.in-Reader in
+    let f = rw g.is at c.before.before.front.ensures in
     ((f.1, omega (arith, f.2), omega arith, omega arith), (p.1, p.2.variables_in, p.2.variables_count))
 
-enum-known-w : tie.Need-enum-known-w
-enum-known-w c = search rules
+enum_known-w : tie.Need-enum_known-w
+enum_known-w c = search rules
 
-mul-t37 : tie.Need-overflow-mul-t37
-mul-t37 c =
-    let g = c.before.w.given in
-    let f = rw g.1 at c.before.before.before.front.ensures in
+overflow_mul-result : tie.Need-overflow_mul-result
+overflow_mul-result c =
+    let g = c.in-Integer in
+    let f = rw g.is at c.before.front.ensures in
     omega (arith, f.3)
 
-add-t38 : tie.Need-overflow-add-t38
-add-t38 c =
-    let g = c.before.w.given in
-    let f = rw g.1 at c.before.before.before.front.ensures in
+overflow_add-result : tie.Need-overflow_add-result
+overflow_add-result c =
+    let g = c.in-Integer in
+    let f = rw g.is at c.before.front.ensures in
     omega (arith, f.3)
 
-enum-known-b : tie.Need-enum-known-b
-enum-known-b c = search rules
+enum_known-b : tie.Need-enum_known-b
+enum_known-b c = search rules
 
-add-t45 : tie.Need-overflow-add-t45
-add-t45 c =
-    let g = c.before.before.b.given in
-    let f = rw g.1 at c.before.before.before.before.front.ensures in
-    omega (arith, f.1, behind_past g.0.0 g.0.1.0)
+overflow_add-a : tie.Need-overflow_add-a
+overflow_add-a c =
+    let g = c.before.in-Sign in
+    let f = rw g.is at c.before.before.front.ensures in
+    omega (arith, f.1, behind_past g.b g.a)
 
-behind-bracket-requires : tie.Need-behind-bracket-requires
-behind-bracket-requires c κs =
-    let g = c.before.before.b.given in
-    let f = rw g.1 at c.before.before.before.before.front.ensures in
-    omega (arith, f.1, behind_past g.0.0 g.0.1.0)
+behind_bracket-requires : tie.Need-behind_bracket-requires
+behind_bracket-requires c κs =
+    let g = c.before.in-Sign in
+    let f = rw g.is at c.before.before.front.ensures in
+    omega (arith, f.1, behind_past g.b g.a)
 
-enum-known-a-4 : tie.Need-enum-known-a-4
-enum-known-a-4 c = search rules
+enum_known-a-in-Bad-1 : tie.Need-enum_known-a-in-Bad-1
+enum_known-a-in-Bad-1 c = search rules
 
-enum-told-2 : tie.Need-enum-told-2
-enum-told-2 c = search rules
+enum_told-in-End : tie.Need-enum_told-in-End
+enum_told-in-End c = search rules
 
-same_length : tie.Need-same-length
-same_length c = search rules
+shape_of-names-in-Number : tie.Need-shape_of-names-in-Number
+shape_of-names-in-Number c = search rules
 
-returns : tie.Need-returns
-returns c =
-    λ known vars stands.
-    let a = c.before.before.before.before.before.before.before.before.before.before.before.before.before.before.before.before.args in
-    let g = c.before.before.before.before.before.before.before.before.before.a.given in
-    let h = c.before.before.n.given in
-    let f = rw g.1 at c.before.before.before.before.before.before.before.before.before.before.before.front.ensures in
-    let v = rw h.1 at (c.before.before.before.before.before.before.number.ensures known stands.names_in stands.names_count) in
-    begun_name a.left a.text.now a.rest.now a.from known vars a.c a.names.now a.item.now stands g.0.0 g.0.1.0 f h.0.0 h.0.1.0 _ v c.behind-name.result c.behind-name.ensures
-
-same-length-2 : tie.Need-same-length-2
-same-length-2 c = search rules
-
-returns-2 : tie.Need-returns-2
-returns-2 c =
-    λ known vars stands.
-    let a = c.before.before.before.before.before.before.before.before.before.before.before.before.before.before.args in
-    let g = c.before.before.before.before.before.before.before.a.given in
-    let f = rw g.1 at c.before.before.before.before.before.before.before.before.before.front.ensures in
-    let v = rw c.enum_told.given.1 at (c.before.before.before.before.number.ensures known stands.names_in stands.names_count) in
-    begun_name_passed a.left a.text.now a.rest.now a.from known vars a.c a.names.now a.item.now stands g.0.0 g.0.1.0 f v.0 v.1 a.names.now
-
-same-length-3 : tie.Need-same-length-3
-same-length-3 c = search rules
-
-returns-3 : tie.Need-returns-3
-unfolding item_places half_place
-returns-3 c =
+returns-in-Number : tie.Need-returns-in-Number
+returns-in-Number c =
     λ known vars stands.
     let a = c.before.before.before.before.before.before.before.before.before.before.before.before.args in
-    let g = c.before.before.before.before.before.a2.given in
-    let f = rw g.1 at c.before.before.before.before.before.before.before.front.ensures in
-    begun_variable a.left a.text.now a.rest.now a.from known vars a.c a.names.now a.item.now stands writer 1 g.0.0 g.0.1.0 (slice g.0.0 g.0.1.0 a.rest.now) (λ n. refl) (λ n. refl) f.2 (f.4 a.from) _ c.before.before.variable.result (c.before.before.variable.ensures vars stands.variables_in stands.variables_count)
+    let g = c.before.before.before.before.before.before.in-Name in
+    let h = c.before.in-Number in
+    let f = rw g.is at c.before.before.before.before.before.before.before.front.ensures in
+    let v = rw h.is at (c.before.before.before.before.number.ensures known stands.names_in stands.names_count) in
+    begun_name a.left a.text.now a.rest.now a.from known vars a.c a.names.now a.item.now stands g.a g.e f h.n h.count _ v c.behind_name.result c.behind_name.ensures
 
-same-length-4 : tie.Need-same-length-4
-same-length-4 c = search rules
+shape_of-names-in-Exceeded : tie.Need-shape_of-names-in-Exceeded
+shape_of-names-in-Exceeded c = search rules
 
-returns-4 : tie.Need-returns-4
+returns-in-Exceeded : tie.Need-returns-in-Exceeded
+returns-in-Exceeded c =
+    λ known vars stands.
+    let a = c.before.before.before.before.before.before.before.before.before.before.before.args in
+    let g = c.before.before.before.before.before.in-Name in
+    let f = rw g.is at c.before.before.before.before.before.before.front.ensures in
+    let v = rw c.in-Exceeded.is at (c.before.before.before.number.ensures known stands.names_in stands.names_count) in
+    begun_name_passed a.left a.text.now a.rest.now a.from known vars a.c a.names.now a.item.now stands g.a g.e f v.0 v.1 a.names.now
+
+shape_of-item-in-Writer : tie.Need-shape_of-item-in-Writer
+shape_of-item-in-Writer c = search rules
+
+returns-in-Writer : tie.Need-returns-in-Writer
 unfolding item_places half_place
-returns-4 c =
-    λ known vars stands.
-    let a = c.before.before.before.before.before.before.before.before.before.before.before.before.args in
-    let g = c.before.before.before.before.before.a3.given in
-    let f = rw g.1 at c.before.before.before.before.before.before.before.front.ensures in
-    begun_variable a.left a.text.now a.rest.now a.from known vars a.c a.names.now a.item.now stands reader 2 g.0.0 (g.0.1.0 + 1) (slice g.0.0 g.0.1.0 a.rest.now) (λ n. refl) (λ n. refl) (omega (arith, f.2)) (f.4 a.from) _ c.before.before.variable2.result (c.before.before.variable2.ensures vars stands.variables_in stands.variables_count)
-
-returns-5 : tie.Need-returns-5
-returns-5 c =
-    λ known vars stands.
-    let a = c.before.before.before.before.before.before.before.before.args in
-    let g = c.before.w.given in
-    let f = rw g.1 at c.before.before.before.front.ensures in
-    begun_integer a.left a.text.now a.rest.now a.from known vars a.c a.names.now a.item.now stands g.0.0 g.0.1.0 g.0.1.1.0 f
-
-returns-6 : tie.Need-returns-6
-returns-6 c =
+returns-in-Writer c =
     λ known vars stands.
     let a = c.before.before.before.before.before.before.before.before.before.before.args in
-    let g = c.before.before.before.b.given in
-    let f = rw g.1 at c.before.before.before.before.before.front.ensures in
-    begun_list a.left a.text.now a.rest.now a.from known vars a.c a.names.now a.item.now stands g.0.0 g.0.1.0 f c.before.if1.true c.behind-bracket.result c.behind-bracket.ensures
+    let g = c.before.before.before.before.in-Writer in
+    let f = rw g.is at c.before.before.before.before.before.front.ensures in
+    begun_variable a.left a.text.now a.rest.now a.from known vars a.c a.names.now a.item.now stands writer 1 g.a g.e (slice g.a g.e a.rest.now) (λ n. refl) (λ n. refl) f.2 (f.4 a.from) _ c.before.before.variable.result (c.before.before.variable.ensures vars stands.variables_in stands.variables_count)
 
-returns-7 : tie.Need-returns-7
-returns-7 c =
+shape_of-item-in-Reader : tie.Need-shape_of-item-in-Reader
+shape_of-item-in-Reader c = search rules
+
+returns-in-Reader : tie.Need-returns-in-Reader
+unfolding item_places half_place
+returns-in-Reader c =
     λ known vars stands.
-    let a = c.before.before.before.before.before.before.before.before.before.args in
-    let g = c.before.before.b.given in
-    let f = rw g.1 at c.before.before.before.before.front.ensures in
-    begun_sign a.left a.text.now a.rest.now a.from known vars a.c a.names.now a.item.now stands g.0.0 g.0.1.0 f (ne_eqb g.0.0 91 c.if1.false)
+    let a = c.before.before.before.before.before.before.before.before.before.before.args in
+    let g = c.before.before.before.before.in-Reader in
+    let f = rw g.is at c.before.before.before.before.before.front.ensures in
+    begun_variable a.left a.text.now a.rest.now a.from known vars a.c a.names.now a.item.now stands reader 2 g.a (g.e + 1) (slice g.a g.e a.rest.now) (λ n. refl) (λ n. refl) (omega (arith, f.2)) (f.4 a.from) _ c.before.before.variable-in-Reader.result (c.before.before.variable-in-Reader.ensures vars stands.variables_in stands.variables_count)
 
-returns-8 : tie.Need-returns-8
-returns-8 c =
+returns-in-Integer : tie.Need-returns-in-Integer
+returns-in-Integer c =
+    λ known vars stands.
+    let a = c.before.before.before.before.before.before.args in
+    let g = c.in-Integer in
+    let f = rw g.is at c.before.front.ensures in
+    begun_integer a.left a.text.now a.rest.now a.from known vars a.c a.names.now a.item.now stands g.w g.field-1 g.e f
+
+returns-then-b-eq91 : tie.Need-returns-then-b-eq91
+returns-then-b-eq91 c =
     λ known vars stands.
     let a = c.before.before.before.before.before.before.before.before.args in
-    let g = c.before.a4.given in
-    let f = rw g.1 at c.before.before.before.front.ensures in
-    begun_bad a.left a.text.now a.rest.now a.from known vars a.c a.names.now a.item.now stands g.0.0 f
+    let g = c.before.before.in-Sign in
+    let f = rw g.is at c.before.before.before.front.ensures in
+    begun_list a.left a.text.now a.rest.now a.from known vars a.c a.names.now a.item.now stands g.b g.a f c.before.if-b-eq91.true c.behind_bracket.result c.behind_bracket.ensures
 
-returns-9 : tie.Need-returns-9
-returns-9 c =
+returns-else-b-eq91 : tie.Need-returns-else-b-eq91
+returns-else-b-eq91 c =
     λ known vars stands.
     let a = c.before.before.before.before.before.before.before.args in
-    let f = rw c.enum-told2.given.1 at c.before.before.front.ensures in
+    let g = c.before.in-Sign in
+    let f = rw g.is at c.before.before.front.ensures in
+    begun_sign a.left a.text.now a.rest.now a.from known vars a.c a.names.now a.item.now stands g.b g.a f (ne_eqb g.b 91 c.if-b-eq91.false)
+
+returns-in-Bad : tie.Need-returns-in-Bad
+returns-in-Bad c =
+    λ known vars stands.
+    let a = c.before.before.before.before.before.before.args in
+    let g = c.in-Bad in
+    let f = rw g.is at c.before.front.ensures in
+    begun_bad a.left a.text.now a.rest.now a.from known vars a.c a.names.now a.item.now stands g.a f
+
+returns-in-End : tie.Need-returns-in-End
+returns-in-End c =
+    λ known vars stands.
+    let a = c.before.before.before.before.before.before.args in
+    let f = rw c.in-End.is at c.before.front.ensures in
     begun_end a.left a.text.now a.rest.now a.from known vars a.c a.names.now a.item.now stands f
 
 pub begin_spec : {M : Type 1} → statement M
@@ -204,34 +204,34 @@ begin_spec =
     tie.close
     (tie.spec
     front-requires
-    enum-known-a
+    enum_known-a
     number-requires
-    enum-known-n
-    behind-name-requires
-    enum_told
-    enum-known-a-2
+    enum_known-n
+    behind_name-requires
+    enum_told-1
+    enum_known-a-in-Writer-1
     variable-requires
-    enum-known-a-3
-    add-variable
-    variable-requires-2
-    enum-known-w
-    mul-t37
-    add-t38
-    enum-known-b
-    add-t45
-    behind-bracket-requires
-    enum-known-a-4
-    enum-told-2
-    same_length
-    returns
-    same-length-2
-    returns-2
-    same-length-3
-    returns-3
-    same-length-4
-    returns-4
-    returns-5
-    returns-6
-    returns-7
-    returns-8
-    returns-9)
+    enum_known-a-in-Reader-1
+    overflow_add-e
+    variable-requires-in-Reader
+    enum_known-w
+    overflow_mul-result
+    overflow_add-result
+    enum_known-b
+    overflow_add-a
+    behind_bracket-requires
+    enum_known-a-in-Bad-1
+    enum_told-in-End
+    shape_of-names-in-Number
+    returns-in-Number
+    shape_of-names-in-Exceeded
+    returns-in-Exceeded
+    shape_of-item-in-Writer
+    returns-in-Writer
+    shape_of-item-in-Reader
+    returns-in-Reader
+    returns-in-Integer
+    returns-then-b-eq91
+    returns-else-b-eq91
+    returns-in-Bad
+    returns-in-End)

@@ -5,25 +5,31 @@ use borrow.Author.Rules.{rules}
 use Rattle.load_openings.proofs.begin.behind_bracket.Statement.{statement}
 use Rattle.load_openings.proofs.begin.behind_bracket.Tie as tie
 
-returns : tie.Need-returns
-returns c = search rules
+returns-then-left-eq0 : tie.Need-returns-then-left-eq0
+returns-then-left-eq0 c = search rules
 
-next-is-requires : tie.Need-next-is-requires
-next-is-requires c κs = search rules
+next_is-requires : tie.Need-next_is-requires
+next_is-requires c κs = search rules
 
-enum-known-behind : tie.Need-enum-known-behind
-enum-known-behind c = search rules
+enum_known-behind : tie.Need-enum_known-behind
+enum_known-behind c = search rules
 
-enum_told : tie.Need-enum-told
-enum_told c = search rules
+enum_told-1 : tie.Need-enum_told-1
+enum_told-1 c = search rules
 
-returns-2 : tie.Need-returns-2
-returns-2 c = let apart = c.before.before.before.before.if1.false in (refl, omega arith, c.before.behind.given.0.0, rw c.before.behind.given.1 at c.before.before.before.next_is.ensures, refl)
+returns-in-Yes : tie.Need-returns-in-Yes
+returns-in-Yes c = let apart = c.before.before.if-left-eq0.false in (refl, omega arith, c.in-Yes.behind, rw c.in-Yes.is at c.before.next_is.ensures, refl)
 
-returns-3 : tie.Need-returns-3
-returns-3 c = let apart = c.before.before.before.if1.false in let e = c.enum_told.given in let o = rw e.1 at c.before.before.next_is.ensures in (omega arith, refl, e.0.0, o.1)
+returns-in-No : tie.Need-returns-in-No
+returns-in-No c = let apart = c.before.before.if-left-eq0.false in let e = c.in-No in let o = rw e.is at c.before.next_is.ensures in (omega arith, refl, e.field-0, o.1)
 
 pub behind_bracket_spec : {M : Type 1} → statement M
 behind_bracket_spec =
     tie.close
-    (tie.spec returns next-is-requires enum-known-behind enum_told returns-2 returns-3)
+    (tie.spec
+    returns-then-left-eq0
+    next_is-requires
+    enum_known-behind
+    enum_told-1
+    returns-in-Yes
+    returns-in-No)

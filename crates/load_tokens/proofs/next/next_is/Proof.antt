@@ -18,26 +18,26 @@ enum_known-c c = search rules
 
 behind_sign-requires : tie.Need-behind_sign-requires
 behind_sign-requires c κs =
-    let g = c.before.before.c.given in
+    let g = c.before.in-Sign in
     let a = c.before.before.before.before.args in
-    let f : FrontIs a.rest.now a.at (Sign g.0.0 g.0.1.0) = rw g.1 at c.before.before.ahead.ensures in
-    omega (arith, f.1, behind_past g.0.0 g.0.1.0)
+    let f : FrontIs a.rest.now a.at (Sign g.c g.a) = rw g.is at c.before.before.ahead.ensures in
+    omega (arith, f.1, behind_past g.c g.a)
 
 returns-then-c-sign : tie.Need-returns-then-c-sign
 returns-then-c-sign c =
-    let g = c.before.before.before.c.given in
+    let g = c.before.before.in-Sign in
     let a = c.before.before.before.before.before.args in
-    next_sign a.rest.now a.at g.0.0 g.0.1.0 a.sign c.behind_sign.result (rw g.1 at c.before.before.before.ahead.ensures) c.before.if-c-sign.true c.behind_sign.ensures
+    next_sign a.rest.now a.at g.c g.a a.sign c.behind_sign.result (rw g.is at c.before.before.before.ahead.ensures) c.before.if-c-sign.true c.behind_sign.ensures
 
 enum_known-a : tie.Need-enum_known-a
 enum_known-a c = search rules
 
 returns-else-c-sign : tie.Need-returns-else-c-sign
 returns-else-c-sign c =
-    let g = c.before.before.c.given in
+    let g = c.before.in-Sign in
     let a = c.before.before.before.before.args in
-    let other = ne_eqb g.0.0 a.sign c.if-c-sign.false in
-    not_sign a.rest.now a.at a.sign a.sign a.sign g.0.0 g.0.1.0 (rw g.1 at c.before.before.ahead.ensures) other other other
+    let other = ne_eqb g.c a.sign c.if-c-sign.false in
+    not_sign a.rest.now a.at a.sign a.sign a.sign g.c g.a (rw g.is at c.before.before.ahead.ensures) other other other
 
 returns-in-NoSign : tie.Need-returns-in-NoSign
 returns-in-NoSign c =

@@ -18,342 +18,342 @@ use borrow.Author.Rules.{rules}
 use Rattle.loader.proofs.load.all_items.Statement.{statement}
 use Rattle.loader.proofs.load.all_items.Tie as tie
 
-abbrev invariant-loop : tie.invariant-loop
-invariant-loop text s₀ names₀ heads₀ from₀ clauses₀ queries₀ known₀ s names heads from clauses queries known = ((places : List Place) × (done : List Entry) × Reached text s₀ s names heads from clauses queries known places done)
+abbrev invariant-loop-at : tie.invariant-loop-at
+invariant-loop-at text s₀ names₀ heads₀ from₀ clauses₀ queries₀ known₀ s names heads from clauses queries known = ((places : List Place) × (done : List Entry) × Reached text s₀ s names heads from clauses queries known places done)
     × (length s ≡ length s₀)
     × (length names ≡ length names₀)
     × (length heads ≡ length heads₀)
 
-abbrev decreases-loop : tie.decreases-loop
-decreases-loop text s₀ names₀ heads₀ from₀ clauses₀ queries₀ known₀ s names heads from clauses queries known = length text - from
+abbrev decreases-loop-at : tie.decreases-loop-at
+decreases-loop-at text s₀ names₀ heads₀ from₀ clauses₀ queries₀ known₀ s names heads from clauses queries known = length text - from
 
-loop-holds : tie.Need-loop-init invariant-loop decreases-loop
-loop-holds c =
+loop-at-init : tie.Need-loop-at-init invariant-loop-at decreases-loop-at
+loop-at-init c =
     let a = c.before.before.before.before.args in
-    (([], [], reached_none a.text.now a.s.now a.names.now a.heads.now c.before.before.before.before.requires.1 c.before.before.before.before.requires.0.heads_size), refl, refl, refl)
+    (([], [], reached_none a.text.now a.s.now a.names.now a.heads.now c.before.before.before.before.requires.names_value c.before.before.before.before.requires.lent.heads_size), refl, refl, refl)
 
-item-at-requires : tie.Need-item-at-requires invariant-loop decreases-loop
-item-at-requires c κs =
+item_at-requires : tie.Need-item_at-requires invariant-loop-at decreases-loop-at
+item_at-requires c κs =
     let a = c.before.before.before.before.before.before.before.before.args in
-    let l = c.before.before.before.loop in
+    let l = c.before.before.before.loop-at in
     let r = l.invariant.0.2 in
     let places = l.invariant.0.0 in
     let done = l.invariant.0.1 in
-    let q = c.before.before.before.before.before.before.before.before.requires.0 in
+    let q = c.before.before.before.before.before.before.before.before.requires.lent in
     (record { enough = omega (arith, q.enough, l.invariant.1); fits = omega (arith, q.fits, l.invariant.1); heads_size = r.heads_size }, (places, r.inside, r.names_table, r.count_is))
 
-enum-known-at : tie.Need-enum-known-at invariant-loop decreases-loop
-enum-known-at c = search rules
+enum_known-at : tie.Need-enum_known-at invariant-loop-at decreases-loop-at
+enum_known-at c = search rules
 
-add-clauses : tie.Need-overflow-add-clauses invariant-loop decreases-loop
-add-clauses c =
-    let a = c.before.before.before.before.before.before.before.before.before.before.before.before.before.before.before.before.before.before.args in
-    let l = c.before.before.before.before.before.before.before.before.before.before.before.before.before.loop in
+overflow_add-clauses : tie.Need-overflow_add-clauses invariant-loop-at decreases-loop-at
+overflow_add-clauses c =
+    let a = c.before.before.before.before.before.before.before.before.before.before.before.before.before.before.before.before.args in
+    let l = c.before.before.before.before.before.before.before.before.before.before.before.loop-at in
     let r = l.invariant.0.2 in
     let places = l.invariant.0.0 in
     let done = l.invariant.0.1 in
     omega (arith, r.few.0)
 
-add-from : tie.Need-overflow-add-from invariant-loop decreases-loop
-add-from c =
-    let a = c.before.before.before.before.before.before.before.before.before.before.before.before.before.before.before.before.before.before.args in
-    let l = c.before.before.before.before.before.before.before.before.before.before.before.before.before.loop in
+overflow_add-from : tie.Need-overflow_add-from invariant-loop-at decreases-loop-at
+overflow_add-from c =
+    let a = c.before.before.before.before.before.before.before.before.before.before.before.before.before.before.before.before.args in
+    let l = c.before.before.before.before.before.before.before.before.before.before.before.loop-at in
     let r = l.invariant.0.2 in
     let places = l.invariant.0.0 in
     let done = l.invariant.0.1 in
-    let got = rw c.before.at.given.1 at (c.before.before.before.before.before.before.before.before.before.item-at.ensures places r.inside r.names_table r.count_is) in
-    let inside = next_inside a.text.now a.s.now l.s l.names l.heads l.from l.clauses l.queries l.known places done r c.before.before.before.before.before.before.before.before.before.item-at.new.1.1.1.0 c.before.at.given.0.0 c.before.at.given.0.1.0 got.1 got.2 got.3.took in
-    omega (arith, inside, c.before.before.before.before.before.before.before.before.before.before.before.before.before.before.before.before.before.before.well-formed.0.0)
+    let got = rw c.in-Clause.is at (c.before.before.before.before.before.before.before.item_at.ensures places r.inside r.names_table r.count_is) in
+    let inside = next_inside a.text.now a.s.now l.s l.names l.heads l.from l.clauses l.queries l.known places done r c.before.before.before.before.before.before.before.item_at.new.names c.in-Clause.at c.in-Clause.count got.1 got.2 got.3.took in
+    omega (arith, inside, c.before.before.before.before.before.before.before.before.before.before.before.before.before.before.before.before.well_formed.0.0)
 
-loop-less : tie.Need-loop-smaller invariant-loop decreases-loop
-loop-less c =
-    let a = c.before.before.before.before.before.before.before.before.before.before.before.before.before.before.before.before.before.before.args in
-    let l = c.before.before.before.before.before.before.before.before.before.before.before.before.before.loop in
+loop-at-smaller-in-Clause : tie.Need-loop-at-smaller-in-Clause invariant-loop-at decreases-loop-at
+loop-at-smaller-in-Clause c =
+    let a = c.before.before.before.before.before.before.before.before.before.before.before.before.before.before.before.before.args in
+    let l = c.before.before.before.before.before.before.before.before.before.before.before.loop-at in
     let r = l.invariant.0.2 in
     let places = l.invariant.0.0 in
     let done = l.invariant.0.1 in
-    let got = rw c.before.at.given.1 at (c.before.before.before.before.before.before.before.before.before.item-at.ensures places r.inside r.names_table r.count_is) in
-    let inside = next_inside a.text.now a.s.now l.s l.names l.heads l.from l.clauses l.queries l.known places done r c.before.before.before.before.before.before.before.before.before.item-at.new.1.1.1.0 c.before.at.given.0.0 c.before.at.given.0.1.0 got.1 got.2 got.3.took in
+    let got = rw c.in-Clause.is at (c.before.before.before.before.before.before.before.item_at.ensures places r.inside r.names_table r.count_is) in
+    let inside = next_inside a.text.now a.s.now l.s l.names l.heads l.from l.clauses l.queries l.known places done r c.before.before.before.before.before.before.before.item_at.new.names c.in-Clause.at c.in-Clause.count got.1 got.2 got.3.took in
     omega (arith, inside, got.3.took.forward)
 
-loop-again : tie.Need-loop-preserved invariant-loop decreases-loop
-loop-again c =
-    let a = c.before.before.before.before.before.before.before.before.before.before.before.before.before.before.before.before.before.before.args in
-    let l = c.before.before.before.before.before.before.before.before.before.before.before.before.before.loop in
+loop-at-preserved-in-Clause : tie.Need-loop-at-preserved-in-Clause invariant-loop-at decreases-loop-at
+loop-at-preserved-in-Clause c =
+    let a = c.before.before.before.before.before.before.before.before.before.before.before.before.before.before.before.before.args in
+    let l = c.before.before.before.before.before.before.before.before.before.before.before.loop-at in
     let r = l.invariant.0.2 in
     let places = l.invariant.0.0 in
     let done = l.invariant.0.1 in
-    let got = rw c.before.at.given.1 at (c.before.before.before.before.before.before.before.before.before.item-at.ensures places r.inside r.names_table r.count_is) in
-    ((_, _, reached_clause a.text.now a.s.now l.s l.names l.heads l.from l.clauses l.queries l.known places done r c.before.before.before.before.before.before.before.before.before.item-at.new.1.1.0 c.before.before.before.before.before.before.before.before.before.item-at.new.1.1.1.0 c.before.before.before.before.before.before.before.before.before.item-at.new.1.1.1.1.0 c.before.at.given.0.0 c.before.at.given.0.1.0 got.0 got.1 got.2 got.3 got.4), c.before.before.before.before.before.before.before.before.before.item-at.auto.1.1.0 ∙ l.invariant.1, c.before.before.before.before.before.before.before.before.before.item-at.auto.1.1.1.0 ∙ l.invariant.2, c.before.before.before.before.before.before.before.before.before.item-at.auto.1.1.1.1.0 ∙ l.invariant.3)
+    let got = rw c.in-Clause.is at (c.before.before.before.before.before.before.before.item_at.ensures places r.inside r.names_table r.count_is) in
+    ((_, _, reached_clause a.text.now a.s.now l.s l.names l.heads l.from l.clauses l.queries l.known places done r c.before.before.before.before.before.before.before.item_at.new.s c.before.before.before.before.before.before.before.item_at.new.names c.before.before.before.before.before.before.before.item_at.new.heads c.in-Clause.at c.in-Clause.count got.0 got.1 got.2 got.3 got.4), c.before.before.before.before.before.before.before.item_at.auto.s ∙ l.invariant.1, c.before.before.before.before.before.before.before.item_at.auto.names ∙ l.invariant.2, c.before.before.before.before.before.before.before.item_at.auto.heads ∙ l.invariant.3)
 
-enum-known-at-2 : tie.Need-enum-known-at-2 invariant-loop decreases-loop
-enum-known-at-2 c = search rules
+enum_known-at-in-Query-1 : tie.Need-enum_known-at-in-Query-1 invariant-loop-at decreases-loop-at
+enum_known-at-in-Query-1 c = search rules
 
-add-queries : tie.Need-overflow-add-queries invariant-loop decreases-loop
-add-queries c =
-    let a = c.before.before.before.before.before.before.before.before.before.before.before.before.before.before.before.before.before.before.args in
-    let l = c.before.before.before.before.before.before.before.before.before.before.before.before.before.loop in
+overflow_add-queries : tie.Need-overflow_add-queries invariant-loop-at decreases-loop-at
+overflow_add-queries c =
+    let a = c.before.before.before.before.before.before.before.before.before.before.before.before.before.before.before.before.args in
+    let l = c.before.before.before.before.before.before.before.before.before.before.before.loop-at in
     let r = l.invariant.0.2 in
     let places = l.invariant.0.0 in
     let done = l.invariant.0.1 in
     omega (arith, r.few.1)
 
-add-from-2 : tie.Need-overflow-add-from-2 invariant-loop decreases-loop
-add-from-2 c =
-    let a = c.before.before.before.before.before.before.before.before.before.before.before.before.before.before.before.before.before.before.args in
-    let l = c.before.before.before.before.before.before.before.before.before.before.before.before.before.loop in
+overflow_add-from-in-Query : tie.Need-overflow_add-from-in-Query invariant-loop-at decreases-loop-at
+overflow_add-from-in-Query c =
+    let a = c.before.before.before.before.before.before.before.before.before.before.before.before.before.before.before.before.args in
+    let l = c.before.before.before.before.before.before.before.before.before.before.before.loop-at in
     let r = l.invariant.0.2 in
     let places = l.invariant.0.0 in
     let done = l.invariant.0.1 in
-    let got = rw c.before.at2.given.1 at (c.before.before.before.before.before.before.before.before.before.item-at.ensures places r.inside r.names_table r.count_is) in
-    let inside = next_inside a.text.now a.s.now l.s l.names l.heads l.from l.clauses l.queries l.known places done r c.before.before.before.before.before.before.before.before.before.item-at.new.1.1.1.0 c.before.at2.given.0.0 c.before.at2.given.0.1.0 got.1 got.2 got.3.took in
-    omega (arith, inside, c.before.before.before.before.before.before.before.before.before.before.before.before.before.before.before.before.before.before.well-formed.0.0)
+    let got = rw c.in-Query.is at (c.before.before.before.before.before.before.before.item_at.ensures places r.inside r.names_table r.count_is) in
+    let inside = next_inside a.text.now a.s.now l.s l.names l.heads l.from l.clauses l.queries l.known places done r c.before.before.before.before.before.before.before.item_at.new.names c.in-Query.at c.in-Query.count got.1 got.2 got.3.took in
+    omega (arith, inside, c.before.before.before.before.before.before.before.before.before.before.before.before.before.before.before.before.well_formed.0.0)
 
-loop-less-2 : tie.Need-loop-smaller-2 invariant-loop decreases-loop
-loop-less-2 c =
-    let a = c.before.before.before.before.before.before.before.before.before.before.before.before.before.before.before.before.before.before.args in
-    let l = c.before.before.before.before.before.before.before.before.before.before.before.before.before.loop in
+loop-at-smaller : tie.Need-loop-at-smaller invariant-loop-at decreases-loop-at
+loop-at-smaller c =
+    let a = c.before.before.before.before.before.before.before.before.before.before.before.before.before.before.before.before.args in
+    let l = c.before.before.before.before.before.before.before.before.before.before.before.loop-at in
     let r = l.invariant.0.2 in
     let places = l.invariant.0.0 in
     let done = l.invariant.0.1 in
-    let got = rw c.before.at2.given.1 at (c.before.before.before.before.before.before.before.before.before.item-at.ensures places r.inside r.names_table r.count_is) in
-    let inside = next_inside a.text.now a.s.now l.s l.names l.heads l.from l.clauses l.queries l.known places done r c.before.before.before.before.before.before.before.before.before.item-at.new.1.1.1.0 c.before.at2.given.0.0 c.before.at2.given.0.1.0 got.1 got.2 got.3.took in
+    let got = rw c.in-Query.is at (c.before.before.before.before.before.before.before.item_at.ensures places r.inside r.names_table r.count_is) in
+    let inside = next_inside a.text.now a.s.now l.s l.names l.heads l.from l.clauses l.queries l.known places done r c.before.before.before.before.before.before.before.item_at.new.names c.in-Query.at c.in-Query.count got.1 got.2 got.3.took in
     omega (arith, inside, got.3.took.forward)
 
-loop-again-2 : tie.Need-loop-preserved-2 invariant-loop decreases-loop
-loop-again-2 c =
-    let a = c.before.before.before.before.before.before.before.before.before.before.before.before.before.before.before.before.before.before.args in
-    let l = c.before.before.before.before.before.before.before.before.before.before.before.before.before.loop in
+loop-at-preserved : tie.Need-loop-at-preserved invariant-loop-at decreases-loop-at
+loop-at-preserved c =
+    let a = c.before.before.before.before.before.before.before.before.before.before.before.before.before.before.before.before.args in
+    let l = c.before.before.before.before.before.before.before.before.before.before.before.loop-at in
     let r = l.invariant.0.2 in
     let places = l.invariant.0.0 in
     let done = l.invariant.0.1 in
-    let got = rw c.before.at2.given.1 at (c.before.before.before.before.before.before.before.before.before.item-at.ensures places r.inside r.names_table r.count_is) in
-    ((_, _, reached_query a.text.now a.s.now l.s l.names l.heads l.from l.clauses l.queries l.known places done r c.before.before.before.before.before.before.before.before.before.item-at.new.1.1.0 c.before.before.before.before.before.before.before.before.before.item-at.new.1.1.1.0 c.before.before.before.before.before.before.before.before.before.item-at.new.1.1.1.1.0 c.before.at2.given.0.0 c.before.at2.given.0.1.0 got.0 got.1 got.2 got.3 got.4), c.before.before.before.before.before.before.before.before.before.item-at.auto.1.1.0 ∙ l.invariant.1, c.before.before.before.before.before.before.before.before.before.item-at.auto.1.1.1.0 ∙ l.invariant.2, c.before.before.before.before.before.before.before.before.before.item-at.auto.1.1.1.1.0 ∙ l.invariant.3)
+    let got = rw c.in-Query.is at (c.before.before.before.before.before.before.before.item_at.ensures places r.inside r.names_table r.count_is) in
+    ((_, _, reached_query a.text.now a.s.now l.s l.names l.heads l.from l.clauses l.queries l.known places done r c.before.before.before.before.before.before.before.item_at.new.s c.before.before.before.before.before.before.before.item_at.new.names c.before.before.before.before.before.before.before.item_at.new.heads c.in-Query.at c.in-Query.count got.0 got.1 got.2 got.3 got.4), c.before.before.before.before.before.before.before.item_at.auto.s ∙ l.invariant.1, c.before.before.before.before.before.before.before.item_at.auto.names ∙ l.invariant.2, c.before.before.before.before.before.before.before.item_at.auto.heads ∙ l.invariant.3)
 
-enum-known-a : tie.Need-enum-known-a invariant-loop decreases-loop
-enum-known-a c = search rules
+enum_known-a : tie.Need-enum_known-a invariant-loop-at decreases-loop-at
+enum_known-a c = search rules
 
-add-t27 : tie.Need-overflow-add-t27 invariant-loop decreases-loop
-add-t27 c =
-    let a = c.before.before.before.before.before.before.before.before.before.before.before.before.before.before.before.before.before.before.args in
-    let l = c.before.before.before.before.before.before.before.before.before.before.before.before.before.loop in
+overflow_add-result : tie.Need-overflow_add-result invariant-loop-at decreases-loop-at
+overflow_add-result c =
+    let a = c.before.before.before.before.before.before.before.before.before.before.before.before.before.before.before.before.args in
+    let l = c.before.before.before.before.before.before.before.before.before.before.before.loop-at in
     let r = l.invariant.0.2 in
     let places = l.invariant.0.0 in
     let done = l.invariant.0.1 in
-    let got = rw c.before.a.given.1 at (c.before.before.before.before.before.before.before.before.before.item-at.ensures places r.inside r.names_table r.count_is) in
-    omega (arith, got.1, length-drop l.from a.text.now, r.inside, c.before.before.before.before.before.before.before.before.before.before.before.before.before.before.before.before.before.before.well-formed.0.0)
+    let got = rw c.in-Malformed.is at (c.before.before.before.before.before.before.before.item_at.ensures places r.inside r.names_table r.count_is) in
+    omega (arith, got.1, length-drop l.from a.text.now, r.inside, c.before.before.before.before.before.before.before.before.before.before.before.before.before.before.before.before.well_formed.0.0)
 
-add-t28 : tie.Need-overflow-add-t28 invariant-loop decreases-loop
-add-t28 c =
-    let a = c.before.before.before.before.before.before.before.before.before.before.before.before.before.before.before.before.before.before.args in
-    let l = c.before.before.before.before.before.before.before.before.before.before.before.before.before.loop in
+overflow_add-result-in-Malformed : tie.Need-overflow_add-result-in-Malformed invariant-loop-at decreases-loop-at
+overflow_add-result-in-Malformed c =
+    let a = c.before.before.before.before.before.before.before.before.before.before.before.before.before.before.before.before.args in
+    let l = c.before.before.before.before.before.before.before.before.before.before.before.loop-at in
     let r = l.invariant.0.2 in
     let places = l.invariant.0.0 in
     let done = l.invariant.0.1 in
-    let got = rw c.before.a.given.1 at (c.before.before.before.before.before.before.before.before.before.item-at.ensures places r.inside r.names_table r.count_is) in
-    omega (arith, got.1, length-drop l.from a.text.now, r.inside, c.before.before.before.before.before.before.before.before.before.before.before.before.before.before.before.before.before.before.well-formed.0.0)
+    let got = rw c.in-Malformed.is at (c.before.before.before.before.before.before.before.item_at.ensures places r.inside r.names_table r.count_is) in
+    omega (arith, got.1, length-drop l.from a.text.now, r.inside, c.before.before.before.before.before.before.before.before.before.before.before.before.before.before.before.before.well_formed.0.0)
 
-same_length : tie.Need-same-length invariant-loop decreases-loop
-same_length c = c.before.before.before.before.before.before.before.before.before.item-at.auto.1.1.0 ∙ c.before.before.before.before.before.before.before.before.before.before.before.before.before.loop.invariant.1
+shape_of-s-in-Malformed : tie.Need-shape_of-s-in-Malformed invariant-loop-at decreases-loop-at
+shape_of-s-in-Malformed c = c.before.before.before.before.before.before.before.item_at.auto.s ∙ c.before.before.before.before.before.before.before.before.before.before.before.loop-at.invariant.1
 
-same-length-2 : tie.Need-same-length-2 invariant-loop decreases-loop
-same-length-2 c = c.before.before.before.before.before.before.before.before.before.item-at.auto.1.1.1.0 ∙ c.before.before.before.before.before.before.before.before.before.before.before.before.before.loop.invariant.2
+shape_of-names-in-Malformed : tie.Need-shape_of-names-in-Malformed invariant-loop-at decreases-loop-at
+shape_of-names-in-Malformed c = c.before.before.before.before.before.before.before.item_at.auto.names ∙ c.before.before.before.before.before.before.before.before.before.before.before.loop-at.invariant.2
 
-same-length-3 : tie.Need-same-length-3 invariant-loop decreases-loop
-same-length-3 c = c.before.before.before.before.before.before.before.before.before.item-at.auto.1.1.1.1.0 ∙ c.before.before.before.before.before.before.before.before.before.before.before.before.before.loop.invariant.3
+shape_of-heads-in-Malformed : tie.Need-shape_of-heads-in-Malformed invariant-loop-at decreases-loop-at
+shape_of-heads-in-Malformed c = c.before.before.before.before.before.before.before.item_at.auto.heads ∙ c.before.before.before.before.before.before.before.before.before.before.before.loop-at.invariant.3
 
-returns : tie.Need-returns invariant-loop decreases-loop
+returns-in-Malformed : tie.Need-returns-in-Malformed invariant-loop-at decreases-loop-at
 unfolding refusal
-returns c =
-    let a = c.before.before.before.before.before.before.before.before.before.before.before.before.before.before.before.before.before.before.args in
-    let l = c.before.before.before.before.before.before.before.before.before.before.before.before.before.loop in
+returns-in-Malformed c =
+    let a = c.before.before.before.before.before.before.before.before.before.before.before.before.before.before.before.before.args in
+    let l = c.before.before.before.before.before.before.before.before.before.before.before.loop-at in
     let r = l.invariant.0.2 in
     let places = l.invariant.0.0 in
     let done = l.invariant.0.1 in
-    let got = rw c.before.a.given.1 at (c.before.before.before.before.before.before.before.before.before.item-at.ensures places r.inside r.names_table r.count_is) in
-    let p = l.from + c.before.a.given.0.0 in
-    (no_item p, stopped a.text.now a.s.now l.s l.names l.heads l.from l.clauses l.queries l.known places done r (no_item p) got.0, refl, only_then 0 trial_region a.s.now l.s c.before.before.before.before.before.before.before.before.before.item-at.new.1.1.0 r.only got.2)
+    let got = rw c.in-Malformed.is at (c.before.before.before.before.before.before.before.item_at.ensures places r.inside r.names_table r.count_is) in
+    let p = l.from + c.in-Malformed.a in
+    (no_item p, stopped a.text.now a.s.now l.s l.names l.heads l.from l.clauses l.queries l.known places done r (no_item p) got.0, refl, only_then 0 trial_region a.s.now l.s c.before.before.before.before.before.before.before.item_at.new.s r.only got.2)
 
-enum-known-a-2 : tie.Need-enum-known-a-2 invariant-loop decreases-loop
-enum-known-a-2 c = search rules
+enum_known-a-in-Unknown-1 : tie.Need-enum_known-a-in-Unknown-1 invariant-loop-at decreases-loop-at
+enum_known-a-in-Unknown-1 c = search rules
 
-add-t30 : tie.Need-overflow-add-t30 invariant-loop decreases-loop
-add-t30 c =
-    let a = c.before.before.before.before.before.before.before.before.before.before.before.before.before.before.before.before.before.before.args in
-    let l = c.before.before.before.before.before.before.before.before.before.before.before.before.before.loop in
+overflow_add-result-in-Unknown : tie.Need-overflow_add-result-in-Unknown invariant-loop-at decreases-loop-at
+overflow_add-result-in-Unknown c =
+    let a = c.before.before.before.before.before.before.before.before.before.before.before.before.before.before.before.before.args in
+    let l = c.before.before.before.before.before.before.before.before.before.before.before.loop-at in
     let r = l.invariant.0.2 in
     let places = l.invariant.0.0 in
     let done = l.invariant.0.1 in
-    let got = rw c.before.a2.given.1 at (c.before.before.before.before.before.before.before.before.before.item-at.ensures places r.inside r.names_table r.count_is) in
-    omega (arith, got.1, length-drop l.from a.text.now, r.inside, c.before.before.before.before.before.before.before.before.before.before.before.before.before.before.before.before.before.before.well-formed.0.0)
+    let got = rw c.in-Unknown.is at (c.before.before.before.before.before.before.before.item_at.ensures places r.inside r.names_table r.count_is) in
+    omega (arith, got.1, length-drop l.from a.text.now, r.inside, c.before.before.before.before.before.before.before.before.before.before.before.before.before.before.before.before.well_formed.0.0)
 
-same-length-4 : tie.Need-same-length-4 invariant-loop decreases-loop
-same-length-4 c = c.before.before.before.before.before.before.before.before.before.item-at.auto.1.1.0 ∙ c.before.before.before.before.before.before.before.before.before.before.before.before.before.loop.invariant.1
+shape_of-s-in-Unknown : tie.Need-shape_of-s-in-Unknown invariant-loop-at decreases-loop-at
+shape_of-s-in-Unknown c = c.before.before.before.before.before.before.before.item_at.auto.s ∙ c.before.before.before.before.before.before.before.before.before.before.before.loop-at.invariant.1
 
-same-length-5 : tie.Need-same-length-5 invariant-loop decreases-loop
-same-length-5 c = c.before.before.before.before.before.before.before.before.before.item-at.auto.1.1.1.0 ∙ c.before.before.before.before.before.before.before.before.before.before.before.before.before.loop.invariant.2
+shape_of-names-in-Unknown : tie.Need-shape_of-names-in-Unknown invariant-loop-at decreases-loop-at
+shape_of-names-in-Unknown c = c.before.before.before.before.before.before.before.item_at.auto.names ∙ c.before.before.before.before.before.before.before.before.before.before.before.loop-at.invariant.2
 
-same-length-6 : tie.Need-same-length-6 invariant-loop decreases-loop
-same-length-6 c = c.before.before.before.before.before.before.before.before.before.item-at.auto.1.1.1.1.0 ∙ c.before.before.before.before.before.before.before.before.before.before.before.before.before.loop.invariant.3
+shape_of-heads-in-Unknown : tie.Need-shape_of-heads-in-Unknown invariant-loop-at decreases-loop-at
+shape_of-heads-in-Unknown c = c.before.before.before.before.before.before.before.item_at.auto.heads ∙ c.before.before.before.before.before.before.before.before.before.before.before.loop-at.invariant.3
 
-returns-2 : tie.Need-returns-2 invariant-loop decreases-loop
+returns-in-Unknown : tie.Need-returns-in-Unknown invariant-loop-at decreases-loop-at
 unfolding refusal
-returns-2 c =
-    let a = c.before.before.before.before.before.before.before.before.before.before.before.before.before.before.before.before.before.before.args in
-    let l = c.before.before.before.before.before.before.before.before.before.before.before.before.before.loop in
+returns-in-Unknown c =
+    let a = c.before.before.before.before.before.before.before.before.before.before.before.before.before.before.before.before.args in
+    let l = c.before.before.before.before.before.before.before.before.before.before.before.loop-at in
     let r = l.invariant.0.2 in
     let places = l.invariant.0.0 in
     let done = l.invariant.0.1 in
-    let got = rw c.before.a2.given.1 at (c.before.before.before.before.before.before.before.before.before.item-at.ensures places r.inside r.names_table r.count_is) in
-    let p = l.from + c.before.a2.given.0.0 in
-    (guard_rule p, stopped a.text.now a.s.now l.s l.names l.heads l.from l.clauses l.queries l.known places done r (guard_rule p) got.0, refl, only_then 0 trial_region a.s.now l.s c.before.before.before.before.before.before.before.before.before.item-at.new.1.1.0 r.only got.2)
+    let got = rw c.in-Unknown.is at (c.before.before.before.before.before.before.before.item_at.ensures places r.inside r.names_table r.count_is) in
+    let p = l.from + c.in-Unknown.a in
+    (guard_rule p, stopped a.text.now a.s.now l.s l.names l.heads l.from l.clauses l.queries l.known places done r (guard_rule p) got.0, refl, only_then 0 trial_region a.s.now l.s c.before.before.before.before.before.before.before.item_at.new.s r.only got.2)
 
-enum-known-a-3 : tie.Need-enum-known-a-3 invariant-loop decreases-loop
-enum-known-a-3 c = search rules
+enum_known-a-in-Broken-1 : tie.Need-enum_known-a-in-Broken-1 invariant-loop-at decreases-loop-at
+enum_known-a-in-Broken-1 c = search rules
 
-add-offset : tie.Need-overflow-add-offset invariant-loop decreases-loop
-add-offset c =
-    let a = c.before.before.before.before.before.before.before.before.before.before.before.before.before.before.before.before.before.before.before.args in
-    let l = c.before.before.before.before.before.before.before.before.before.before.before.before.before.before.loop in
-    let r = l.invariant.0.2 in
-    let places = l.invariant.0.0 in
-    let done = l.invariant.0.1 in
-    let got = rw c.before.before.a3.given.1 at (c.before.before.before.before.before.before.before.before.before.before.item-at.ensures places r.inside r.names_table r.count_is) in
-    omega (arith, got.2.2, length-drop l.from a.text.now, r.inside, c.before.before.before.before.before.before.before.before.before.before.before.before.before.before.before.before.before.before.before.well-formed.0.0)
-
-add-t32 : tie.Need-overflow-add-t32 invariant-loop decreases-loop
-add-t32 c =
-    let a = c.before.before.before.before.before.before.before.before.before.before.before.before.before.before.before.before.before.before.before.args in
-    let l = c.before.before.before.before.before.before.before.before.before.before.before.before.before.before.loop in
-    let r = l.invariant.0.2 in
-    let places = l.invariant.0.0 in
-    let done = l.invariant.0.1 in
-    let got = rw c.before.before.a3.given.1 at (c.before.before.before.before.before.before.before.before.before.before.item-at.ensures places r.inside r.names_table r.count_is) in
-    omega (arith, got.3, length-drop l.from a.text.now, r.inside, c.before.before.before.before.before.before.before.before.before.before.before.before.before.before.before.before.before.before.before.well-formed.0.0)
-
-same-length-7 : tie.Need-same-length-7 invariant-loop decreases-loop
-same-length-7 c = c.before.before.before.before.before.before.before.before.before.before.item-at.auto.1.1.0 ∙ c.before.before.before.before.before.before.before.before.before.before.before.before.before.before.loop.invariant.1
-
-same-length-8 : tie.Need-same-length-8 invariant-loop decreases-loop
-same-length-8 c = c.before.before.before.before.before.before.before.before.before.before.item-at.auto.1.1.1.0 ∙ c.before.before.before.before.before.before.before.before.before.before.before.before.before.before.loop.invariant.2
-
-same-length-9 : tie.Need-same-length-9 invariant-loop decreases-loop
-same-length-9 c = c.before.before.before.before.before.before.before.before.before.before.item-at.auto.1.1.1.1.0 ∙ c.before.before.before.before.before.before.before.before.before.before.before.before.before.before.loop.invariant.3
-
-returns-3 : tie.Need-returns-3 invariant-loop decreases-loop
-unfolding refusal
-returns-3 c =
-    let a = c.before.before.before.before.before.before.before.before.before.before.before.before.before.before.before.before.before.before.before.args in
-    let l = c.before.before.before.before.before.before.before.before.before.before.before.before.before.before.loop in
-    let r = l.invariant.0.2 in
-    let places = l.invariant.0.0 in
-    let done = l.invariant.0.1 in
-    let got = rw c.before.before.a3.given.1 at (c.before.before.before.before.before.before.before.before.before.before.item-at.ensures places r.inside r.names_table r.count_is) in
-    let p = l.from + c.before.before.a3.given.0.0 in
-    (occurrence_rule p got.0, stopped a.text.now a.s.now l.s l.names l.heads l.from l.clauses l.queries l.known places done r (occurrence_rule p got.0) got.1, rw (got.2.0, got.2.1) refl, only_then 0 trial_region a.s.now l.s c.before.before.before.before.before.before.before.before.before.before.item-at.new.1.1.0 r.only got.4)
-
-enum-known-a-4 : tie.Need-enum-known-a-4 invariant-loop decreases-loop
-enum-known-a-4 c = search rules
-
-add-t34 : tie.Need-overflow-add-t34 invariant-loop decreases-loop
-add-t34 c =
-    let a = c.before.before.before.before.before.before.before.before.before.before.before.before.before.before.before.before.before.before.args in
-    let l = c.before.before.before.before.before.before.before.before.before.before.before.before.before.loop in
-    let r = l.invariant.0.2 in
-    let places = l.invariant.0.0 in
-    let done = l.invariant.0.1 in
-    let got = rw c.before.a4.given.1 at (c.before.before.before.before.before.before.before.before.before.item-at.ensures places r.inside r.names_table r.count_is) in
-    omega (arith, got.1, length-drop l.from a.text.now, r.inside, c.before.before.before.before.before.before.before.before.before.before.before.before.before.before.before.before.before.before.well-formed.0.0)
-
-same-length-10 : tie.Need-same-length-10 invariant-loop decreases-loop
-same-length-10 c = c.before.before.before.before.before.before.before.before.before.item-at.auto.1.1.0 ∙ c.before.before.before.before.before.before.before.before.before.before.before.before.before.loop.invariant.1
-
-same-length-11 : tie.Need-same-length-11 invariant-loop decreases-loop
-same-length-11 c = c.before.before.before.before.before.before.before.before.before.item-at.auto.1.1.1.0 ∙ c.before.before.before.before.before.before.before.before.before.before.before.before.before.loop.invariant.2
-
-same-length-12 : tie.Need-same-length-12 invariant-loop decreases-loop
-same-length-12 c = c.before.before.before.before.before.before.before.before.before.item-at.auto.1.1.1.1.0 ∙ c.before.before.before.before.before.before.before.before.before.before.before.before.before.loop.invariant.3
-
-returns-4 : tie.Need-returns-4 invariant-loop decreases-loop
-unfolding refusal
-returns-4 c =
-    let a = c.before.before.before.before.before.before.before.before.before.before.before.before.before.before.before.before.before.before.args in
-    let l = c.before.before.before.before.before.before.before.before.before.before.before.before.before.loop in
-    let r = l.invariant.0.2 in
-    let places = l.invariant.0.0 in
-    let done = l.invariant.0.1 in
-    let got = rw c.before.a4.given.1 at (c.before.before.before.before.before.before.before.before.before.item-at.ensures places r.inside r.names_table r.count_is) in
-    let p = l.from + c.before.a4.given.0.0 in
-    (figure p, stopped a.text.now a.s.now l.s l.names l.heads l.from l.clauses l.queries l.known places done r (figure p) got.0, refl, only_then 0 trial_region a.s.now l.s c.before.before.before.before.before.before.before.before.before.item-at.new.1.1.0 r.only got.2)
-
-enum_told : tie.Need-enum-told invariant-loop decreases-loop
-enum_told c = search rules
-
-same-length-13 : tie.Need-same-length-13 invariant-loop decreases-loop
-same-length-13 c = c.before.before.before.before.before.before.before.before.item-at.auto.1.1.0 ∙ c.before.before.before.before.before.before.before.before.before.before.before.before.loop.invariant.1
-
-same-length-14 : tie.Need-same-length-14 invariant-loop decreases-loop
-same-length-14 c = c.before.before.before.before.before.before.before.before.item-at.auto.1.1.1.0 ∙ c.before.before.before.before.before.before.before.before.before.before.before.before.loop.invariant.2
-
-same-length-15 : tie.Need-same-length-15 invariant-loop decreases-loop
-same-length-15 c = c.before.before.before.before.before.before.before.before.item-at.auto.1.1.1.1.0 ∙ c.before.before.before.before.before.before.before.before.before.before.before.before.loop.invariant.3
-
-returns-5 : tie.Need-returns-5 invariant-loop decreases-loop
-returns-5 c =
+overflow_add-offset : tie.Need-overflow_add-offset invariant-loop-at decreases-loop-at
+overflow_add-offset c =
     let a = c.before.before.before.before.before.before.before.before.before.before.before.before.before.before.before.before.before.args in
-    let l = c.before.before.before.before.before.before.before.before.before.before.before.before.loop in
+    let l = c.before.before.before.before.before.before.before.before.before.before.before.before.loop-at in
     let r = l.invariant.0.2 in
     let places = l.invariant.0.0 in
     let done = l.invariant.0.1 in
-    let got = rw c.enum_told.given.1 at (c.before.before.before.before.before.before.before.before.item-at.ensures places r.inside r.names_table r.count_is) in
+    let got = rw c.before.in-Broken.is at (c.before.before.before.before.before.before.before.before.item_at.ensures places r.inside r.names_table r.count_is) in
+    omega (arith, got.2.2, length-drop l.from a.text.now, r.inside, c.before.before.before.before.before.before.before.before.before.before.before.before.before.before.before.before.before.well_formed.0.0)
+
+overflow_add-result-in-Broken : tie.Need-overflow_add-result-in-Broken invariant-loop-at decreases-loop-at
+overflow_add-result-in-Broken c =
+    let a = c.before.before.before.before.before.before.before.before.before.before.before.before.before.before.before.before.before.args in
+    let l = c.before.before.before.before.before.before.before.before.before.before.before.before.loop-at in
+    let r = l.invariant.0.2 in
+    let places = l.invariant.0.0 in
+    let done = l.invariant.0.1 in
+    let got = rw c.before.in-Broken.is at (c.before.before.before.before.before.before.before.before.item_at.ensures places r.inside r.names_table r.count_is) in
+    omega (arith, got.3, length-drop l.from a.text.now, r.inside, c.before.before.before.before.before.before.before.before.before.before.before.before.before.before.before.before.before.well_formed.0.0)
+
+shape_of-s-in-Broken : tie.Need-shape_of-s-in-Broken invariant-loop-at decreases-loop-at
+shape_of-s-in-Broken c = c.before.before.before.before.before.before.before.before.item_at.auto.s ∙ c.before.before.before.before.before.before.before.before.before.before.before.before.loop-at.invariant.1
+
+shape_of-names-in-Broken : tie.Need-shape_of-names-in-Broken invariant-loop-at decreases-loop-at
+shape_of-names-in-Broken c = c.before.before.before.before.before.before.before.before.item_at.auto.names ∙ c.before.before.before.before.before.before.before.before.before.before.before.before.loop-at.invariant.2
+
+shape_of-heads-in-Broken : tie.Need-shape_of-heads-in-Broken invariant-loop-at decreases-loop-at
+shape_of-heads-in-Broken c = c.before.before.before.before.before.before.before.before.item_at.auto.heads ∙ c.before.before.before.before.before.before.before.before.before.before.before.before.loop-at.invariant.3
+
+returns-in-Broken : tie.Need-returns-in-Broken invariant-loop-at decreases-loop-at
+unfolding refusal
+returns-in-Broken c =
+    let a = c.before.before.before.before.before.before.before.before.before.before.before.before.before.before.before.before.before.args in
+    let l = c.before.before.before.before.before.before.before.before.before.before.before.before.loop-at in
+    let r = l.invariant.0.2 in
+    let places = l.invariant.0.0 in
+    let done = l.invariant.0.1 in
+    let got = rw c.before.in-Broken.is at (c.before.before.before.before.before.before.before.before.item_at.ensures places r.inside r.names_table r.count_is) in
+    let p = l.from + c.before.in-Broken.a in
+    (occurrence_rule p got.0, stopped a.text.now a.s.now l.s l.names l.heads l.from l.clauses l.queries l.known places done r (occurrence_rule p got.0) got.1, rw (got.2.0, got.2.1) refl, only_then 0 trial_region a.s.now l.s c.before.before.before.before.before.before.before.before.item_at.new.s r.only got.4)
+
+enum_known-a-in-Exceeded-1 : tie.Need-enum_known-a-in-Exceeded-1 invariant-loop-at decreases-loop-at
+enum_known-a-in-Exceeded-1 c = search rules
+
+overflow_add-result-in-Exceeded : tie.Need-overflow_add-result-in-Exceeded invariant-loop-at decreases-loop-at
+overflow_add-result-in-Exceeded c =
+    let a = c.before.before.before.before.before.before.before.before.before.before.before.before.before.before.before.before.args in
+    let l = c.before.before.before.before.before.before.before.before.before.before.before.loop-at in
+    let r = l.invariant.0.2 in
+    let places = l.invariant.0.0 in
+    let done = l.invariant.0.1 in
+    let got = rw c.in-Exceeded.is at (c.before.before.before.before.before.before.before.item_at.ensures places r.inside r.names_table r.count_is) in
+    omega (arith, got.1, length-drop l.from a.text.now, r.inside, c.before.before.before.before.before.before.before.before.before.before.before.before.before.before.before.before.well_formed.0.0)
+
+shape_of-s-in-Exceeded : tie.Need-shape_of-s-in-Exceeded invariant-loop-at decreases-loop-at
+shape_of-s-in-Exceeded c = c.before.before.before.before.before.before.before.item_at.auto.s ∙ c.before.before.before.before.before.before.before.before.before.before.before.loop-at.invariant.1
+
+shape_of-names-in-Exceeded : tie.Need-shape_of-names-in-Exceeded invariant-loop-at decreases-loop-at
+shape_of-names-in-Exceeded c = c.before.before.before.before.before.before.before.item_at.auto.names ∙ c.before.before.before.before.before.before.before.before.before.before.before.loop-at.invariant.2
+
+shape_of-heads-in-Exceeded : tie.Need-shape_of-heads-in-Exceeded invariant-loop-at decreases-loop-at
+shape_of-heads-in-Exceeded c = c.before.before.before.before.before.before.before.item_at.auto.heads ∙ c.before.before.before.before.before.before.before.before.before.before.before.loop-at.invariant.3
+
+returns-in-Exceeded : tie.Need-returns-in-Exceeded invariant-loop-at decreases-loop-at
+unfolding refusal
+returns-in-Exceeded c =
+    let a = c.before.before.before.before.before.before.before.before.before.before.before.before.before.before.before.before.args in
+    let l = c.before.before.before.before.before.before.before.before.before.before.before.loop-at in
+    let r = l.invariant.0.2 in
+    let places = l.invariant.0.0 in
+    let done = l.invariant.0.1 in
+    let got = rw c.in-Exceeded.is at (c.before.before.before.before.before.before.before.item_at.ensures places r.inside r.names_table r.count_is) in
+    let p = l.from + c.in-Exceeded.a in
+    (figure p, stopped a.text.now a.s.now l.s l.names l.heads l.from l.clauses l.queries l.known places done r (figure p) got.0, refl, only_then 0 trial_region a.s.now l.s c.before.before.before.before.before.before.before.item_at.new.s r.only got.2)
+
+enum_told-1 : tie.Need-enum_told-1 invariant-loop-at decreases-loop-at
+enum_told-1 c = search rules
+
+shape_of-s-in-Nothing : tie.Need-shape_of-s-in-Nothing invariant-loop-at decreases-loop-at
+shape_of-s-in-Nothing c = c.before.before.before.before.before.before.before.item_at.auto.s ∙ c.before.before.before.before.before.before.before.before.before.before.before.loop-at.invariant.1
+
+shape_of-names-in-Nothing : tie.Need-shape_of-names-in-Nothing invariant-loop-at decreases-loop-at
+shape_of-names-in-Nothing c = c.before.before.before.before.before.before.before.item_at.auto.names ∙ c.before.before.before.before.before.before.before.before.before.before.before.loop-at.invariant.2
+
+shape_of-heads-in-Nothing : tie.Need-shape_of-heads-in-Nothing invariant-loop-at decreases-loop-at
+shape_of-heads-in-Nothing c = c.before.before.before.before.before.before.before.item_at.auto.heads ∙ c.before.before.before.before.before.before.before.before.before.before.before.loop-at.invariant.3
+
+returns-in-Nothing : tie.Need-returns-in-Nothing invariant-loop-at decreases-loop-at
+returns-in-Nothing c =
+    let a = c.before.before.before.before.before.before.before.before.before.before.before.before.before.before.before.before.args in
+    let l = c.before.before.before.before.before.before.before.before.before.before.before.loop-at in
+    let r = l.invariant.0.2 in
+    let places = l.invariant.0.0 in
+    let done = l.invariant.0.1 in
+    let got = rw c.in-Nothing.is at (c.before.before.before.before.before.before.before.item_at.ensures places r.inside r.names_table r.count_is) in
     (places, done, _, l.from, rw (got.1, got.2, got.3) r, sym (here a.text.now a.s.now l.s l.names l.heads l.from l.clauses l.queries l.known places done r) ∙ got.0)
 
 pub all_items_spec : {M : Type 1} → statement M
 all_items_spec =
     tie.close
     (tie.spec
-    invariant-loop
-    decreases-loop
-    loop-holds
-    item-at-requires
-    enum-known-at
-    add-clauses
-    add-from
-    loop-less
-    loop-again
-    enum-known-at-2
-    add-queries
-    add-from-2
-    loop-less-2
-    loop-again-2
-    enum-known-a
-    add-t27
-    add-t28
-    same_length
-    same-length-2
-    same-length-3
-    returns
-    enum-known-a-2
-    add-t30
-    same-length-4
-    same-length-5
-    same-length-6
-    returns-2
-    enum-known-a-3
-    add-offset
-    add-t32
-    same-length-7
-    same-length-8
-    same-length-9
-    returns-3
-    enum-known-a-4
-    add-t34
-    same-length-10
-    same-length-11
-    same-length-12
-    returns-4
-    enum_told
-    same-length-13
-    same-length-14
-    same-length-15
-    returns-5)
+    invariant-loop-at
+    decreases-loop-at
+    loop-at-init
+    item_at-requires
+    enum_known-at
+    overflow_add-clauses
+    overflow_add-from
+    loop-at-smaller-in-Clause
+    loop-at-preserved-in-Clause
+    enum_known-at-in-Query-1
+    overflow_add-queries
+    overflow_add-from-in-Query
+    loop-at-smaller
+    loop-at-preserved
+    enum_known-a
+    overflow_add-result
+    overflow_add-result-in-Malformed
+    shape_of-s-in-Malformed
+    shape_of-names-in-Malformed
+    shape_of-heads-in-Malformed
+    returns-in-Malformed
+    enum_known-a-in-Unknown-1
+    overflow_add-result-in-Unknown
+    shape_of-s-in-Unknown
+    shape_of-names-in-Unknown
+    shape_of-heads-in-Unknown
+    returns-in-Unknown
+    enum_known-a-in-Broken-1
+    overflow_add-offset
+    overflow_add-result-in-Broken
+    shape_of-s-in-Broken
+    shape_of-names-in-Broken
+    shape_of-heads-in-Broken
+    returns-in-Broken
+    enum_known-a-in-Exceeded-1
+    overflow_add-result-in-Exceeded
+    shape_of-s-in-Exceeded
+    shape_of-names-in-Exceeded
+    shape_of-heads-in-Exceeded
+    returns-in-Exceeded
+    enum_told-1
+    shape_of-s-in-Nothing
+    shape_of-names-in-Nothing
+    shape_of-heads-in-Nothing
+    returns-in-Nothing)

@@ -9,50 +9,50 @@ use borrow.Author.Rules.{rules}
 use Rattle.loader.proofs.load.item_at.Statement.{statement}
 use Rattle.loader.proofs.load.item_at.Tie as tie
 
-sub-rest : tie.Need-overflow-sub-rest
-sub-rest c = search rules
+slice_bounds-rest-count : tie.Need-slice_bounds-rest-count
+slice_bounds-rest-count c = search rules
 
-part-rest-start : tie.Need-slice-bounds-rest-start
-part-rest-start c = search rules
+slice-bounds-rest-start : tie.Need-slice-bounds-rest-start
+slice-bounds-rest-start c = search rules
 
-part-rest-end : tie.Need-slice-bounds-rest-end
-part-rest-end c = search rules
+slice-bounds-rest-end : tie.Need-slice-bounds-rest-end
+slice-bounds-rest-end c = search rules
 
-slice-aggregate-next-item : tie.Need-slice-aggregate-next-item
-slice-aggregate-next-item c = search rules
+slice_bounds-next_item-end : tie.Need-slice_bounds-next_item-end
+slice_bounds-next_item-end c = search rules
 
-next-item-requires : tie.Need-next-item-requires
-next-item-requires c κs =
+next_item-requires : tie.Need-next_item-requires
+next_item-requires c κs =
     let a = c.before.before.before.before.before.before.before.before.before.args in
     let rest : take (length a.text.now - a.from) (drop a.from a.text.now) ≡ drop a.from a.text.now = take_all (length a.text.now - a.from) (drop a.from a.text.now) (omega (arith, length-drop a.from a.text.now)) in
-    let p = c.before.before.before.before.before.before.before.before.before.requires.1 in
-    (c.before.before.before.before.before.before.before.before.before.requires.0, (p.0, record { part = (p.1, rest); names_in = p.2; count_is = p.3; empty = refl }))
+    let p = c.before.before.before.before.before.before.before.before.before.requires.from_in_bounds in
+    (c.before.before.before.before.before.before.before.before.before.requires.lent, (p.0, record { part = (p.1, rest); names_in = p.2; count_is = p.3; empty = refl }))
 
-same_length : tie.Need-same-length
-same_length c = c.before.before.before.before.before.before.before.next-item.auto.1.1.1.0
+shape_of-s : tie.Need-shape_of-s
+shape_of-s c = c.before.before.before.before.before.before.before.next_item.auto.s
 
-same-length-2 : tie.Need-same-length-2
-same-length-2 c = c.before.before.before.before.before.before.before.next-item.auto.1.1.1.1.0
+shape_of-names : tie.Need-shape_of-names
+shape_of-names c = c.before.before.before.before.before.before.before.next_item.auto.names
 
-same-length-3 : tie.Need-same-length-3
-same-length-3 c = c.before.before.before.before.before.before.before.next-item.auto.1.1.1.1.1.1.0
+shape_of-heads : tie.Need-shape_of-heads
+shape_of-heads c = c.before.before.before.before.before.before.before.next_item.auto.heads
 
 returns : tie.Need-returns
 returns c =
     let a = c.before.before.before.before.before.before.before.before.before.before.before.before.before.before.before.before.before.args in
     let rest : take (length a.text.now - a.from) (drop a.from a.text.now) ≡ drop a.from a.text.now = take_all (length a.text.now - a.from) (drop a.from a.text.now) (omega (arith, length-drop a.from a.text.now)) in
-    λ places inside names count. rw rest at (c.before.before.before.before.before.before.before.next-item.ensures places (record { part = (inside, rest); names_in = names; count_is = count; empty = refl }))
+    λ places inside names count. rw rest at (c.before.before.before.before.before.before.before.next_item.ensures places (record { part = (inside, rest); names_in = names; count_is = count; empty = refl }))
 
 pub item_at_spec : {M : Type 1} → statement M
 item_at_spec =
     tie.close
     (tie.spec
-    sub-rest
-    part-rest-start
-    part-rest-end
-    slice-aggregate-next-item
-    next-item-requires
-    same_length
-    same-length-2
-    same-length-3
+    slice_bounds-rest-count
+    (λ c. search rules)
+    (λ c. search rules)
+    slice_bounds-next_item-end
+    next_item-requires
+    shape_of-s
+    shape_of-names
+    shape_of-heads
     returns)

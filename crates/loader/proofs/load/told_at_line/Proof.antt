@@ -5,57 +5,57 @@ use Rattle.loader.specs.declared.refusal.Refusal.TheVariants.{NoItems, GuardRefu
 use Rattle.loader.proofs.load.told_at_line.Statement.{statement}
 use Rattle.loader.proofs.load.told_at_line.Tie as tie
 
-enum-known-why : tie.Need-enum-known-why
-enum-known-why c = search rules
+enum_known-why : tie.Need-enum_known-why
+enum_known-why c = search rules
 
 line-requires : tie.Need-line-requires
 line-requires c κs = search rules
 
-enum-known-why-2 : tie.Need-enum-known-why-2
-enum-known-why-2 c = search rules
+enum_known-why-in-GuardRefused-1 : tie.Need-enum_known-why-in-GuardRefused-1
+enum_known-why-in-GuardRefused-1 c = search rules
 
-line-requires-2 : tie.Need-line-requires-2
-line-requires-2 c κs = search rules
+line-requires-in-GuardRefused : tie.Need-line-requires-in-GuardRefused
+line-requires-in-GuardRefused c κs = search rules
 
-enum-known-why-3 : tie.Need-enum-known-why-3
-enum-known-why-3 c = search rules
+enum_known-why-in-OccurrenceBroken-1 : tie.Need-enum_known-why-in-OccurrenceBroken-1
+enum_known-why-in-OccurrenceBroken-1 c = search rules
 
-line-requires-3 : tie.Need-line-requires-3
-line-requires-3 c κs = search rules
+line-requires-in-OccurrenceBroken : tie.Need-line-requires-in-OccurrenceBroken
+line-requires-in-OccurrenceBroken c κs = search rules
 
-enum-known-why-4 : tie.Need-enum-known-why-4
-enum-known-why-4 c = search rules
+enum_known-why-in-FigurePassed-1 : tie.Need-enum_known-why-in-FigurePassed-1
+enum_known-why-in-FigurePassed-1 c = search rules
 
-line-requires-4 : tie.Need-line-requires-4
-line-requires-4 c κs = search rules
+line-requires-in-FigurePassed : tie.Need-line-requires-in-FigurePassed
+line-requires-in-FigurePassed c κs = search rules
 
-returns : tie.Need-returns
-returns c = rw c.before.before.why.given.1 (ap (λ at. NoItems at c.before.before.why.given.0.1.0) c.line.ensures)
+returns-in-NoItems : tie.Need-returns-in-NoItems
+returns-in-NoItems c = rw c.before.in-NoItems.is (ap (λ at. NoItems at c.before.in-NoItems.offset) c.line.ensures)
 
-returns-2 : tie.Need-returns-2
-returns-2 c = rw c.before.before.why2.given.1 (ap GuardRefused c.line2.ensures)
+returns-in-GuardRefused : tie.Need-returns-in-GuardRefused
+returns-in-GuardRefused c = rw c.before.in-GuardRefused.is (ap GuardRefused c.line-in-GuardRefused.ensures)
 
-returns-3 : tie.Need-returns-3
-returns-3 c =
-    rw c.before.before.why3.given.1
-    (ap (λ at. OccurrenceBroken c.before.before.why3.given.0.0 at c.before.before.why3.given.0.1.1.0) c.line3.ensures)
+returns-in-OccurrenceBroken : tie.Need-returns-in-OccurrenceBroken
+returns-in-OccurrenceBroken c =
+    rw c.before.in-OccurrenceBroken.is
+    (ap (λ at. OccurrenceBroken c.before.in-OccurrenceBroken.rule at c.before.in-OccurrenceBroken.offset) c.line-in-OccurrenceBroken.ensures)
 
-returns-4 : tie.Need-returns-4
-returns-4 c = rw c.before.before.why4.given.1 (ap FigurePassed c.line4.ensures)
+returns-in-FigurePassed : tie.Need-returns-in-FigurePassed
+returns-in-FigurePassed c = rw c.before.in-FigurePassed.is (ap FigurePassed c.line-in-FigurePassed.ensures)
 
 pub told_at_line_spec : {M : Type 1} → statement M
 told_at_line_spec =
     tie.close
     (tie.spec
-    enum-known-why
+    enum_known-why
     line-requires
-    enum-known-why-2
-    line-requires-2
-    enum-known-why-3
-    line-requires-3
-    enum-known-why-4
-    line-requires-4
-    returns
-    returns-2
-    returns-3
-    returns-4)
+    enum_known-why-in-GuardRefused-1
+    line-requires-in-GuardRefused
+    enum_known-why-in-OccurrenceBroken-1
+    line-requires-in-OccurrenceBroken
+    enum_known-why-in-FigurePassed-1
+    line-requires-in-FigurePassed
+    returns-in-NoItems
+    returns-in-GuardRefused
+    returns-in-OccurrenceBroken
+    returns-in-FigurePassed)

@@ -4,27 +4,33 @@ use borrow.Author.Rules.{rules}
 use Rattle.loader.proofs.refusal.rule_number.Statement.{statement}
 use Rattle.loader.proofs.refusal.rule_number.Tie as tie
 
-enum_told : tie.Need-enum-told
-enum_told c = search rules
+enum_told-1 : tie.Need-enum_told-1
+enum_told-1 c = search rules
 
-enum-told-2 : tie.Need-enum-told-2
-enum-told-2 c = search rules
+enum_told-in-WriterAlone : tie.Need-enum_told-in-WriterAlone
+enum_told-in-WriterAlone c = search rules
 
-enum-told-3 : tie.Need-enum-told-3
-enum-told-3 c = search rules
+enum_told-in-ReaderAlone : tie.Need-enum_told-in-ReaderAlone
+enum_told-in-ReaderAlone c = search rules
 
-returns : tie.Need-returns
+returns-in-Twice : tie.Need-returns-in-Twice
 unfolding rule_number
-returns c = search rules
+returns-in-Twice c = search rules
 
-returns-2 : tie.Need-returns-2
+returns-in-WriterAlone : tie.Need-returns-in-WriterAlone
 unfolding rule_number
-returns-2 c = search rules
+returns-in-WriterAlone c = search rules
 
-returns-3 : tie.Need-returns-3
+returns-in-ReaderAlone : tie.Need-returns-in-ReaderAlone
 unfolding rule_number
-returns-3 c = search rules
+returns-in-ReaderAlone c = search rules
 
 pub rule_number_spec : {M : Type 1} → statement M
 rule_number_spec =
-    tie.close (tie.spec enum_told enum-told-2 enum-told-3 returns returns-2 returns-3)
+    tie.close (tie.spec
+    enum_told-1
+    enum_told-in-WriterAlone
+    enum_told-in-ReaderAlone
+    returns-in-Twice
+    returns-in-WriterAlone
+    returns-in-ReaderAlone)

@@ -37,10 +37,10 @@ module _ (w : tie.After-word) where
   start = w.before.before.before.before.before.before.before.before.before.before
 
   abbrev goal : ℕ
-  goal = w.before.before.before.before.before.before.word_at.result
+  goal = w.before.before.before.before.before.before.word_at-goal.result
 
   abbrev query : ℕ
-  query = w.before.before.before.before.before.index.result
+  query = w.before.before.before.before.before.index-query.result
 
   abbrev place : ℕ
   place = w.before.place_of.result
@@ -56,8 +56,8 @@ module _ (w : tie.After-word) where
 
   fetched : Fetched start.args.s.now (figures start.args.room) start.args.t goal query place values marks steps
   fetched = record {
-    goal_is = rw w.before.before.before.before.before.before.before.queue.ensures at w.before.before.before.before.before.before.word_at.ensures;
-    query_is = w.before.before.before.before.before.index.ensures;
+    goal_is = rw w.before.before.before.before.before.before.before.queue.ensures at w.before.before.before.before.before.before.word_at-goal.ensures;
+    query_is = w.before.before.before.before.before.index-query.ensures;
     place_is = w.before.place_of.ensures;
     values_is = w.before.before.before.values.ensures;
     marks_is = w.before.before.marks.ensures;
@@ -91,7 +91,7 @@ module _ (c : tie.After-choice) (text : Bytes) (names : List Bytes) (j : Job) (l
     (more : (start c.before).args.t.steps < 1000000)
     (front : (run j limit (figures (start c.before).args.room)).state.goals.queue ≡ g ∷ others) where
   abbrev scratch : List ℕ
-  scratch = c.choice.new.0
+  scratch = c.choice.new.s
 
   told : ChoiceIs (start c.before).args.s.now scratch names j limit (figures (start c.before).args.room) (atlas g.query) g
       (marks c.before) (steps c.before * 32768 + 2) c.choice.result
@@ -140,15 +140,15 @@ module _ (c : tie.After-choice) (text : Bytes) (names : List Bytes) (j : Job) (l
 queue-requires : tie.Need-queue-requires
 queue-requires c κs = search rules
 
-word-at-requires : tie.Need-word-at-requires
-word-at-requires c κs =
+word_at-goal-requires : tie.Need-word_at-goal-requires
+word_at-goal-requires c κs =
     let S = c.before.before.before in
     let p = S.requires in
     rw c.queue.ensures
     (front_inside S.args.s.now p.0 p.1 p.2 (figures S.args.room) p.3 p.4 p.5 S.args.t _ p.8)
 
-index-requires : tie.Need-index-requires
-index-requires c κs = search rules
+index-query-requires : tie.Need-index-query-requires
+index-query-requires c κs = search rules
 
 values-requires : tie.Need-values-requires
 values-requires c κs = search rules
@@ -156,17 +156,17 @@ values-requires c κs = search rules
 marks-requires : tie.Need-marks-requires
 marks-requires c κs = search rules
 
-place-of-requires : tie.Need-place-of-requires
-place-of-requires c κs = search rules
+place_of-requires : tie.Need-place_of-requires
+place_of-requires c κs = search rules
 
 word-requires : tie.Need-word-requires
 word-requires c κs = search rules
 
-mul-choice : tie.Need-overflow-mul-choice
-mul-choice c = search rules
+overflow_mul-word : tie.Need-overflow_mul-word
+overflow_mul-word c = search rules
 
-add-choice : tie.Need-overflow-add-choice
-add-choice c = search rules
+overflow_add-word : tie.Need-overflow_add-word
+overflow_add-word c = search rules
 
 choice-requires : tie.Need-choice-requires
 choice-requires c κs =
@@ -184,92 +184,92 @@ choice-requires c κs =
       stamps c p.0 p.1 p.2 p.3 p.4 p.5 p.6 p.7 p.8 p.9 p.10,
     )
 
-enum-known-k : tie.Need-enum-known-k
-enum-known-k c = search rules
+enum_known-k : tie.Need-enum_known-k
+enum_known-k c = search rules
 
 reduce-requires : tie.Need-reduce-requires
 reduce-requires c κs =
-    let C = c.before.before.before.before.before.before in
+    let C = c.before.before.before.before in
     let p = (start C.before).pre in
-    let its = reduces C p.0 p.1 p.2 p.3 p.4 p.5 p.6 p.7 p.8 p.9 p.10 _ _ c.before.before.k.given.1 in
+    let its = reduces C p.0 p.1 p.2 p.3 p.4 p.5 p.6 p.7 p.8 p.9 p.10 _ _ c.before.in-Reduces.is in
     (p.0, p.1, p.2, p.3, p.4, p.5, p.6, p.7, its.0, its.1, taken C p.0 p.1 p.2 p.3 p.4 p.5 p.6 p.7 p.8 p.9 p.10, its.2)
 
-enum-known-readers : tie.Need-enum-known-readers
-enum-known-readers c = search rules
+enum_known-readers : tie.Need-enum_known-readers
+enum_known-readers c = search rules
 
-join-waiting-requires : tie.Need-join-waiting-requires
-join-waiting-requires c κs =
-    let C = c.before.before.before.before.before.before in
+join_waiting-requires : tie.Need-join_waiting-requires
+join_waiting-requires c κs =
+    let C = c.before.before.before.before in
     let p = (start C.before).pre in
-    let its = waits C p.0 p.1 p.2 p.3 p.4 p.5 p.6 p.7 p.8 p.9 p.10 _ c.before.before.readers.given.1 in
+    let its = waits C p.0 p.1 p.2 p.3 p.4 p.5 p.6 p.7 p.8 p.9 p.10 _ c.before.in-Waits.is in
     (p.0, p.1, p.2, p.3, p.4, p.5, p.6, p.7, its.0, taken C p.0 p.1 p.2 p.3 p.4 p.5 p.6 p.7 p.8 p.9 p.10, its.1)
 
-enum_told : tie.Need-enum-told
-enum_told c = search rules
+enum_told-1 : tie.Need-enum_told-1
+enum_told-1 c = search rules
 
-join-failed-requires : tie.Need-join-failed-requires
-join-failed-requires c κs =
-    let C = c.before.before.before.before.before in
+join_failed-requires : tie.Need-join_failed-requires
+join_failed-requires c κs =
+    let C = c.before.before.before.before in
     let p = (start C.before).pre in
-    let its = fails C p.0 p.1 p.2 p.3 p.4 p.5 p.6 p.7 p.8 p.9 p.10 c.before.enum_told.given.1 in
+    let its = fails C p.0 p.1 p.2 p.3 p.4 p.5 p.6 p.7 p.8 p.9 p.10 c.before.in-Fails.is in
     (p.0, p.1, p.2, p.3, p.4, p.5, p.6, p.7, taken C p.0 p.1 p.2 p.3 p.4 p.5 p.6 p.7 p.8 p.9 p.10, its)
 
-same_length : tie.Need-same-length
-same_length c = search rules
+shape_of-s-in-Reduces : tie.Need-shape_of-s-in-Reduces
+shape_of-s-in-Reduces c = search rules
 
-returns : tie.Need-returns
-returns c =
-    let C = c.before.before.before.before.before.before.before.before.before in
+returns-in-Reduces : tie.Need-returns-in-Reduces
+returns-in-Reduces c =
+    let C = c.before.before.before.before.before.before.before in
     λ text names j limit atlas slots g others r more front.
-    let its = reduces C text names j limit atlas slots g others r more front _ _ c.before.before.before.before.before.k.given.1 in
+    let its = reduces C text names j limit atlas slots g others r more front _ _ c.before.before.before.before.in-Reduces.is in
     then C text names j limit atlas slots g others r more front _ _
     (c.before.before.reduce.ensures text names j limit atlas slots g others its.0 its.1 (taken C text names j limit atlas slots g others r more front) its.2)
 
-same-length-2 : tie.Need-same-length-2
-same-length-2 c = search rules
+shape_of-s-in-Waits : tie.Need-shape_of-s-in-Waits
+shape_of-s-in-Waits c = search rules
 
-returns-2 : tie.Need-returns-2
-returns-2 c =
-    let C = c.before.before.before.before.before.before.before.before.before in
+returns-in-Waits : tie.Need-returns-in-Waits
+returns-in-Waits c =
+    let C = c.before.before.before.before.before.before.before in
     λ text names j limit atlas slots g others r more front.
-    let its = waits C text names j limit atlas slots g others r more front _ c.before.before.before.before.before.readers.given.1 in
+    let its = waits C text names j limit atlas slots g others r more front _ c.before.before.before.before.in-Waits.is in
     then C text names j limit atlas slots g others r more front _ _
-    (c.before.before.join-waiting.ensures text names j limit atlas slots g others its.0 (taken C text names j limit atlas slots g others r more front) its.1)
+    (c.before.before.join_waiting.ensures text names j limit atlas slots g others its.0 (taken C text names j limit atlas slots g others r more front) its.1)
 
-same-length-3 : tie.Need-same-length-3
-same-length-3 c = search rules
+shape_of-s-in-Fails : tie.Need-shape_of-s-in-Fails
+shape_of-s-in-Fails c = search rules
 
-returns-3 : tie.Need-returns-3
-returns-3 c =
-    let C = c.before.before.before.before.before.before.before.before in
+returns-in-Fails : tie.Need-returns-in-Fails
+returns-in-Fails c =
+    let C = c.before.before.before.before.before.before.before in
     λ text names j limit atlas slots g others r more front.
     then C text names j limit atlas slots g others r more front _ _
-    (c.before.before.join-failed.ensures text names j limit atlas slots g others (taken C text names j limit atlas slots g others r more front)
-    (fails C text names j limit atlas slots g others r more front c.before.before.before.before.enum_told.given.1))
+    (c.before.before.join_failed.ensures text names j limit atlas slots g others (taken C text names j limit atlas slots g others r more front)
+    (fails C text names j limit atlas slots g others r more front c.before.before.before.before.in-Fails.is))
 
 pub step_spec : {M : Type 1} → statement M
 step_spec =
     tie.close
     (tie.spec
     queue-requires
-    word-at-requires
-    index-requires
+    word_at-goal-requires
+    index-query-requires
     values-requires
     marks-requires
-    place-of-requires
+    place_of-requires
     word-requires
-    mul-choice
-    add-choice
+    overflow_mul-word
+    overflow_add-word
     choice-requires
-    enum-known-k
+    enum_known-k
     reduce-requires
-    enum-known-readers
-    join-waiting-requires
-    enum_told
-    join-failed-requires
-    same_length
-    returns
-    same-length-2
-    returns-2
-    same-length-3
-    returns-3)
+    enum_known-readers
+    join_waiting-requires
+    enum_told-1
+    join_failed-requires
+    shape_of-s-in-Reduces
+    returns-in-Reduces
+    shape_of-s-in-Waits
+    returns-in-Waits
+    shape_of-s-in-Fails
+    returns-in-Fails)

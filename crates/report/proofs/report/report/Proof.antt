@@ -22,52 +22,52 @@ forget-requires : tie.Need-forget-requires
 forget-requires c κs = search rules
 
 -- src/report.rt:97:5
-note-pairs-requires : tie.Need-note-pairs-requires
-note-pairs-requires c κs = search rules
+note_pairs-requires : tie.Need-note_pairs-requires
+note_pairs-requires c κs = search rules
 
 -- src/report.rt:98:9
-count-report-requires : tie.Need-count-report-requires
-count-report-requires c κs =
+count_report-n-requires : tie.Need-count_report-n-requires
+count_report-n-requires c κs =
     let st = c.before.before.before.before.before.before.before.before.before.before.before.before.before in
     let f = c.before.before.before.before.before.before.before.forget in
     let w = c.before.before.before.before.before.before.before.before.waiters in
-    let p = c.before.before.before.note-pairs in
+    let p = c.before.before.before.note_pairs in
     let (names, j, limit, F, all, short) = st.requires in
-    asked st.args.s.now f.new.0 p.new.0 st.args.text.now names (figures st.args.room) j limit st.args.verdict st.args.t w.result st.args.queries F all short w.ensures f.ensures p.ensures
+    asked st.args.s.now f.new.s p.new.s st.args.text.now names (figures st.args.room) j limit st.args.verdict st.args.t w.result st.args.queries F all short w.ensures f.ensures p.ensures
 
 -- src/report.rt:100:9
-same_length : tie.Need-same-length
-same_length c = search rules
+shape_of-s-then-n-eq-CEILING : tie.Need-shape_of-s-then-n-eq-CEILING
+shape_of-s-then-n-eq-CEILING c = search rules
 
 -- src/report.rt:100:9
-returns : tie.Need-returns
-returns c =
+returns-then-n-eq-CEILING : tie.Need-returns-then-n-eq-CEILING
+returns-then-n-eq-CEILING c =
     let st = c.before.before.before.before.before.before.before.before.before.before.before.before.before.before.before.before.before in
     let f = c.before.before.before.before.before.before.before.before.before.before.before.forget in
     let w = c.before.before.before.before.before.before.before.before.before.before.before.before.waiters in
-    let p = c.before.before.before.before.before.before.before.note-pairs in
-    let n = c.before.before.before.count-report in
+    let p = c.before.before.before.before.before.before.before.note_pairs in
+    let n = c.before.before.before.count_report-n in
     λ names j limit F all short.
-    too_long st.args.s.now f.new.0 p.new.0 st.args.text.now names (figures st.args.room) j limit st.args.verdict st.args.t w.result st.args.queries F all short w.ensures f.ensures p.ensures n.new.0 n.result n.ensures st.args.buffer.now (omega arith)
+    too_long st.args.s.now f.new.s p.new.s st.args.text.now names (figures st.args.room) j limit st.args.verdict st.args.t w.result st.args.queries F all short w.ensures f.ensures p.ensures n.new.s n.result n.ensures st.args.buffer.now (omega arith)
 
 -- src/report.rt:103:9
-same-length-2 : tie.Need-same-length-2
-same-length-2 c = search rules
+shape_of-s-then-buffer-n : tie.Need-shape_of-s-then-buffer-n
+shape_of-s-then-buffer-n c = search rules
 
 -- src/report.rt:103:9
-returns-2 : tie.Need-returns-2
-returns-2 c =
+returns-then-buffer-n : tie.Need-returns-then-buffer-n
+returns-then-buffer-n c =
     let st = c.before.before.before.before.before.before.before.before.before.before.before.before.before.before.before.before.before.before in
     let f = c.before.before.before.before.before.before.before.before.before.before.before.before.forget in
     let w = c.before.before.before.before.before.before.before.before.before.before.before.before.before.waiters in
-    let p = c.before.before.before.before.before.before.before.before.note-pairs in
-    let n = c.before.before.before.before.count-report in
+    let p = c.before.before.before.before.before.before.before.before.note_pairs in
+    let n = c.before.before.before.before.count_report-n in
     λ names j limit F all short.
-    no_place st.args.s.now f.new.0 p.new.0 st.args.text.now names (figures st.args.room) j limit st.args.verdict st.args.t w.result st.args.queries F all short w.ensures f.ensures p.ensures n.new.0 n.result n.ensures st.args.buffer.now (omega arith)
+    no_place st.args.s.now f.new.s p.new.s st.args.text.now names (figures st.args.room) j limit st.args.verdict st.args.t w.result st.args.queries F all short w.ensures f.ensures p.ensures n.new.s n.result n.ensures st.args.buffer.now (omega arith)
 
 -- src/report.rt:105:5
-write-report-requires : tie.Need-write-report-requires
-write-report-requires c κs =
+write_report-requires : tie.Need-write_report-requires
+write_report-requires c κs =
     let st = c.before.before.before.before.before.before.before.before.before.before.before.before.before.before.before.before.before.before.before.before in
     let f = c.before.before.before.before.before.before.before.before.before.before.before.before.before.before.forget in
     let w = c.before.before.before.before.before.before.before.before.before.before.before.before.before.before.before.waiters in
@@ -77,24 +77,24 @@ write-report-requires c κs =
     asked_to_write st.args.s.now f.new.0 p.new.0 st.args.text.now names (figures st.args.room) j limit st.args.verdict st.args.t w.result st.args.queries F all short w.ensures f.ensures p.ensures n.new.0 n.result n.ensures st.args.buffer.now (λ e. omega arith) (omega arith)
 
 -- src/report.rt:81:1
-same-length-3 : tie.Need-same-length-3
-same-length-3 c = search rules
+shape_of-s : tie.Need-shape_of-s
+shape_of-s c = search rules
 
 -- src/report.rt:81:1
-same-length-4 : tie.Need-same-length-4
-same-length-4 c = search rules
+shape_of-buffer : tie.Need-shape_of-buffer
+shape_of-buffer c = search rules
 
 -- src/report.rt:81:1
-returns-3 : tie.Need-returns-3
-returns-3 c =
+returns : tie.Need-returns
+returns c =
     let st = c.before.before.before.before.before.before.before.before.before.before.before.before.before.before.before.before.before.before.before.before.before.before.before in
     let f = c.before.before.before.before.before.before.before.before.before.before.before.before.before.before.before.before.before.forget in
     let w = c.before.before.before.before.before.before.before.before.before.before.before.before.before.before.before.before.before.before.waiters in
     let p = c.before.before.before.before.before.before.before.before.before.before.before.before.before.note-pairs in
     let n = c.before.before.before.before.before.before.before.before.before.count-report in
-    let b = c.before.before.write-report in
+    let b = c.before.before.write_report in
     λ names j limit F all short.
-    written_whole st.args.s.now f.new.0 p.new.0 st.args.text.now names (figures st.args.room) j limit st.args.verdict st.args.t w.result st.args.queries F all short w.ensures f.ensures p.ensures n.new.0 n.result n.ensures st.args.buffer.now c.before.before.before.before.before.before.if1.false (omega arith) b.new.1.1.1.0 b.result b.ensures
+    written_whole st.args.s.now f.new.0 p.new.0 st.args.text.now names (figures st.args.room) j limit st.args.verdict st.args.t w.result st.args.queries F all short w.ensures f.ensures p.ensures n.new.0 n.result n.ensures st.args.buffer.now c.before.before.before.before.before.before.if1.false (omega arith) b.new.buffer b.result b.ensures
 
 pub report_spec : {M : Type 1} → statement M
 report_spec =
@@ -102,13 +102,13 @@ report_spec =
     (tie.spec
     waiters-requires
     forget-requires
-    note-pairs-requires
-    count-report-requires
-    same_length
-    returns
-    same-length-2
-    returns-2
-    write-report-requires
-    same-length-3
-    same-length-4
-    returns-3)
+    note_pairs-requires
+    count_report-n-requires
+    shape_of-s-then-n-eq-CEILING
+    returns-then-n-eq-CEILING
+    shape_of-s-then-buffer-n
+    returns-then-buffer-n
+    write_report-requires
+    shape_of-s
+    shape_of-buffer
+    returns)

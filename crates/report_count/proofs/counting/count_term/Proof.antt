@@ -7,67 +7,67 @@ use Rattle.report_count.proofs.CountingWalk.{count_ceiling, compound_asks, compo
 use Rattle.report_count.proofs.counting.count_term.Statement.{statement}
 use Rattle.report_count.proofs.counting.count_term.Tie as tie
 
-returns : tie.Need-returns
-returns c text x seen t C k =
+returns-then-at-eq-CEILING : tie.Need-returns-then-at-eq-CEILING
+returns-then-at-eq-CEILING c text x seen t C k =
     let a = c.before.before.args in
-    count_ceiling a.s.now text x a.facts seen t a.at C c.if1.true
+    count_ceiling a.s.now text x a.facts seen t a.at C c.if-at-eq-CEILING.true
 
-lead-requires : tie.Need-lead-requires
-lead-requires c κs = search rules
+lead-e-requires : tie.Need-lead-e-requires
+lead-e-requires c κs = search rules
 
 look-requires : tie.Need-look-requires
 look-requires c κs = search rules
 
-enum-known-q : tie.Need-enum-known-q
-enum-known-q c = search rules
+enum_known-q : tie.Need-enum_known-q
+enum_known-q c = search rules
 
-count-compound-requires : tie.Need-count-compound-requires
-count-compound-requires c κs =
-    let S = c.before.before.before.before.before.before.before.before.before.before.before in let a = S.args in let (text, x, seen, t, C, k) = S.requires in
-    let led = c.before.before.before.before.before.before.before.lead in let said = sym c.before.before.before.before.look.ensures ∙ c.before.before.q.given.1 in
-    compound_asks a.s.now led.new.0 text x a.facts seen t a.at a.w led.result C (omega (arith, C.low, c.before.before.before.before.before.before.before.before.before.if1.false)) k (led.ensures text x t C.readable k) _ said
+count_compound-requires : tie.Need-count_compound-requires
+count_compound-requires c κs =
+    let S = c.before.before.before.before.before.before.before.before.before in let a = S.args in let (text, x, seen, t, C, k) = S.requires in
+    let led = c.before.before.before.before.before.lead-e in let said = sym c.before.before.look.ensures ∙ c.before.in-Compound.is in
+    compound_asks a.s.now led.new.s text x a.facts seen t a.at a.w led.result C (omega (arith, C.low, c.before.before.before.before.before.before.before.if-at-eq-CEILING.false)) k (led.ensures text x t C.readable k) _ said
 
 leaf-requires : tie.Need-leaf-requires
 leaf-requires c κs =
     let S = c.before.before.before.before.before.before.before.before.before in let a = S.args in let (text, x, seen, t, C, k) = S.requires in
-    let led = c.before.before.before.before.before.lead in
-    leaf_asks a.s.now led.new.0 text x a.facts seen t a.at a.w led.result C (omega (arith, C.low, c.before.before.before.before.before.before.before.if1.false)) k (led.ensures text x t C.readable k)
+    let led = c.before.before.before.before.before.lead-e in
+    leaf_asks a.s.now led.new.s text x a.facts seen t a.at a.w led.result C (omega (arith, C.low, c.before.before.before.before.before.before.before.if-at-eq-CEILING.false)) k (led.ensures text x t C.readable k)
 
 further-requires : tie.Need-further-requires
 further-requires c κs = search rules
 
-same_length : tie.Need-same-length
-same_length c = search rules
+shape_of-s-in-Compound : tie.Need-shape_of-s-in-Compound
+shape_of-s-in-Compound c = search rules
 
-returns-2 : tie.Need-returns-2
-returns-2 c text x seen t C k =
-    let a = c.before.before.before.before.before.before.before.before.before.before.before.before.before.before.args in
-    let led = c.before.before.before.before.before.before.before.before.before.before.lead in let said = sym c.before.before.before.before.before.before.before.look.ensures ∙ c.before.before.before.before.before.q.given.1 in
+returns-in-Compound : tie.Need-returns-in-Compound
+returns-in-Compound c text x seen t C k =
+    let a = c.before.before.before.before.before.before.before.before.before.before.before.before.args in
+    let led = c.before.before.before.before.before.before.before.before.lead-e in let said = sym c.before.before.before.before.before.look.ensures ∙ c.before.before.before.before.in-Compound.is in
     let called = c.before.before.count_compound in
-    compound_tells a.s.now led.new.0 text x a.facts seen t a.at a.w led.result C (omega (arith, C.low, c.before.before.before.before.before.before.before.before.before.before.before.before.if1.false)) k (led.ensures text x t C.readable k) _ said called.new.0 called.result (called.ensures text x seen t)
+    compound_tells a.s.now led.new.s text x a.facts seen t a.at a.w led.result C (omega (arith, C.low, c.before.before.before.before.before.before.before.before.before.before.if-at-eq-CEILING.false)) k (led.ensures text x t C.readable k) _ said called.new.s called.result (called.ensures text x seen t)
 
-same-length-2 : tie.Need-same-length-2
-same-length-2 c = search rules
+shape_of-s-in_default : tie.Need-shape_of-s-in_default
+shape_of-s-in_default c = search rules
 
-returns-3 : tie.Need-returns-3
-returns-3 c text x seen t C k =
+returns-in_default : tie.Need-returns-in_default
+returns-in_default c text x seen t C k =
     let a = c.before.before.before.before.before.before.before.before.before.before.before.before.before.args in
-    let led = c.before.before.before.before.before.before.before.before.before.lead in let called = c.before.before.before.leaf in
-    let other = no_compound_seen (look led.result) (rw c.before.before.before.before.before.before.look.ensures at c.before.before.before.before.before.match.keys2) in
-    leaf_tells a.s.now led.new.0 text x a.facts seen t a.at a.w led.result C (omega (arith, C.low, c.before.before.before.before.before.before.before.before.before.before.before.if1.false)) k (led.ensures text x t C.readable k) other called.new.0 called.result c.further.result (called.ensures text x seen t) c.further.ensures
+    let led = c.before.before.before.before.before.before.before.before.before.lead-e in let called = c.before.before.before.leaf in
+    let other = no_compound_seen (look led.result) (rw c.before.before.before.before.before.before.look.ensures at c.before.before.before.before.before.in_default.in_default-own.keys2) in
+    leaf_tells a.s.now led.new.s text x a.facts seen t a.at a.w led.result C (omega (arith, C.low, c.before.before.before.before.before.before.before.before.before.before.before.if-at-eq-CEILING.false)) k (led.ensures text x t C.readable k) other called.new.s called.result c.further.result (called.ensures text x seen t) c.further.ensures
 
 pub count_term_spec : {M : Type 1} → statement M
 count_term_spec =
     tie.close
     (tie.spec
-    returns
-    lead-requires
+    returns-then-at-eq-CEILING
+    lead-e-requires
     look-requires
-    enum-known-q
-    count-compound-requires
+    enum_known-q
+    count_compound-requires
     leaf-requires
     further-requires
-    same_length
-    returns-2
-    same-length-2
-    returns-3)
+    shape_of-s-in-Compound
+    returns-in-Compound
+    shape_of-s-in_default
+    returns-in_default)

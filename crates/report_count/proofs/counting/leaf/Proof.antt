@@ -14,155 +14,155 @@ use Rattle.report_count.proofs.counting.leaf.Tie as tie
 look-requires : tie.Need-look-requires
 look-requires c κs = search rules
 
-enum-known-p : tie.Need-enum-known-p
-enum-known-p c = search rules
+enum_known-p : tie.Need-enum_known-p
+enum_known-p c = search rules
 
 number-requires : tie.Need-number-requires
 number-requires c κs =
-    let looked = c.before.before.before.before in
+    let looked = c.before.before in
     let S = looked.before.before in
-    let p = c.before.before.p.given.0.0 in
-    let at : look S.args.w ≡ Writer p = sym looked.look.ensures ∙ c.before.before.p.given.1 in
+    let p = c.before.in-Writer.p in
+    let at : look S.args.w ≡ Writer p = sym looked.look.ensures ∙ c.before.in-Writer.is in
     let U = leaf_writer _ _ _ _ S.requires.4 _ _ S.requires.7 p at in
     (S.requires.0, S.requires.1, S.requires.2, U.number, S.requires.4, S.requires.5, S.requires.6, U.below, U.none_given, U.place)
 
 digits-requires : tie.Need-digits-requires
 digits-requires c κs = search rules
 
-add-result : tie.Need-overflow-add-result
-add-result c = search rules
+overflow_add-result : tie.Need-overflow_add-result
+overflow_add-result c = search rules
 
-enum-known-p-2 : tie.Need-enum-known-p-2
-enum-known-p-2 c = search rules
+enum_known-p-in-Reader-1 : tie.Need-enum_known-p-in-Reader-1
+enum_known-p-in-Reader-1 c = search rules
 
-number-requires-2 : tie.Need-number-requires-2
-number-requires-2 c κs =
-    let looked = c.before.before.before.before in
+number-requires-in-Reader : tie.Need-number-requires-in-Reader
+number-requires-in-Reader c κs =
+    let looked = c.before.before in
     let S = looked.before.before in
-    let p = c.before.before.p2.given.0.0 in
-    let at : look S.args.w ≡ Reader p = sym looked.look.ensures ∙ c.before.before.p2.given.1 in
+    let p = c.before.in-Reader.p in
+    let at : look S.args.w ≡ Reader p = sym looked.look.ensures ∙ c.before.in-Reader.is in
     let U = leaf_reader _ _ _ _ S.requires.4 _ _ S.requires.7 p at in
     (S.requires.0, S.requires.1, S.requires.2, U.number, S.requires.4, S.requires.5, S.requires.6, U.below, U.none_given, U.place)
 
-digits-requires-2 : tie.Need-digits-requires-2
-digits-requires-2 c κs = search rules
+digits-requires-in-Reader : tie.Need-digits-requires-in-Reader
+digits-requires-in-Reader c κs = search rules
 
-add-result-2 : tie.Need-overflow-add-result-2
-add-result-2 c = search rules
+overflow_add-result-in-Reader : tie.Need-overflow_add-result-in-Reader
+overflow_add-result-in-Reader c = search rules
 
-enum-known-bits : tie.Need-enum-known-bits
-enum-known-bits c = search rules
+enum_known-bits : tie.Need-enum_known-bits
+enum_known-bits c = search rules
 
 integer-requires : tie.Need-integer-requires
 integer-requires c κs =
-    let looked = c.before.before.before in
+    let looked = c.before in
     let S = looked.before.before in
-    let b = c.before.bits.given.0.0 in
-    let at : look S.args.w ≡ Integer b = sym looked.look.ensures ∙ c.before.bits.given.1 in
+    let b = c.in-Integer.bits in
+    let at : look S.args.w ≡ Integer b = sym looked.look.ensures ∙ c.in-Integer.is in
     let I = leaf_integer _ _ _ _ S.requires.4 _ _ S.requires.7 b at in
     (I.0, I.2, I.3)
 
-enum-known-k : tie.Need-enum-known-k
-enum-known-k c = search rules
+enum_known-k : tie.Need-enum_known-k
+enum_known-k c = search rules
 
 name-requires : tie.Need-name-requires
 name-requires c κs =
-    let looked = c.before.before.before.before in
+    let looked = c.before.before in
     let S = looked.before.before in
-    let k = c.before.before.k.given.0.0 in
-    let at : look S.args.w ≡ Name k = sym looked.look.ensures ∙ c.before.before.k.given.1 in
+    let k = c.k.given.0.0 in
+    let at : look S.args.w ≡ Name k = sym looked.look.ensures ∙ c.k.given.1 in
     (leaf_name _ _ _ _ S.requires.4 _ _ S.requires.7 k at).2
 
-enum_told : tie.Need-enum-told
-enum_told c = search rules
+enum_told-1 : tie.Need-enum_told-1
+enum_told-1 c = search rules
 
-same_length : tie.Need-same-length
-same_length c = search rules
+shape_of-s-in-Writer : tie.Need-shape_of-s-in-Writer
+shape_of-s-in-Writer c = search rules
 
-returns : tie.Need-returns
-returns c text x seen t r k l d =
-    let looked = c.before.before.before.before.before.before.before.before in
+returns-in-Writer : tie.Need-returns-in-Writer
+returns-in-Writer c text x seen t r k l d =
+    let looked = c.before.before.before.before.before.before in
     let S = looked.before.before in
-    let p = c.before.before.before.before.before.before.p.given.0.0 in
-    let at : look S.args.w ≡ Writer p = sym looked.look.ensures ∙ c.before.before.before.before.before.before.p.given.1 in
+    let p = c.before.before.before.before.before.in-Writer.p in
+    let at : look S.args.w ≡ Writer p = sym looked.look.ensures ∙ c.before.before.before.before.before.in-Writer.is in
     let U = leaf_writer _ _ _ _ r _ _ l p at in
     let told = c.before.before.before.number in
-    writer_counted S.args.s.now told.new.0 text x S.args.facts seen t U.number told.result c.digits.result c.digits.ensures.0 U.is
+    writer_counted S.args.s.now told.new.s text x S.args.facts seen t U.number told.result c.digits.result c.digits.ensures.0 U.is
     (told.ensures text x seen U.number r k U.below U.none_given U.place writer)
 
-same-length-2 : tie.Need-same-length-2
-same-length-2 c = search rules
+shape_of-s-in-Reader : tie.Need-shape_of-s-in-Reader
+shape_of-s-in-Reader c = search rules
 
-returns-2 : tie.Need-returns-2
-returns-2 c text x seen t r k l d =
-    let looked = c.before.before.before.before.before.before.before.before in
+returns-in-Reader : tie.Need-returns-in-Reader
+returns-in-Reader c text x seen t r k l d =
+    let looked = c.before.before.before.before.before.before in
     let S = looked.before.before in
-    let p = c.before.before.before.before.before.before.p2.given.0.0 in
-    let at : look S.args.w ≡ Reader p = sym looked.look.ensures ∙ c.before.before.before.before.before.before.p2.given.1 in
+    let p = c.before.before.before.before.before.in-Reader.p in
+    let at : look S.args.w ≡ Reader p = sym looked.look.ensures ∙ c.before.before.before.before.before.in-Reader.is in
     let U = leaf_reader _ _ _ _ r _ _ l p at in
-    let told = c.before.before.before.number2 in
-    reader_counted S.args.s.now told.new.0 text x S.args.facts seen t U.number told.result c.digits2.result c.digits2.ensures.0 U.is
+    let told = c.before.before.before.number-in-Reader in
+    reader_counted S.args.s.now told.new.s text x S.args.facts seen t U.number told.result c.digits-in-Reader.result c.digits-in-Reader.ensures.0 U.is
     (told.ensures text x seen U.number r k U.below U.none_given U.place reader)
 
-returns-3 : tie.Need-returns-3
-returns-3 c text x seen t r k l d =
-    let looked = c.before.before.before.before in
+returns-in-Integer : tie.Need-returns-in-Integer
+returns-in-Integer c text x seen t r k l d =
+    let looked = c.before.before in
     let S = looked.before.before in
-    let b = c.before.before.bits.given.0.0 in
-    let at : look S.args.w ≡ Integer b = sym looked.look.ensures ∙ c.before.before.bits.given.1 in
+    let b = c.before.in-Integer.bits in
+    let at : look S.args.w ≡ Integer b = sym looked.look.ensures ∙ c.before.in-Integer.is in
     let I = leaf_integer _ _ _ _ r _ _ l b at in
     constant_counted S.args.s.now text x S.args.facts seen t (Constant.integer I.0) (integer_bytes I.0) c.integer.result r k I.1
     (λ order. integer_written order I.0) (c.integer.ensures I.0 I.2 I.3)
 
-same-length-3 : tie.Need-same-length-3
-same-length-3 c = search rules
+shape_of-s-in-Name : tie.Need-shape_of-s-in-Name
+shape_of-s-in-Name c = search rules
 
-returns-4 : tie.Need-returns-4
-returns-4 c text x seen t r k l d =
-    let looked = c.before.before.before.before.before in
+returns-in-Name : tie.Need-returns-in-Name
+returns-in-Name c text x seen t r k l d =
+    let looked = c.before.before.before in
     let S = looked.before.before in
-    let m = c.before.before.before.k.given.0.0 in
-    let at : look S.args.w ≡ Name m = sym looked.look.ensures ∙ c.before.before.before.k.given.1 in
+    let m = c.before.k.given.0.0 in
+    let at : look S.args.w ≡ Name m = sym looked.look.ensures ∙ c.before.k.given.1 in
     let N = leaf_name _ _ _ _ r _ _ l m at in
     constant_counted S.args.s.now text x S.args.facts seen t (Constant.name N.0) N.0 c.name.result r k N.1
     (λ order. name_written order N.0) (c.name.ensures ∙ N.3.sized)
 
-returns-5 : tie.Need-returns-5
-returns-5 c text x seen t r k l d =
-    let looked = c.before.before in
+returns-in-Empty : tie.Need-returns-in-Empty
+returns-in-Empty c text x seen t r k l d =
+    let looked = c.before in
     let S = looked.before.before in
-    let at : look S.args.w ≡ Empty = sym looked.look.ensures ∙ c.enum_told.given.1 in
+    let at : look S.args.w ≡ Empty = sym looked.look.ensures ∙ c.in-Empty.is in
     constant_counted S.args.s.now text x S.args.facts seen t Constant.empty (91 ∷ 93 ∷ []) 2 r k (leaf_empty _ _ _ _ r _ _ l at) (λ order. empty_written order) refl
 
-returns-6 : tie.Need-returns-6
-returns-6 c text x seen t r k l d =
+returns-in_default : tie.Need-returns-in_default
+returns-in_default c text x seen t r k l d =
     let S = c.before.before.before in
-    absurd (other_leaf (look S.args.w) (rw c.before.look.ensures at c.match.keys6) (leaf_nothing _ _ _ _ r _ _ l) d)
+    absurd (other_leaf (look S.args.w) (rw c.before.look.ensures at c.in_default.in_default-own.keys6) (leaf_nothing _ _ _ _ r _ _ l) d)
 
 pub leaf_spec : {M : Type 1} → statement M
 leaf_spec =
     tie.close
     (tie.spec
     look-requires
-    enum-known-p
+    enum_known-p
     number-requires
     digits-requires
-    add-result
-    enum-known-p-2
-    number-requires-2
-    digits-requires-2
-    add-result-2
-    enum-known-bits
+    overflow_add-result
+    enum_known-p-in-Reader-1
+    number-requires-in-Reader
+    digits-requires-in-Reader
+    overflow_add-result-in-Reader
+    enum_known-bits
     integer-requires
-    enum-known-k
+    enum_known-k
     name-requires
-    enum_told
-    same_length
-    returns
-    same-length-2
-    returns-2
-    returns-3
-    same-length-3
-    returns-4
-    returns-5
-    returns-6)
+    enum_told-1
+    shape_of-s-in-Writer
+    returns-in-Writer
+    shape_of-s-in-Reader
+    returns-in-Reader
+    returns-in-Integer
+    shape_of-s-in-Name
+    returns-in-Name
+    returns-in-Empty
+    returns-in_default)

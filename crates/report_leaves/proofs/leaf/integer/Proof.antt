@@ -14,46 +14,46 @@ use Rattle.report_leaves.proofs.leaf.integer.Tie as tie
 decimal-requires : tie.Need-decimal-requires
 decimal-requires c κs =
     let pre = c.before.before.before.requires in
-    omega (arith, ap length (plus_bits pre.0 c.before.before.before.args.n pre.1 pre.2 c.before.if1.true), pre.3)
+    omega (arith, ap length (plus_bits pre.0 c.before.before.before.args.n pre.1 pre.2 c.before.if-n-lt2147483648.true), pre.3)
 
-same_length : tie.Need-same-length
-same_length c = search rules
+shape_of-buffer-then-n-lt2147483648 : tie.Need-shape_of-buffer-then-n-lt2147483648
+shape_of-buffer-then-n-lt2147483648 c = search rules
 
-returns : tie.Need-returns
-returns c i r e =
-    puts_is (sym (plus_bits i c.before.before.before.before.before.before.args.n r e c.before.before.before.before.if1.true)) c.before.before.decimal.ensures
+returns-then-n-lt2147483648 : tie.Need-returns-then-n-lt2147483648
+returns-then-n-lt2147483648 c i r e =
+    puts_is (sym (plus_bits i c.before.before.before.before.before.before.args.n r e c.before.before.before.before.if-n-lt2147483648.true)) c.before.before.decimal.ensures
 
-put-requires : tie.Need-put-requires
-put-requires c κs =
+put-to-requires : tie.Need-put-to-requires
+put-to-requires c κs =
     let pre = c.before.before.before.requires in
-    omega (arith, minus_length pre.0 c.before.before.before.args.n pre.1 pre.2 c.before.if1.false, pre.3)
+    omega (arith, minus_length pre.0 c.before.before.before.args.n pre.1 pre.2 c.before.if-n-lt2147483648.false, pre.3)
 
-sub-decimal : tie.Need-overflow-sub-decimal
-sub-decimal c =
+overflow_sub-n : tie.Need-overflow_sub-n
+overflow_sub-n c =
     let pre = c.before.before.before.before.before.before.before.requires in
-    omega (arith, (minus_bits pre.0 c.before.before.before.before.before.before.before.args.n pre.1 pre.2 c.before.before.before.before.before.if1.false).1)
+    omega (arith, (minus_bits pre.0 c.before.before.before.before.before.before.before.args.n pre.1 pre.2 c.before.before.before.before.before.if-n-lt2147483648.false).1)
 
 decimal-requires-2 : tie.Need-decimal-requires-2
 decimal-requires-2 c κs =
     let pre = c.before.before.before.before.before.before.before.requires in
-    omega (arith, minus_length pre.0 c.before.before.before.before.before.before.before.args.n pre.1 pre.2 c.before.before.before.before.before.if1.false, pre.3, puts_one_place c.before.before.before.put.ensures, puts_length c.before.before.before.put.ensures)
+    omega (arith, minus_length pre.0 c.before.before.before.before.before.before.before.args.n pre.1 pre.2 c.before.before.before.before.before.if-n-lt2147483648.false, pre.3, puts_one_place c.before.before.before.put-to.ensures, puts_length c.before.before.before.put-to.ensures)
 
-same-length-2 : tie.Need-same-length-2
-same-length-2 c = search rules
+shape_of-buffer : tie.Need-shape_of-buffer
+shape_of-buffer c = search rules
 
-returns-2 : tie.Need-returns-2
-returns-2 c i r e =
-    puts_is (sym (minus_bits i c.before.before.before.before.before.before.before.before.before.before.args.n r e c.before.before.before.before.before.before.before.before.if1.false).0) (puts_two c.before.before.before.before.before.before.put.ensures c.before.before.decimal2.ensures)
+returns : tie.Need-returns
+returns c i r e =
+    puts_is (sym (minus_bits i c.before.before.before.before.before.before.before.before.before.before.args.n r e c.before.before.before.before.before.before.before.before.if-n-lt2147483648.false).0) (puts_two c.before.before.before.before.before.before.put-to.ensures c.before.before.decimal-2.ensures)
 
 pub integer_spec : {M : Type 1} → statement M
 integer_spec =
     tie.close
     (tie.spec
     decimal-requires
-    same_length
-    returns
-    put-requires
-    sub-decimal
+    shape_of-buffer-then-n-lt2147483648
+    returns-then-n-lt2147483648
+    put-to-requires
+    overflow_sub-n
     decimal-requires-2
-    same-length-2
-    returns-2)
+    shape_of-buffer
+    returns)

@@ -11,18 +11,22 @@ count-requires c κs =
     let start = c.before in
     functor_inside start.args.s.now start.requires.0 start.args.p start.args.i start.requires.2 (named start.requires.1) start.requires.3 start.requires.4 start.requires.5
 
-add-t6 : tie.Need-overflow-add-t6
-add-t6 c = omega arith
+overflow_add-result : tie.Need-overflow_add-result
+overflow_add-result c = omega arith
+
+returns-then-i-count : tie.Need-returns-then-i-count
+returns-then-i-count c x f j u us a =
+    let start = c.before.before.before in
+    behind_argument_goes start.args.s.now x start.args.p start.args.i j f u us a (omega (arith, c.before.count.ensures, c.if-i-count.true))
 
 returns : tie.Need-returns
 returns c x f j u us a =
     let start = c.before.before.before in
-    behind_argument_goes start.args.s.now x start.args.p start.args.i j f u us a (omega (arith, c.before.count.ensures, c.if1.true))
-
-returns-2 : tie.Need-returns-2
-returns-2 c x f j u us a =
-    let start = c.before.before.before in
-    behind_argument_ends start.args.s.now x start.args.p start.args.i j f u us a (omega (arith, c.before.count.ensures, c.if1.false))
+    behind_argument_ends start.args.s.now x start.args.p start.args.i j f u us a (omega (arith, c.before.count.ensures, c.if-i-count.false))
 
 pub behind_argument_spec : {M : Type 1} → statement M
-behind_argument_spec = tie.close (tie.spec count-requires add-t6 returns returns-2)
+behind_argument_spec = tie.close (tie.spec
+    count-requires
+    overflow_add-result
+    returns-then-i-count
+    returns)

@@ -6,56 +6,56 @@ use Rattle.report_pairs.proofs.Chains.{pair_inside, next_other, next_end, next_v
 use Rattle.report_pairs.proofs.ends.next.Statement.{statement}
 use Rattle.report_pairs.proofs.ends.next.Tie as tie
 
-pair-requires : tie.Need-pair-requires
-pair-requires c κs = search rules
+pair-p-requires : tie.Need-pair-p-requires
+pair-p-requires c κs = search rules
 
-returns : tie.Need-returns
-returns c text x t r k =
+returns-then-p-eq0 : tie.Need-returns-then-p-eq0
+returns-then-p-eq0 c text x t r k =
     let start = c.before.before.before in
-    next_other start.args.s.now text x start.args.facts r t start.args.w c.before.pair.result k c.before.pair.ensures c.if1.true
+    next_other start.args.s.now text x start.args.facts r t start.args.w c.before.pair-p.result k c.before.pair-p.ensures c.if-p-eq0.true
 
-sub-fact : tie.Need-overflow-sub-fact
-sub-fact c = search rules
+overflow_sub-p : tie.Need-overflow_sub-p
+overflow_sub-p c = search rules
 
-fact-requires : tie.Need-fact-requires
-fact-requires c κs =
+fact-e-requires : tie.Need-fact-e-requires
+fact-e-requires c κs =
     let start = c.before.before.before in
     let inside = pair_inside start.args.s.now start.requires.0 start.requires.1 start.args.facts start.requires.3 start.requires.2 start.args.w
-    c.before.pair.result start.requires.4 c.before.pair.ensures c.if1.false in
+    c.before.pair-p.result start.requires.4 c.before.pair-p.ensures c.if-p-eq0.false in
     omega arith
 
-returns-2 : tie.Need-returns-2
-returns-2 c text x t r k =
+returns-then-e-ne0 : tie.Need-returns-then-e-ne0
+returns-then-e-ne0 c text x t r k =
     let start = c.before.before.before.before.before in
-    next_end start.args.s.now text x start.args.facts r t start.args.w c.before.before.before.pair.result c.before.fact.result k
-    c.before.before.before.pair.ensures c.before.before.if1.false c.before.fact.ensures c.if2.true
+    next_end start.args.s.now text x start.args.facts r t start.args.w c.before.before.before.pair-p.result c.before.fact-e.result k
+    c.before.before.before.pair-p.ensures c.before.before.if-p-eq0.false c.before.fact-e.ensures c.if-e-ne0.true
 
-sub-value : tie.Need-overflow-sub-value
-sub-value c = search rules
+overflow_sub-p-2 : tie.Need-overflow_sub-p-2
+overflow_sub-p-2 c = search rules
 
 value-requires : tie.Need-value-requires
 value-requires c κs =
     let start = c.before.before.before.before.before in
     let r = start.requires.3 in
     let inside = pair_inside start.args.s.now start.requires.0 start.requires.1 start.args.facts r start.requires.2 start.args.w
-    c.before.before.before.pair.result start.requires.4 c.before.before.before.pair.ensures c.before.before.if1.false in
+    c.before.before.before.pair-p.result start.requires.4 c.before.before.before.pair-p.ensures c.before.before.if-p-eq0.false in
     (omega (arith, r.behind), omega (arith, r.behind, r.room), omega arith)
 
-returns-3 : tie.Need-returns-3
-returns-3 c text x t r k =
+returns : tie.Need-returns
+returns c text x t r k =
     let start = c.before.before.before.before.before.before in
-    next_value start.args.s.now text x start.args.facts r t start.args.w c.before.before.before.before.pair.result c.value.result k
-    c.before.before.before.before.pair.ensures c.before.before.before.if1.false c.value.ensures
+    next_value start.args.s.now text x start.args.facts r t start.args.w c.before.before.before.before.pair-p.result c.value.result k
+    c.before.before.before.before.pair-p.ensures c.before.before.before.if-p-eq0.false c.value.ensures
 
 pub next_spec : {M : Type 1} → statement M
 next_spec =
     tie.close
     (tie.spec
-    pair-requires
-    returns
-    sub-fact
-    fact-requires
-    returns-2
-    sub-value
+    pair-p-requires
+    returns-then-p-eq0
+    overflow_sub-p
+    fact-e-requires
+    returns-then-e-ne0
+    overflow_sub-p-2
     value-requires
-    returns-3)
+    returns)

@@ -11,54 +11,54 @@ use Rattle.report_pairs.proofs.ends.pair.Tie as tie
 look-requires : tie.Need-look-requires
 look-requires c κs = search rules
 
-enum-known-p : tie.Need-enum-known-p
-enum-known-p c = search rules
+enum_known-p : tie.Need-enum_known-p
+enum_known-p c = search rules
 
-add-result : tie.Need-overflow-add-result
-add-result c =
-    let looked = c.before.before.before in
+overflow_add-result : tie.Need-overflow_add-result
+overflow_add-result c =
+    let looked = c.before in
     let w = looked.before.args.w in
-    let p = c.before.p.given.0.0 in
-    let at : seen w ≡ Writer p = sym looked.look.ensures ∙ c.before.p.given.1 in
+    let p = c.in-Writer.p in
+    let at : seen w ≡ Writer p = sym looked.look.ensures ∙ c.in-Writer.is in
     omega (arith, writer_payload w p at)
 
-enum-known-p-2 : tie.Need-enum-known-p-2
-enum-known-p-2 c = search rules
+enum_known-p-in-Reader-1 : tie.Need-enum_known-p-in-Reader-1
+enum_known-p-in-Reader-1 c = search rules
 
-add-result-2 : tie.Need-overflow-add-result-2
-add-result-2 c =
-    let looked = c.before.before.before in
+overflow_add-result-in-Reader : tie.Need-overflow_add-result-in-Reader
+overflow_add-result-in-Reader c =
+    let looked = c.before in
     let w = looked.before.args.w in
-    let p = c.before.p2.given.0.0 in
-    let at : seen w ≡ Reader p = sym looked.look.ensures ∙ c.before.p2.given.1 in
+    let p = c.in-Reader.p in
+    let at : seen w ≡ Reader p = sym looked.look.ensures ∙ c.in-Reader.is in
     omega (arith, reader_payload w p at)
 
-returns : tie.Need-returns
-returns c =
-    let looked = c.before.before.before in
+returns-in-Writer : tie.Need-returns-in-Writer
+returns-in-Writer c =
+    let looked = c.before in
     let w = looked.before.args.w in
-    let at : seen w ≡ Writer c.before.p.given.0.0 = sym looked.look.ensures ∙ c.before.p.given.1 in
+    let at : seen w ≡ Writer c.in-Writer.p = sym looked.look.ensures ∙ c.in-Writer.is in
     rw at
 
-returns-2 : tie.Need-returns-2
-returns-2 c =
-    let looked = c.before.before.before in
+returns-in-Reader : tie.Need-returns-in-Reader
+returns-in-Reader c =
+    let looked = c.before in
     let w = looked.before.args.w in
-    let at : seen w ≡ Reader c.before.p2.given.0.0 = sym looked.look.ensures ∙ c.before.p2.given.1 in
+    let at : seen w ≡ Reader c.in-Reader.p = sym looked.look.ensures ∙ c.in-Reader.is in
     rw at
 
-returns-3 : tie.Need-returns-3
-returns-3 c = no_pair_seen (seen c.before.before.args.w) (rw c.before.look.ensures at c.match.keys3)
+returns-in_default : tie.Need-returns-in_default
+returns-in_default c = no_pair_seen (seen c.before.before.args.w) (rw c.before.look.ensures at c.in_default.in_default-own.keys3)
 
 pub pair_spec : {M : Type 1} → statement M
 pair_spec =
     tie.close
     (tie.spec
     look-requires
-    enum-known-p
-    add-result
-    enum-known-p-2
-    add-result-2
-    returns
-    returns-2
-    returns-3)
+    enum_known-p
+    overflow_add-result
+    enum_known-p-in-Reader-1
+    overflow_add-result-in-Reader
+    returns-in-Writer
+    returns-in-Reader
+    returns-in_default)

@@ -9,17 +9,17 @@ use Rattle.report_pairs.proofs.ends.value.Tie as tie
 pairs-requires : tie.Need-pairs-requires
 pairs-requires c κs = search rules
 
-sub-result : tie.Need-overflow-sub-result
-sub-result c = search rules
+overflow_sub-result : tie.Need-overflow_sub-result
+overflow_sub-result c = search rules
 
-add-result : tie.Need-overflow-add-result
-add-result c = search rules
+overflow_add-result : tie.Need-overflow_add-result
+overflow_add-result c = search rules
 
-mul-result : tie.Need-overflow-mul-result
-mul-result c = search rules
+offset_bounds-s-facts : tie.Need-offset_bounds-s-facts
+offset_bounds-s-facts c = search rules
 
-shared-slice-read-result : tie.Need-shared-slice-read-result
-shared-slice-read-result c = search rules
+bounds-s-facts : tie.Need-bounds-s-facts
+bounds-s-facts c = search rules
 
 returns : tie.Need-returns
 returns c =
@@ -29,4 +29,10 @@ returns c =
 pub value_spec : {M : Type 1} → statement M
 value_spec =
     tie.close
-    (tie.spec pairs-requires sub-result add-result mul-result shared-slice-read-result returns)
+    (tie.spec
+    pairs-requires
+    overflow_sub-result
+    overflow_add-result
+    offset_bounds-s-facts
+    bounds-s-facts
+    returns)

@@ -25,42 +25,42 @@ more bs b₀ b at from i h l has p =
     rw next at (puts_as _ _ b₀ (set b (at + i) (get_or b (from + i) 0)) at (at + i + 1) one
     (puts_behind (take i bs) (get_or b (from + i) 0 ∷ []) b₀ b _ at (at + i) (at + i + 1) p (puts_one b (at + i) (get_or b (from + i) 0))))
 
-abbrev invariant-loop : tie.invariant-loop
-invariant-loop buffer₀ at from n i₀ buffer i =
+abbrev invariant-loop-i : tie.invariant-loop-i
+invariant-loop-i buffer₀ at from n i₀ buffer i =
     (i ≤ n) × (at + n ≤ length buffer₀) × (from + n ≤ at) × (length buffer ≡ length buffer₀)
     × ((bs : Bytes) → n ≡ length bs → Has buffer₀ from bs → Puts buffer₀ buffer at (at + i) (take i bs))
 
-abbrev decreases-loop : tie.decreases-loop
-decreases-loop buffer₀ at from n i₀ buffer i = n - i
+abbrev decreases-loop-i : tie.decreases-loop-i
+decreases-loop-i buffer₀ at from n i₀ buffer i = n - i
 
-loop-holds : tie.Need-loop-init invariant-loop decreases-loop
-loop-holds c =
+loop-i-init : tie.Need-loop-i-init invariant-loop-i decreases-loop-i
+loop-i-init c =
     let a = c.args in
     let none : a.at + 0 ≡ a.at = omega arith in
     (omega arith, omega arith, omega arith, refl, λ bs e h. rw none (puts_none a.buffer.now a.at))
 
-add-buffer : tie.Need-overflow-add-buffer invariant-loop decreases-loop
-add-buffer c = omega arith
+overflow_add-buffer : tie.Need-overflow_add-buffer invariant-loop-i decreases-loop-i
+overflow_add-buffer c = omega arith
 
-slice-read-buffer : tie.Need-slice-read-buffer invariant-loop decreases-loop
-slice-read-buffer c = omega arith
+bounds-buffer-from : tie.Need-bounds-buffer-from invariant-loop-i decreases-loop-i
+bounds-buffer-from c = omega arith
 
-add-buffer-2 : tie.Need-overflow-add-buffer-2 invariant-loop decreases-loop
-add-buffer-2 c = omega arith
+overflow_add-buffer-in-loop-i : tie.Need-overflow_add-buffer-in-loop-i invariant-loop-i decreases-loop-i
+overflow_add-buffer-in-loop-i c = omega arith
 
-slice-write-buffer : tie.Need-slice-write-buffer invariant-loop decreases-loop
-slice-write-buffer c = omega arith
+bounds-buffer-at : tie.Need-bounds-buffer-at invariant-loop-i decreases-loop-i
+bounds-buffer-at c = omega arith
 
-add-i : tie.Need-overflow-add-i invariant-loop decreases-loop
-add-i c = omega arith
+overflow_add-i : tie.Need-overflow_add-i invariant-loop-i decreases-loop-i
+overflow_add-i c = omega arith
 
-loop-less : tie.Need-loop-smaller invariant-loop decreases-loop
-loop-less c = omega arith
+loop-i-smaller : tie.Need-loop-i-smaller invariant-loop-i decreases-loop-i
+loop-i-smaller c = omega arith
 
-loop-again : tie.Need-loop-preserved invariant-loop decreases-loop
-loop-again c =
+loop-i-preserved : tie.Need-loop-i-preserved invariant-loop-i decreases-loop-i
+loop-i-preserved c =
     let a = c.before.before.before.args in
-    let l = c.before.before.loop in (
+    let l = c.before.before.loop-i in (
       omega arith,
       omega arith,
       omega arith,
@@ -68,16 +68,16 @@ loop-again c =
       λ bs e h. more bs a.buffer.now l.buffer a.at a.from l.i (omega arith) (omega arith) h (l.invariant.4 bs e h),
     )
 
-add-result : tie.Need-overflow-add-result invariant-loop decreases-loop
-add-result c = omega arith
+overflow_add-result : tie.Need-overflow_add-result invariant-loop-i decreases-loop-i
+overflow_add-result c = omega arith
 
-same_length : tie.Need-same-length invariant-loop decreases-loop
-same_length c = c.before.loop.invariant.3
+shape_of-buffer : tie.Need-shape_of-buffer invariant-loop-i decreases-loop-i
+shape_of-buffer c = c.before.loop-i.invariant.3
 
-returns : tie.Need-returns invariant-loop decreases-loop
+returns : tie.Need-returns invariant-loop-i decreases-loop-i
 returns c = λ bs e h.
     let a = c.before.before.args in
-    let l = c.before.loop in
+    let l = c.before.loop-i in
     let all : l.i ≡ a.n = omega arith in
     puts_as (take a.n bs) bs a.buffer.now l.buffer a.at (a.at + a.n) (take_all a.n bs (omega arith)) (rw all at (l.invariant.4 bs e h))
 
@@ -85,16 +85,16 @@ pub again_spec : {M : Type 1} → statement M
 again_spec =
     tie.close
     (tie.spec
-    invariant-loop
-    decreases-loop
-    loop-holds
-    add-buffer
-    slice-read-buffer
-    add-buffer-2
-    slice-write-buffer
-    add-i
-    loop-less
-    loop-again
-    add-result
-    same_length
+    invariant-loop-i
+    decreases-loop-i
+    loop-i-init
+    overflow_add-buffer
+    bounds-buffer-from
+    overflow_add-buffer-in-loop-i
+    bounds-buffer-at
+    overflow_add-i
+    loop-i-smaller
+    loop-i-preserved
+    overflow_add-result
+    shape_of-buffer
     returns)

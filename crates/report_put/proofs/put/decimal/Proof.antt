@@ -38,46 +38,46 @@ one_digit b at n d e h =
     let same : n % 10 ≡ n = omega arith in
     ap (laid b at) (ap (λ (k : ℕ). k ∷ []) (e ∙ ap (λ (k : ℕ). 48 + k) same) ∙ sym (decimal_digit n h))
 
-abbrev invariant-loop : tie.invariant-loop
-invariant-loop buffer₀ at n end to₀ left₀ buffer to left =
+abbrev invariant-loop-left : tie.invariant-loop-left
+invariant-loop-left buffer₀ at n end to₀ left₀ buffer to left =
     (to ≡ at + length (in_decimal left)) × (to ≤ end) × (length buffer ≡ length buffer₀)
     × (laid buffer at (in_decimal left) ≡ laid buffer₀ at (in_decimal n))
 
-abbrev decreases-loop : tie.decreases-loop
-decreases-loop buffer₀ at n end to₀ left₀ buffer to left = left
+abbrev decreases-loop-left : tie.decreases-loop-left
+decreases-loop-left buffer₀ at n end to₀ left₀ buffer to left = left
 
 -- src/put.rt:55:20
-digits-requires : tie.Need-digits-requires invariant-loop decreases-loop
+digits-requires : tie.Need-digits-requires invariant-loop-left decreases-loop-left
 digits-requires c κs = tt
 
 -- src/put.rt:55:15
-add-end : tie.Need-overflow-add-end invariant-loop decreases-loop
-add-end c = omega arith
+overflow_add-end : tie.Need-overflow_add-end invariant-loop-left decreases-loop-left
+overflow_add-end c = omega arith
 
 -- src/put.rt:58:5
-loop-holds : tie.Need-loop-init invariant-loop decreases-loop
-loop-holds c = (omega arith, omega arith, refl, refl)
+loop-left-init : tie.Need-loop-left-init invariant-loop-left decreases-loop-left
+loop-left-init c = (omega arith, omega arith, refl, refl)
 
 -- src/put.rt:59:9
-sub-to : tie.Need-overflow-sub-to invariant-loop decreases-loop
-sub-to c = omega (arith, decimal_positive c.before.loop.left)
+overflow_sub-to : tie.Need-overflow_sub-to invariant-loop-left decreases-loop-left
+overflow_sub-to c = omega (arith, decimal_positive c.before.loop-left.left)
 
 -- src/put.rt:60:22
-digit-requires : tie.Need-digit-requires invariant-loop decreases-loop
+digit-requires : tie.Need-digit-requires invariant-loop-left decreases-loop-left
 digit-requires c κs = tt
 
 -- src/put.rt:60:9
-slice-write-buffer : tie.Need-slice-write-buffer invariant-loop decreases-loop
-slice-write-buffer c = omega (arith, decimal_positive c.before.before.loop.left)
+bounds-buffer-to : tie.Need-bounds-buffer-to invariant-loop-left decreases-loop-left
+bounds-buffer-to c = omega (arith, decimal_positive c.before.before.loop-left.left)
 
 -- src/put.rt:58:5
-loop-less : tie.Need-loop-smaller invariant-loop decreases-loop
-loop-less c = omega arith
+loop-left-smaller : tie.Need-loop-left-smaller invariant-loop-left decreases-loop-left
+loop-left-smaller c = omega arith
 
 -- src/put.rt:58:5
-loop-again : tie.Need-loop-preserved invariant-loop decreases-loop
-loop-again c =
-    let l = c.before.before.loop in
+loop-left-preserved : tie.Need-loop-left-preserved invariant-loop-left decreases-loop-left
+loop-left-preserved c =
+    let l = c.before.before.loop-left in
     let a = c.before.before.before.before.before.args in
     let shorter = decimal_length l.left (omega arith) in
     let next : l.to - 1 ≡ a.at + length (in_decimal (l.left / 10)) = omega (arith, shorter) in (
@@ -88,44 +88,44 @@ loop-again c =
     )
 
 -- src/put.rt:63:18
-digit-requires-2 : tie.Need-digit-requires-2 invariant-loop decreases-loop
+digit-requires-2 : tie.Need-digit-requires-2 invariant-loop-left decreases-loop-left
 digit-requires-2 c κs = tt
 
 -- src/put.rt:63:5
-slice-write-buffer-2 : tie.Need-slice-write-buffer-2 invariant-loop decreases-loop
-slice-write-buffer-2 c = omega (arith, decimal_positive c.before.before.before.before.before.args.n)
+bounds-buffer-at : tie.Need-bounds-buffer-at invariant-loop-left decreases-loop-left
+bounds-buffer-at c = omega (arith, decimal_positive c.before.before.before.before.before.args.n)
 
 -- src/put.rt:51:1
-same_length : tie.Need-same-length invariant-loop decreases-loop
-same_length c =
-    let l = c.before.before.loop in
-    length-set l.buffer c.before.before.before.before.before.args.at c.digit2.result ∙ l.invariant.2
+shape_of-buffer : tie.Need-shape_of-buffer invariant-loop-left decreases-loop-left
+shape_of-buffer c =
+    let l = c.before.before.loop-left in
+    length-set l.buffer c.before.before.before.before.before.args.at c.digit-2.result ∙ l.invariant.2
 
 -- src/put.rt:51:1
-returns : tie.Need-returns invariant-loop decreases-loop
+returns : tie.Need-returns invariant-loop-left decreases-loop-left
 returns c =
-    let l = c.before.before.loop in
+    let l = c.before.before.loop-left in
     let a = c.before.before.before.before.before.args in
     record {
       place = omega arith;
-      laid_there = one_digit l.buffer a.at l.left c.digit2.result c.digit2.ensures (omega arith) ∙ l.invariant.3;
+      laid_there = one_digit l.buffer a.at l.left c.digit-2.result c.digit-2.ensures (omega arith) ∙ l.invariant.3;
     }
 
 pub decimal_spec : {M : Type 1} → statement M
 decimal_spec =
     tie.close
     (tie.spec
-    invariant-loop
-    decreases-loop
+    invariant-loop-left
+    decreases-loop-left
     digits-requires
-    add-end
-    loop-holds
-    sub-to
+    overflow_add-end
+    loop-left-init
+    overflow_sub-to
     digit-requires
-    slice-write-buffer
-    loop-less
-    loop-again
+    bounds-buffer-to
+    loop-left-smaller
+    loop-left-preserved
     digit-requires-2
-    slice-write-buffer-2
-    same_length
+    bounds-buffer-at
+    shape_of-buffer
     returns)

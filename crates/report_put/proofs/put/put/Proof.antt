@@ -7,20 +7,24 @@ use Rattle.report_put.proofs.put.put.Reads as reads
 use Rattle.report_put.proofs.put.put.Lts as lts
 
 -- src/put.rt:16:5
-slice-write-buffer : tie.Need-slice-write-buffer
-slice-write-buffer c = search rules
+bounds-buffer-at : tie.Need-bounds-buffer-at
+bounds-buffer-at c = search rules
 
 -- src/put.rt:17:5
-add-result : tie.Need-overflow-add-result
-add-result c = search rules
+overflow_add-result : tie.Need-overflow_add-result
+overflow_add-result c = search rules
 
 -- src/put.rt:12:1
-same_length : tie.Need-same-length
-same_length c = search rules
+shape_of-buffer : tie.Need-shape_of-buffer
+shape_of-buffer c = search rules
 
 -- src/put.rt:12:1
 returns : tie.Need-returns
 returns c = puts_one c.args.buffer.now c.args.at c.args.b
 
 pub put_spec : {M : Type 1} → statement M
-put_spec = tie.close (tie.spec slice-write-buffer add-result same_length returns)
+put_spec = tie.close (tie.spec
+    bounds-buffer-at
+    overflow_add-result
+    shape_of-buffer
+    returns)

@@ -20,37 +20,44 @@ part f n l h =
     ∙ sym (ap (drop f) (take-add f n l) ∙ drop_at (take f l) (take n (drop f l)) f (simp length-take (omega arith)))
 
 -- src/put.rt:38:14
-add-to : tie.Need-overflow-add-to
-add-to c = search rules
+overflow_add-to : tie.Need-overflow_add-to
+overflow_add-to c = search rules
 
 -- src/put.rt:39:23
-sub_words : tie.Need-overflow-sub-words
-sub_words c = search rules
+slice_bounds-words-count : tie.Need-slice_bounds-words-count
+slice_bounds-words-count c = search rules
 
 -- src/put.rt:39:23
-part-words-start : tie.Need-slice-bounds-words-start
-part-words-start c = search rules
+slice-bounds-words-start : tie.Need-slice-bounds-words-start
+slice-bounds-words-start c = search rules
 
 -- src/put.rt:39:23
-part-words-end : tie.Need-slice-bounds-words-end
-part-words-end c = search rules
+slice-bounds-words-end : tie.Need-slice-bounds-words-end
+slice-bounds-words-end c = search rules
 
 -- src/put.rt:39:5
 words-requires : tie.Need-words-requires
 words-requires c κs = search rules
 
 -- src/put.rt:34:1
-same_length : tie.Need-same-length
-same_length c = search rules
+shape_of-buffer : tie.Need-shape_of-buffer
+shape_of-buffer c = search rules
 
 -- src/put.rt:34:1
 returns : tie.Need-returns
 returns c =
     let S = c.before.before.before.before.before.before.before in
-    puts_as _ _ S.args.buffer.now c.before.before.words.new.0 S.args.at c.before.before.words.result
+    puts_as _ _ S.args.buffer.now c.before.before.words.new.buffer S.args.at c.before.before.words.result
     (part S.args.from S.args.n S.args.text.now (omega arith)) c.before.before.words.ensures
 
 pub spelling_spec : {M : Type 1} → statement M
 spelling_spec =
     tie.close
-    (tie.spec add-to sub_words part-words-start part-words-end words-requires same_length returns)
+    (tie.spec
+    overflow_add-to
+    slice_bounds-words-count
+    (λ c. search rules)
+    (λ c. search rules)
+    words-requires
+    shape_of-buffer
+    returns)

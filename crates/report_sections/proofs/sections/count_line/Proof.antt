@@ -13,38 +13,43 @@ use Rattle.report_count.proofs.counting.count_term.Reads as count_term_reads
 use Rattle.report_pairs.proofs.length.further.Reads as further_reads
 
 -- src/sections.rt:38:9
-further-requires : tie.Need-further-requires
-further-requires c κs = search rules
+further-from-requires : tie.Need-further-from-requires
+further-from-requires c κs = search rules
 
 -- src/sections.rt:39:9
-count-term-requires : tie.Need-count-term-requires
-count-term-requires c κs =
+count_term-to-requires : tie.Need-count_term-to-requires
+count_term-to-requires c κs =
     let (text, x, seen, t, counts, shows) = c.before.before.before.requires in
-    (text, x, seen, t, counts_further _ text x _ seen _ _ _ counts c.before.further.ensures, shows)
+    (text, x, seen, t, counts_further _ text x _ seen _ _ _ counts c.before.further-from.ensures, shows)
 
 -- src/sections.rt:40:5
-further-requires-2 : tie.Need-further-requires-2
-further-requires-2 c κs =
+further-requires : tie.Need-further-requires
+further-requires c κs =
     let (text, x, seen, t, counts, shows) = c.before.before.before.before.before.before.requires in
-    omega (arith, (c.before.before.count-term.ensures text x seen t (counts_further _ text x _ seen _ _ _ counts c.before.before.before.before.further.ensures) shows).place)
+    omega (arith, (c.before.before.count_term-to.ensures text x seen t (counts_further _ text x _ seen _ _ _ counts c.before.before.before.before.further-from.ensures) shows).place)
 
 -- src/sections.rt:32:1
-same_length : tie.Need-same-length
-same_length c = search rules
+shape_of-s : tie.Need-shape_of-s
+shape_of-s c = search rules
 
 -- src/sections.rt:32:1
 returns : tie.Need-returns
 returns c =
     let a = c.before.before.before.before.before.before.before.args in
-    let first = c.before.before.before.before.before.further in
-    let term = c.before.before.before.count-term in
+    let first = c.before.before.before.before.before.further-from in
+    let term = c.before.before.before.count_term-to in
     λ text x seen t front back counts shows e f.
-    counted_line a.s.now term.new.0 text x a.facts seen _ a.at first.result front _ back term.result c.further2.result counts.low
+    counted_line a.s.now term.new.s text x a.facts seen _ a.at first.result front _ back term.result c.further.result counts.low
     (first.ensures ∙ ap (λ (n : ℕ). capped (a.at + n)) e)
     (term.ensures text x seen t (counts_further _ text x _ seen _ _ _ counts first.ensures) shows)
-    (c.further2.ensures ∙ ap (λ (n : ℕ). capped (term.result + n)) f)
+    (c.further.ensures ∙ ap (λ (n : ℕ). capped (term.result + n)) f)
 
 pub count_line_spec : {M : Type 1} → statement M
 count_line_spec =
     tie.close
-    (tie.spec further-requires count-term-requires further-requires-2 same_length returns)
+    (tie.spec
+    further-from-requires
+    count_term-to-requires
+    further-requires
+    shape_of-s
+    returns)

@@ -22,11 +22,11 @@ waiters-requires c κs =
     st.here.in_range
 
 -- src/sections.rt:318:5
-count-lines-requires : tie.Need-count-lines-requires
-count-lines-requires c κs =
+count_lines-requires : tie.Need-count_lines-requires
+count_lines-requires c κs =
     let a = c.before.before.before.before.before.before.before.args in
     let (text, x, xs, actives, ws, fs, st, u, low) = c.before.before.before.before.before.before.before.requires in
-    let s₁ = c.before.before.before.before.restart.new.0 in
+    let s₁ = c.before.before.before.before.restart.new.s in
     let e = c.before.before.before.before.restart.ensures in
     let f = c.waiters.ensures in (
       text,
@@ -40,24 +40,29 @@ count-lines-requires c κs =
     )
 
 -- src/sections.rt:310:1
-same_length : tie.Need-same-length
-same_length c = search rules
+shape_of-s : tie.Need-shape_of-s
+shape_of-s c = search rules
 
 -- src/sections.rt:310:1
 returns : tie.Need-returns
 returns c =
     let a = c.before.before.before.before.before.before.before.before.before.before.args in
     λ text x xs actives ws fs st u low.
-    let s₁ = c.before.before.before.before.before.before.before.restart.new.0 in
+    let s₁ = c.before.before.before.before.before.before.before.restart.new.s in
     let e = c.before.before.before.before.before.before.before.restart.ensures in
     let f = c.before.before.before.waiters.ensures in
     let from = c.before.before.before.waiters.result in
-    let n = c.before.before.count-lines in
-    count_told a.s.now text x _ a.t a.q xs actives ws fs st u s₁ from a.at e f low n.new.0 n.result
+    let n = c.before.before.count_lines in
+    count_told a.s.now text x _ a.t a.q xs actives ws fs st u s₁ from a.at e f low n.new.s n.result
     (n.ensures text x xs actives ws fs
     (asked_counts a.s.now text x _ a.t a.q xs actives ws fs st u s₁ from a.at e f low)
     (asked_section a.s.now text x _ a.t a.q xs actives ws fs st u s₁ from a.at e f low))
 
 pub count_section_spec : {M : Type 1} → statement M
 count_section_spec =
-    tie.close (tie.spec restart-requires waiters-requires count-lines-requires same_length returns)
+    tie.close (tie.spec
+    restart-requires
+    waiters-requires
+    count_lines-requires
+    shape_of-s
+    returns)

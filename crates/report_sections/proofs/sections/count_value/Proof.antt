@@ -24,34 +24,34 @@ unfolding bytes
 one = refl
 
 -- src/sections.rt:89:9
-spelled-requires : tie.Need-spelled-requires
-spelled-requires c κs = search rules
+spelled-n-requires : tie.Need-spelled-n-requires
+spelled-n-requires c κs = search rules
 
 -- src/sections.rt:90:9
-variable-requires : tie.Need-variable-requires
-variable-requires c κs =
+variable-w-requires : tie.Need-variable-w-requires
+variable-w-requires c κs =
     let a = c.before.before.before.before.args in
     let (text, x, seen, xs, counts, vs, h) = c.before.before.before.before.requires in
     omega (arith, vs.small, vs.few, h, vs.low a.v h, vs.pair a.v h, counts.readable.inside, counts.readable.behind)
 
 -- src/sections.rt:91:30
-add-count-line : tie.Need-overflow-add-count-line
-add-count-line c =
+overflow_add-n : tie.Need-overflow_add-n
+overflow_add-n c =
     let a = c.before.before.before.before.before.before.args in
     let (text, x, seen, xs, counts, vs, h) = c.before.before.before.before.before.before.requires in
     let spelled = name_size a.s.now text x a.q xs a.v vs h in
     omega (arith, c.before.before.before.spelled.ensures, spelled.inside, counts.readable.short)
 
 -- src/sections.rt:91:5
-count-line-requires : tie.Need-count-line-requires
-count-line-requires c κs =
+count_line-requires : tie.Need-count_line-requires
+count_line-requires c κs =
     let a = c.before.before.before.before.before.before.args in
     let (text, x, seen, xs, counts, vs, h) = c.before.before.before.before.before.before.requires in
-    (text, x, seen, _, counts, shows_variable a.s.now text x a.q xs a.v _ vs h c.before.variable.ensures)
+    (text, x, seen, _, counts, shows_variable a.s.now text x a.q xs a.v _ vs h c.before.variable-w.ensures)
 
 -- src/sections.rt:80:1
-same_length : tie.Need-same-length
-same_length c = search rules
+shape_of-s : tie.Need-shape_of-s
+shape_of-s c = search rules
 
 -- src/sections.rt:80:1
 returns : tie.Need-returns
@@ -59,17 +59,17 @@ returns c =
     let a = c.before.before.before.before.before.before.before.before.before.args in
     λ text x seen xs counts vs h.
     let spelled = name_size a.s.now text x a.q xs a.v vs h in
-    c.before.before.count-line.ensures text x seen _ (get_or xs a.v [] ++ bytes " = ") (bytes "\n") counts
-    (shows_variable a.s.now text x a.q xs a.v _ vs h c.before.before.before.before.variable.ensures)
+    c.before.before.count_line.ensures text x seen _ (get_or xs a.v [] ++ bytes " = ") (bytes "\n") counts
+    (shows_variable a.s.now text x a.q xs a.v _ vs h c.before.before.before.before.variable-w.ensures)
     (three_more (get_or xs a.v []) (c.before.before.before.before.before.before.spelled.ensures ∙ spelled.sized)) one
 
 pub count_value_spec : {M : Type 1} → statement M
 count_value_spec =
     tie.close
     (tie.spec
-    spelled-requires
-    variable-requires
-    add-count-line
-    count-line-requires
-    same_length
+    spelled-n-requires
+    variable-w-requires
+    overflow_add-n
+    count_line-requires
+    shape_of-s
     returns)

@@ -19,69 +19,69 @@ use Rattle.report_sections.proofs.sections.count_values.Lts as lts
 use Rattle.report_sections.proofs.sections.count_value.Reads as count_value_reads
 use Rattle.report_sections.proofs.sections.variables.Reads as variables_reads
 
-abbrev invariant-loop : tie.invariant-loop
-invariant-loop s₀ facts at q k to₀ v₀ s to v =
+abbrev invariant-loop-v : tie.invariant-loop-v
+invariant-loop-v s₀ facts at q k to₀ v₀ s to v =
     (v ≤ k) × (length s ≡ length s₀) × ((text : Bytes) (x : Setting) (seen : List ℕ) (xs : List Bytes) → Counts s₀ text x facts seen at → Variables s₀ text x q xs
     → (k ≡ length xs) × Counted s₀ s text x facts at seen (shown_values x.values seen 0 (take v xs)) (seen_after_values x.values seen 0 (take v xs)) to)
 
-abbrev decreases-loop : tie.decreases-loop
-decreases-loop s₀ facts at q k to₀ v₀ s to v = k - v
+abbrev decreases-loop-v : tie.decreases-loop-v
+decreases-loop-v s₀ facts at q k to₀ v₀ s to v = k - v
 
 -- src/sections.rt:99:9
-variables-requires : tie.Need-variables-requires invariant-loop decreases-loop
-variables-requires c κs =
+variables-k-requires : tie.Need-variables-k-requires invariant-loop-v decreases-loop-v
+variables-k-requires c κs =
     let (text, x, seen, xs, counts, vs) = c.before.before.requires in
     omega (arith, vs.small, counts.readable.inside, counts.readable.behind)
 
 -- src/sections.rt:102:5
-loop-holds : tie.Need-loop-init invariant-loop decreases-loop
-loop-holds c =
+loop-v-init : tie.Need-loop-v-init invariant-loop-v decreases-loop-v
+loop-v-init c =
     let a = c.before.before.before.args in
-    (omega arith, refl, λ text x seen xs counts vs. (c.variables.ensures ∙ vs.number, no_values a.s.now text x a.facts seen a.at xs counts))
+    (omega arith, refl, λ text x seen xs counts vs. (c.variables-k.ensures ∙ vs.number, no_values a.s.now text x a.facts seen a.at xs counts))
 
 -- src/sections.rt:103:9
-count-value-requires : tie.Need-count-value-requires invariant-loop decreases-loop
-count-value-requires c κs =
+count_value-to-requires : tie.Need-count_value-to-requires invariant-loop-v decreases-loop-v
+count_value-to-requires c κs =
     let a = c.before.before.before.before.before.before.args in
-    let l = c.before.before.loop in
+    let l = c.before.before.loop-v in
     let (text, x, seen, xs, counts, vs) = c.before.before.before.before.before.before.requires in
     let (all, counted) = l.invariant.2 text x seen xs counts vs in
     let ready = counts_on a.s.now l.s text x a.facts a.at seen _ _ l.to counted in
     (text, x, counted.after, xs, ready, variables_kept a.s.now l.s text x a.facts a.q xs counts.readable counted.changed vs, omega arith)
 
 -- src/sections.rt:104:9
-add-v : tie.Need-overflow-add-v invariant-loop decreases-loop
-add-v c = omega arith
+overflow_add-v : tie.Need-overflow_add-v invariant-loop-v decreases-loop-v
+overflow_add-v c = omega arith
 
 -- src/sections.rt:102:5
-loop-less : tie.Need-loop-smaller invariant-loop decreases-loop
-loop-less c = omega arith
+loop-v-smaller : tie.Need-loop-v-smaller invariant-loop-v decreases-loop-v
+loop-v-smaller c = omega arith
 
 -- src/sections.rt:102:5
-loop-again : tie.Need-loop-preserved invariant-loop decreases-loop
-loop-again c =
+loop-v-preserved : tie.Need-loop-v-preserved invariant-loop-v decreases-loop-v
+loop-v-preserved c =
     let a = c.before.before.before.before.before.before.before.before.before.args in
-    let l = c.before.before.before.before.before.loop in
-    let r = c.before.before.count-value in (
+    let l = c.before.before.before.before.before.loop-v in
+    let r = c.before.before.count_value-to in (
       omega arith,
-      r.auto.0 ∙ l.invariant.1,
+      r.auto.s ∙ l.invariant.1,
       λ text x seen xs counts vs.
           let (all, counted) = l.invariant.2 text x seen xs counts vs in (
             all,
-            value_counted a.s.now l.s r.new.0 text x a.facts a.at seen xs l.v l.to r.result (omega arith) counted
+            value_counted a.s.now l.s r.new.s text x a.facts a.at seen xs l.v l.to r.result (omega arith) counted
                 (r.ensures text x counted.after xs (counts_on a.s.now l.s text x a.facts a.at seen _ _ l.to counted)
                 (variables_kept a.s.now l.s text x a.facts a.q xs counts.readable counted.changed vs) (omega arith)),
           ),
     )
 
 -- src/sections.rt:94:1
-same_length : tie.Need-same-length invariant-loop decreases-loop
-same_length c = c.before.loop.invariant.1
+shape_of-s : tie.Need-shape_of-s invariant-loop-v decreases-loop-v
+shape_of-s c = c.before.loop-v.invariant.1
 
 -- src/sections.rt:94:1
-returns : tie.Need-returns invariant-loop decreases-loop
+returns : tie.Need-returns invariant-loop-v decreases-loop-v
 returns c =
-    let l = c.before.loop in
+    let l = c.before.loop-v in
     let a = c.before.before.before.before.before.args in
     λ text x seen xs counts vs.
     let (all, counted) = l.invariant.2 text x seen xs counts vs in
@@ -93,13 +93,13 @@ pub count_values_spec : {M : Type 1} → statement M
 count_values_spec =
     tie.close
     (tie.spec
-    invariant-loop
-    decreases-loop
-    variables-requires
-    loop-holds
-    count-value-requires
-    add-v
-    loop-less
-    loop-again
-    same_length
+    invariant-loop-v
+    decreases-loop-v
+    variables-k-requires
+    loop-v-init
+    count_value-to-requires
+    overflow_add-v
+    loop-v-smaller
+    loop-v-preserved
+    shape_of-s
     returns)

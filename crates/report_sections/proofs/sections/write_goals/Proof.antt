@@ -23,18 +23,18 @@ use Rattle.report_tallies.proofs.groups.goal_at.Reads as goal_at_reads
 use Rattle.report_tallies.proofs.groups.own.Reads as own_reads
 use Rattle.report_sections.proofs.sections.write_goal.Reads as write_goal_reads
 
-abbrev invariant-loop : tie.invariant-loop
-invariant-loop text s facts buffer₀ at label g q to₀ i₀ buffer to i =
+abbrev invariant-loop-i : tie.invariant-loop-i
+invariant-loop-i text s facts buffer₀ at label g q to₀ i₀ buffer to i =
     (i ≤ g.count) × (length buffer ≡ length buffer₀) × ((x : Setting) (order : List ℕ) (gs : List Goal) → Readable s text x facts → Listed s x facts g q gs
     → Numbers s x facts order → AllIn x.values order gs → Fits s x facts order at buffer₀ (written_goals x.values order label gs)
     → Wrote s x order buffer₀ buffer at g q gs label to i)
 
-abbrev decreases-loop : tie.decreases-loop
-decreases-loop text s facts buffer₀ at label g q to₀ i₀ buffer to i = g.count - i
+abbrev decreases-loop-i : tie.decreases-loop-i
+decreases-loop-i text s facts buffer₀ at label g q to₀ i₀ buffer to i = g.count - i
 
 -- src/sections.rt:291:5
-loop-holds : tie.Need-loop-init invariant-loop decreases-loop
-loop-holds c =
+loop-i-init : tie.Need-loop-i-init invariant-loop-i decreases-loop-i
+loop-i-init c =
     let a = c.before.before.before.before.args in (
       omega arith,
       refl,
@@ -43,44 +43,44 @@ loop-holds c =
     )
 
 -- src/sections.rt:292:13
-goal-at-requires : tie.Need-goal-at-requires invariant-loop decreases-loop
-goal-at-requires c κs =
+goal_at-goal-requires : tie.Need-goal_at-goal-requires invariant-loop-i decreases-loop-i
+goal_at-goal-requires c κs =
     let (x, order, gs, readable, listed, numbers, all, fits) = c.before.before.before.before.before.before.before.requires in
     (listed.inside, omega arith)
 
 -- src/sections.rt:293:12
-own-requires : tie.Need-own-requires invariant-loop decreases-loop
+own-requires : tie.Need-own-requires invariant-loop-i decreases-loop-i
 own-requires c κs = tt
 
 -- src/sections.rt:294:13
-write-goal-requires : tie.Need-write-goal-requires invariant-loop decreases-loop
-write-goal-requires c κs =
+write_goal-to-requires : tie.Need-write_goal-to-requires invariant-loop-i decreases-loop-i
+write_goal-to-requires c κs =
     let S = c.before.before.before.before.before.before.before.before.before.before.before in
     let a = S.args in
-    let l = c.before.before.before.before.before.before.loop in
-    let goal = c.before.before.before.goal-at in
+    let l = c.before.before.before.before.before.before.loop-i in
+    let goal = c.before.before.before.goal_at-goal in
     let (x, order, gs, readable, listed, numbers, all, fits) = S.requires in
     let is : own a.q (goal_in a.s.now a.g l.i) ≡ true =
-    ap (own a.q) (sym goal.ensures) ∙ sym c.before.before.own.ensures ∙ c.before.if2.true in
+    ap (own a.q) (sym goal.ensures) ∙ sym c.before.before.own.ensures ∙ c.before.if-own.true in
     let n = next_line a.s.now a.text.now x a.facts order a.buffer.now l.buffer a.at a.g a.q gs a.label.now l.to l.i goal.result
     (omega arith) readable listed numbers all fits goal.ensures is (l.invariant.2 x order gs readable listed numbers all fits) in
     (x, order, n.term, n.writes, n.shows, n.fits)
 
 -- src/sections.rt:296:9
-add-i : tie.Need-overflow-add-i invariant-loop decreases-loop
-add-i c = omega arith
+overflow_add-i : tie.Need-overflow_add-i invariant-loop-i decreases-loop-i
+overflow_add-i c = omega arith
 
 -- src/sections.rt:291:5
-loop-less : tie.Need-loop-smaller invariant-loop decreases-loop
-loop-less c = omega arith
+loop-i-smaller : tie.Need-loop-i-smaller invariant-loop-i decreases-loop-i
+loop-i-smaller c = omega arith
 
 -- src/sections.rt:291:5
-loop-again : tie.Need-loop-preserved invariant-loop decreases-loop
-loop-again c =
+loop-i-preserved : tie.Need-loop-i-preserved invariant-loop-i decreases-loop-i
+loop-i-preserved c =
     let S = c.before.before.before.before.before.before.before.before.before.before in
     let a = S.args in
-    let l = c.before.before.before.before.before.loop in
-    let goal = c.before.before.goal-at in
+    let l = c.before.before.before.before.before.loop-i in
+    let goal = c.before.before.goal_at-goal in
     let inside : l.i < a.g.count = omega arith in
     let same : own a.q (goal_in a.s.now a.g l.i) ≡ c.before.own.result =
     ap (own a.q) (sym goal.ensures) ∙ sym c.before.own.ensures in
@@ -101,17 +101,17 @@ loop-again c =
           wrote_as a.s.now x order a.buffer.now _ _ a.at a.g a.q gs a.label.now _ _ (l.i + 1) w.1 w.2
           (wrote_skip a.s.now a.text.now x a.facts order a.buffer.now l.buffer a.at a.g a.q gs a.label.now l.to l.i inside (same ∙ w.0.left) (l.invariant.2 x order gs readable listed numbers all fits)),
     ))
-    c.if2.branch
+    c.if-own.branch
 
 -- src/sections.rt:271:1
-same_length : tie.Need-same-length invariant-loop decreases-loop
-same_length c = c.before.before.loop.invariant.1
+shape_of-buffer : tie.Need-shape_of-buffer invariant-loop-i decreases-loop-i
+shape_of-buffer c = c.before.before.loop-i.invariant.1
 
 -- src/sections.rt:271:1
-returns : tie.Need-returns invariant-loop decreases-loop
+returns : tie.Need-returns invariant-loop-i decreases-loop-i
 returns c =
     let a = c.before.before.before.before.before.before.before.args in
-    let l = c.before.before.loop in
+    let l = c.before.before.loop-i in
     λ x order gs readable listed numbers all fits.
     wrote_all a.s.now a.text.now x a.facts order a.buffer.now l.buffer a.at a.g a.q gs a.label.now l.to l.i (omega arith) (l.invariant.2 x order gs readable listed numbers all fits)
 
@@ -119,14 +119,14 @@ pub write_goals_spec : {M : Type 1} → statement M
 write_goals_spec =
     tie.close
     (tie.spec
-    invariant-loop
-    decreases-loop
-    loop-holds
-    goal-at-requires
+    invariant-loop-i
+    decreases-loop-i
+    loop-i-init
+    goal_at-goal-requires
     own-requires
-    write-goal-requires
-    add-i
-    loop-less
-    loop-again
-    same_length
+    write_goal-to-requires
+    overflow_add-i
+    loop-i-smaller
+    loop-i-preserved
+    shape_of-buffer
     returns)

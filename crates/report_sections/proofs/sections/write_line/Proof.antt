@@ -12,8 +12,8 @@ use Rattle.report_put.proofs.put.put.Reads as put_reads
 use Rattle.report_write.proofs.terms.write_term.Reads as write_term_reads
 
 -- src/sections.rt:51:9
-write-term-requires : tie.Need-write-term-requires
-write-term-requires c κs =
+write_term-to-requires : tie.Need-write_term-to-requires
+write_term-to-requires c κs =
     let (x, order, t, writes, shows, fits) = c.before.before.before.before.requires in
     (x, order, t, writes, shows, fits_front _ (bytes "\n") fits)
 
@@ -21,20 +21,24 @@ write-term-requires c κs =
 put-requires : tie.Need-put-requires
 put-requires c κs =
     let (x, order, t, writes, shows, fits) = c.before.before.before.before.before.before.before.before.requires in
-    let puts = c.before.before.before.write-term.ensures x order t writes shows (fits_front _ (bytes "\n") fits) in
+    let puts = c.before.before.before.write_term-to.ensures x order t writes shows (fits_front _ (bytes "\n") fits) in
     line_room (fits_behind _ (bytes "\n") fits puts)
 
 -- src/sections.rt:44:1
-same_length : tie.Need-same-length
-same_length c = search rules
+shape_of-buffer : tie.Need-shape_of-buffer
+shape_of-buffer c = search rules
 
 -- src/sections.rt:44:1
 returns : tie.Need-returns
 unfolding bytes
 returns c =
     λ x order t writes shows fits.
-    puts_behind _ _ _ _ _ _ _ _ (c.before.before.before.before.before.before.write-term.ensures x order t writes shows (fits_front _ (bytes "\n") fits))
+    puts_behind _ _ _ _ _ _ _ _ (c.before.before.before.before.before.before.write_term-to.ensures x order t writes shows (fits_front _ (bytes "\n") fits))
     c.before.before.put.ensures
 
 pub write_line_spec : {M : Type 1} → statement M
-write_line_spec = tie.close (tie.spec write-term-requires put-requires same_length returns)
+write_line_spec = tie.close (tie.spec
+    write_term-to-requires
+    put-requires
+    shape_of-buffer
+    returns)

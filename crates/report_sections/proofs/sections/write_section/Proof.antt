@@ -39,16 +39,16 @@ use Rattle.report_sections.proofs.sections.write_values.Reads as write_values_re
 use Rattle.term.proofs.layout.waiters.Reads as waiters_reads
 
 -- src/sections.rt:341:17
-waiters-requires : tie.Need-waiters-requires
-waiters-requires c κs = search rules
+waiters-facts-requires : tie.Need-waiters-facts-requires
+waiters-facts-requires c κs = search rules
 
 -- src/sections.rt:342:40
 tally-requires : tie.Need-tally-requires
 tally-requires c κs = search rules
 
 -- src/sections.rt:342:18
-header-requires : tie.Need-header-requires
-header-requires c κs =
+header-to-requires : tie.Need-header-to-requires
+header-to-requires c κs =
     let S = c.before.before.before.before.before.before in
     let a = S.args in
     let (x, xs, actives, ws, fs, stands, numbers, fits) = S.requires in
@@ -57,16 +57,16 @@ header-requires c κs =
     (stands.here.variables.small, omega (arith, head_fits x.values xs actives ws fs a.s.now (figures a.room) a.t a.q fits, head))
 
 -- src/sections.rt:343:10
-write-values-requires : tie.Need-write-values-requires
-write-values-requires c κs =
+write_values-to-requires : tie.Need-write_values-to-requires
+write_values-to-requires c κs =
     let S = c.before.before.before.before.before.before.before.before.before.before in
     let a = S.args in
     let (x, xs, actives, ws, fs, stands, numbers, fits) = S.requires in
     let order = lines_seen x.values xs actives ws fs in
     let tallied = c.before.before.before.before.tally in
-    let h = c.before.before.before.header in
-    let p₀ = puts_as _ _ a.buffer.now h.new.0 a.at h.result (ap (header_of a.q) tallied.ensures) h.ensures in
-    let w = c.before.before.before.before.before.before.waiters in
+    let h = c.before.before.before.header-to in
+    let p₀ = puts_as _ _ a.buffer.now h.new.buffer a.at h.result (ap (header_of a.q) tallied.ensures) h.ensures in
+    let w = c.before.before.before.before.before.before.waiters-facts in
     let (readable, numbered) = values_ready a.s.now a.text.now x (figures a.room) a.t a.q xs actives ws fs w.result w.ensures stands numbers in
     let values_fits = fits_from w.ensures (values_fit x.values xs actives ws fs a.s.now (figures a.room) a.t a.q fits p₀) in
     (x, order, xs, readable, stands.here.variables, numbered, values_fits)
@@ -80,9 +80,9 @@ active-requires : tie.Need-active-requires
 active-requires c κs = search rules
 
 -- src/sections.rt:344:10
-write-goals-requires : tie.Need-write-goals-requires
+write_goals-to-requires : tie.Need-write_goals-to-requires
 unfolding bytes
-write-goals-requires c κs =
+write_goals-to-requires c κs =
     let S = c.before.before.before.before.before.before.before.before.before.before.before.before.before.before.before.before in
     let a = S.args in
     let (x, xs, actives, ws, fs, stands, numbers, fits) = S.requires in
@@ -114,9 +114,9 @@ waiting-requires c κs =
     stands.here.in_range
 
 -- src/sections.rt:345:10
-write-goals-requires-2 : tie.Need-write-goals-requires-2
+write_goals-to-requires-2 : tie.Need-write_goals-to-requires-2
 unfolding bytes
-write-goals-requires-2 c κs =
+write_goals-to-requires-2 c κs =
     let S = c.before.before.before.before.before.before.before.before.before.before.before.before.before.before.before.before.before.before.before.before.before.before in
     let a = S.args in
     let (x, xs, actives, ws, fs, stands, numbers, fits) = S.requires in
@@ -154,9 +154,9 @@ failed-requires c κs =
     stands.here.in_range
 
 -- src/sections.rt:346:5
-write-goals-requires-3 : tie.Need-write-goals-requires-3
+write_goals-requires : tie.Need-write_goals-requires
 unfolding bytes
-write-goals-requires-3 c κs =
+write_goals-requires c κs =
     let S = c.before.before.before.before.before.before.before.before.before.before.before.before.before.before.before.before.before.before.before.before.before.before.before.before.before.before.before.before in
     let a = S.args in
     let (x, xs, actives, ws, fs, stands, numbers, fits) = S.requires in
@@ -188,14 +188,14 @@ write-goals-requires-3 c κs =
     (x, order, fs, three_r, three_l, three_n, section_fails_in x.values xs actives ws fs, fails_fits)
 
 -- src/sections.rt:322:1
-same_length : tie.Need-same-length
-same_length c =
+shape_of-buffer : tie.Need-shape_of-buffer
+shape_of-buffer c =
     let h = c.before.before.before.before.before.before.before.before.before.before.before.before.before.before.before.before.before.before.before.before.before.before.before.before.header in
     let v = c.before.before.before.before.before.before.before.before.before.before.before.before.before.before.before.before.before.before.before.before.write-values in
     let g₁ = c.before.before.before.before.before.before.before.before.before.before.before.before.before.before.write-goals in
     let g₂ = c.before.before.before.before.before.before.before.before.write-goals2 in
-    let g₃ = c.before.before.write-goals3 in
-    g₃.auto.1.1.1.0 ∙ g₂.auto.1.1.1.0 ∙ g₁.auto.1.1.1.0 ∙ v.auto.1.1.1.0 ∙ h.auto.0
+    let g₃ = c.before.before.write_goals in
+    g₃.auto.buffer ∙ g₂.auto.1.1.1.0 ∙ g₁.auto.1.1.1.0 ∙ v.auto.1.1.1.0 ∙ h.auto.0
 
 -- src/sections.rt:322:1
 returns : tie.Need-returns
@@ -228,11 +228,11 @@ returns c =
     let three = c.before.before.before.failed in
     let (three_r, three_l, three_n) = goals_ready a.s.now a.text.now x (waiters_region (figures a.room)) w.result (failed_group (figures a.room) a.t) three.result a.q fs order
     w.ensures three.ensures stands.readable stands.here.failed numbers in
-    let g₃ = c.before.before.write-goals3 in
+    let g₃ = c.before.before.write_goals in
     let fails_fits = fits_from w.ensures (fails_fit x.values xs actives ws fs a.s.now (figures a.room) a.t a.q fits p₀ p₁ p₂ p₃) in
     let p₄ = g₃.ensures x order fs three_r three_l three_n (section_fails_in x.values xs actives ws fs) fails_fits in
     section_puts x.values xs actives ws fs a.s.now (figures a.room) a.t a.q
-    a.buffer.now h.new.0 v.new.1.1.1.0 g₁.new.1.1.1.0 g₂.new.1.1.1.0 g₃.new.1.1.1.0
+    a.buffer.now h.new.0 v.new.1.1.1.0 g₁.new.1.1.1.0 g₂.new.1.1.1.0 g₃.new.buffer
     a.at h.result v.result g₁.result g₂.result g₃.result
     p₀ p₁ p₂ p₃ p₄
 
@@ -240,18 +240,15 @@ pub write_section_spec : {M : Type 1} → statement M
 write_section_spec =
     tie.close
     (tie.spec
-    waiters-requires
+    waiters-facts-requires
     tally-requires
-    header-requires
-    write-values-requires
-    slice-aggregate-write-goals
+    header-to-requires
+    write_values-to-requires
     active-requires
-    write-goals-requires
-    slice-aggregate-write-goals-2
+    write_goals-to-requires
     waiting-requires
-    write-goals-requires-2
-    slice-aggregate-write-goals-3
+    write_goals-to-requires-2
     failed-requires
-    write-goals-requires-3
-    same_length
+    write_goals-requires
+    shape_of-buffer
     returns)

@@ -21,29 +21,29 @@ use Rattle.report_sections.proofs.sections.variable.Reads as variable_reads
 use Rattle.report_sections.proofs.sections.write_line.Reads as write_line_reads
 
 -- src/sections.rt:163:9
-spelled-requires : tie.Need-spelled-requires
-spelled-requires c κs = search rules
+spelled-from-requires : tie.Need-spelled-from-requires
+spelled-from-requires c κs = search rules
 
 -- src/sections.rt:164:9
-spelled-requires-2 : tie.Need-spelled-requires-2
-spelled-requires-2 c κs = search rules
+spelled-n-requires : tie.Need-spelled-n-requires
+spelled-n-requires c κs = search rules
 
 -- src/sections.rt:165:9
-spelling-requires : tie.Need-spelling-requires
-spelling-requires c κs =
+spelling-to-requires : tie.Need-spelling-to-requires
+spelling-to-requires c κs =
     let a = c.before.before.before.before.before.before.args in
     let (x, order, xs, vs, h, writes, fits) = c.before.before.before.before.before.before.requires in
     let spelled = name_size a.s.now a.text.now x a.q xs a.v vs h in
     let size = value_line_size x.values order xs a.v h in
-    omega (arith, fits.room, size, spelled.sized, spelled.inside, c.before.spelled2.ensures, c.before.before.spelled.ensures)
+    omega (arith, fits.room, size, spelled.sized, spelled.inside, c.before.spelled-n.ensures, c.before.before.spelled-from.ensures)
 
 -- src/sections.rt:166:28
 slice-aggregate-words : tie.Need-slice-aggregate-words
 slice-aggregate-words c = search rules
 
 -- src/sections.rt:166:5
-words-requires : tie.Need-words-requires
-words-requires c κs =
+words-to-requires : tie.Need-words-to-requires
+words-to-requires c κs =
     let a = c.before.before.before.before.before.before.before.before.before.before.before.args in
     let (x, order, xs, vs, h, writes, fits) = c.before.before.before.before.before.before.before.before.before.before.before.requires in
     let spelled = name_size a.s.now a.text.now x a.q xs a.v vs h in
@@ -51,33 +51,33 @@ words-requires c κs =
     omega (arith, fits.room, size, spelled.sized, c.before.before.before.before.before.before.spelled2.ensures, c.before.before.before.before.spelling.auto.1.0, (puts_name a.text.now _ _ _ _ _ _ _ _ _ c.before.before.before.before.before.before.before.spelled.ensures c.before.before.before.before.before.before.spelled2.ensures spelled c.before.before.before.before.spelling.ensures).place)
 
 -- src/sections.rt:167:9
-variable-requires : tie.Need-variable-requires
-variable-requires c κs =
+variable-w-requires : tie.Need-variable-w-requires
+variable-w-requires c κs =
     let a = c.before.before.before.before.before.before.before.before.before.before.before.before.before.before.args in
     let (x, order, xs, vs, h, writes, fits) = c.before.before.before.before.before.before.before.before.before.before.before.before.before.before.requires in
     let spelled = name_size a.s.now a.text.now x a.q xs a.v vs h in
     omega (arith, vs.small, vs.few, h, vs.low a.v h, vs.pair a.v h, writes.readable.inside, writes.readable.behind)
 
 -- src/sections.rt:168:5
-write-line-requires : tie.Need-write-line-requires
+write_line-requires : tie.Need-write_line-requires
 unfolding bytes
-write-line-requires c κs =
+write_line-requires c κs =
     let a = c.before.before.before.before.before.before.before.before.before.before.before.before.before.before.before.before.args in
     let (x, order, xs, vs, h, writes, fits) = c.before.before.before.before.before.before.before.before.before.before.before.before.before.before.before.before.requires in
     let spelled = name_size a.s.now a.text.now x a.q xs a.v vs h in
     let name = puts_name a.text.now _ _ _ _ _ _ _ _ _ c.before.before.before.before.before.before.before.before.before.before.before.before.spelled.ensures c.before.before.before.before.before.before.before.before.before.before.before.spelled2.ensures spelled c.before.before.before.before.before.before.before.before.before.spelling.ensures in
-    let same = c.before.before.before.before.words.auto.0 ∙ c.before.before.before.before.before.before.before.before.before.spelling.auto.1.0 in (
+    let same = c.before.before.before.before.words-to.auto.buffer ∙ c.before.before.before.before.before.before.before.before.before.spelling.auto.1.0 in (
       x,
       order,
       _,
-      writes_as a.s.now a.text.now x a.facts order _ _ _ _ _ (omega (arith, name.place, c.before.before.before.before.words.ensures.place)) (sym same) writes,
-      shows_variable a.s.now a.text.now x a.q xs a.v _ vs h c.before.variable.ensures,
-      fits_behind (get_or xs a.v [] ++ bytes " = ") _ fits (puts_behind _ _ _ _ _ _ _ _ name c.before.before.before.before.words.ensures),
+      writes_as a.s.now a.text.now x a.facts order _ _ _ _ _ (omega (arith, name.place, c.before.before.before.before.words-to.ensures.place)) (sym same) writes,
+      shows_variable a.s.now a.text.now x a.q xs a.v _ vs h c.before.variable-w.ensures,
+      fits_behind (get_or xs a.v [] ++ bytes " = ") _ fits (puts_behind _ _ _ _ _ _ _ _ name c.before.before.before.before.words-to.ensures),
     )
 
 -- src/sections.rt:154:1
-same_length : tie.Need-same-length
-same_length c = search rules
+shape_of-buffer : tie.Need-shape_of-buffer
+shape_of-buffer c = search rules
 
 -- src/sections.rt:154:1
 returns : tie.Need-returns
@@ -87,23 +87,22 @@ returns c =
     λ x order xs vs h writes fits.
     let spelled = name_size a.s.now a.text.now x a.q xs a.v vs h in
     let name = puts_name a.text.now _ _ _ _ _ _ _ _ _ c.before.before.before.before.before.before.before.before.before.before.before.before.before.before.before.spelled.ensures c.before.before.before.before.before.before.before.before.before.before.before.before.before.before.spelled2.ensures spelled c.before.before.before.before.before.before.before.before.before.before.before.before.spelling.ensures in
-    let same = c.before.before.before.before.before.before.before.words.auto.0 ∙ c.before.before.before.before.before.before.before.before.before.before.before.before.spelling.auto.1.0 in
-    let first = puts_behind _ _ _ _ _ _ _ _ name c.before.before.before.before.before.before.before.words.ensures in
+    let same = c.before.before.before.before.before.before.before.words-to.auto.buffer ∙ c.before.before.before.before.before.before.before.before.before.before.before.before.spelling.auto.1.0 in
+    let first = puts_behind _ _ _ _ _ _ _ _ name c.before.before.before.before.before.before.before.words-to.ensures in
     puts_behind _ _ _ _ _ _ _ _ first
-    (c.before.before.write-line.ensures x order _ (writes_as a.s.now a.text.now x a.facts order _ _ _ _ _ (omega (arith, name.place, c.before.before.before.before.before.before.before.words.ensures.place)) (sym same) writes)
-    (shows_variable a.s.now a.text.now x a.q xs a.v _ vs h c.before.before.before.before.variable.ensures)
+    (c.before.before.write_line.ensures x order _ (writes_as a.s.now a.text.now x a.facts order _ _ _ _ _ (omega (arith, name.place, c.before.before.before.before.before.before.before.words-to.ensures.place)) (sym same) writes)
+    (shows_variable a.s.now a.text.now x a.q xs a.v _ vs h c.before.before.before.before.variable-w.ensures)
     (fits_behind (get_or xs a.v [] ++ bytes " = ") _ fits first))
 
 pub write_value_spec : {M : Type 1} → statement M
 write_value_spec =
     tie.close
     (tie.spec
-    spelled-requires
-    spelled-requires-2
-    spelling-requires
-    slice-aggregate-words
-    words-requires
-    variable-requires
-    write-line-requires
-    same_length
+    spelled-from-requires
+    spelled-n-requires
+    spelling-to-requires
+    words-to-requires
+    variable-w-requires
+    write_line-requires
+    shape_of-buffer
     returns)

@@ -23,37 +23,37 @@ use Rattle.report_sections.proofs.sections.write_values.Lts as lts
 use Rattle.report_sections.proofs.sections.variables.Reads as variables_reads
 use Rattle.report_sections.proofs.sections.write_value.Reads as write_value_reads
 
-abbrev invariant-loop : tie.invariant-loop
-invariant-loop text s facts buffer₀ at q k to₀ v₀ buffer to v =
+abbrev invariant-loop-v : tie.invariant-loop-v
+invariant-loop-v text s facts buffer₀ at q k to₀ v₀ buffer to v =
     (v ≤ k) × (length buffer ≡ length buffer₀) × ((x : Setting) (order : List ℕ) (xs : List Bytes) → Readable s text x facts → Variables s text x q xs
     → ((n : ℕ) → n < length xs → Numbered s x facts order (full x.values (Term.variable writer n)))
     → Fits s x facts order at buffer₀ (written_values x.values order 0 xs)
     → (k ≡ length xs) × Puts buffer₀ buffer at to (written_values x.values order 0 (take v xs)))
 
-abbrev decreases-loop : tie.decreases-loop
-decreases-loop text s facts buffer₀ at q k to₀ v₀ buffer to v = k - v
+abbrev decreases-loop-v : tie.decreases-loop-v
+decreases-loop-v text s facts buffer₀ at q k to₀ v₀ buffer to v = k - v
 
 -- src/sections.rt:190:9
-variables-requires : tie.Need-variables-requires invariant-loop decreases-loop
-variables-requires c κs =
+variables-k-requires : tie.Need-variables-k-requires invariant-loop-v decreases-loop-v
+variables-k-requires c κs =
     let (x, order, xs, readable, vs, numbered, fits) = c.before.before.before.requires in
     omega (arith, vs.small, readable.inside, readable.behind)
 
 -- src/sections.rt:193:5
-loop-holds : tie.Need-loop-init invariant-loop decreases-loop
-loop-holds c =
+loop-v-init : tie.Need-loop-v-init invariant-loop-v decreases-loop-v
+loop-v-init c =
     let a = c.before.before.before.before.args in (
       omega arith,
       refl,
       λ x order xs readable vs numbered fits.
-          (c.variables.ensures ∙ vs.number, puts_as _ _ a.buffer.now a.buffer.now a.at a.at (no_values_written x.values order xs) (puts_none a.buffer.now a.at)),
+          (c.variables-k.ensures ∙ vs.number, puts_as _ _ a.buffer.now a.buffer.now a.at a.at (no_values_written x.values order xs) (puts_none a.buffer.now a.at)),
     )
 
 -- src/sections.rt:194:9
-write-value-requires : tie.Need-write-value-requires invariant-loop decreases-loop
-write-value-requires c κs =
+write_value-to-requires : tie.Need-write_value-to-requires invariant-loop-v decreases-loop-v
+write_value-to-requires c κs =
     let a = c.before.before.before.before.before.before.before.args in
-    let l = c.before.before.loop in
+    let l = c.before.before.loop-v in
     let (x, order, xs, readable, vs, numbered, fits) = c.before.before.before.before.before.before.before.requires in
     let (all, puts) = l.invariant.2 x order xs readable vs numbered fits in
     let h : l.v < length xs = omega arith in
@@ -64,21 +64,21 @@ write-value-requires c κs =
     (x, order, xs, vs, h, writes, fit)
 
 -- src/sections.rt:195:9
-add-v : tie.Need-overflow-add-v invariant-loop decreases-loop
-add-v c = omega arith
+overflow_add-v : tie.Need-overflow_add-v invariant-loop-v decreases-loop-v
+overflow_add-v c = omega arith
 
 -- src/sections.rt:193:5
-loop-less : tie.Need-loop-smaller invariant-loop decreases-loop
-loop-less c = omega arith
+loop-v-smaller : tie.Need-loop-v-smaller invariant-loop-v decreases-loop-v
+loop-v-smaller c = omega arith
 
 -- src/sections.rt:193:5
-loop-again : tie.Need-loop-preserved invariant-loop decreases-loop
-loop-again c =
+loop-v-preserved : tie.Need-loop-v-preserved invariant-loop-v decreases-loop-v
+loop-v-preserved c =
     let a = c.before.before.before.before.before.before.before.before.before.before.args in
-    let l = c.before.before.before.before.before.loop in
-    let r = c.before.before.write-value in (
+    let l = c.before.before.before.before.before.loop-v in
+    let r = c.before.before.write_value-to in (
       omega arith,
-      r.auto.1.1.1.0 ∙ l.invariant.1,
+      r.auto.buffer ∙ l.invariant.1,
       λ x order xs readable vs numbered fits.
           let (all, puts) = l.invariant.2 x order xs readable vs numbered fits in
           let h : l.v < length xs = omega arith in
@@ -87,20 +87,20 @@ loop-again c =
           let writes : Writes a.s.now a.text.now x a.facts order (Term.variable writer l.v) (l.to + length (get_or xs l.v []) + 3) (length l.buffer) =
           record { readable = readable; numbered = numbered l.v h; fits = omega (arith, fit.room, size) } in (
             all,
-            puts_as _ _ a.buffer.now r.new.1.1.1.0 a.at r.result (values_more x.values order xs l.v h)
-                (puts_behind _ _ a.buffer.now l.buffer r.new.1.1.1.0 a.at l.to r.result puts (r.ensures x order xs vs h writes fit)),
+            puts_as _ _ a.buffer.now r.new.buffer a.at r.result (values_more x.values order xs l.v h)
+                (puts_behind _ _ a.buffer.now l.buffer r.new.buffer a.at l.to r.result puts (r.ensures x order xs vs h writes fit)),
           ),
     )
 
 -- src/sections.rt:181:1
-same_length : tie.Need-same-length invariant-loop decreases-loop
-same_length c = c.before.loop.invariant.1
+shape_of-buffer : tie.Need-shape_of-buffer invariant-loop-v decreases-loop-v
+shape_of-buffer c = c.before.loop-v.invariant.1
 
 -- src/sections.rt:181:1
-returns : tie.Need-returns invariant-loop decreases-loop
+returns : tie.Need-returns invariant-loop-v decreases-loop-v
 returns c =
     let a = c.before.before.before.before.before.before.args in
-    let l = c.before.loop in
+    let l = c.before.loop-v in
     λ x order xs readable vs numbered fits.
     let (all, puts) = l.invariant.2 x order xs readable vs numbered fits in
     let whole : take l.v xs ≡ xs = take_all l.v xs (omega arith) in
@@ -110,13 +110,13 @@ pub write_values_spec : {M : Type 1} → statement M
 write_values_spec =
     tie.close
     (tie.spec
-    invariant-loop
-    decreases-loop
-    variables-requires
-    loop-holds
-    write-value-requires
-    add-v
-    loop-less
-    loop-again
-    same_length
+    invariant-loop-v
+    decreases-loop-v
+    variables-k-requires
+    loop-v-init
+    write_value-to-requires
+    overflow_add-v
+    loop-v-smaller
+    loop-v-preserved
+    shape_of-buffer
     returns)

@@ -18,4 +18,6 @@ returns : tie.Need-returns
 returns c = rw c.queue.ensures
 
 pub active_spec : {M : Type 1} → statement M
-active_spec = tie.close (tie.spec queue-requires returns)
+active_spec = tie.close (tie.spec
+    queue-requires
+    returns)

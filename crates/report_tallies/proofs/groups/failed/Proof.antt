@@ -18,4 +18,6 @@ returns : tie.Need-returns
 returns c = rw c.failed.ensures
 
 pub failed_spec : {M : Type 1} → statement M
-failed_spec = tie.close (tie.spec failed-requires returns)
+failed_spec = tie.close (tie.spec
+    failed-requires
+    returns)

@@ -10,53 +10,53 @@ use Rattle.report_tallies.proofs.groups.goal_at.Lts as lts
 use Rattle.term.proofs.scratch.word_at.Reads as word_at_reads
 
 -- src/groups.rt:27:14
-add_at : tie.Need-overflow-add-at
-add_at c = search rules
+overflow_add-at : tie.Need-overflow_add-at
+overflow_add-at c = search rules
 
 -- src/groups.rt:29:35
-mul-word-at : tie.Need-overflow-mul-word-at
-mul-word-at c =
+overflow_mul-g : tie.Need-overflow_mul-g
+overflow_mul-g c =
     let S = c.before.before.before.before.before in
     omega (arith, place_below S.args.s.now S.args.g S.args.i S.requires.0 S.requires.1 (omega arith))
 
 -- src/groups.rt:29:9
-word-at-requires : tie.Need-word-at-requires
-word-at-requires c κs =
+word_at-requires : tie.Need-word_at-requires
+word_at-requires c κs =
     let S = c.before.before.before.before.before in
     place_below S.args.s.now S.args.g S.args.i S.requires.0 S.requires.1 (omega arith)
 
 -- src/groups.rt:29:9
-returns : tie.Need-returns
-returns c =
+returns-then-at-g : tie.Need-returns-then-at-g
+returns-then-at-g c =
     let S = c.before.before.before.before.before.before in
     c.word_at.ensures ∙ goal_below S.args.s.now S.args.g S.args.i (omega arith)
 
 -- src/groups.rt:31:24
-mul-word-at-2 : tie.Need-overflow-mul-word-at-2
-mul-word-at-2 c =
+overflow_mul-g-2 : tie.Need-overflow_mul-g-2
+overflow_mul-g-2 c =
     let S = c.before.before.before.before.before.before in
     omega (arith, place_beyond S.args.s.now S.args.g S.args.i S.requires.0 S.requires.1 (omega arith))
 
 -- src/groups.rt:31:5
-word-at-requires-2 : tie.Need-word-at-requires-2
-word-at-requires-2 c κs =
+word_at-requires-2 : tie.Need-word_at-requires-2
+word_at-requires-2 c κs =
     let S = c.before.before.before.before.before.before in
     place_beyond S.args.s.now S.args.g S.args.i S.requires.0 S.requires.1 (omega arith)
 
 -- src/groups.rt:23:1
-returns-2 : tie.Need-returns-2
-returns-2 c =
+returns : tie.Need-returns
+returns c =
     let S = c.before.before.before.before.before.before.before in
-    c.word-at2.ensures ∙ goal_beyond S.args.s.now S.args.g S.args.i (omega arith)
+    c.word_at-2.ensures ∙ goal_beyond S.args.s.now S.args.g S.args.i (omega arith)
 
 pub goal_at_spec : {M : Type 1} → statement M
 goal_at_spec =
     tie.close
     (tie.spec
-    add_at
-    mul-word-at
-    word-at-requires
-    returns
-    mul-word-at-2
-    word-at-requires-2
-    returns-2)
+    overflow_add-at
+    overflow_mul-g
+    word_at-requires
+    returns-then-at-g
+    overflow_mul-g-2
+    word_at-requires-2
+    returns)

@@ -13,67 +13,67 @@ use Rattle.report_tallies.proofs.groups.number.Lts as lts
 use Rattle.report_tallies.proofs.groups.goal_at.Reads as goal_at_reads
 use Rattle.report_tallies.proofs.groups.own.Reads as own_reads
 
-abbrev invariant-loop : tie.invariant-loop
-invariant-loop s g q n₀ i₀ n i =
+abbrev invariant-loop-i : tie.invariant-loop-i
+invariant-loop-i s g q n₀ i₀ n i =
     (i ≤ g.count) × (n ≤ i) × (n + length (own_from s g q i (g.count - i)) ≡ length (own_from s g q 0 g.count))
 
-abbrev decreases-loop : tie.decreases-loop
-decreases-loop s g q n₀ i₀ n i = g.count - i
+abbrev decreases-loop-i : tie.decreases-loop-i
+decreases-loop-i s g q n₀ i₀ n i = g.count - i
 
 -- src/groups.rt:51:5
-loop-holds : tie.Need-loop-init invariant-loop decreases-loop
-loop-holds c = (omega arith, omega arith, let e : c.before.args.g.count - 0 ≡ c.before.args.g.count = omega arith in rw e (omega arith))
+loop-i-init : tie.Need-loop-i-init invariant-loop-i decreases-loop-i
+loop-i-init c = (omega arith, omega arith, let e : c.before.args.g.count - 0 ≡ c.before.args.g.count = omega arith in rw e (omega arith))
 
 -- src/groups.rt:52:13
-goal-at-requires : tie.Need-goal-at-requires invariant-loop decreases-loop
-goal-at-requires c κs = (c.before.before.before.before.requires, omega arith)
+goal_at-goal-requires : tie.Need-goal_at-goal-requires invariant-loop-i decreases-loop-i
+goal_at-goal-requires c κs = (c.before.before.before.before.requires, omega arith)
 
 -- src/groups.rt:53:12
-own-requires : tie.Need-own-requires invariant-loop decreases-loop
+own-requires : tie.Need-own-requires invariant-loop-i decreases-loop-i
 own-requires c κs = tt
 
 -- src/groups.rt:54:13
-add-n : tie.Need-overflow-add-n invariant-loop decreases-loop
-add-n c = omega arith
+overflow_add-n : tie.Need-overflow_add-n invariant-loop-i decreases-loop-i
+overflow_add-n c = omega arith
 
 -- src/groups.rt:56:9
-add-i : tie.Need-overflow-add-i invariant-loop decreases-loop
-add-i c = omega arith
+overflow_add-i : tie.Need-overflow_add-i invariant-loop-i decreases-loop-i
+overflow_add-i c = omega arith
 
 -- src/groups.rt:51:5
-loop-less : tie.Need-loop-smaller invariant-loop decreases-loop
-loop-less c = omega arith
+loop-i-smaller : tie.Need-loop-i-smaller invariant-loop-i decreases-loop-i
+loop-i-smaller c = omega arith
 
 -- src/groups.rt:51:5
-loop-again : tie.Need-loop-preserved invariant-loop decreases-loop
-loop-again c =
+loop-i-preserved : tie.Need-loop-i-preserved invariant-loop-i decreases-loop-i
+loop-i-preserved c =
     let S = c.before.before.before.before.before.before.before in
-    let l = c.before.before.before.before.before.loop in
+    let l = c.before.before.before.before.before.loop-i in
     let same : own S.args.q (goal_in S.args.s.now S.args.g l.i) ≡ c.before.own.result =
-    ap (own S.args.q) (sym c.before.before.goal-at.ensures) ∙ sym c.before.own.ensures in
+    ap (own S.args.q) (sym c.before.before.goal_at-goal.ensures) ∙ sym c.before.own.ensures in
     let inside : l.i < S.args.g.count = omega arith in
     ⊎_elim
     (λ w. omega (arith, ap length (own_in S.args.s.now S.args.g S.args.q l.i S.args.g.count inside (same ∙ w.0.taken))))
     (λ w. omega (arith, ap length (own_out S.args.s.now S.args.g S.args.q l.i S.args.g.count inside (same ∙ w.0.left))))
-    c.if2.branch
+    c.if-own.branch
 
 -- src/groups.rt:45:1
-returns : tie.Need-returns invariant-loop decreases-loop
+returns : tie.Need-returns invariant-loop-i decreases-loop-i
 returns c =
     let S = c.before.before.before.before in
-    omega (arith, ap length (own_end S.args.s.now S.args.g S.args.q c.before.before.loop.i S.args.g.count (omega arith)))
+    omega (arith, ap length (own_end S.args.s.now S.args.g S.args.q c.before.before.loop-i.i S.args.g.count (omega arith)))
 
 pub number_spec : {M : Type 1} → statement M
 number_spec =
     tie.close
     (tie.spec
-    invariant-loop
-    decreases-loop
-    loop-holds
-    goal-at-requires
+    invariant-loop-i
+    decreases-loop-i
+    loop-i-init
+    goal_at-goal-requires
     own-requires
-    add-n
-    add-i
-    loop-less
-    loop-again
+    overflow_add-n
+    overflow_add-i
+    loop-i-smaller
+    loop-i-preserved
     returns)

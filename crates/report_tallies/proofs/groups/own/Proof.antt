@@ -11,18 +11,21 @@ use Rattle.report_tallies.proofs.groups.own.Lts as lts
 use Rattle.term.proofs.word.index.Reads as index_Reads
 
 -- src/groups.rt:39:9
-returns : tie.Need-returns
-returns c = sym (own_none c.before.args.q c.before.args.goal (omega arith))
+returns-then-goal-eq0 : tie.Need-returns-then-goal-eq0
+returns-then-goal-eq0 c = sym (own_none c.before.args.q c.before.args.goal (omega arith))
 
 -- src/groups.rt:41:5
 index-requires : tie.Need-index-requires
 index-requires c κs = search rules
 
 -- src/groups.rt:35:1
-returns-2 : tie.Need-returns-2
-returns-2 c =
+returns : tie.Need-returns
+returns c =
     ap (λ n. eqb n c.before.before.args.q) c.index.ensures
     ∙ sym (own_some c.before.before.args.q c.before.before.args.goal (λ e. omega arith))
 
 pub own_spec : {M : Type 1} → statement M
-own_spec = tie.close (tie.spec returns index-requires returns-2)
+own_spec = tie.close (tie.spec
+    returns-then-goal-eq0
+    index-requires
+    returns)

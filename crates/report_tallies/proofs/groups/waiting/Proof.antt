@@ -18,4 +18,6 @@ returns : tie.Need-returns
 returns c = rw c.waiting.ensures
 
 pub waiting_spec : {M : Type 1} → statement M
-waiting_spec = tie.close (tie.spec waiting-requires returns)
+waiting_spec = tie.close (tie.spec
+    waiting-requires
+    returns)

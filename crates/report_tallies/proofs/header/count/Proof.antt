@@ -9,21 +9,25 @@ use Rattle.report_put.proofs.put.decimal.Reads as decimal_reads
 use Rattle.report_put.proofs.put.words.Reads as words_reads
 
 -- src/header.rt:64:9
-words-requires : tie.Need-words-requires
-words-requires c κs = search rules
+words-to-requires : tie.Need-words-to-requires
+words-to-requires c κs = search rules
 
 -- src/header.rt:65:5
 decimal-requires : tie.Need-decimal-requires
 decimal-requires c κs = search rules
 
 -- src/header.rt:60:1
-same_length : tie.Need-same-length
-same_length c = search rules
+shape_of-buffer : tie.Need-shape_of-buffer
+shape_of-buffer c = search rules
 
 -- src/header.rt:60:1
 returns : tie.Need-returns
 returns c =
-    puts_behind _ _ _ _ _ _ _ _ c.before.before.before.before.before.before.words.ensures c.before.before.decimal.ensures
+    puts_behind _ _ _ _ _ _ _ _ c.before.before.before.before.before.before.words-to.ensures c.before.before.decimal.ensures
 
 pub count_spec : {M : Type 1} → statement M
-count_spec = tie.close (tie.spec words-requires decimal-requires same_length returns)
+count_spec = tie.close (tie.spec
+    words-to-requires
+    decimal-requires
+    shape_of-buffer
+    returns)

@@ -9,59 +9,59 @@ use Rattle.report_tallies.proofs.header.run_length.Lts as lts
 use Rattle.report_pairs.proofs.length.digits.Reads as digits_reads
 
 -- src/header.rt:77:9
-digits-requires : tie.Need-digits-requires
-digits-requires c κs = search rules
+digits-n-requires : tie.Need-digits-n-requires
+digits-n-requires c κs = search rules
 
 -- src/header.rt:79:26
-enum_told : tie.Need-enum-told
-enum_told c = search rules
+enum_told-1 : tie.Need-enum_told-1
+enum_told-1 c = search rules
 
 -- src/header.rt:79:26
-add-result : tie.Need-overflow-add-result
-add-result c = search rules
+overflow_add-result : tie.Need-overflow_add-result
+overflow_add-result c = search rules
 
 -- src/header.rt:80:28
-enum-told-2 : tie.Need-enum-told-2
-enum-told-2 c = search rules
+enum_told-in-Budget : tie.Need-enum_told-in-Budget
+enum_told-in-Budget c = search rules
 
 -- src/header.rt:80:28
-add-result-2 : tie.Need-overflow-add-result-2
-add-result-2 c = search rules
+overflow_add-result-in-Budget : tie.Need-overflow_add-result-in-Budget
+overflow_add-result-in-Budget c = search rules
 
 -- src/header.rt:81:26
-enum-told-3 : tie.Need-enum-told-3
-enum-told-3 c = search rules
+enum_told-in-Room : tie.Need-enum_told-in-Room
+enum_told-in-Room c = search rules
 
 -- src/header.rt:81:26
-add-result-3 : tie.Need-overflow-add-result-3
-add-result-3 c = search rules
+overflow_add-result-in-Room : tie.Need-overflow_add-result-in-Room
+overflow_add-result-in-Room c = search rules
 
 -- src/header.rt:74:1
-returns : tie.Need-returns
-returns c =
-    rw c.enum_told.given.1 (omega (arith, run_rest_size c.before.before.before.args.steps, c.before.before.digits.ensures.0))
+returns-in-Rest : tie.Need-returns-in-Rest
+returns-in-Rest c =
+    rw c.in-Rest.is (omega (arith, run_rest_size c.before.before.args.steps, c.before.digits-n.ensures.0))
 
 -- src/header.rt:74:1
-returns-2 : tie.Need-returns-2
-returns-2 c =
-    rw c.enum-told2.given.1 (omega (arith, run_budget_size c.before.before.before.args.steps, c.before.before.digits.ensures.0))
+returns-in-Budget : tie.Need-returns-in-Budget
+returns-in-Budget c =
+    rw c.in-Budget.is (omega (arith, run_budget_size c.before.before.args.steps, c.before.digits-n.ensures.0))
 
 -- src/header.rt:74:1
-returns-3 : tie.Need-returns-3
-returns-3 c =
-    rw c.enum-told3.given.1 (omega (arith, run_room_size c.before.before.before.args.steps, c.before.before.digits.ensures.0))
+returns-in-Room : tie.Need-returns-in-Room
+returns-in-Room c =
+    rw c.in-Room.is (omega (arith, run_room_size c.before.before.args.steps, c.before.digits-n.ensures.0))
 
 pub run_length_spec : {M : Type 1} → statement M
 run_length_spec =
     tie.close
     (tie.spec
-    digits-requires
-    enum_told
-    add-result
-    enum-told-2
-    add-result-2
-    enum-told-3
-    add-result-3
-    returns
-    returns-2
-    returns-3)
+    digits-n-requires
+    enum_told-1
+    overflow_add-result
+    enum_told-in-Budget
+    overflow_add-result-in-Budget
+    enum_told-in-Room
+    overflow_add-result-in-Room
+    returns-in-Rest
+    returns-in-Budget
+    returns-in-Room)

@@ -12,29 +12,34 @@ use Rattle.report_put.proofs.put.decimal.Reads as decimal_reads
 use Rattle.report_put.proofs.put.put.Reads as put_reads
 
 -- src/header.rt:100:9
-run-words-requires : tie.Need-run-words-requires
-run-words-requires c κs = omega (arith, c.before.before.requires, run_line_size c.before.before.args.verdict c.before.before.args.steps)
+run_words-to-requires : tie.Need-run_words-to-requires
+run_words-to-requires c κs = omega (arith, c.before.before.requires, run_line_size c.before.before.args.verdict c.before.before.args.steps)
 
 -- src/header.rt:101:5
-decimal-requires : tie.Need-decimal-requires
-decimal-requires c κs =
-    omega (arith, c.before.before.before.before.before.before.requires, run_line_size c.before.before.before.before.before.before.args.verdict c.before.before.before.before.before.before.args.steps, c.before.before.before.run_words.auto.0, c.before.before.before.run_words.ensures.place)
+decimal-to-requires : tie.Need-decimal-to-requires
+decimal-to-requires c κs =
+    omega (arith, c.before.before.before.before.before.before.requires, run_line_size c.before.before.before.before.before.before.args.verdict c.before.before.before.before.before.before.args.steps, c.before.before.before.run_words-to.auto.buffer, c.before.before.before.run_words-to.ensures.place)
 
 -- src/header.rt:102:5
 put-requires : tie.Need-put-requires
 put-requires c κs =
-    omega (arith, c.before.before.before.before.before.before.before.before.before.before.requires, run_line_size c.before.before.before.before.before.before.before.before.before.before.args.verdict c.before.before.before.before.before.before.before.before.before.before.args.steps, c.before.before.before.before.before.before.before.run_words.auto.0, c.before.before.before.before.before.before.before.run_words.ensures.place, c.before.before.before.decimal.auto.0, c.before.before.before.decimal.ensures.place)
+    omega (arith, c.before.before.before.before.before.before.before.before.before.before.requires, run_line_size c.before.before.before.before.before.before.before.before.before.before.args.verdict c.before.before.before.before.before.before.before.before.before.before.args.steps, c.before.before.before.before.before.before.before.run_words-to.auto.buffer, c.before.before.before.before.before.before.before.run_words-to.ensures.place, c.before.before.before.decimal-to.auto.buffer, c.before.before.before.decimal-to.ensures.place)
 
 -- src/header.rt:96:1
-same_length : tie.Need-same-length
-same_length c = search rules
+shape_of-buffer : tie.Need-shape_of-buffer
+shape_of-buffer c = search rules
 
 -- src/header.rt:96:1
 returns : tie.Need-returns
 unfolding bytes
 returns c =
-    puts_run c.before.before.before.before.before.before.before.before.before.before.before.before.before.args.verdict c.before.before.before.before.before.before.before.before.before.before.before.before.before.args.steps _ _ _ _ _ _ _ c.before.before.before.before.before.before.before.before.before.before.run_words.ensures c.before.before.before.before.before.before.decimal.ensures c.before.before.put.ensures
+    puts_run c.before.before.before.before.before.before.before.before.before.before.before.before.before.args.verdict c.before.before.before.before.before.before.before.before.before.before.before.before.before.args.steps _ _ _ _ _ _ _ c.before.before.before.before.before.before.before.before.before.before.run_words-to.ensures c.before.before.before.before.before.before.decimal-to.ensures c.before.before.put.ensures
 
 pub run_line_spec : {M : Type 1} → statement M
 run_line_spec =
-    tie.close (tie.spec run-words-requires decimal-requires put-requires same_length returns)
+    tie.close (tie.spec
+    run_words-to-requires
+    decimal-to-requires
+    put-requires
+    shape_of-buffer
+    returns)

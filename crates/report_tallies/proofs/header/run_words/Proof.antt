@@ -13,8 +13,8 @@ use Rattle.report_tallies.proofs.header.run_words.Lts as lts
 use Rattle.report_put.proofs.put.words.Reads as words_reads
 
 -- src/header.rt:90:32
-enum_told : tie.Need-enum-told
-enum_told c = search rules
+enum_told-1 : tie.Need-enum_told-1
+enum_told-1 c = search rules
 
 -- src/header.rt:90:43
 slice-aggregate-words : tie.Need-slice-aggregate-words
@@ -24,82 +24,79 @@ slice-aggregate-words c = search rules
 words-requires : tie.Need-words-requires
 unfolding run_words_of verdict_bytes bytes
 words-requires c κs =
-    let fits = rw c.before.before.enum_told.given.1 at c.before.before.before.before.before.requires in
+    let fits = rw c.before.before.enum_told.given.1 at c.before.before.before.before.requires in
     omega (arith, fits)
 
 -- src/header.rt:91:34
-enum-told-2 : tie.Need-enum-told-2
-enum-told-2 c = search rules
+enum_told-in-Budget : tie.Need-enum_told-in-Budget
+enum_told-in-Budget c = search rules
 
 -- src/header.rt:91:45
 slice-aggregate-words-2 : tie.Need-slice-aggregate-words-2
 slice-aggregate-words-2 c = search rules
 
 -- src/header.rt:91:28
-words-requires-2 : tie.Need-words-requires-2
+words-requires-in-Budget : tie.Need-words-requires-in-Budget
 unfolding run_words_of verdict_bytes bytes
-words-requires-2 c κs =
-    let fits = rw c.before.before.enum-told2.given.1 at c.before.before.before.before.before.requires in
+words-requires-in-Budget c κs =
+    let fits = rw c.before.before.enum-told2.given.1 at c.before.before.before.before.requires in
     omega (arith, fits)
 
 -- src/header.rt:92:32
-enum-told-3 : tie.Need-enum-told-3
-enum-told-3 c = search rules
+enum_told-in-Room : tie.Need-enum_told-in-Room
+enum_told-in-Room c = search rules
 
 -- src/header.rt:92:43
 slice-aggregate-words-3 : tie.Need-slice-aggregate-words-3
 slice-aggregate-words-3 c = search rules
 
 -- src/header.rt:92:26
-words-requires-3 : tie.Need-words-requires-3
+words-requires-in-Room : tie.Need-words-requires-in-Room
 unfolding run_words_of verdict_bytes bytes
-words-requires-3 c κs =
-    let fits = rw c.before.before.enum-told3.given.1 at c.before.before.before.before.before.requires in
+words-requires-in-Room c κs =
+    let fits = rw c.before.before.enum-told3.given.1 at c.before.before.before.before.requires in
     omega (arith, fits)
 
 -- src/header.rt:85:1
-same_length : tie.Need-same-length
-same_length c = search rules
+shape_of-buffer-in-Rest : tie.Need-shape_of-buffer-in-Rest
+shape_of-buffer-in-Rest c = search rules
 
 -- src/header.rt:85:1
-returns : tie.Need-returns
+returns-in-Rest : tie.Need-returns-in-Rest
 unfolding run_words_of verdict_bytes bytes
-returns c = rw c.before.before.before.before.before.enum_told.given.1 c.before.before.words.ensures
+returns-in-Rest c = rw c.before.before.before.before.before.enum_told.given.1 c.before.before.words.ensures
 
 -- src/header.rt:85:1
-same-length-2 : tie.Need-same-length-2
-same-length-2 c = search rules
+shape_of-buffer-in-Budget : tie.Need-shape_of-buffer-in-Budget
+shape_of-buffer-in-Budget c = search rules
 
 -- src/header.rt:85:1
-returns-2 : tie.Need-returns-2
+returns-in-Budget : tie.Need-returns-in-Budget
 unfolding run_words_of verdict_bytes bytes
-returns-2 c = rw c.before.before.before.before.before.enum-told2.given.1 c.before.before.words2.ensures
+returns-in-Budget c = rw c.before.before.before.before.before.enum-told2.given.1 c.before.before.words-in-Budget.ensures
 
 -- src/header.rt:85:1
-same-length-3 : tie.Need-same-length-3
-same-length-3 c = search rules
+shape_of-buffer-in-Room : tie.Need-shape_of-buffer-in-Room
+shape_of-buffer-in-Room c = search rules
 
 -- src/header.rt:85:1
-returns-3 : tie.Need-returns-3
+returns-in-Room : tie.Need-returns-in-Room
 unfolding run_words_of verdict_bytes bytes
-returns-3 c = rw c.before.before.before.before.before.enum-told3.given.1 c.before.before.words3.ensures
+returns-in-Room c = rw c.before.before.before.before.before.enum-told3.given.1 c.before.before.words-in-Room.ensures
 
 pub run_words_spec : {M : Type 1} → statement M
 run_words_spec =
     tie.close
     (tie.spec
-    enum_told
-    slice-aggregate-words
+    enum_told-1
     words-requires
-    enum-told-2
-    slice-aggregate-words-2
-    words-requires-2
-    enum-told-3
-    slice-aggregate-words-3
-    words-requires-3
-    same_length
-    returns
-    same-length-2
-    returns-2
-    same-length-3
-    returns-3)
+    enum_told-in-Budget
+    words-requires-in-Budget
+    enum_told-in-Room
+    words-requires-in-Room
+    shape_of-buffer-in-Rest
+    returns-in-Rest
+    shape_of-buffer-in-Budget
+    returns-in-Budget
+    shape_of-buffer-in-Room
+    returns-in-Room)

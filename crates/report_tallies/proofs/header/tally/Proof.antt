@@ -19,16 +19,16 @@ same_tallies : {a b c d a' b' c' d' : ℕ} → a ≡ a' → b ≡ b' → c ≡ c
 same_tallies e f g h = λ i. record { tries = e i; active = f i; waiting = g i; failed = h i }
 
 -- src/header.rt:38:43
-mul-word-at : tie.Need-overflow-mul-word-at
-mul-word-at c = search rules
+overflow_mul-q : tie.Need-overflow_mul-q
+overflow_mul-q c = search rules
 
 -- src/header.rt:38:33
-add-word-at : tie.Need-overflow-add-word-at
-add-word-at c = search rules
+overflow_add-q : tie.Need-overflow_add-q
+overflow_add-q c = search rules
 
 -- src/header.rt:38:22
-word-at-requires : tie.Need-word-at-requires
-word-at-requires c κs = search rules
+word_at-requires : tie.Need-word_at-requires
+word_at-requires c κs = search rules
 
 -- src/header.rt:38:16
 index-requires : tie.Need-index-requires
@@ -61,15 +61,15 @@ number-requires-3 c κs = rw c.failed.ensures c.before.before.before.before.befo
 -- src/header.rt:33:1
 returns : tie.Need-returns
 returns c =
-    same_tallies (c.before.before.before.before.before.before.index.ensures ∙ c.before.before.before.before.before.before.before.word_at.ensures) (rw c.before.before.before.before.before.active.ensures at c.before.before.before.before.number.ensures) (rw c.before.before.before.waiting.ensures at c.before.before.number2.ensures) (rw c.before.failed.ensures at c.number3.ensures)
+    same_tallies (c.before.before.before.before.before.before.index.ensures ∙ c.before.before.before.before.before.before.before.word_at.ensures) (rw c.before.before.before.before.before.active.ensures at c.before.before.before.before.number.ensures) (rw c.before.before.before.waiting.ensures at c.before.before.number-2.ensures) (rw c.before.failed.ensures at c.number-3.ensures)
 
 pub tally_spec : {M : Type 1} → statement M
 tally_spec =
     tie.close
     (tie.spec
-    mul-word-at
-    add-word-at
-    word-at-requires
+    overflow_mul-q
+    overflow_add-q
+    word_at-requires
     index-requires
     active-requires
     number-requires

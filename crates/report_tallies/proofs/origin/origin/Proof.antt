@@ -18,12 +18,12 @@ slice-aggregate-count : tie.Need-slice-aggregate-count
 slice-aggregate-count c = search rules
 
 -- src/origin.rt:23:43
-clause-of-requires : tie.Need-clause-of-requires
-clause-of-requires c κs = search rules
+clause_of-requires : tie.Need-clause_of-requires
+clause_of-requires c κs = search rules
 
 -- src/origin.rt:23:9
-count-requires : tie.Need-count-requires
-count-requires c κs =
+count-to-requires : tie.Need-count-to-requires
+count-to-requires c κs =
     let S = c.before.before.before.before in
     omega (arith, origin_size S.args.goal c.clause_of.result (tries_in S.args.goal) c.clause_of.ensures refl, S.requires)
 
@@ -32,20 +32,20 @@ slice-aggregate-count-2 : tie.Need-slice-aggregate-count-2
 slice-aggregate-count-2 c = search rules
 
 -- src/origin.rt:24:32
-tries-of-requires : tie.Need-tries-of-requires
-tries-of-requires c κs = search rules
+tries_of-requires : tie.Need-tries_of-requires
+tries_of-requires c κs = search rules
 
 -- src/origin.rt:24:5
-count-requires-2 : tie.Need-count-requires-2
-count-requires-2 c κs =
+count-requires : tie.Need-count-requires
+count-requires c κs =
     let S = c.before.before.before.before.before.before.before.before.before.before in
     let clause = c.before.before.before.before.before.before.clause_of in
     let first = c.before.before.before.before.before.count in
     omega (arith, origin_size S.args.goal clause.result c.tries_of.result clause.ensures c.tries_of.ensures, S.requires, first.auto.0, first.ensures.place)
 
 -- src/origin.rt:19:1
-same_length : tie.Need-same-length
-same_length c = search rules
+shape_of-buffer : tie.Need-shape_of-buffer
+shape_of-buffer c = search rules
 
 -- src/origin.rt:19:1
 returns : tie.Need-returns
@@ -54,17 +54,15 @@ returns c =
     let S = c.before.before.before.before.before.before.before.before.before.before.before.before.before in
     let clause = c.before.before.before.before.before.before.before.before.before.clause_of in
     let tries = c.before.before.before.tries_of in
-    puts_origin S.args.goal clause.result tries.result clause.ensures tries.ensures _ _ _ _ _ _ c.before.before.before.before.before.before.before.before.count.ensures c.before.before.count2.ensures
+    puts_origin S.args.goal clause.result tries.result clause.ensures tries.ensures _ _ _ _ _ _ c.before.before.before.before.before.before.before.before.count.ensures c.before.before.count.ensures
 
 pub origin_spec : {M : Type 1} → statement M
 origin_spec =
     tie.close
     (tie.spec
-    slice-aggregate-count
-    clause-of-requires
+    clause_of-requires
+    count-to-requires
+    tries_of-requires
     count-requires
-    slice-aggregate-count-2
-    tries-of-requires
-    count-requires-2
-    same_length
+    shape_of-buffer
     returns)

@@ -11,28 +11,28 @@ use Rattle.term.proofs.goal.clause_of.Reads as clause_of_reads
 use Rattle.term.proofs.goal.tries_of.Reads as tries_of_reads
 
 -- src/origin.rt:16:17
-clause-of-requires : tie.Need-clause-of-requires
-clause-of-requires c κs = search rules
+clause_of-requires : tie.Need-clause_of-requires
+clause_of-requires c κs = search rules
 
 -- src/origin.rt:16:10
 digits-requires : tie.Need-digits-requires
 digits-requires c κs = search rules
 
 -- src/origin.rt:16:5
-add-result : tie.Need-overflow-add-result
-add-result c = search rules
+overflow_add-result : tie.Need-overflow_add-result
+overflow_add-result c = search rules
 
 -- src/origin.rt:16:50
-tries-of-requires : tie.Need-tries-of-requires
-tries-of-requires c κs = search rules
+tries_of-requires : tie.Need-tries_of-requires
+tries_of-requires c κs = search rules
 
 -- src/origin.rt:16:43
 digits-requires-2 : tie.Need-digits-requires-2
 digits-requires-2 c κs = search rules
 
 -- src/origin.rt:16:5
-add-result-2 : tie.Need-overflow-add-result-2
-add-result-2 c = search rules
+overflow_add-result-2 : tie.Need-overflow_add-result-2
+overflow_add-result-2 c = search rules
 
 -- src/origin.rt:13:1
 returns : tie.Need-returns
@@ -40,16 +40,16 @@ returns c =
     let S = c.before.before.before.before in
     let clause = c.before.before.before.clause_of in
     let tries = c.before.tries_of in
-    omega (arith, origin_size S.args.goal clause.result tries.result clause.ensures tries.ensures, c.before.before.digits.ensures, c.digits2.ensures)
+    omega (arith, origin_size S.args.goal clause.result tries.result clause.ensures tries.ensures, c.before.before.digits.ensures, c.digits-2.ensures)
 
 pub origin_length_spec : {M : Type 1} → statement M
 origin_length_spec =
     tie.close
     (tie.spec
-    clause-of-requires
+    clause_of-requires
     digits-requires
-    add-result
-    tries-of-requires
+    overflow_add-result
+    tries_of-requires
     digits-requires-2
-    add-result-2
+    overflow_add-result-2
     returns)

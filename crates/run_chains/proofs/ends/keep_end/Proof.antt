@@ -12,56 +12,56 @@ use Rattle.run_chains.proofs.ends.keep_end.Tie as tie
 look-requires : tie.Need-look-requires
 look-requires c κs = search rules
 
-enum-known-p : tie.Need-enum-known-p
-enum-known-p c = search rules
+enum_known-p : tie.Need-enum_known-p
+enum_known-p c = search rules
 
 keep-requires : tie.Need-keep-requires
 keep-requires c κs =
-    let looked = c.before.before.before.before in
+    let looked = c.before.before in
     let start = looked.before.before in
-    let p = c.before.before.p.given.0.0 in
-    let at : seen start.args.w ≡ Writer p = sym looked.look.ensures ∙ c.before.before.p.given.1 in
+    let p = c.before.in-Writer.p in
+    let at : seen start.args.w ≡ Writer p = sym looked.look.ensures ∙ c.before.in-Writer.is in
     let k = writer_pair start.args.s.now start.requires.0 start.args.values start.args.links start.requires.1 start.args.w p start.requires.2.reads at in
     (start.requires.0, writer, k.0, rw k.1 at start.requires.2, k.2)
 
-enum-known-p-2 : tie.Need-enum-known-p-2
-enum-known-p-2 c = search rules
+enum_known-p-in-Reader-1 : tie.Need-enum_known-p-in-Reader-1
+enum_known-p-in-Reader-1 c = search rules
 
-keep-requires-2 : tie.Need-keep-requires-2
-keep-requires-2 c κs =
-    let looked = c.before.before.before.before in
+keep-requires-in-Reader : tie.Need-keep-requires-in-Reader
+keep-requires-in-Reader c κs =
+    let looked = c.before.before in
     let start = looked.before.before in
-    let p = c.before.before.p2.given.0.0 in
-    let at : seen start.args.w ≡ Reader p = sym looked.look.ensures ∙ c.before.before.p2.given.1 in
+    let p = c.before.in-Reader.p in
+    let at : seen start.args.w ≡ Reader p = sym looked.look.ensures ∙ c.before.in-Reader.is in
     let k = reader_pair start.args.s.now start.requires.0 start.args.values start.args.links start.requires.1 start.args.w p start.requires.2.reads at in
     (start.requires.0, reader, k.0, rw k.1 at start.requires.2, k.2)
 
-same_length : tie.Need-same-length
-same_length c = search rules
+shape_of-s-in-Writer : tie.Need-shape_of-s-in-Writer
+shape_of-s-in-Writer c = search rules
 
-returns : tie.Need-returns
-returns c x t r =
-    let looked = c.before.before.before.before.before.before.before in
+returns-in-Writer : tie.Need-returns-in-Writer
+returns-in-Writer c x t r =
+    let looked = c.before.before.before.before.before in
     let start = looked.before.before in
-    let p = c.before.before.before.before.before.p.given.0.0 in
-    let at : seen start.args.w ≡ Writer p = sym looked.look.ensures ∙ c.before.before.before.before.before.p.given.1 in
+    let p = c.before.before.before.before.in-Writer.p in
+    let at : seen start.args.w ≡ Writer p = sym looked.look.ensures ∙ c.before.before.before.before.in-Writer.is in
     let k = writer_pair start.args.s.now x start.args.values start.args.links t start.args.w p r.reads at in
     c.before.before.keep.ensures x writer k.0 (rw k.1 at r) k.2
 
-same-length-2 : tie.Need-same-length-2
-same-length-2 c = search rules
+shape_of-s-in-Reader : tie.Need-shape_of-s-in-Reader
+shape_of-s-in-Reader c = search rules
 
-returns-2 : tie.Need-returns-2
-returns-2 c x t r =
-    let looked = c.before.before.before.before.before.before.before in
+returns-in-Reader : tie.Need-returns-in-Reader
+returns-in-Reader c x t r =
+    let looked = c.before.before.before.before.before in
     let start = looked.before.before in
-    let p = c.before.before.before.before.before.p2.given.0.0 in
-    let at : seen start.args.w ≡ Reader p = sym looked.look.ensures ∙ c.before.before.before.before.before.p2.given.1 in
+    let p = c.before.before.before.before.in-Reader.p in
+    let at : seen start.args.w ≡ Reader p = sym looked.look.ensures ∙ c.before.before.before.before.in-Reader.is in
     let k = reader_pair start.args.s.now x start.args.values start.args.links t start.args.w p r.reads at in
-    c.before.before.keep2.ensures x reader k.0 (rw k.1 at r) k.2
+    c.before.before.keep-in-Reader.ensures x reader k.0 (rw k.1 at r) k.2
 
-returns-3 : tie.Need-returns-3
-returns-3 c x t r =
+returns-in_default : tie.Need-returns-in_default
+returns-in_default c x t r =
     let start = c.before.before.before in
     kept_same x start.args.values start.args.links start.args.s.now r.keepable
 
@@ -70,12 +70,12 @@ keep_end_spec =
     tie.close
     (tie.spec
     look-requires
-    enum-known-p
+    enum_known-p
     keep-requires
-    enum-known-p-2
-    keep-requires-2
-    same_length
-    returns
-    same-length-2
-    returns-2
-    returns-3)
+    enum_known-p-in-Reader-1
+    keep-requires-in-Reader
+    shape_of-s-in-Writer
+    returns-in-Writer
+    shape_of-s-in-Reader
+    returns-in-Reader
+    returns-in_default)

@@ -11,62 +11,62 @@ use Rattle.run_chains.proofs.follow.ahead.Tie as tie
 look-requires : tie.Need-look-requires
 look-requires c κs = search rules
 
-enum-known-p : tie.Need-enum-known-p
-enum-known-p c = search rules
+enum_known-p : tie.Need-enum_known-p
+enum_known-p c = search rules
 
 led-requires : tie.Need-led-requires
 led-requires c κs =
-    let looked = c.before.before.before in
+    let looked = c.before in
     let start = looked.before.before in
-    let p = c.before.p.given.0.0 in
-    let at : seen start.args.w ≡ Writer p = sym looked.look.ensures ∙ c.before.p.given.1 in
+    let p = c.in-Writer.p in
+    let at : seen start.args.w ≡ Writer p = sym looked.look.ensures ∙ c.in-Writer.is in
     let k = writer_pair start.args.s.now start.requires.0 start.args.values start.args.links start.requires.1 start.args.w p start.requires.2 at in
     (start.requires.0, k.0, k.2)
 
-enum-known-p-2 : tie.Need-enum-known-p-2
-enum-known-p-2 c = search rules
+enum_known-p-in-Reader-1 : tie.Need-enum_known-p-in-Reader-1
+enum_known-p-in-Reader-1 c = search rules
 
-led-requires-2 : tie.Need-led-requires-2
-led-requires-2 c κs =
-    let looked = c.before.before.before in
+led-requires-in-Reader : tie.Need-led-requires-in-Reader
+led-requires-in-Reader c κs =
+    let looked = c.before in
     let start = looked.before.before in
-    let p = c.before.p2.given.0.0 in
-    let at : seen start.args.w ≡ Reader p = sym looked.look.ensures ∙ c.before.p2.given.1 in
+    let p = c.in-Reader.p in
+    let at : seen start.args.w ≡ Reader p = sym looked.look.ensures ∙ c.in-Reader.is in
     let k = reader_pair start.args.s.now start.requires.0 start.args.values start.args.links start.requires.1 start.args.w p start.requires.2 at in
     (start.requires.0, k.0, k.2)
 
-returns : tie.Need-returns
-returns c x t r =
-    let looked = c.before.before.before.before in
+returns-in-Writer : tie.Need-returns-in-Writer
+returns-in-Writer c x t r =
+    let looked = c.before.before in
     let start = looked.before.before in
-    let p = c.before.before.p.given.0.0 in
-    let at : seen start.args.w ≡ Writer p = sym looked.look.ensures ∙ c.before.before.p.given.1 in
+    let p = c.before.in-Writer.p in
+    let at : seen start.args.w ≡ Writer p = sym looked.look.ensures ∙ c.before.in-Writer.is in
     let k = writer_pair start.args.s.now x start.args.values start.args.links t start.args.w p r at in
     rw k.1 (c.led.ensures x k.0 k.2 writer)
 
-returns-2 : tie.Need-returns-2
-returns-2 c x t r =
-    let looked = c.before.before.before.before in
+returns-in-Reader : tie.Need-returns-in-Reader
+returns-in-Reader c x t r =
+    let looked = c.before.before in
     let start = looked.before.before in
-    let p = c.before.before.p2.given.0.0 in
-    let at : seen start.args.w ≡ Reader p = sym looked.look.ensures ∙ c.before.before.p2.given.1 in
+    let p = c.before.in-Reader.p in
+    let at : seen start.args.w ≡ Reader p = sym looked.look.ensures ∙ c.before.in-Reader.is in
     let k = reader_pair start.args.s.now x start.args.values start.args.links t start.args.w p r at in
-    rw k.1 (c.led2.ensures x k.0 k.2 reader)
+    rw k.1 (c.led-in-Reader.ensures x k.0 k.2 reader)
 
-returns-3 : tie.Need-returns-3
-returns-3 c x t r =
+returns-in_default : tie.Need-returns-in_default
+returns-in_default c x t r =
     let start = c.before.before.before in
-    other_ahead start.args.s.now x start.args.values start.args.links t start.args.w r (rw c.before.look.ensures at c.match.keys3)
+    other_ahead start.args.s.now x start.args.values start.args.links t start.args.w r (rw c.before.look.ensures at c.in_default.in_default-own.keys3)
 
 pub ahead_spec : {M : Type 1} → statement M
 ahead_spec =
     tie.close
     (tie.spec
     look-requires
-    enum-known-p
+    enum_known-p
     led-requires
-    enum-known-p-2
-    led-requires-2
-    returns
-    returns-2
-    returns-3)
+    enum_known-p-in-Reader-1
+    led-requires-in-Reader
+    returns-in-Writer
+    returns-in-Reader
+    returns-in_default)

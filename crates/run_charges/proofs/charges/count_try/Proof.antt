@@ -3,51 +3,51 @@ use borrow.Author.Rules.{rules}
 use Rattle.run_charges.proofs.charges.count_try.Statement.{statement}
 use Rattle.run_charges.proofs.charges.count_try.Tie as tie
 
-mul-word-at : tie.Need-overflow-mul-word-at
-mul-word-at c = search rules
+overflow_mul-query : tie.Need-overflow_mul-query
+overflow_mul-query c = search rules
 
-add-word-at : tie.Need-overflow-add-word-at
-add-word-at c = search rules
+overflow_add-query : tie.Need-overflow_add-query
+overflow_add-query c = search rules
 
-word-at-requires : tie.Need-word-at-requires
-word-at-requires c κs = search rules
+word_at-tries-requires : tie.Need-word_at-tries-requires
+word_at-tries-requires c κs = search rules
 
-add-s : tie.Need-overflow-add-s
-add-s c = search rules
+overflow_add-s : tie.Need-overflow_add-s
+overflow_add-s c = search rules
 
-mul-s : tie.Need-overflow-mul-s
-mul-s c = search rules
+overflow_mul-s : tie.Need-overflow_mul-s
+overflow_mul-s c = search rules
 
-add-s-2 : tie.Need-overflow-add-s-2
-add-s-2 c = search rules
+overflow_add-s-2 : tie.Need-overflow_add-s-2
+overflow_add-s-2 c = search rules
 
-add-s-3 : tie.Need-overflow-add-s-3
-add-s-3 c = search rules
+overflow_add-s-3 : tie.Need-overflow_add-s-3
+overflow_add-s-3 c = search rules
 
-mul-s-2 : tie.Need-overflow-mul-s-2
-mul-s-2 c = search rules
+offset_bounds-s-query : tie.Need-offset_bounds-s-query
+offset_bounds-s-query c = search rules
 
-slice-write-s : tie.Need-slice-write-s
-slice-write-s c = search rules
+bounds-s-query : tie.Need-bounds-s-query
+bounds-s-query c = search rules
 
-same_length : tie.Need-same-length
-same_length c = search rules
+shape_of-s : tie.Need-shape_of-s
+shape_of-s c = search rules
 
 returns : tie.Need-returns
-returns c = rw c.word_at.ensures
+returns c = rw c.word_at-tries.ensures
 
 pub count_try_spec : {M : Type 1} → statement M
 count_try_spec =
     tie.close
     (tie.spec
-    mul-word-at
-    add-word-at
-    word-at-requires
-    add-s
-    mul-s
-    add-s-2
-    add-s-3
-    mul-s-2
-    slice-write-s
-    same_length
+    overflow_mul-query
+    overflow_add-query
+    word_at-tries-requires
+    overflow_add-s
+    overflow_mul-s
+    overflow_add-s-2
+    overflow_add-s-3
+    offset_bounds-s-query
+    bounds-s-query
+    shape_of-s
     returns)

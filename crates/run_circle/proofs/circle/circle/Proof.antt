@@ -10,8 +10,8 @@ hold-requires c κs =
     let a = S.args in
     entries_of a.s.now S.requires.0 a.values a.marks a.n a.stamp S.requires.1
 
-from-entries-requires : tie.Need-from-entries-requires
-from-entries-requires c κs =
+from_entries-found-requires : tie.Need-from_entries-found-requires
+from_entries-found-requires c κs =
     let H = c.before.before.before in
     let S = H.before.before.before in
     (S.requires.0, S.args.s.now, S.requires.1, H.hold.ensures)
@@ -22,11 +22,11 @@ hold-requires-2 c κs =
     let H = F.before.before.before.before in
     let S = H.before.before.before in
     let a = S.args in
-    entries_still a.s.now S.requires.0 a.values a.marks a.n a.stamp S.requires.1 H.hold.new.0 F.from_entries.new.0
-    F.from_entries.result H.hold.ensures (F.from_entries.ensures S.requires.0 a.s.now S.requires.1 H.hold.ensures)
+    entries_still a.s.now S.requires.0 a.values a.marks a.n a.stamp S.requires.1 H.hold.new.s F.from_entries-found.new.s
+    F.from_entries-found.result H.hold.ensures (F.from_entries-found.ensures S.requires.0 a.s.now S.requires.1 H.hold.ensures)
 
-same_length : tie.Need-same-length
-same_length c = search rules
+shape_of-s : tie.Need-shape_of-s
+shape_of-s c = search rules
 
 returns : tie.Need-returns
 returns c =
@@ -34,10 +34,15 @@ returns c =
     let F = B.before.before.before.before in
     let H = F.before.before.before.before in
     let a = H.before.before.before.args in
-    λ y tried. tested a.s.now y a.values a.marks a.n a.stamp tried H.hold.new.0 F.from_entries.new.0
-    F.from_entries.result H.hold.ensures (F.from_entries.ensures y a.s.now tried H.hold.ensures)
-    B.hold2.new.0 B.hold2.ensures
+    λ y tried. tested a.s.now y a.values a.marks a.n a.stamp tried H.hold.new.s F.from_entries-found.new.s
+    F.from_entries-found.result H.hold.ensures (F.from_entries-found.ensures y a.s.now tried H.hold.ensures)
+    B.hold-2.new.s B.hold-2.ensures
 
 pub circle_spec : {M : Type 1} → statement M
 circle_spec =
-    tie.close (tie.spec hold-requires from-entries-requires hold-requires-2 same_length returns)
+    tie.close (tie.spec
+    hold-requires
+    from_entries-found-requires
+    hold-requires-2
+    shape_of-s
+    returns)

@@ -8,19 +8,19 @@ use Rattle.run_circle.proofs.Starts as starts
 use Rattle.run_circle.proofs.circle.from_entries.Statement.{statement}
 use Rattle.run_circle.proofs.circle.from_entries.Tie as tie
 
-abbrev invariant-loop : tie.invariant-loop
-invariant-loop s₀ values marks n stamp i₀ s i = starts.Passing s₀ values marks n stamp s i × (i ≤ n) × (length s ≡ length s₀)
+abbrev invariant-loop-i : tie.invariant-loop-i
+invariant-loop-i s₀ values marks n stamp i₀ s i = starts.Passing s₀ values marks n stamp s i × (i ≤ n) × (length s ≡ length s₀)
 
-abbrev decreases-loop : tie.decreases-loop
-decreases-loop s₀ values marks n stamp i₀ s i = n - i
+abbrev decreases-loop-i : tie.decreases-loop-i
+decreases-loop-i s₀ values marks n stamp i₀ s i = n - i
 
-loop-holds : tie.Need-loop-init invariant-loop decreases-loop
-loop-holds c =
+loop-i-init : tie.Need-loop-i-init invariant-loop-i decreases-loop-i
+loop-i-init c =
     let a = c.before.args in
     (λ y s₀ tried held. starts.passed_none s₀ a.s.now y a.values a.marks a.n a.stamp tried held, omega arith, refl)
 
-entry-pair-requires : tie.Need-entry-pair-requires invariant-loop decreases-loop
-entry-pair-requires c κs =
+entry_pair-z-requires : tie.Need-entry_pair-z-requires invariant-loop-i decreases-loop-i
+entry_pair-z-requires c κs =
     let L = c.before.before in
     let S = L.before.before in
     let a = S.args in
@@ -30,19 +30,19 @@ entry-pair-requires c κs =
           c.before.loop-test.true S.requires,
     )
 
-given-term-requires : tie.Need-given-term-requires invariant-loop decreases-loop
-given-term-requires c κs =
+given_term-h-requires : tie.Need-given_term-h-requires invariant-loop-i decreases-loop-i
+given_term-h-requires c κs =
     let L = c.before.before.before.before in
     let S = L.before.before in
     let a = S.args in
     starts.entry_at a.s.now a.values a.marks a.n a.stamp L.loop.s L.loop.i L.loop.invariant.0
     c.before.before.before.loop-test.true S.requires
 
-word-requires : tie.Need-word-requires invariant-loop decreases-loop
+word-requires : tie.Need-word-requires invariant-loop-i decreases-loop-i
 word-requires c κs = search rules
 
-add-from-term : tie.Need-overflow-add-from-term invariant-loop decreases-loop
-add-from-term c =
+overflow_add-stamp : tie.Need-overflow_add-stamp invariant-loop-i decreases-loop-i
+overflow_add-stamp c =
     let L = c.before.before.before.before.before.before.before in
     let S = L.before.before in
     let a = S.args in
@@ -53,25 +53,25 @@ add-from-term c =
           c.before.before.before.before.before.before.loop-test.true S.requires,
     )
 
-from-term-requires : tie.Need-from-term-requires invariant-loop decreases-loop
-from-term-requires c κs =
+from_term-r-requires : tie.Need-from_term-r-requires invariant-loop-i decreases-loop-i
+from_term-r-requires c κs =
     let G = c.before.before in
     let E = G.before.before in
     let L = E.before.before.before in
     let S = L.before.before in
     let a = S.args in
     starts.entry-call a.s.now a.values a.marks a.n a.stamp L.loop.s L.loop.i L.loop.invariant.0
-    E.before.before.loop-test.true E.entry_pair.result c.word.result G.given-term.result
-    E.entry_pair.ensures c.word.ensures G.given-term.ensures S.requires
+    E.before.before.loop-test.true E.entry_pair.result c.word.result G.given_term-h.result
+    E.entry_pair.ensures c.word.ensures G.given_term-h.ensures S.requires
 
-same_length : tie.Need-same-length invariant-loop decreases-loop
-same_length c =
+shape_of-s-then-r-eq-REACHED : tie.Need-shape_of-s-then-r-eq-REACHED invariant-loop-i decreases-loop-i
+shape_of-s-then-r-eq-REACHED c =
     let F = c.before.before.before in
     let L = F.before.before.before.before.before.before.before.before in
-    F.from-term.auto.0 ∙ L.loop.invariant.2
+    F.from_term-r.auto.s ∙ L.loop.invariant.2
 
-returns : tie.Need-returns invariant-loop decreases-loop
-returns c =
+returns-then-r-eq-REACHED : tie.Need-returns-then-r-eq-REACHED invariant-loop-i decreases-loop-i
+returns-then-r-eq-REACHED c =
     let F = c.before.before.before in
     let W = F.before in
     let G = W.before.before in
@@ -79,18 +79,18 @@ returns c =
     let L = E.before.before.before in
     let a = L.before.before.args in
     starts.entry-tells a.s.now a.values a.marks a.n a.stamp L.loop.s L.loop.i L.loop.invariant.0
-    E.before.before.loop-test.true E.entry_pair.result W.word.result G.given-term.result
-    E.entry_pair.ensures W.word.ensures G.given-term.ensures
-    F.from-term.new.0 F.from-term.result F.from-term.ensures c.if1.true
+    E.before.before.loop-test.true E.entry_pair.result W.word.result G.given_term-h.result
+    E.entry_pair.ensures W.word.ensures G.given_term-h.ensures
+    F.from_term-r.new.s F.from_term-r.result F.from_term-r.ensures c.if-r-eq-REACHED.true
 
-add-i : tie.Need-overflow-add-i invariant-loop decreases-loop
-add-i c = omega (arith, c.before.before.before.before.before.before.before.before.before.before.loop-test.true)
+overflow_add-i : tie.Need-overflow_add-i invariant-loop-i decreases-loop-i
+overflow_add-i c = omega (arith, c.before.before.before.before.before.before.before.before.before.before.loop-test.true)
 
-loop-less : tie.Need-loop-smaller invariant-loop decreases-loop
-loop-less c = omega (arith, c.before.before.before.before.before.before.before.before.before.before.loop-test.true)
+loop-i-smaller : tie.Need-loop-i-smaller invariant-loop-i decreases-loop-i
+loop-i-smaller c = omega (arith, c.before.before.before.before.before.before.before.before.before.before.loop-test.true)
 
-loop-again : tie.Need-loop-preserved invariant-loop decreases-loop
-loop-again c =
+loop-i-preserved : tie.Need-loop-i-preserved invariant-loop-i decreases-loop-i
+loop-i-preserved c =
     let F = c.before.before.before in
     let W = F.before in
     let G = W.before.before in
@@ -98,39 +98,39 @@ loop-again c =
     let L = E.before.before.before in
     let a = L.before.before.args in (
       starts.passing-next a.s.now a.values a.marks a.n a.stamp L.loop.s L.loop.i L.loop.invariant.0
-          E.before.before.loop-test.true E.entry_pair.result W.word.result G.given-term.result
-          E.entry_pair.ensures W.word.ensures G.given-term.ensures
-          F.from-term.new.0 F.from-term.result F.from-term.ensures c.if1.false,
+          E.before.before.loop-test.true E.entry_pair.result W.word.result G.given_term-h.result
+          E.entry_pair.ensures W.word.ensures G.given_term-h.ensures
+          F.from_term-r.new.s F.from_term-r.result F.from_term-r.ensures c.if-r-eq-REACHED.false,
       omega (arith, E.before.before.loop-test.true),
-      F.from-term.auto.0 ∙ L.loop.invariant.2,
+      F.from_term-r.auto.s ∙ L.loop.invariant.2,
     )
 
-same-length-2 : tie.Need-same-length-2 invariant-loop decreases-loop
-same-length-2 c = c.before.loop.invariant.2
+shape_of-s : tie.Need-shape_of-s invariant-loop-i decreases-loop-i
+shape_of-s c = c.before.loop-i.invariant.2
 
-returns-2 : tie.Need-returns-2 invariant-loop decreases-loop
-returns-2 c =
+returns : tie.Need-returns invariant-loop-i decreases-loop-i
+returns c =
     let L = c.before in
     let a = L.before.before.args in
-    λ y s₀ tried held. starts.passed-all s₀ a.s.now y a.values a.marks a.n a.stamp tried held L.loop.s L.loop.i
-    (L.loop.invariant.0 y s₀ tried held) c.loop-test.false L.loop.invariant.1
+    λ y s₀ tried held. starts.passed-all s₀ a.s.now y a.values a.marks a.n a.stamp tried held L.loop-i.s L.loop-i.i
+    (L.loop-i.invariant.0 y s₀ tried held) c.loop-i-test.false L.loop-i.invariant.1
 
 pub from_entries_spec : {M : Type 1} → statement M
 from_entries_spec =
     tie.close
     (tie.spec
-    invariant-loop
-    decreases-loop
-    loop-holds
-    entry-pair-requires
-    given-term-requires
+    invariant-loop-i
+    decreases-loop-i
+    loop-i-init
+    entry_pair-z-requires
+    given_term-h-requires
     word-requires
-    add-from-term
-    from-term-requires
-    same_length
-    returns
-    add-i
-    loop-less
-    loop-again
-    same-length-2
-    returns-2)
+    overflow_add-stamp
+    from_term-r-requires
+    shape_of-s-then-r-eq-REACHED
+    returns-then-r-eq-REACHED
+    overflow_add-i
+    loop-i-smaller
+    loop-i-preserved
+    shape_of-s
+    returns)

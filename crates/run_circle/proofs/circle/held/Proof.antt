@@ -7,17 +7,22 @@ use Rattle.run_circle.proofs.circle.held.Tie as tie
 word-requires : tie.Need-word-requires
 word-requires c κs = search rules
 
-mul-result : tie.Need-overflow-mul-result
-mul-result c = search rules
+overflow_mul-result : tie.Need-overflow_mul-result
+overflow_mul-result c = search rules
 
-add-result : tie.Need-overflow-add-result
-add-result c = search rules
+overflow_add-result : tie.Need-overflow_add-result
+overflow_add-result c = search rules
 
-returns : tie.Need-returns
-returns c = rw c.before.if1.true (omega (arith, c.word.ensures))
+returns-then-testing : tie.Need-returns-then-testing
+returns-then-testing c = rw c.before.if-testing.true (omega (arith, c.word.ensures))
 
-returns-2 : tie.Need-returns-2
-returns-2 c = search rules
+returns-else-testing : tie.Need-returns-else-testing
+returns-else-testing c = search rules
 
 pub held_spec : {M : Type 1} → statement M
-held_spec = tie.close (tie.spec word-requires mul-result add-result returns returns-2)
+held_spec = tie.close (tie.spec
+    word-requires
+    overflow_mul-result
+    overflow_add-result
+    returns-then-testing
+    returns-else-testing)

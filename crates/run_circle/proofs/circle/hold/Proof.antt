@@ -8,51 +8,51 @@ use Rattle.run_circle.proofs.Entries.{held_none, held_next, entry_stays}
 use Rattle.run_circle.proofs.circle.hold.Statement.{statement}
 use Rattle.run_circle.proofs.circle.hold.Tie as tie
 
-abbrev invariant-loop : tie.invariant-loop
-invariant-loop s₀ values n testing i₀ s i = Held s₀ s values i testing × (i ≤ n)
+abbrev invariant-loop-i : tie.invariant-loop-i
+invariant-loop-i s₀ values n testing i₀ s i = Held s₀ s values i testing × (i ≤ n)
 
-abbrev decreases-loop : tie.decreases-loop
-decreases-loop s₀ values n testing i₀ s i = n - i
+abbrev decreases-loop-i : tie.decreases-loop-i
+decreases-loop-i s₀ values n testing i₀ s i = n - i
 
-loop-holds : tie.Need-loop-init invariant-loop decreases-loop
-loop-holds c =
+loop-i-init : tie.Need-loop-i-init invariant-loop-i decreases-loop-i
+loop-i-init c =
     let S = c.before in
     (held_none S.args.s.now S.args.values S.args.testing, omega arith)
 
-entry-pair-requires : tie.Need-entry-pair-requires invariant-loop decreases-loop
-entry-pair-requires c κs =
+entry_pair-z-requires : tie.Need-entry_pair-z-requires invariant-loop-i decreases-loop-i
+entry_pair-z-requires c κs =
     let S = c.before.before.before.before in
     let L = c.before.before in
     omega (arith, S.requires.inside L.loop.i c.before.loop-test.true, S.requires.before, L.loop.invariant.0.size)
 
-held-requires : tie.Need-held-requires invariant-loop decreases-loop
-held-requires c κs =
+held-v-requires : tie.Need-held-v-requires invariant-loop-i decreases-loop-i
+held-v-requires c κs =
     let S = c.before.before.before.before.before in
     let L = c.before.before.before in
     omega (arith, S.requires.inside L.loop.i c.before.before.loop-test.true, S.requires.before, S.well-formed.0.1, c.before.before.loop-test.true)
 
-set-at-requires : tie.Need-set-at-requires invariant-loop decreases-loop
-set-at-requires c κs =
+set_at-requires : tie.Need-set_at-requires invariant-loop-i decreases-loop-i
+set_at-requires c κs =
     let S = c.before.before.before.before.before.before.before in
     let L = c.before.before.before.before.before in
     let l = c.before.before.before.before.loop-test.true in
     let s₀ = S.args.s.now in
     omega (
       arith,
-      c.before.before.entry_pair.ensures,
+      c.before.before.entry_pair-z.ensures,
       entry_stays s₀ L.loop.s S.args.values S.args.n S.args.testing S.requires L.loop.i L.loop.invariant.1 L.loop.invariant.0 L.loop.i l,
       S.requires.inside L.loop.i l,
       L.loop.invariant.0.size,
     )
 
-add-i : tie.Need-overflow-add-i invariant-loop decreases-loop
-add-i c = omega (arith, c.before.before.before.before.before.before.before.loop-test.true)
+overflow_add-i : tie.Need-overflow_add-i invariant-loop-i decreases-loop-i
+overflow_add-i c = omega (arith, c.before.before.before.before.before.before.before.loop-test.true)
 
-loop-less : tie.Need-loop-smaller invariant-loop decreases-loop
-loop-less c = omega (arith, c.before.before.before.before.before.before.before.loop-test.true)
+loop-i-smaller : tie.Need-loop-i-smaller invariant-loop-i decreases-loop-i
+loop-i-smaller c = omega (arith, c.before.before.before.before.before.before.before.loop-test.true)
 
-loop-again : tie.Need-loop-preserved invariant-loop decreases-loop
-loop-again c =
+loop-i-preserved : tie.Need-loop-i-preserved invariant-loop-i decreases-loop-i
+loop-i-preserved c =
     let M = c.before.before in
     let E = M.before.before.before in
     let L = E.before.before.before in
@@ -60,36 +60,36 @@ loop-again c =
     let l = E.before.before.loop-test.true in
     let s₀ = S.args.s.now in
     let stays = entry_stays s₀ L.loop.s S.args.values S.args.n S.args.testing S.requires L.loop.i L.loop.invariant.1 L.loop.invariant.0 L.loop.i l in
-    let is : E.entry_pair.result ≡ entry_pair s₀ L.loop.i = E.entry_pair.ensures ∙ stays in
-    let all : M.set_at.new.0 ≡ set L.loop.s (S.args.values + entry_pair s₀ L.loop.i) (held_word S.args.testing L.loop.i) =
-    M.set_at.ensures ∙ rw (is, M.before.before.held.ensures) refl in (
+    let is : E.entry_pair-z.result ≡ entry_pair s₀ L.loop.i = E.entry_pair-z.ensures ∙ stays in
+    let all : M.set_at.new.s ≡ set L.loop.s (S.args.values + entry_pair s₀ L.loop.i) (held_word S.args.testing L.loop.i) =
+    M.set_at.ensures ∙ rw (is, M.before.before.held-v.ensures) refl in (
       subst (λ s. Held s₀ s S.args.values (L.loop.i + 1) S.args.testing) (sym all)
           (held_next s₀ L.loop.s S.args.values S.args.n S.args.testing S.requires L.loop.i l L.loop.invariant.0),
       omega arith,
     )
 
-same_length : tie.Need-same-length invariant-loop decreases-loop
-same_length c = c.before.loop.invariant.0.size
+shape_of-s : tie.Need-shape_of-s invariant-loop-i decreases-loop-i
+shape_of-s c = c.before.loop-i.invariant.0.size
 
-returns : tie.Need-returns invariant-loop decreases-loop
+returns : tie.Need-returns invariant-loop-i decreases-loop-i
 returns c =
     let L = c.before in
     let S = L.before.before in
-    let all : L.loop.i ≡ S.args.n = omega (arith, c.loop-test.false, L.loop.invariant.1) in
-    subst (λ n. Held S.args.s.now L.loop.s S.args.values n S.args.testing) all L.loop.invariant.0
+    let all : L.loop-i.i ≡ S.args.n = omega (arith, c.loop-i-test.false, L.loop-i.invariant.1) in
+    subst (λ n. Held S.args.s.now L.loop-i.s S.args.values n S.args.testing) all L.loop-i.invariant.0
 
 pub hold_spec : {M : Type 1} → statement M
 hold_spec =
     tie.close
     (tie.spec
-    invariant-loop
-    decreases-loop
-    loop-holds
-    entry-pair-requires
-    held-requires
-    set-at-requires
-    add-i
-    loop-less
-    loop-again
-    same_length
+    invariant-loop-i
+    decreases-loop-i
+    loop-i-init
+    entry_pair-z-requires
+    held-v-requires
+    set_at-requires
+    overflow_add-i
+    loop-i-smaller
+    loop-i-preserved
+    shape_of-s
     returns)

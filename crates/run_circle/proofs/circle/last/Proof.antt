@@ -6,59 +6,59 @@ use Rattle.run_circle.proofs.Lasts.{last_first, last_next, last_none}
 use Rattle.run_circle.proofs.circle.last.Statement.{statement}
 use Rattle.run_circle.proofs.circle.last.Tie as tie
 
-abbrev invariant-loop : tie.invariant-loop
-invariant-loop s q k₀ k = LastLeads s q k
+abbrev invariant-loop-k : tie.invariant-loop-k
+invariant-loop-k s q k₀ k = LastLeads s q k
 
-abbrev decreases-loop : tie.decreases-loop
-decreases-loop s q k₀ k = k
+abbrev decreases-loop-k : tie.decreases-loop-k
+decreases-loop-k s q k₀ k = k
 
-count-requires : tie.Need-count-requires invariant-loop decreases-loop
-count-requires c κs = search rules
+count-k-requires : tie.Need-count-k-requires invariant-loop-k decreases-loop-k
+count-k-requires c κs = search rules
 
-loop-holds : tie.Need-loop-init invariant-loop decreases-loop
-loop-holds c = last_first c.before.before.args.s.now c.before.before.args.q c.count.result c.count.ensures
+loop-k-init : tie.Need-loop-k-init invariant-loop-k decreases-loop-k
+loop-k-init c = last_first c.before.before.args.s.now c.before.before.args.q c.count-k.result c.count-k.ensures
 
-argument-requires : tie.Need-argument-requires invariant-loop decreases-loop
-argument-requires c κs = omega (arith, c.before.loop.invariant.among, c.before.before.before.before.requires)
+argument-a-requires : tie.Need-argument-a-requires invariant-loop-k decreases-loop-k
+argument-a-requires c κs = omega (arith, c.before.loop-k.invariant.among, c.before.before.before.before.requires)
 
-leads-requires : tie.Need-leads-requires invariant-loop decreases-loop
+leads-requires : tie.Need-leads-requires invariant-loop-k decreases-loop-k
 leads-requires c κs = search rules
 
-returns : tie.Need-returns invariant-loop decreases-loop
-returns c = c.before.before.before.before.loop.invariant
+returns-then-leads : tie.Need-returns-then-leads invariant-loop-k decreases-loop-k
+returns-then-leads c = c.before.before.before.before.loop-k.invariant
 
-sub-k : tie.Need-overflow-sub-k invariant-loop decreases-loop
-sub-k c = omega (arith, c.before.before.before.loop-test.true)
+overflow_sub-k : tie.Need-overflow_sub-k invariant-loop-k decreases-loop-k
+overflow_sub-k c = omega (arith, c.before.before.before.loop-k-test.true)
 
-loop-less : tie.Need-loop-smaller invariant-loop decreases-loop
-loop-less c = omega (arith, c.before.before.before.loop-test.true)
+loop-k-smaller : tie.Need-loop-k-smaller invariant-loop-k decreases-loop-k
+loop-k-smaller c = omega (arith, c.before.before.before.loop-k-test.true)
 
-loop-again : tie.Need-loop-preserved invariant-loop decreases-loop
-loop-again c =
+loop-k-preserved : tie.Need-loop-k-preserved invariant-loop-k decreases-loop-k
+loop-k-preserved c =
     let A = c.before.before in
     let L = A.before.before in
     let S = L.before.before.before in
-    last_next S.args.s.now S.args.q L.loop.k A.argument.result A.before.loop-test.true L.loop.invariant A.argument.ensures
-    (rw c.if1.false at c.before.leads.ensures)
+    last_next S.args.s.now S.args.q L.loop-k.k A.argument-a.result A.before.loop-k-test.true L.loop-k.invariant A.argument-a.ensures
+    (rw c.if-leads.false at c.before.leads.ensures)
 
-returns-2 : tie.Need-returns-2 invariant-loop decreases-loop
-returns-2 c =
+returns : tie.Need-returns invariant-loop-k decreases-loop-k
+returns c =
     let L = c.before in
     let S = L.before.before.before in
-    last_none S.args.s.now S.args.q L.loop.k c.loop-test.false L.loop.invariant
+    last_none S.args.s.now S.args.q L.loop-k.k c.loop-k-test.false L.loop-k.invariant
 
 pub last_spec : {M : Type 1} → statement M
 last_spec =
     tie.close
     (tie.spec
-    invariant-loop
-    decreases-loop
-    count-requires
-    loop-holds
-    argument-requires
+    invariant-loop-k
+    decreases-loop-k
+    count-k-requires
+    loop-k-init
+    argument-a-requires
     leads-requires
-    returns
-    sub-k
-    loop-less
-    loop-again
-    returns-2)
+    returns-then-leads
+    overflow_sub-k
+    loop-k-smaller
+    loop-k-preserved
+    returns)

@@ -3,17 +3,21 @@ use mathlib.Core.Logic.{inl, inr}
 use Rattle.run_circle.proofs.circle.leads.Statement.{statement}
 use Rattle.run_circle.proofs.circle.leads.Tie as tie
 
+returns-then-tag-eq-COMPOUND : tie.Need-returns-then-tag-eq-COMPOUND
+returns-then-tag-eq-COMPOUND c = inl c.if-tag-eq-COMPOUND.true
+
+returns-then-tag-eq0 : tie.Need-returns-then-tag-eq0
+returns-then-tag-eq0 c = (c.before.if-tag-eq-COMPOUND.false, inl c.if-tag-eq0.true)
+
+returns-then-tag-gt-READER : tie.Need-returns-then-tag-gt-READER
+returns-then-tag-gt-READER c = (c.before.before.if-tag-eq-COMPOUND.false, inr c.if-tag-gt-READER.true)
+
 returns : tie.Need-returns
-returns c = inl c.if1.true
-
-returns-2 : tie.Need-returns-2
-returns-2 c = (c.before.if1.false, inl c.if2.true)
-
-returns-3 : tie.Need-returns-3
-returns-3 c = (c.before.before.if1.false, inr c.if3.true)
-
-returns-4 : tie.Need-returns-4
-returns-4 c = inr (c.before.if2.false, c.if3.false)
+returns c = inr (c.before.if-tag-eq0.false, c.if-tag-gt-READER.false)
 
 pub leads_spec : {M : Type 1} → statement M
-leads_spec = tie.close (tie.spec returns returns-2 returns-3 returns-4)
+leads_spec = tie.close (tie.spec
+    returns-then-tag-eq-COMPOUND
+    returns-then-tag-eq0
+    returns-then-tag-gt-READER
+    returns)

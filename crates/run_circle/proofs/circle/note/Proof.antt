@@ -9,16 +9,16 @@ use Rattle.run_circle.proofs.Visiting.{first_inside, note_settled}
 use Rattle.run_circle.proofs.circle.note.Statement.{statement}
 use Rattle.run_circle.proofs.circle.note.Tie as tie
 
-visited-one-requires : tie.Need-visited-one-requires
-visited-one-requires c κs = search rules
+visited_one-requires : tie.Need-visited_one-requires
+visited_one-requires c κs = search rules
 
-first-visited-requires : tie.Need-first-visited-requires
-first-visited-requires c κs =
+first_visited-q-requires : tie.Need-first_visited-q-requires
+first_visited-q-requires c κs =
     let One = c.before in
-    ltb-true 1 One.before.before.args.state (sym One.visited_one.ensures ∙ c.if1.true)
+    ltb-true 1 One.before.before.args.state (sym One.visited_one.ensures ∙ c.if-visited_one.true)
 
-word-at-requires : tie.Need-word-at-requires
-word-at-requires c κs =
+word_at-m-requires : tie.Need-word_at-m-requires
+word_at-m-requires c κs =
     let First = c.before in
     let S = First.before.before.before.before in
     let a = S.args in
@@ -28,37 +28,37 @@ word-at-requires c κs =
 word-requires : tie.Need-word-requires
 word-requires c κs = search rules
 
-add-set-at : tie.Need-overflow-add-set-at
-add-set-at c =
+overflow_add-word : tie.Need-overflow_add-word
+overflow_add-word c =
     let S = c.before.before.before.before.before.before.before.before.before in
     let (x, place, goal, h, leading, below) = S.requires in
     omega (arith, c.word.ensures, below, h.few)
 
-mul-set-at : tie.Need-overflow-mul-set-at
-mul-set-at c =
+overflow_mul-word : tie.Need-overflow_mul-word
+overflow_mul-word c =
     let S = c.before.before.before.before.before.before.before.before.before in
     let (x, place, goal, h, leading, below) = S.requires in
     omega (arith, c.word.ensures, below, h.few)
 
-add-set-at-2 : tie.Need-overflow-add-set-at-2
-add-set-at-2 c =
+overflow_add-word-then-m-stamp : tie.Need-overflow_add-word-then-m-stamp
+overflow_add-word-then-m-stamp c =
     let S = c.before.before.before.before.before.before.before.before.before in
     let (x, place, goal, h, leading, below) = S.requires in
     omega (arith, c.word.ensures, below, h.few, h.stamp_below)
 
-set-at-requires : tie.Need-set-at-requires
-set-at-requires c κs =
+set_at-requires : tie.Need-set_at-requires
+set_at-requires c κs =
     let First = c.before.before.before.before.before in
     let S = First.before.before.before.before in
     let a = S.args in
     let (x, place, goal, h, leading, below) = S.requires in
     first_inside a.s.now x a.values a.marks place a.stamp goal a.state a.p h leading First.first-visited.result First.first-visited.ensures
 
-same_length : tie.Need-same-length
-same_length c = c.before.before.set_at.auto.0
+shape_of-s-then-m-stamp : tie.Need-shape_of-s-then-m-stamp
+shape_of-s-then-m-stamp c = c.before.before.set_at.auto.s
 
-returns : tie.Need-returns
-returns c =
+returns-then-m-stamp : tie.Need-returns-then-m-stamp
+returns-then-m-stamp c =
     let SetAt = c.before.before in
     let Word = SetAt.before in
     let If2 = Word.before.before in
@@ -66,21 +66,21 @@ returns c =
     let First = WordAt.before.before in
     let S = First.before.before.before.before in
     let a = S.args in λ x place goal h leading below.
-    let m : stamp_in WordAt.word_at.result ≡ a.stamp = If2.if2.true in
+    let m : stamp_in WordAt.word_at-m.result ≡ a.stamp = If2.if-m-stamp.true in
     rw (SetAt.set_at.ensures, Word.word.ensures)
     (note_settled a.s.now x a.values a.marks place a.stamp goal a.state a.p h leading First.first-visited.result First.first-visited.ensures
-    (ap (λ n. stamp_in n) (sym WordAt.word_at.ensures) ∙ m))
+    (ap (λ n. stamp_in n) (sym WordAt.word_at-m.ensures) ∙ m))
 
-same-length-2 : tie.Need-same-length-2
-same-length-2 c = refl
+shape_of-s-else-m-stamp : tie.Need-shape_of-s-else-m-stamp
+shape_of-s-else-m-stamp c = refl
 
-returns-2 : tie.Need-returns-2
-returns-2 c =
+returns-else-m-stamp : tie.Need-returns-else-m-stamp
+returns-else-m-stamp c =
     let S = c.before.before.before.before.before.before.before in
     λ x place goal h leading below. settled_same x S.args.marks S.args.stamp S.args.s.now
 
-returns-3 : tie.Need-returns-3
-returns-3 c =
+returns-else-visited_one : tie.Need-returns-else-visited_one
+returns-else-visited_one c =
     let S = c.before.before.before in
     λ x place goal h leading below. settled_same x S.args.marks S.args.stamp S.args.s.now
 
@@ -88,16 +88,16 @@ pub note_spec : {M : Type 1} → statement M
 note_spec =
     tie.close
     (tie.spec
-    visited-one-requires
-    first-visited-requires
-    word-at-requires
+    visited_one-requires
+    first_visited-q-requires
+    word_at-m-requires
     word-requires
-    add-set-at
-    mul-set-at
-    add-set-at-2
-    set-at-requires
-    same_length
-    returns
-    same-length-2
-    returns-2
-    returns-3)
+    overflow_add-word
+    overflow_mul-word
+    overflow_add-word-then-m-stamp
+    set_at-requires
+    shape_of-s-then-m-stamp
+    returns-then-m-stamp
+    shape_of-s-else-m-stamp
+    returns-else-m-stamp
+    returns-else-visited_one)

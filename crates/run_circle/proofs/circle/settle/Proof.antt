@@ -25,41 +25,41 @@ use Rattle.run_circle.proofs.Settle.{
 use Rattle.run_circle.proofs.circle.settle.Statement.{statement}
 use Rattle.run_circle.proofs.circle.settle.Tie as tie
 
-abbrev invariant-loop : tie.invariant-loop
-invariant-loop s₀ values marks stamp pair t₀ s t = Settling s₀ values marks stamp pair s t × (length s ≡ length s₀)
+abbrev invariant-loop-q : tie.invariant-loop-q
+invariant-loop-q s₀ values marks stamp pair t₀ s t = Settling s₀ values marks stamp pair s t × (length s ≡ length s₀)
 
-abbrev decreases-loop : tie.decreases-loop
-decreases-loop s₀ values marks stamp pair t₀ s t = term_weight s marks is_one false t
+abbrev decreases-loop-q : tie.decreases-loop-q
+decreases-loop-q s₀ values marks stamp pair t₀ s t = term_weight s marks is_one false t
 
-word-requires : tie.Need-word-requires invariant-loop decreases-loop
+word-requires : tie.Need-word-requires invariant-loop-q decreases-loop-q
 word-requires c κs =
     search rules
 
-mul-t : tie.Need-overflow-mul-t invariant-loop decreases-loop
-mul-t c =
+overflow_mul-t : tie.Need-overflow_mul-t invariant-loop-q decreases-loop-q
+overflow_mul-t c =
     let S = c.before.before in
-    omega (arith, c.word.ensures, settle_small S.args.s.now S.args.values S.args.marks S.args.stamp S.args.pair S.requires, S.well-formed.0.1)
+    omega (arith, c.word.ensures, settle_small S.args.s.now S.args.values S.args.marks S.args.stamp S.args.pair S.requires, S.well_formed.0.1)
 
-add-t : tie.Need-overflow-add-t invariant-loop decreases-loop
-add-t c =
+overflow_add-t : tie.Need-overflow_add-t invariant-loop-q decreases-loop-q
+overflow_add-t c =
     let S = c.before.before in
-    omega (arith, c.word.ensures, settle_small S.args.s.now S.args.values S.args.marks S.args.stamp S.args.pair S.requires, S.well-formed.0.1)
+    omega (arith, c.word.ensures, settle_small S.args.s.now S.args.values S.args.marks S.args.stamp S.args.pair S.requires, S.well_formed.0.1)
 
-loop-holds : tie.Need-loop-init invariant-loop decreases-loop
-loop-holds c =
+loop-q-init : tie.Need-loop-q-init invariant-loop-q decreases-loop-q
+loop-q-init c =
     let S = c.before.before in
     (settling_first S.args.s.now S.args.values S.args.marks S.args.stamp S.args.pair (writer_word c.word.result) (omega (arith, c.word.ensures)), refl)
 
-leads-requires : tie.Need-leads-requires invariant-loop decreases-loop
+leads-requires : tie.Need-leads-requires invariant-loop-q decreases-loop-q
 leads-requires c κs =
     search rules
 
-index-requires : tie.Need-index-requires invariant-loop decreases-loop
-index-requires c κs =
+index-q-requires : tie.Need-index-q-requires invariant-loop-q decreases-loop-q
+index-q-requires c κs =
     search rules
 
-last-requires : tie.Need-last-requires invariant-loop decreases-loop
-last-requires c κs =
+last-k-requires : tie.Need-last-k-requires invariant-loop-q decreases-loop-q
+last-k-requires c κs =
     let If2 = c.before in
     let Index = If2.before in
     let Loop = Index.before.before.before in
@@ -67,19 +67,19 @@ last-requires c κs =
     settle_count S.args.s.now S.args.values S.args.marks S.args.stamp S.args.pair Loop.loop.s Loop.loop.t Loop.loop.invariant.0 If2.if2.true
     Index.index.result Index.index.ensures S.requires
 
-same_length : tie.Need-same-length invariant-loop decreases-loop
-same_length c =
+shape_of-s-then-k-eq0 : tie.Need-shape_of-s-then-k-eq0 invariant-loop-q decreases-loop-q
+shape_of-s-then-k-eq0 c =
     let Loop = c.before.before.before.before.before.before.before in
     Loop.loop.invariant.1
 
-returns : tie.Need-returns invariant-loop decreases-loop
-returns c =
+returns-then-k-eq0 : tie.Need-returns-then-k-eq0 invariant-loop-q decreases-loop-q
+returns-then-k-eq0 c =
     let Loop = c.before.before.before.before.before.before.before in
     let S = Loop.before.before.before in
     settling_last S.args.s.now S.args.values S.args.marks S.args.stamp S.args.pair Loop.loop.s Loop.loop.t Loop.loop.invariant.0
 
-argument-requires : tie.Need-argument-requires invariant-loop decreases-loop
-argument-requires c κs =
+argument-t-requires : tie.Need-argument-t-requires invariant-loop-q decreases-loop-q
+argument-t-requires c κs =
     let Last = c.before.before in
     let If2 = Last.before.before in
     let Index = If2.before in
@@ -92,8 +92,8 @@ argument-requires c κs =
       Last.last.ensures.among,
     )
 
-loop-less : tie.Need-loop-smaller invariant-loop decreases-loop
-loop-less c =
+loop-q-smaller-then-t-eq-COMPOUND : tie.Need-loop-q-smaller-then-t-eq-COMPOUND invariant-loop-q decreases-loop-q
+loop-q-smaller-then-t-eq-COMPOUND c =
     let If3 = c.before.before in
     let Last = If3.before in
     let If2 = Last.before.before in
@@ -101,10 +101,10 @@ loop-less c =
     let Loop = Index.before.before.before in
     let S = Loop.before.before.before in
     argument_lighter S.args.s.now S.args.values S.args.marks S.args.stamp S.args.pair Loop.loop.s Loop.loop.t Loop.loop.invariant.0 If2.if2.true
-    Index.index.result Index.index.ensures Last.last.result Last.last.ensures If3.if3.false c.argument.result c.argument.ensures S.requires
+    Index.index.result Index.index.ensures Last.last.result Last.last.ensures If3.if3.false c.argument-t.result c.argument-t.ensures S.requires
 
-loop-again : tie.Need-loop-preserved invariant-loop decreases-loop
-loop-again c =
+loop-q-preserved-then-t-eq-COMPOUND : tie.Need-loop-q-preserved-then-t-eq-COMPOUND invariant-loop-q decreases-loop-q
+loop-q-preserved-then-t-eq-COMPOUND c =
     let If3 = c.before.before in
     let Last = If3.before in
     let If2 = Last.before.before in
@@ -112,12 +112,12 @@ loop-again c =
     let Loop = Index.before.before.before in
     let S = Loop.before.before.before in (
       settling_argument S.args.s.now S.args.values S.args.marks S.args.stamp S.args.pair Loop.loop.s Loop.loop.t Loop.loop.invariant.0 If2.if2.true
-          Index.index.result Index.index.ensures Last.last.result Last.last.ensures If3.if3.false c.argument.result c.argument.ensures,
+          Index.index.result Index.index.ensures Last.last.result Last.last.ensures If3.if3.false c.argument-t.result c.argument-t.ensures,
       Loop.loop.invariant.1,
     )
 
-word-at-requires : tie.Need-word-at-requires invariant-loop decreases-loop
-word-at-requires c κs =
+word_at-m-requires : tie.Need-word_at-m-requires invariant-loop-q decreases-loop-q
+word_at-m-requires c κs =
     let If2 = c.before in
     let Index = If2.before in
     let If1 = Index.before in
@@ -127,19 +127,19 @@ word-at-requires c κs =
     settle_mark S.args.s.now S.args.values S.args.marks S.args.stamp S.args.pair Loop.loop.s Loop.loop.t Loop.loop.invariant.0 If2.if2.false (rw
     If1.if1.true at Leads.leads.ensures) Index.index.result Index.index.ensures S.requires
 
-same-length-2 : tie.Need-same-length-2 invariant-loop decreases-loop
-same-length-2 c =
+shape_of-s-then-m-stamp : tie.Need-shape_of-s-then-m-stamp invariant-loop-q decreases-loop-q
+shape_of-s-then-m-stamp c =
     let Loop = c.before.before.before.before.before.before.before in
     Loop.loop.invariant.1
 
-returns-2 : tie.Need-returns-2 invariant-loop decreases-loop
-returns-2 c =
+returns-then-m-stamp : tie.Need-returns-then-m-stamp invariant-loop-q decreases-loop-q
+returns-then-m-stamp c =
     let Loop = c.before.before.before.before.before.before.before in
     let S = Loop.before.before.before in
     settling_last S.args.s.now S.args.values S.args.marks S.args.stamp S.args.pair Loop.loop.s Loop.loop.t Loop.loop.invariant.0
 
-set-at-requires : tie.Need-set-at-requires invariant-loop decreases-loop
-set-at-requires c κs =
+set_at-requires : tie.Need-set_at-requires invariant-loop-q decreases-loop-q
+set_at-requires c κs =
     let If2 = c.before.before.before.before in
     let Index = If2.before in
     let If1 = Index.before in
@@ -149,8 +149,8 @@ set-at-requires c κs =
     settle_mark S.args.s.now S.args.values S.args.marks S.args.stamp S.args.pair Loop.loop.s Loop.loop.t Loop.loop.invariant.0 If2.if2.false (rw
     If1.if1.true at Leads.leads.ensures) Index.index.result Index.index.ensures S.requires
 
-word-at-requires-2 : tie.Need-word-at-requires-2 invariant-loop decreases-loop
-word-at-requires-2 c κs =
+word_at-t-requires : tie.Need-word_at-t-requires invariant-loop-q decreases-loop-q
+word_at-t-requires c κs =
     let SetAt = c.before.before.before in
     let If4 = SetAt.before.before in
     let WordAt = If4.before in
@@ -164,8 +164,8 @@ word-at-requires-2 c κs =
     If1.if1.true at Leads.leads.ensures) Index.index.result Index.index.ensures (ap (λ m. stamp_in m) (sym WordAt.word_at.ensures) ∙ If4.if4.false)
     SetAt.set_at.new.0 SetAt.set_at.ensures S.requires
 
-loop-less-2 : tie.Need-loop-smaller-2 invariant-loop decreases-loop
-loop-less-2 c =
+loop-q-smaller : tie.Need-loop-q-smaller invariant-loop-q decreases-loop-q
+loop-q-smaller c =
     let SetAt = c.before.before.before.before in
     let If4 = SetAt.before.before in
     let WordAt = If4.before in
@@ -177,10 +177,10 @@ loop-less-2 c =
     let S = Loop.before.before.before in
     value_lighter S.args.s.now S.args.values S.args.marks S.args.stamp S.args.pair Loop.loop.s Loop.loop.t Loop.loop.invariant.0 If2.if2.false (rw
     If1.if1.true at Leads.leads.ensures) Index.index.result Index.index.ensures (ap (λ m. stamp_in m) (sym WordAt.word_at.ensures) ∙ If4.if4.false)
-    SetAt.set_at.new.0 SetAt.set_at.ensures S.requires c.word-at2.result
+    SetAt.set_at.new.0 SetAt.set_at.ensures S.requires c.word_at-t.result
 
-loop-again-2 : tie.Need-loop-preserved-2 invariant-loop decreases-loop
-loop-again-2 c =
+loop-q-preserved : tie.Need-loop-q-preserved invariant-loop-q decreases-loop-q
+loop-q-preserved c =
     let SetAt = c.before.before.before.before in
     let If4 = SetAt.before.before in
     let WordAt = If4.before in
@@ -192,45 +192,45 @@ loop-again-2 c =
     let S = Loop.before.before.before in (
       settling_value S.args.s.now S.args.values S.args.marks S.args.stamp S.args.pair Loop.loop.s Loop.loop.t Loop.loop.invariant.0 If2.if2.false
           (rw If1.if1.true at Leads.leads.ensures) Index.index.result Index.index.ensures (ap (λ m. stamp_in m) (sym WordAt.word_at.ensures) ∙ If4.if4.false)
-          SetAt.set_at.new.0 SetAt.set_at.ensures c.word-at2.result c.word-at2.ensures,
+          SetAt.set_at.new.0 SetAt.set_at.ensures c.word_at-t.result c.word_at-t.ensures,
       SetAt.set_at.auto.0 ∙ Loop.loop.invariant.1,
     )
 
-same-length-3 : tie.Need-same-length-3 invariant-loop decreases-loop
-same-length-3 c =
+shape_of-s : tie.Need-shape_of-s invariant-loop-q decreases-loop-q
+shape_of-s c =
     let Loop = c.before.before in
-    Loop.loop.invariant.1
+    Loop.loop-q.invariant.1
 
-returns-3 : tie.Need-returns-3 invariant-loop decreases-loop
-returns-3 c =
+returns : tie.Need-returns invariant-loop-q decreases-loop-q
+returns c =
     let Loop = c.before.before in
     let S = Loop.before.before.before in
-    settling_last S.args.s.now S.args.values S.args.marks S.args.stamp S.args.pair Loop.loop.s Loop.loop.t Loop.loop.invariant.0
+    settling_last S.args.s.now S.args.values S.args.marks S.args.stamp S.args.pair Loop.loop-q.s Loop.loop-q.t Loop.loop-q.invariant.0
 
 pub settle_spec : {M : Type 1} → statement M
 settle_spec =
     tie.close
     (tie.spec
-    invariant-loop
-    decreases-loop
+    invariant-loop-q
+    decreases-loop-q
     word-requires
-    mul-t
-    add-t
-    loop-holds
+    overflow_mul-t
+    overflow_add-t
+    loop-q-init
     leads-requires
-    index-requires
-    last-requires
-    same_length
-    returns
-    argument-requires
-    loop-less
-    loop-again
-    word-at-requires
-    same-length-2
-    returns-2
-    set-at-requires
-    word-at-requires-2
-    loop-less-2
-    loop-again-2
-    same-length-3
-    returns-3)
+    index-q-requires
+    last-k-requires
+    shape_of-s-then-k-eq0
+    returns-then-k-eq0
+    argument-t-requires
+    loop-q-smaller-then-t-eq-COMPOUND
+    loop-q-preserved-then-t-eq-COMPOUND
+    word_at-m-requires
+    shape_of-s-then-m-stamp
+    returns-then-m-stamp
+    set_at-requires
+    word_at-t-requires
+    loop-q-smaller
+    loop-q-preserved
+    shape_of-s
+    returns)

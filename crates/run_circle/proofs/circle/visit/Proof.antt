@@ -7,44 +7,44 @@ use Rattle.run_circle.proofs.Visiting.{visit_mark, visit_fits, visit_searching, 
 use Rattle.run_circle.proofs.circle.visit.Statement.{statement}
 use Rattle.run_circle.proofs.circle.visit.Tie as tie
 
-mul-set-at : tie.Need-overflow-mul-set-at
-mul-set-at c = search rules
+overflow_mul-end : tie.Need-overflow_mul-end
+overflow_mul-end c = search rules
 
-add-set-at : tie.Need-overflow-add-set-at
-add-set-at c =
+overflow_add-end : tie.Need-overflow_add-end
+overflow_add-end c =
     let S = c.before.before in
     let (x, place, goal, n, v) = S.requires in
-    omega (arith, v.searching.stamp_below, S.well-formed)
+    omega (arith, v.searching.stamp_below, S.well_formed)
 
-set-at-requires : tie.Need-set-at-requires
-set-at-requires c κs =
+set_at-requires : tie.Need-set_at-requires
+set_at-requires c κs =
     let S = c.before.before in
     let a = S.args in
     let (x, place, goal, n, v) = S.requires in
     visit_mark a.s.now x a.values a.marks place a.stamp goal a.state a.p a.m n v
 
-sub-result : tie.Need-overflow-sub-result
-sub-result c = search rules
+overflow_sub-result : tie.Need-overflow_sub-result
+overflow_sub-result c = search rules
 
-mul-result : tie.Need-overflow-mul-result
-mul-result c = search rules
+overflow_mul-result : tie.Need-overflow_mul-result
+overflow_mul-result c = search rules
 
-add-result : tie.Need-overflow-add-result
-add-result c = search rules
+overflow_add-result : tie.Need-overflow_add-result
+overflow_add-result c = search rules
 
-same_length : tie.Need-same-length
-same_length c = c.before.before.before.set_at.auto.0
+shape_of-s-then-end-ne0 : tie.Need-shape_of-s-then-end-ne0
+shape_of-s-then-end-ne0 c = c.before.before.before.set_at.auto.s
 
-returns : tie.Need-returns
-returns c =
+returns-then-end-ne0 : tie.Need-returns-then-end-ne0
+returns-then-end-ne0 c =
     let SetAt = c.before.before.before in
     let S = SetAt.before.before.before in
     let a = S.args in λ x place goal n v.
-    visits_via a.s.now x a.values a.marks place a.stamp goal a.state a.p a.m n v c.if1.true SetAt.set_at.new.0 _
+    visits_via a.s.now x a.values a.marks place a.stamp goal a.state a.p a.m n v c.if-end-ne0.true SetAt.set_at.new.s _
     SetAt.set_at.ensures (omega arith)
 
-word-at-requires : tie.Need-word-at-requires
-word-at-requires c κs =
+word_at-t-requires : tie.Need-word_at-t-requires
+word_at-t-requires c κs =
     let SetAt = c.before.before.before.before in
     let S = SetAt.before.before.before in
     let a = S.args in
@@ -68,14 +68,14 @@ note-requires c κs =
       (visit_fits a.s.now x a.values a.marks place a.stamp goal a.state a.p a.m n v).1,
     )
 
-same-length-2 : tie.Need-same-length-2
-same-length-2 c =
+shape_of-s-then-unassigned : tie.Need-shape_of-s-then-unassigned
+shape_of-s-then-unassigned c =
     let Note = c.before.before in
     let SetAt = Note.before.before.before.before.before.before.before.before.before in
-    Note.note.auto.0 ∙ SetAt.set_at.auto.0
+    Note.note.auto.s ∙ SetAt.set_at.auto.0
 
-returns-2 : tie.Need-returns-2
-returns-2 c =
+returns-then-unassigned : tie.Need-returns-then-unassigned
+returns-then-unassigned c =
     let Note = c.before.before in
     let WordAt = Note.before.before.before.before in
     let SetAt = WordAt.before.before.before.before.before in
@@ -83,42 +83,42 @@ returns-2 c =
     let a = S.args in λ x place goal n v.
     let here = visit_searching a.s.now x a.values a.marks place a.stamp goal a.state a.p a.m n v SetAt.set_at.new.0
     SetAt.set_at.ensures in
-    visits_value a.s.now x a.values a.marks place a.stamp goal a.state a.p a.m n v SetAt.set_at.new.0 Note.note.new.0
-    WordAt.word_at.result SetAt.set_at.ensures
+    visits_value a.s.now x a.values a.marks place a.stamp goal a.state a.p a.m n v SetAt.set_at.new.0 Note.note.new.s
+    WordAt.word_at-t.result SetAt.set_at.ensures
     (Note.note.ensures x place goal here v.leading
     (visit_fits a.s.now x a.values a.marks place a.stamp goal a.state a.p a.m n v).1)
-    WordAt.word_at.ensures
+    WordAt.word_at-t.ensures
 
-same-length-3 : tie.Need-same-length-3
-same-length-3 c =
+shape_of-s-else-unassigned : tie.Need-shape_of-s-else-unassigned
+shape_of-s-else-unassigned c =
     let SetAt = c.before.before.before.before.before.before.before in
     SetAt.set_at.auto.0
 
-returns-3 : tie.Need-returns-3
-returns-3 c =
+returns-else-unassigned : tie.Need-returns-else-unassigned
+returns-else-unassigned c =
     let WordAt = c.before.before in
     let SetAt = WordAt.before.before.before.before.before in
     let S = SetAt.before.before.before in
     let a = S.args in λ x place goal n v.
     visits_value a.s.now x a.values a.marks place a.stamp goal a.state a.p a.m n v SetAt.set_at.new.0 SetAt.set_at.new.0
-    WordAt.word_at.result SetAt.set_at.ensures (settled_same x a.marks a.stamp SetAt.set_at.new.0) WordAt.word_at.ensures
+    WordAt.word_at-t.result SetAt.set_at.ensures (settled_same x a.marks a.stamp SetAt.set_at.new.0) WordAt.word_at-t.ensures
 
 pub visit_spec : {M : Type 1} → statement M
 visit_spec =
     tie.close
     (tie.spec
-    mul-set-at
-    add-set-at
-    set-at-requires
-    sub-result
-    mul-result
-    add-result
-    same_length
-    returns
-    word-at-requires
+    overflow_mul-end
+    overflow_add-end
+    set_at-requires
+    overflow_sub-result
+    overflow_mul-result
+    overflow_add-result
+    shape_of-s-then-end-ne0
+    returns-then-end-ne0
+    word_at-t-requires
     unassigned-requires
     note-requires
-    same-length-2
-    returns-2
-    same-length-3
-    returns-3)
+    shape_of-s-then-unassigned
+    returns-then-unassigned
+    shape_of-s-else-unassigned
+    returns-else-unassigned)

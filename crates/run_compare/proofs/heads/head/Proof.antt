@@ -34,26 +34,26 @@ invariant-places s₀ values links p k given₀ i₀ s given i =
 abbrev decreases-places : tie.decreases-places
 decreases-places s₀ values links p k given₀ i₀ s given i = k + 1 - i
 
-count-requires : tie.Need-count-requires invariant-places decreases-places
-count-requires c κs =
+count-k-requires : tie.Need-count-k-requires invariant-places decreases-places
+count-k-requires c κs =
     let pre = c.before.before.requires in
     let links = c.before.before.args.links in
     omega (arith, head_inside links pre.8.head)
 
-places-holds : tie.Need-places-init invariant-places decreases-places
-places-holds c x y m g us lo hi ts A =
+places-init : tie.Need-places-init invariant-places decreases-places
+places-init c x y m g us lo hi ts A =
     let links = c.before.before.before.args.links in
-    first_partly links A.head (Behind x links) ts A.goal A.counts c.count.result c.count.ensures
+    first_partly links A.head (Behind x links) ts A.goal A.counts c.count-k.result c.count-k.ensures
 
-argument-requires : tie.Need-argument-requires invariant-places decreases-places
-argument-requires c κs =
+argument-h-requires : tie.Need-argument-h-requires invariant-places decreases-places
+argument-h-requires c κs =
     let pre = c.before.before.before.before.before.before.requires in
     let links = c.before.before.before.before.before.before.args.links in
     let P = c.before.before.places.invariant pre.0 pre.1 pre.2 pre.3 pre.4 pre.5 pre.6 pre.7 pre.8 in
     head_argument_inside links pre.8.head P c.before.places-test.false
 
-word-at-requires : tie.Need-word-at-requires invariant-places decreases-places
-word-at-requires c κs =
+word_at-w-requires : tie.Need-word_at-w-requires invariant-places decreases-places
+word_at-w-requires c κs =
     let pre = c.before.before.before.before.before.before.before.before.requires in
     let links = c.before.before.before.before.before.before.before.before.args.links in
     let P = c.before.before.before.before.places.invariant pre.0 pre.1 pre.2 pre.3 pre.4 pre.5 pre.6 pre.7 pre.8 in
@@ -67,110 +67,110 @@ table-requires c κs =
     let links = c.before.before.before.before.before.before.before.before.before.before.args.links in
     let P = c.before.before.before.before.before.before.places.invariant pre.0 pre.1 pre.2 pre.3 pre.4 pre.5 pre.6 pre.7 pre.8 in
     let F = next links pre.8.head P c.before.before.before.before.before.places-test.false in
-    let K = next_against links pre.8.head P F c.before.before.before.argument.ensures (followed_read links pre.8 P F c.before.word_at.ensures) in
-    table_asks c.before.before.before.before.before.before.places.s pre.0 pre.1 a.values links P.low F.mid c.before.before.before.before.before.before.places.noted c.before.before.before.argument.result c.before.word_at.result F.t (followed links pre.0.values F.u) K
+    let K = next_against links pre.8.head P F c.before.before.before.argument.ensures (followed_read links pre.8 P F c.before.word_at-w.ensures) in
+    table_asks c.before.before.before.before.before.before.places.s pre.0 pre.1 a.values links P.low F.mid c.before.before.before.before.before.before.places.noted c.before.before.before.argument.result c.before.word_at-w.result F.t (followed links pre.0.values F.u) K
 
-enum-known-m : tie.Need-enum-known-m invariant-places decreases-places
-enum-known-m c =
-    c.match.keys1
+enum_known-m : tie.Need-enum_known-m invariant-places decreases-places
+enum_known-m c =
+    c.in-Noted.in-Noted-own.keys1
 
-enum_told : tie.Need-enum-told invariant-places decreases-places
-enum_told c =
-    c.match.keys2
+enum_told-1 : tie.Need-enum_told-1 invariant-places decreases-places
+enum_told-1 c =
+    c.in-Fails.in-Fails-own.keys2
 
-same_length : tie.Need-same-length invariant-places decreases-places
-same_length c =
+shape_of-s-in-Fails : tie.Need-shape_of-s-in-Fails invariant-places decreases-places
+shape_of-s-in-Fails c =
     let pre = c.before.before.before.before.before.before.before.before.before.before.before.before.before.before.before.requires in
-    let P = c.before.before.before.before.before.before.before.before.before.before.before.places.invariant pre.0 pre.1 pre.2 pre.3 pre.4 pre.5 pre.6 pre.7 pre.8 in
-    c.before.before.before.before.table.auto.0 ∙ P.only.size
+    let P = c.before.before.before.before.before.before.before.before.before.before.places.invariant pre.0 pre.1 pre.2 pre.3 pre.4 pre.5 pre.6 pre.7 pre.8 in
+    c.before.before.before.table.auto.s ∙ P.only.size
 
-returns : tie.Need-returns invariant-places decreases-places
-returns c x y m g us lo hi ts A =
+returns-in-Fails : tie.Need-returns-in-Fails invariant-places decreases-places
+returns-in-Fails c x y m g us lo hi ts A =
     let links = c.before.before.before.before.before.before.before.before.before.before.before.before.before.before.before.args.links in
-    let P = c.before.before.before.before.before.before.before.before.before.before.before.places.invariant x y m g us lo hi ts A in
-    let F = next links A.head P c.before.before.before.before.before.before.before.before.before.before.places-test.false in
-    let K = next_against links A.head P F c.before.before.before.before.before.before.before.before.argument.ensures (followed_read links A P F c.before.before.before.before.before.before.word_at.ensures) in
-    fails_here links A.head P F (place_fails links K c.before.before.before.before.table.ensures c.enum_told.given.1)
+    let P = c.before.before.before.before.before.before.before.before.before.before.places.invariant x y m g us lo hi ts A in
+    let F = next links A.head P c.before.before.before.before.before.before.before.before.before.places-test.false in
+    let K = next_against links A.head P F c.before.before.before.before.before.before.before.argument.ensures (followed_read links A P F c.before.before.before.before.before.word_at-w.ensures) in
+    fails_here links A.head P F (place_fails links K c.before.before.before.table.ensures c.in-Fails.is)
 
-enum-known-a : tie.Need-enum-known-a invariant-places decreases-places
-enum-known-a c =
-    c.match.keys3
+enum_known-a : tie.Need-enum_known-a invariant-places decreases-places
+enum_known-a c =
+    c.in-Below.in-Below-own.keys3
 
 differ-requires : tie.Need-differ-requires invariant-places decreases-places
 differ-requires c κs =
     let pre = c.before.before.before.before.before.before.before.before.before.before.before.before.before.before.before.before.before.requires in
     let links = c.before.before.before.before.before.before.before.before.before.before.before.before.before.before.before.before.before.args.links in
-    let P = c.before.before.before.before.before.before.before.before.before.before.before.before.before.places.invariant pre.0 pre.1 pre.2 pre.3 pre.4 pre.5 pre.6 pre.7 pre.8 in
-    let F = next links pre.8.head P c.before.before.before.before.before.before.before.before.before.before.before.before.places-test.false in
-    let K = next_against links pre.8.head P F c.before.before.before.before.before.before.before.before.before.before.argument.ensures (followed_read links pre.8 P F c.before.before.before.before.before.before.before.before.word_at.ensures) in
-    place_cells links K c.before.before.before.before.before.before.table.ensures c.before.before.a.given.1
+    let P = c.before.before.before.before.before.before.before.before.before.before.before.places.invariant pre.0 pre.1 pre.2 pre.3 pre.4 pre.5 pre.6 pre.7 pre.8 in
+    let F = next links pre.8.head P c.before.before.before.before.before.before.before.before.before.before.places-test.false in
+    let K = next_against links pre.8.head P F c.before.before.before.before.before.before.before.before.argument.ensures (followed_read links pre.8 P F c.before.before.before.before.before.before.word_at.ensures) in
+    place_cells links K c.before.before.before.before.table.ensures c.a.given.1
 
-same-length-2 : tie.Need-same-length-2 invariant-places decreases-places
-same-length-2 c =
+shape_of-s-then-differ : tie.Need-shape_of-s-then-differ invariant-places decreases-places
+shape_of-s-then-differ c =
     let pre = c.before.before.before.before.before.before.before.before.before.before.before.before.before.before.before.before.before.before.before.requires in
-    let P = c.before.before.before.before.before.before.before.before.before.before.before.before.before.before.before.places.invariant pre.0 pre.1 pre.2 pre.3 pre.4 pre.5 pre.6 pre.7 pre.8 in
-    c.before.before.before.before.before.before.before.before.table.auto.0 ∙ P.only.size
+    let P = c.before.before.before.before.before.before.before.before.before.before.before.before.before.places.invariant pre.0 pre.1 pre.2 pre.3 pre.4 pre.5 pre.6 pre.7 pre.8 in
+    c.before.before.before.before.before.before.table.auto.0 ∙ P.only.size
 
-returns-2 : tie.Need-returns-2 invariant-places decreases-places
-returns-2 c x y m g us lo hi ts A =
+returns-then-differ : tie.Need-returns-then-differ invariant-places decreases-places
+returns-then-differ c x y m g us lo hi ts A =
     let links = c.before.before.before.before.before.before.before.before.before.before.before.before.before.before.before.before.before.before.before.args.links in
-    let P = c.before.before.before.before.before.before.before.before.before.before.before.before.before.before.before.places.invariant x y m g us lo hi ts A in
-    let F = next links A.head P c.before.before.before.before.before.before.before.before.before.before.before.before.before.before.places-test.false in
-    let K = next_against links A.head P F c.before.before.before.before.before.before.before.before.before.before.before.before.argument.ensures (followed_read links A P F c.before.before.before.before.before.before.before.before.before.before.word_at.ensures) in
-    fails_here links A.head P F (place_differs links K c.before.before.before.before.before.before.before.before.table.ensures c.before.before.before.before.a.given.1 c.before.differ.result c.before.differ.ensures c.if1.true)
+    let P = c.before.before.before.before.before.before.before.before.before.before.before.before.before.places.invariant x y m g us lo hi ts A in
+    let F = next links A.head P c.before.before.before.before.before.before.before.before.before.before.before.before.places-test.false in
+    let K = next_against links A.head P F c.before.before.before.before.before.before.before.before.before.before.argument.ensures (followed_read links A P F c.before.before.before.before.before.before.before.before.word_at.ensures) in
+    fails_here links A.head P F (place_differs links K c.before.before.before.before.before.before.table.ensures c.before.before.a.given.1 c.before.differ.result c.before.differ.ensures c.if-differ.true)
 
 places-requires : tie.Need-places-requires invariant-places decreases-places
 places-requires c κs =
     let pre = c.before.before.before.before.before.before.before.before.before.before.before.before.before.before.before.before.before.before.before.before.requires in
     let links = c.before.before.before.before.before.before.before.before.before.before.before.before.before.before.before.before.before.before.before.before.args.links in
-    let P = c.before.before.before.before.before.before.before.before.before.before.before.before.before.before.before.before.places.invariant pre.0 pre.1 pre.2 pre.3 pre.4 pre.5 pre.6 pre.7 pre.8 in
-    let F = next links pre.8.head P c.before.before.before.before.before.before.before.before.before.before.before.before.before.before.before.places-test.false in
-    let K = next_against links pre.8.head P F c.before.before.before.before.before.before.before.before.before.before.before.before.before.argument.ensures (followed_read links pre.8 P F c.before.before.before.before.before.before.before.before.before.before.before.word_at.ensures) in
-    let D = place_deeper links K c.before.before.before.before.before.before.before.before.before.table.ensures c.before.before.before.before.before.a.given.1 c.before.before.differ.result c.before.before.differ.ensures c.before.if1.false in
+    let P = c.before.before.before.before.before.before.before.before.before.before.before.before.before.before.places.invariant pre.0 pre.1 pre.2 pre.3 pre.4 pre.5 pre.6 pre.7 pre.8 in
+    let F = next links pre.8.head P c.before.before.before.before.before.before.before.before.before.before.before.before.before.places-test.false in
+    let K = next_against links pre.8.head P F c.before.before.before.before.before.before.before.before.before.before.before.argument.ensures (followed_read links pre.8 P F c.before.before.before.before.before.before.before.before.before.word_at.ensures) in
+    let D = place_deeper links K c.before.before.before.before.before.before.before.table.ensures c.before.before.before.a.given.1 c.before.before.differ.result c.before.before.differ.ensures c.before.if-differ.false in
     (pre.0, pre.1, D.m, D.g, D.us, P.low + 1, F.mid, D.l, D.f, D.ts, D.against)
 
-enum-known-m-2 : tie.Need-enum-known-m-2 invariant-places decreases-places
-enum-known-m-2 c =
-    c.match2.keys1
+enum_known-m-in-Noted-places : tie.Need-enum_known-m-in-Noted-places invariant-places decreases-places
+enum_known-m-in-Noted-places c =
+    c.in-Noted-places.in-Noted-places-own.keys1
 
-enum-told-2 : tie.Need-enum-told-2 invariant-places decreases-places
-enum-told-2 c =
-    c.match2.keys2
+enum_told-in-Fails-places : tie.Need-enum_told-in-Fails-places invariant-places decreases-places
+enum_told-in-Fails-places c =
+    c.in-Fails-places.in-Fails-places-own.keys2
 
-same-length-3 : tie.Need-same-length-3 invariant-places decreases-places
-same-length-3 c =
+shape_of-s-in-Fails-places : tie.Need-shape_of-s-in-Fails-places invariant-places decreases-places
+shape_of-s-in-Fails-places c =
     let pre = c.before.before.before.before.before.before.before.before.before.before.before.before.before.before.before.before.before.before.before.before.before.before.before.before.before.requires in
-    let P = c.before.before.before.before.before.before.before.before.before.before.before.before.before.before.before.before.before.before.before.before.before.places.invariant pre.0 pre.1 pre.2 pre.3 pre.4 pre.5 pre.6 pre.7 pre.8 in
-    c.before.before.before.before.places2.auto.0 ∙ c.before.before.before.before.before.before.before.before.before.before.before.before.before.before.table.auto.0 ∙ P.only.size
+    let P = c.before.before.before.before.before.before.before.before.before.before.before.before.before.before.before.before.before.before.places.invariant pre.0 pre.1 pre.2 pre.3 pre.4 pre.5 pre.6 pre.7 pre.8 in
+    c.before.before.before.places-in-Below.auto.s ∙ c.before.before.before.before.before.before.before.before.before.before.before.table.auto.0 ∙ P.only.size
 
-returns-3 : tie.Need-returns-3 invariant-places decreases-places
-returns-3 c x y m g us lo hi ts A =
+returns-in-Fails-places : tie.Need-returns-in-Fails-places invariant-places decreases-places
+returns-in-Fails-places c x y m g us lo hi ts A =
     let links = c.before.before.before.before.before.before.before.before.before.before.before.before.before.before.before.before.before.before.before.before.before.before.before.before.before.args.links in
-    let P = c.before.before.before.before.before.before.before.before.before.before.before.before.before.before.before.before.before.before.before.before.before.places.invariant x y m g us lo hi ts A in
-    let F = next links A.head P c.before.before.before.before.before.before.before.before.before.before.before.before.before.before.before.before.before.before.before.before.places-test.false in
-    let K = next_against links A.head P F c.before.before.before.before.before.before.before.before.before.before.before.before.before.before.before.before.before.before.argument.ensures (followed_read links A P F c.before.before.before.before.before.before.before.before.before.before.before.before.before.before.before.before.word_at.ensures) in
-    let D = place_deeper links K c.before.before.before.before.before.before.before.before.before.before.before.before.before.before.table.ensures c.before.before.before.before.before.before.before.before.before.before.a.given.1 c.before.before.before.before.before.before.before.differ.result c.before.before.before.before.before.before.before.differ.ensures c.before.before.before.before.before.before.if1.false in
-    let told = c.before.before.before.before.places2 in
-    let below = D.back told.new.0 told.result (told.ensures x y D.m D.g D.us (P.low + 1) F.mid D.l D.f D.ts D.against) in
-    fails_here links A.head P F (rw c.enum-told2.given.1 at below)
+    let P = c.before.before.before.before.before.before.before.before.before.before.before.before.before.before.before.before.before.before.places.invariant x y m g us lo hi ts A in
+    let F = next links A.head P c.before.before.before.before.before.before.before.before.before.before.before.before.before.before.before.before.before.places-test.false in
+    let K = next_against links A.head P F c.before.before.before.before.before.before.before.before.before.before.before.before.before.before.before.argument.ensures (followed_read links A P F c.before.before.before.before.before.before.before.before.before.before.before.before.before.word_at.ensures) in
+    let D = place_deeper links K c.before.before.before.before.before.before.before.before.before.before.before.table.ensures c.before.before.before.before.before.before.before.a.given.1 c.before.before.before.before.before.before.differ.result c.before.before.before.before.before.before.differ.ensures c.before.before.before.before.before.if-differ.false in
+    let told = c.before.before.before.places-in-Below in
+    let below = D.back told.new.s told.result (told.ensures x y D.m D.g D.us (P.low + 1) F.mid D.l D.f D.ts D.against) in
+    fails_here links A.head P F (rw c.in-Fails-places.is at below)
 
-add-i : tie.Need-overflow-add-i invariant-places decreases-places
-add-i c =
+overflow_add-i : tie.Need-overflow_add-i invariant-places decreases-places
+overflow_add-i c =
     let pre = c.before.before.before.before.before.before.before.before.before.before.before.before.before.before.requires in
     let links = c.before.before.before.before.before.before.before.before.before.before.before.before.before.before.args.links in
     let P = c.before.before.before.before.before.before.before.before.before.before.places.invariant pre.0 pre.1 pre.2 pre.3 pre.4 pre.5 pre.6 pre.7 pre.8 in
     omega (arith, count_small links pre.8.head P)
 
-places-less : tie.Need-places-smaller invariant-places decreases-places
-places-less c =
+places-smaller : tie.Need-places-smaller invariant-places decreases-places
+places-smaller c =
     omega arith
 
-places-again : tie.Need-places-preserved invariant-places decreases-places
-places-again c x y m g us lo hi ts A =
+places-preserved : tie.Need-places-preserved invariant-places decreases-places
+places-preserved c x y m g us lo hi ts A =
     let links = c.before.before.before.before.before.before.before.before.before.before.before.before.before.before.args.links in
     let P = c.before.before.before.before.before.before.before.before.before.before.places.invariant x y m g us lo hi ts A in
     let F = next links A.head P c.before.before.before.before.before.before.before.before.before.places-test.false in
-    let K = next_against links A.head P F c.before.before.before.before.before.before.before.argument.ensures (followed_read links A P F c.before.before.before.before.before.word_at.ensures) in
+    let K = next_against links A.head P F c.before.before.before.before.before.before.before.argument.ensures (followed_read links A P F c.before.before.before.before.before.word_at-w.ensures) in
     let table_told = c.before.before.before.table in
     ⊎_elim
     (λ k.
@@ -181,19 +181,19 @@ places-again c x y m g us lo hi ts A =
     let below = D.back k.7.last.0 k.7.result (k.7.ensures x y D.m D.g D.us (P.low + 1) F.mid D.l D.f D.ts D.against) in
     let told = rw k.11.given.1 at below in
     rw (k.13, k.14) (one_more links A.head P F told (followed_left links A P F told.only)))
-    c.match.branch
+    c.match-table.branch
 
-same-length-4 : tie.Need-same-length-4 invariant-places decreases-places
-same-length-4 c =
+shape_of-s : tie.Need-shape_of-s invariant-places decreases-places
+shape_of-s c =
     let pre = c.before.before.before.before.before.requires in
     let P = c.before.places.invariant pre.0 pre.1 pre.2 pre.3 pre.4 pre.5 pre.6 pre.7 pre.8 in
     P.only.size
 
-returns-4 : tie.Need-returns-4 invariant-places decreases-places
-returns-4 c x y m g us lo hi ts A =
+returns : tie.Need-returns invariant-places decreases-places
+returns c x y m g us lo hi ts A =
     let links = c.before.before.before.before.before.args.links in
     let P = c.before.places.invariant x y m g us lo hi ts A in
-    all_agree links A.head P c.places-test.true
+    all_agree links A.head P c.if-i-k.true
 
 pub head_spec : {M : Type 1} → statement M
 head_spec =
@@ -201,26 +201,26 @@ head_spec =
     (tie.spec
     invariant-places
     decreases-places
-    count-requires
-    places-holds
-    argument-requires
-    word-at-requires
+    count-k-requires
+    places-init
+    argument-h-requires
+    word_at-w-requires
     table-requires
-    enum-known-m
-    enum_told
-    same_length
-    returns
-    enum-known-a
+    enum_known-m
+    enum_told-1
+    shape_of-s-in-Fails
+    returns-in-Fails
+    enum_known-a
     differ-requires
-    same-length-2
-    returns-2
+    shape_of-s-then-differ
+    returns-then-differ
     places-requires
-    enum-known-m-2
-    enum-told-2
-    same-length-3
-    returns-3
-    add-i
-    places-less
-    places-again
-    same-length-4
-    returns-4)
+    enum_known-m-in-Noted-places
+    enum_told-in-Fails-places
+    shape_of-s-in-Fails-places
+    returns-in-Fails-places
+    overflow_add-i
+    places-smaller
+    places-preserved
+    shape_of-s
+    returns)

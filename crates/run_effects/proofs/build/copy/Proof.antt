@@ -8,13 +8,13 @@ use Rattle.run_effects.proofs.build.copy.Tie as tie
 look-requires : tie.Need-look-requires
 look-requires c κs = search rules
 
-enum-known-p : tie.Need-enum-known-p
-enum-known-p c = search rules
+enum_known-p : tie.Need-enum_known-p
+enum_known-p c = search rules
 
-copy-compound-requires : tie.Need-copy-compound-requires
-copy-compound-requires c κs =
-    let S = c.before.before.before.before.before.before in let a = S.args in
-    let said = sym c.before.before.before.before.look.ensures ∙ c.before.before.p.given.1 in
+copy_compound-requires : tie.Need-copy_compound-requires
+copy_compound-requires c κs =
+    let S = c.before.before.before.before in let a = S.args in
+    let said = sym c.before.before.look.ensures ∙ c.before.in-Compound.is in
     calls.whole-asks a.s.now a.pair a.at a.to a.h S.requires _ said
 
 moved-requires : tie.Need-moved-requires
@@ -23,34 +23,34 @@ moved-requires c κs = let S = c.before.before.before.before in let a = S.args i
 put-requires : tie.Need-put-requires
 put-requires c κs = search rules
 
-same_length : tie.Need-same-length
-same_length c = search rules
+shape_of-s-in-Compound : tie.Need-shape_of-s-in-Compound
+shape_of-s-in-Compound c = search rules
 
-returns : tie.Need-returns
-returns c =
-    let a = c.before.before.before.before.before.before.before.before.before.args in
-    let said = sym c.before.before.before.before.before.before.before.look.ensures ∙ c.before.before.before.before.before.p.given.1 in
-    calls.whole_tells a.s.now a.pair a.at a.to a.h _ said _ _ c.before.before.copy-compound.ensures
+returns-in-Compound : tie.Need-returns-in-Compound
+returns-in-Compound c =
+    let a = c.before.before.before.before.before.before.before.args in
+    let said = sym c.before.before.before.before.before.look.ensures ∙ c.before.before.before.before.in-Compound.is in
+    calls.whole_tells a.s.now a.pair a.at a.to a.h _ said _ _ c.before.before.copy_compound.ensures
 
-same-length-2 : tie.Need-same-length-2
-same-length-2 c = search rules
+shape_of-s-in_default : tie.Need-shape_of-s-in_default
+shape_of-s-in_default c = search rules
 
-returns-2 : tie.Need-returns-2
-returns-2 c =
+returns-in_default : tie.Need-returns-in_default
+returns-in_default c =
     let a = c.before.before.before.before.before.before.before.before.args in
     rw c.before.before.put.ensures
-    (calls.moved-tells a.s.now a.pair a.at a.to a.h (rw c.before.before.before.before.before.before.look.ensures at c.before.before.before.before.before.match.keys2) _ c.before.before.before.moved.ensures)
+    (calls.moved-tells a.s.now a.pair a.at a.to a.h (rw c.before.before.before.before.before.before.look.ensures at c.before.before.before.before.before.in_default.in_default-own.keys2) _ c.before.before.before.moved.ensures)
 
 pub copy_spec : {M : Type 1} → statement M
 copy_spec =
     tie.close
     (tie.spec
     look-requires
-    enum-known-p
-    copy-compound-requires
+    enum_known-p
+    copy_compound-requires
     moved-requires
     put-requires
-    same_length
-    returns
-    same-length-2
-    returns-2)
+    shape_of-s-in-Compound
+    returns-in-Compound
+    shape_of-s-in_default
+    returns-in_default)

@@ -26,58 +26,58 @@ other_stays pair h (Compound place) k = refl
 look-requires : tie.Need-look-requires
 look-requires c κs = search rules
 
-enum-known-x : tie.Need-enum-known-x
-enum-known-x c = search rules
+enum_known-x : tie.Need-enum_known-x
+enum_known-x c = search rules
 
-add-placed : tie.Need-overflow-add-placed
-add-placed c =
-    let S = c.before.before.before.before in
-    let fits = S.requires.0 _ (sym c.before.before.before.look.ensures ∙ c.before.x.given.1) in
+overflow_add-pair : tie.Need-overflow_add-pair
+overflow_add-pair c =
+    let S = c.before.before in
+    let fits = S.requires.0 _ (sym c.before.look.ensures ∙ c.in-Writer.is) in
     record { fits = omega arith }
 
 placed-requires : tie.Need-placed-requires
 placed-requires c κs =
-    let S = c.before.before.before.before in
-    let fits = S.requires.0 _ (sym c.before.before.before.look.ensures ∙ c.before.x.given.1) in
+    let S = c.before.before in
+    let fits = S.requires.0 _ (sym c.before.look.ensures ∙ c.in-Writer.is) in
     (omega arith, omega arith)
 
-enum-known-x-2 : tie.Need-enum-known-x-2
-enum-known-x-2 c = search rules
+enum_known-x-in-Reader-1 : tie.Need-enum_known-x-in-Reader-1
+enum_known-x-in-Reader-1 c = search rules
 
-add-placed-2 : tie.Need-overflow-add-placed-2
-add-placed-2 c =
-    let S = c.before.before.before.before in
-    let fits = S.requires.1 _ (sym c.before.before.before.look.ensures ∙ c.before.x2.given.1) in
+overflow_add-pair-in-Reader : tie.Need-overflow_add-pair-in-Reader
+overflow_add-pair-in-Reader c =
+    let S = c.before.before in
+    let fits = S.requires.1 _ (sym c.before.look.ensures ∙ c.in-Reader.is) in
     record { fits = omega arith }
 
-placed-requires-2 : tie.Need-placed-requires-2
-placed-requires-2 c κs =
-    let S = c.before.before.before.before in
-    let fits = S.requires.1 _ (sym c.before.before.before.look.ensures ∙ c.before.x2.given.1) in
+placed-requires-in-Reader : tie.Need-placed-requires-in-Reader
+placed-requires-in-Reader c κs =
+    let S = c.before.before in
+    let fits = S.requires.1 _ (sym c.before.look.ensures ∙ c.in-Reader.is) in
     (omega arith, omega arith)
 
-returns : tie.Need-returns
-returns c = rw (sym c.before.before.before.before.look.ensures ∙ c.before.before.x.given.1) c.placed.ensures
+returns-in-Writer : tie.Need-returns-in-Writer
+returns-in-Writer c = rw (sym c.before.before.look.ensures ∙ c.before.in-Writer.is) c.placed.ensures
 
-returns-2 : tie.Need-returns-2
-returns-2 c = rw (sym c.before.before.before.before.look.ensures ∙ c.before.before.x2.given.1) c.placed2.ensures
+returns-in-Reader : tie.Need-returns-in-Reader
+returns-in-Reader c = rw (sym c.before.before.look.ensures ∙ c.before.in-Reader.is) c.placed-in-Reader.ensures
 
-returns-3 : tie.Need-returns-3
-returns-3 c =
+returns-in_default : tie.Need-returns-in_default
+returns-in_default c =
     let a = c.before.before.args in
-    other_stays a.pair a.h (view (tag_in a.h) (rest_in a.h)) (rw c.before.look.ensures at c.match.keys3)
+    other_stays a.pair a.h (view (tag_in a.h) (rest_in a.h)) (rw c.before.look.ensures at c.in_default.in_default-own.keys3)
 
 pub moved_spec : {M : Type 1} → statement M
 moved_spec =
     tie.close
     (tie.spec
     look-requires
-    enum-known-x
-    add-placed
+    enum_known-x
+    overflow_add-pair
     placed-requires
-    enum-known-x-2
-    add-placed-2
-    placed-requires-2
-    returns
-    returns-2
-    returns-3)
+    enum_known-x-in-Reader-1
+    overflow_add-pair-in-Reader
+    placed-requires-in-Reader
+    returns-in-Writer
+    returns-in-Reader
+    returns-in_default)

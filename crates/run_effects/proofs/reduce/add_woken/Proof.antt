@@ -10,93 +10,93 @@ use Rattle.run_effects.proofs.Emptying as steps
 use Rattle.run_effects.proofs.reduce.add_woken.Statement.{statement}
 use Rattle.run_effects.proofs.reduce.add_woken.Tie as tie
 
-abbrev invariant-loop : tie.invariant-loop
-invariant-loop s₀ log n queue size front active i₀ s i =
+abbrev invariant-loop-i : tie.invariant-loop-i
+invariant-loop-i s₀ log n queue size front active i₀ s i =
     (i ≤ n)
     × ((waiters sets pairs : ℕ) (slots : List Slot) (zs : List ℕ) → AddsWoken s₀ log waiters sets pairs slots zs n queue size front active
     → steps.Rejoined s₀ s log waiters sets pairs slots zs queue size front active i)
 
-abbrev decreases-loop : tie.decreases-loop
-decreases-loop s₀ log n queue size front active i₀ s i = n - i
+abbrev decreases-loop-i : tie.decreases-loop-i
+decreases-loop-i s₀ log n queue size front active i₀ s i = n - i
 
-loop-holds : tie.Need-loop-init invariant-loop decreases-loop
-loop-holds c =
+loop-i-init : tie.Need-loop-i-init invariant-loop-i decreases-loop-i
+loop-i-init c =
     let S = c.before in (
       omega arith,
       λ waiters sets pairs slots zs a.
           steps.rejoining-begins S.args.s.now S.args.log waiters sets pairs slots zs S.args.n S.args.queue S.args.size S.args.front S.args.active a,
     )
 
-word-at-requires : tie.Need-word-at-requires invariant-loop decreases-loop
-word-at-requires c κs =
+word_at-requires : tie.Need-word_at-requires invariant-loop-i decreases-loop-i
+word_at-requires c κs =
     let S = c.before.before.before.before in
     let L = c.before.before.loop in
     let p = S.requires in
     steps.place_inside S.args.s.now S.args.log p.0 p.1 p.2 p.3 p.4 S.args.n S.args.queue S.args.size S.args.front S.args.active p.5
     L.s L.i (L.invariant.1 p.0 p.1 p.2 p.3 p.4 p.5) c.before.loop-test.true
 
-index-requires : tie.Need-index-requires invariant-loop decreases-loop
-index-requires c κs = search rules
+index-place-requires : tie.Need-index-place-requires invariant-loop-i decreases-loop-i
+index-place-requires c κs = search rules
 
-take-requires : tie.Need-take-requires invariant-loop decreases-loop
-take-requires c κs =
+take-goal-requires : tie.Need-take-goal-requires invariant-loop-i decreases-loop-i
+take-goal-requires c κs =
     let S = c.before.before.before.before.before.before.before in
     let L = c.before.before.before.before.before.loop in
     let p = S.requires in
     steps.slot-inside S.args.s.now S.args.log p.0 p.1 p.2 p.3 p.4 S.args.n S.args.queue S.args.size S.args.front S.args.active p.5
     L.s L.i (L.invariant.1 p.0 p.1 p.2 p.3 p.4 p.5) c.before.before.before.before.loop-test.true _
-    (c.before.index.ensures ∙ c.before.before.word_at.ensures)
+    (c.before.index-place.ensures ∙ c.before.before.word_at.ensures)
 
-add_push : tie.Need-overflow-add-push invariant-loop decreases-loop
-add_push c =
+overflow_add-active : tie.Need-overflow_add-active invariant-loop-i decreases-loop-i
+overflow_add-active c =
     let S = c.before.before.before.before.before.before.before.before.before.before.before in omega (arith, S.requires.5.space, c.before.before.before.before.before.before.before.before.loop-test.true)
 
-push-requires : tie.Need-push-requires invariant-loop decreases-loop
+push-requires : tie.Need-push-requires invariant-loop-i decreases-loop-i
 push-requires c κs =
     let S = c.before.before.before.before.before.before.before.before.before.before.before in
     let L = c.before.before.before.before.before.before.before.before.before.loop in
     let less = c.before.before.before.before.before.before.before.before.loop-test.true in
-    let read = c.before.before.before.before.before.index.ensures ∙ c.before.before.before.before.before.before.word_at.ensures in
+    let read = c.before.before.before.before.before.index-place.ensures ∙ c.before.before.before.before.before.before.word_at.ensures in
     let p = S.requires in
     let r = L.invariant.1 p.0 p.1 p.2 p.3 p.4 p.5 in
     steps.room S.args.s.now S.args.log p.0 p.1 p.2 p.3 p.4 S.args.n S.args.queue S.args.size S.args.front S.args.active p.5
     L.s L.i r less _ read _ _
-    (c.before.before.before.take.ensures.1.1 p.0 p.1 p.2 _ _
+    (c.before.before.before.take-goal.ensures.log p.0 p.1 p.2 _ _
     (steps.goal-there S.args.s.now S.args.log p.0 p.1 p.2 p.3 p.4 S.args.n S.args.queue S.args.size S.args.front S.args.active p.5
     L.s L.i r less _ read))
 
-add-i : tie.Need-overflow-add-i invariant-loop decreases-loop
-add-i c = search rules
+overflow_add-i : tie.Need-overflow_add-i invariant-loop-i decreases-loop-i
+overflow_add-i c = search rules
 
-loop-less : tie.Need-loop-smaller invariant-loop decreases-loop
-loop-less c = search rules
+loop-i-smaller : tie.Need-loop-i-smaller invariant-loop-i decreases-loop-i
+loop-i-smaller c = search rules
 
-loop-again : tie.Need-loop-preserved invariant-loop decreases-loop
-loop-again c =
+loop-i-preserved : tie.Need-loop-i-preserved invariant-loop-i decreases-loop-i
+loop-i-preserved c =
     let S = c.before.before.before.before.before.before.before.before.before.before.before.before.before.before in
     let L = c.before.before.before.before.before.before.before.before.before.before.before.before.loop in
     let less = c.before.before.before.before.before.before.before.before.before.before.before.loop-test.true in
-    let read = c.before.before.before.before.before.before.before.before.index.ensures ∙ c.before.before.before.before.before.before.before.before.before.word_at.ensures in (
+    let read = c.before.before.before.before.before.before.before.before.index-place.ensures ∙ c.before.before.before.before.before.before.before.before.before.word_at.ensures in (
       omega arith,
       λ waiters sets pairs slots zs a.
           let r = L.invariant.1 waiters sets pairs slots zs a in
           steps.rejoining-on S.args.s.now S.args.log waiters sets pairs slots zs S.args.n S.args.queue S.args.size S.args.front S.args.active a
           L.s L.i r less _ read _ _
-          (c.before.before.before.before.before.before.take.ensures.1.1 waiters sets pairs _ _
+          (c.before.before.before.before.before.before.take-goal.ensures.log waiters sets pairs _ _
           (steps.goal-there S.args.s.now S.args.log waiters sets pairs slots zs S.args.n S.args.queue S.args.size S.args.front S.args.active a
           L.s L.i r less _ read))
           _ c.before.before.push.ensures,
     )
 
-same_length : tie.Need-same-length invariant-loop decreases-loop
-same_length c =
+shape_of-s : tie.Need-shape_of-s invariant-loop-i decreases-loop-i
+shape_of-s c =
     let p = c.before.before.before.requires in
-    (c.before.loop.invariant.1 p.0 p.1 p.2 p.3 p.4 p.5).kept.size
+    (c.before.loop-i.invariant.1 p.0 p.1 p.2 p.3 p.4 p.5).kept.size
 
-returns : tie.Need-returns invariant-loop decreases-loop
+returns : tie.Need-returns invariant-loop-i decreases-loop-i
 returns c =
     let S = c.before.before.before in
-    let L = c.before.loop in
+    let L = c.before.loop-i in
     λ waiters sets pairs slots zs a.
     steps.rejoining-ends S.args.s.now S.args.log waiters sets pairs slots zs S.args.n S.args.queue S.args.size S.args.front S.args.active a
     L.s L.i (L.invariant.1 waiters sets pairs slots zs a) (omega arith)
@@ -104,4 +104,17 @@ returns c =
 pub add_woken_spec : {M : Type 1} → statement M
 add_woken_spec =
     tie.close
-    (tie.spec invariant-loop decreases-loop loop-holds word-at-requires index-requires take-requires add_push push-requires add-i loop-less loop-again same_length returns)
+    (tie.spec
+    invariant-loop-i
+    decreases-loop-i
+    loop-i-init
+    word_at-requires
+    index-place-requires
+    take-goal-requires
+    overflow_add-active
+    push-requires
+    overflow_add-i
+    loop-i-smaller
+    loop-i-preserved
+    shape_of-s
+    returns)

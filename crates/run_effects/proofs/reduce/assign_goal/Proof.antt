@@ -7,23 +7,23 @@ use Rattle.run_effects.proofs.ReduceCalls as calls
 use Rattle.run_effects.proofs.reduce.assign_goal.Statement.{statement}
 use Rattle.run_effects.proofs.reduce.assign_goal.Tie as tie
 
-abbrev invariant-loop : tie.invariant-loop
-invariant-loop s₀ values pair to n free₀ i₀ s free i = calls.Assigns s₀ values pair to n s free i
+abbrev invariant-loop-i : tie.invariant-loop-i
+invariant-loop-i s₀ values pair to n free₀ i₀ s free i = calls.Assigns s₀ values pair to n s free i
 
-abbrev decreases-loop : tie.decreases-loop
-decreases-loop s₀ values pair to n free₀ i₀ s free i = n - i
+abbrev decreases-loop-i : tie.decreases-loop-i
+decreases-loop-i s₀ values pair to n free₀ i₀ s free i = n - i
 
-loop-holds : tie.Need-loop-init invariant-loop decreases-loop
-loop-holds c = let a = c.before.args in calls.assigns_none a.s.now a.values a.pair a.to a.n
+loop-i-init : tie.Need-loop-i-init invariant-loop-i decreases-loop-i
+loop-i-init c = let a = c.before.args in calls.assigns_none a.s.now a.values a.pair a.to a.n
 
-mul-word-at : tie.Need-overflow-mul-word-at invariant-loop decreases-loop
-mul-word-at c =
+overflow_mul-i : tie.Need-overflow_mul-i invariant-loop-i decreases-loop-i
+overflow_mul-i c =
     let S = c.before.before.before.before in let a = S.args in
     let L = c.before.before.loop in
     omega (arith, c.before.loop-test.true, (calls.assigns-size a.s.now a.values a.pair a.to a.n L.s L.free L.i L.invariant S.requires).1)
 
-word-at-requires : tie.Need-word-at-requires invariant-loop decreases-loop
-word-at-requires c κs =
+word_at-requires : tie.Need-word_at-requires invariant-loop-i decreases-loop-i
+word_at-requires c κs =
     let S = c.before.before.before.before in let a = S.args in
     let L = c.before.before.loop in
     omega (
@@ -31,20 +31,20 @@ word-at-requires c κs =
       calls.assigns-inside a.s.now a.values a.pair a.to a.n L.s L.free L.i L.invariant S.requires c.before.loop-test.true,
     )
 
-index-requires : tie.Need-index-requires invariant-loop decreases-loop
-index-requires c κs = tt
+index-z-requires : tie.Need-index-z-requires invariant-loop-i decreases-loop-i
+index-z-requires c κs = tt
 
-add-word-at : tie.Need-overflow-add-word-at invariant-loop decreases-loop
-add-word-at c = search rules
+overflow_add-word_at : tie.Need-overflow_add-word_at invariant-loop-i decreases-loop-i
+overflow_add-word_at c = search rules
 
-mul-word-at-2 : tie.Need-overflow-mul-word-at-2 invariant-loop decreases-loop
-mul-word-at-2 c =
+overflow_mul-i-in-loop-i : tie.Need-overflow_mul-i-in-loop-i invariant-loop-i decreases-loop-i
+overflow_mul-i-in-loop-i c =
     let S = c.before.before.before.before.before.before.before in let a = S.args in
     let L = c.before.before.before.before.before.loop in
     omega (arith, c.before.before.before.before.loop-test.true, (calls.assigns-size a.s.now a.values a.pair a.to a.n L.s L.free L.i L.invariant S.requires).1)
 
-word-at-requires-2 : tie.Need-word-at-requires-2 invariant-loop decreases-loop
-word-at-requires-2 c κs =
+word_at-h-requires : tie.Need-word_at-h-requires invariant-loop-i decreases-loop-i
+word_at-h-requires c κs =
     let S = c.before.before.before.before.before.before.before in let a = S.args in
     let L = c.before.before.before.before.before.loop in
     omega (
@@ -52,8 +52,8 @@ word-at-requires-2 c κs =
       calls.assigns-inside a.s.now a.values a.pair a.to a.n L.s L.free L.i L.invariant S.requires c.before.before.before.before.loop-test.true,
     )
 
-add-copy : tie.Need-overflow-add-copy invariant-loop decreases-loop
-add-copy c =
+overflow_add-values : tie.Need-overflow_add-values invariant-loop-i decreases-loop-i
+overflow_add-values c =
     let S = c.before.before.before.before.before.before.before.before.before in let a = S.args in
     let L = c.before.before.before.before.before.before.before.loop in
     let Z = c.before.before.before.index in
@@ -63,47 +63,62 @@ add-copy c =
     let size = calls.assigns-size a.s.now a.values a.pair a.to a.n L.s L.free L.i L.invariant S.requires in
     omega (arith, inside, size.0, S.well-formed)
 
-copy-requires : tie.Need-copy-requires invariant-loop decreases-loop
-copy-requires c κs =
+copy-free-requires : tie.Need-copy-free-requires invariant-loop-i decreases-loop-i
+copy-free-requires c κs =
     let S = c.before.before.before.before.before.before.before.before.before in let a = S.args in
     let L = c.before.before.before.before.before.before.before.loop in
     let Z = c.before.before.before.index in
-    let H = c.before.word-at2 in
+    let H = c.before.word_at-h in
     calls.assigns-asks a.s.now a.values a.pair a.to a.n L.s L.free L.i L.invariant S.requires c.before.before.before.before.before.before.loop-test.true
     H.result Z.result (Z.ensures ∙ c.before.before.before.before.word_at.ensures) H.ensures
 
-add-i : tie.Need-overflow-add-i invariant-loop decreases-loop
-add-i c =
+overflow_add-i : tie.Need-overflow_add-i invariant-loop-i decreases-loop-i
+overflow_add-i c =
     let S = c.before.before.before.before.before.before.before.before.before.before.before.before in let a = S.args in
     let L = c.before.before.before.before.before.before.before.before.before.before.loop in
     omega (arith, c.before.before.before.before.before.before.before.before.before.loop-test.true, (calls.assigns-size a.s.now a.values a.pair a.to a.n L.s L.free L.i L.invariant S.requires).1)
 
-loop-less : tie.Need-loop-smaller invariant-loop decreases-loop
-loop-less c = omega (arith, c.before.before.before.before.before.before.before.before.before.loop-test.true)
+loop-i-smaller : tie.Need-loop-i-smaller invariant-loop-i decreases-loop-i
+loop-i-smaller c = omega (arith, c.before.before.before.before.before.before.before.before.before.loop-test.true)
 
-loop-again : tie.Need-loop-preserved invariant-loop decreases-loop
-loop-again c =
+loop-i-preserved : tie.Need-loop-i-preserved invariant-loop-i decreases-loop-i
+loop-i-preserved c =
     let a = c.before.before.before.before.before.before.before.before.before.before.before.before.args in
     let L = c.before.before.before.before.before.before.before.before.before.before.loop in
     let Z = c.before.before.before.before.before.before.index in
-    let H = c.before.before.before.before.word-at2 in
+    let H = c.before.before.before.before.word_at-h in
     calls.assigns-on a.s.now a.values a.pair a.to a.n L.s L.free L.i L.invariant c.before.before.before.before.before.before.before.before.before.loop-test.true _ _
-    H.result Z.result (Z.ensures ∙ c.before.before.before.before.before.before.before.word_at.ensures) H.ensures c.before.before.copy.ensures
+    H.result Z.result (Z.ensures ∙ c.before.before.before.before.before.before.before.word_at.ensures) H.ensures c.before.before.copy-free.ensures
 
-same_length : tie.Need-same-length invariant-loop decreases-loop
-same_length c =
+shape_of-s : tie.Need-shape_of-s invariant-loop-i decreases-loop-i
+shape_of-s c =
     let S = c.before.before.before in let a = S.args in
-    let L = c.before.loop in
+    let L = c.before.loop-i in
     (calls.assigns-size a.s.now a.values a.pair a.to a.n L.s L.free L.i L.invariant S.requires).0
 
-returns : tie.Need-returns invariant-loop decreases-loop
+returns : tie.Need-returns invariant-loop-i decreases-loop-i
 returns c =
     let a = c.before.before.before.args in
-    let L = c.before.loop in
-    calls.assigns-all a.s.now a.values a.pair a.to a.n L.s L.free L.i L.invariant c.loop-test.false
+    let L = c.before.loop-i in
+    calls.assigns-all a.s.now a.values a.pair a.to a.n L.s L.free L.i L.invariant c.loop-i-test.false
 
 pub assign_goal_spec : {M : Type 1} → statement M
 assign_goal_spec =
     tie.close
-    (tie.spec invariant-loop decreases-loop loop-holds mul-word-at word-at-requires index-requires add-word-at mul-word-at-2 word-at-requires-2 add-copy
-    copy-requires add-i loop-less loop-again same_length returns)
+    (tie.spec
+    invariant-loop-i
+    decreases-loop-i
+    loop-i-init
+    overflow_mul-i
+    word_at-requires
+    index-z-requires
+    overflow_add-word_at
+    overflow_mul-i-in-loop-i
+    word_at-h-requires
+    overflow_add-values
+    copy-free-requires
+    overflow_add-i
+    loop-i-smaller
+    loop-i-preserved
+    shape_of-s
+    returns)

@@ -11,36 +11,36 @@ use Rattle.run_effects.proofs.Awaking as steps
 use Rattle.run_effects.proofs.reduce.wake.Statement.{statement}
 use Rattle.run_effects.proofs.reduce.wake.Tie as tie
 
-abbrev invariant-loop : tie.invariant-loop
-invariant-loop s₀ log waiters sets n woken₀ i₀ s woken i =
+abbrev invariant-loop-i : tie.invariant-loop-i
+invariant-loop-i s₀ log waiters sets n woken₀ i₀ s woken i =
     (i ≤ n)
     × ((pairs : ℕ) (slots : List Slot) → Wakes s₀ log waiters sets pairs slots n → steps.Awake s₀ s log waiters sets pairs slots i woken)
 
-abbrev decreases-loop : tie.decreases-loop
-decreases-loop s₀ log waiters sets n woken₀ i₀ s woken i = n - i
+abbrev decreases-loop-i : tie.decreases-loop-i
+decreases-loop-i s₀ log waiters sets n woken₀ i₀ s woken i = n - i
 
-loop-holds : tie.Need-loop-init invariant-loop decreases-loop
-loop-holds c =
+loop-i-init : tie.Need-loop-i-init invariant-loop-i decreases-loop-i
+loop-i-init c =
     let S = c.before in
     (omega arith, λ pairs slots w. steps.awake_begins S.args.s.now S.args.log S.args.waiters S.args.sets pairs slots w.ok)
 
-mul-word-at : tie.Need-overflow-mul-word-at invariant-loop decreases-loop
-mul-word-at c =
+overflow_mul-i : tie.Need-overflow_mul-i invariant-loop-i decreases-loop-i
+overflow_mul-i c =
     let S = c.before.before.before.before in omega (arith, S.requires.2.few, c.before.loop-test.true)
 
-word-at-requires : tie.Need-word-at-requires invariant-loop decreases-loop
-word-at-requires c κs =
+word_at-requires : tie.Need-word_at-requires invariant-loop-i decreases-loop-i
+word_at-requires c κs =
     let S = c.before.before.before.before in
     let L = c.before.before.loop in
     let p = S.requires in
     steps.entry-inside S.args.s.now S.args.log S.args.waiters S.args.sets p.0 p.1 S.args.n p.2 L.s L.i L.woken
     (L.invariant.1 p.0 p.1 p.2) c.before.loop-test.true
 
-index-requires : tie.Need-index-requires invariant-loop decreases-loop
-index-requires c κs = search rules
+index-z-requires : tie.Need-index-z-requires invariant-loop-i decreases-loop-i
+index-z-requires c κs = search rules
 
-word-at-requires-2 : tie.Need-word-at-requires-2 invariant-loop decreases-loop
-word-at-requires-2 c κs =
+word_at-requires-in-loop-i : tie.Need-word_at-requires-in-loop-i invariant-loop-i decreases-loop-i
+word_at-requires-in-loop-i c κs =
     let S = c.before.before.before.before.before.before.before in
     let L = c.before.before.before.before.before.loop in
     let p = S.requires in
@@ -48,22 +48,22 @@ word-at-requires-2 c κs =
     (L.invariant.1 p.0 p.1 p.2) c.before.before.before.before.loop-test.true _
     (c.before.index.ensures ∙ c.before.before.word_at.ensures)
 
-index-requires-2 : tie.Need-index-requires-2 invariant-loop decreases-loop
-index-requires-2 c κs = search rules
+index-waiter-requires : tie.Need-index-waiter-requires invariant-loop-i decreases-loop-i
+index-waiter-requires c κs = search rules
 
-sub-leave : tie.Need-overflow-sub-leave invariant-loop decreases-loop
-sub-leave c = search rules
+overflow_sub-waiter : tie.Need-overflow_sub-waiter invariant-loop-i decreases-loop-i
+overflow_sub-waiter c = search rules
 
-leave-requires : tie.Need-leave-requires invariant-loop decreases-loop
+leave-requires : tie.Need-leave-requires invariant-loop-i decreases-loop-i
 leave-requires c κs =
     let S = c.before.before.before.before.before.before.before.before.before.before.before in
     let L = c.before.before.before.before.before.before.before.before.before.loop in
     let less = c.before.before.before.before.before.before.before.before.loop-test.true in
     let read = c.before.before.before.before.before.index.ensures ∙ c.before.before.before.before.before.before.word_at.ensures in
-    let waiter = c.before.before.index2.ensures ∙ c.before.before.before.word-at2.ensures in
+    let waiter = c.before.before.index-waiter.ensures ∙ c.before.before.before.word_at-in-loop-i.ensures in
     let p = S.requires in
     let a = L.invariant.1 p.0 p.1 p.2 in
-    let j = steps.place_before _ _ waiter c.before.if1.true in
+    let j = steps.place_before _ _ waiter c.before.if-waiter-ne0.true in
     let f = steps.found S.args.s.now S.args.log S.args.waiters S.args.sets p.0 p.1 S.args.n p.2 L.s L.i L.woken a less _ read _ j in (
       p.0,
       quieted (entry_places S.args.s.now L.i) p.1,
@@ -72,44 +72,44 @@ leave-requires c κs =
       steps.waits-at S.args.s.now S.args.log S.args.waiters S.args.sets p.0 p.1 S.args.n p.2 L.s L.i L.woken a less _ read _ j,
     )
 
-sub-insert : tie.Need-overflow-sub-insert invariant-loop decreases-loop
-sub-insert c = search rules
+overflow_sub-waiter-then-waiter-ne0 : tie.Need-overflow_sub-waiter-then-waiter-ne0 invariant-loop-i decreases-loop-i
+overflow_sub-waiter-then-waiter-ne0 c = search rules
 
-insert-requires : tie.Need-insert-requires invariant-loop decreases-loop
+insert-requires : tie.Need-insert-requires invariant-loop-i decreases-loop-i
 insert-requires c κs =
     let C = c.before.before.before.before in
     let S = C.before.before.before.before.before.before.before.before.before.before.before in
     let L = C.before.before.before.before.before.before.before.before.before.loop in
     let less = C.before.before.before.before.before.before.before.before.loop-test.true in
     let read = C.before.before.before.before.before.index.ensures ∙ C.before.before.before.before.before.before.word_at.ensures in
-    let waiter = C.before.before.index2.ensures ∙ C.before.before.before.word-at2.ensures in
+    let waiter = C.before.before.index-waiter.ensures ∙ C.before.before.before.word_at-in-loop-i.ensures in
     let p = S.requires in
     let a = L.invariant.1 p.0 p.1 p.2 in
-    let j = steps.place_before _ _ waiter C.before.if1.true in
+    let j = steps.place_before _ _ waiter C.before.if-waiter-ne0.true in
     steps.inserting S.args.s.now S.args.log S.args.waiters S.args.sets p.0 p.1 S.args.n p.2 L.s L.i L.woken a less _ read _ j _
     (c.before.before.before.leave.ensures p.0 _ _ _
     (steps.waits-at S.args.s.now S.args.log S.args.waiters S.args.sets p.0 p.1 S.args.n p.2 L.s L.i L.woken a less _ read _ j))
 
-add-woken : tie.Need-overflow-add-woken invariant-loop decreases-loop
-add-woken c =
+overflow_add-woken : tie.Need-overflow_add-woken invariant-loop-i decreases-loop-i
+overflow_add-woken c =
     let S = c.before.before.before.before.before.before.before.before.before.before.before.before.before.before.before.before.before.before in
     let L = c.before.before.before.before.before.before.before.before.before.before.before.before.before.before.before.before.loop in
     let p = S.requires in
     omega (arith, (L.invariant.1 p.0 p.1 p.2).few, p.2.few, c.before.before.before.before.before.before.before.before.before.before.before.before.before.before.before.loop-test.true)
 
-add-i : tie.Need-overflow-add-i invariant-loop decreases-loop
-add-i c = search rules
+overflow_add-i : tie.Need-overflow_add-i invariant-loop-i decreases-loop-i
+overflow_add-i c = search rules
 
-loop-less : tie.Need-loop-smaller invariant-loop decreases-loop
-loop-less c = search rules
+loop-i-smaller : tie.Need-loop-i-smaller invariant-loop-i decreases-loop-i
+loop-i-smaller c = search rules
 
-loop-again : tie.Need-loop-preserved invariant-loop decreases-loop
-loop-again c =
+loop-i-preserved : tie.Need-loop-i-preserved invariant-loop-i decreases-loop-i
+loop-i-preserved c =
     let S = c.before.before.before.before.before.before.before.before.before.before in
     let L = c.before.before.before.before.before.before.before.before.loop in
     let less = c.before.before.before.before.before.before.before.loop-test.true in
     let read = c.before.before.before.before.index.ensures ∙ c.before.before.before.before.before.word_at.ensures in
-    let waiter = c.before.index2.ensures ∙ c.before.before.word-at2.ensures in (
+    let waiter = c.before.index-waiter.ensures ∙ c.before.before.word_at-in-loop-i.ensures in (
       omega arith,
       λ pairs slots w.
           let a = L.invariant.1 pairs slots w in
@@ -125,18 +125,18 @@ loop-again c =
           rw (t.1, t.2)
           (steps.awake-none S.args.s.now S.args.log S.args.waiters S.args.sets pairs slots S.args.n w L.s L.i L.woken a less _ read
           (sym waiter ∙ t.0.left)))
-          c.if1.branch,
+          c.if-waiter-ne0.branch,
     )
 
-same_length : tie.Need-same-length invariant-loop decreases-loop
-same_length c =
+shape_of-s : tie.Need-shape_of-s invariant-loop-i decreases-loop-i
+shape_of-s c =
     let p = c.before.before.before.requires in
-    (c.before.loop.invariant.1 p.0 p.1 p.2).kept.size
+    (c.before.loop-i.invariant.1 p.0 p.1 p.2).kept.size
 
-returns : tie.Need-returns invariant-loop decreases-loop
+returns : tie.Need-returns invariant-loop-i decreases-loop-i
 returns c =
     let S = c.before.before.before in
-    let L = c.before.loop in
+    let L = c.before.loop-i in
     λ pairs slots w.
     steps.awake_ends S.args.s.now L.s S.args.log S.args.waiters S.args.sets pairs slots S.args.n L.i L.woken w (L.invariant.1 pairs slots w)
     (omega arith)
@@ -144,4 +144,22 @@ returns c =
 pub wake_spec : {M : Type 1} → statement M
 wake_spec =
     tie.close
-    (tie.spec invariant-loop decreases-loop loop-holds mul-word-at word-at-requires index-requires word-at-requires-2 index-requires-2 sub-leave leave-requires sub-insert insert-requires add-woken add-i loop-less loop-again same_length returns)
+    (tie.spec
+    invariant-loop-i
+    decreases-loop-i
+    loop-i-init
+    overflow_mul-i
+    word_at-requires
+    index-z-requires
+    word_at-requires-in-loop-i
+    index-waiter-requires
+    overflow_sub-waiter
+    leave-requires
+    overflow_sub-waiter-then-waiter-ne0
+    insert-requires
+    overflow_add-woken
+    overflow_add-i
+    loop-i-smaller
+    loop-i-preserved
+    shape_of-s
+    returns)

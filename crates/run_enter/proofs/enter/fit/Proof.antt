@@ -21,11 +21,11 @@ sum-requires c κs =
       λ q l. (small_counts S.args.s.now S.requires.0 S.requires.1 held q (omega (arith, count))).1,
     )
 
-returns : tie.Need-returns
-returns c = λ names j held count.
+returns-then-room-sum : tie.Need-returns-then-room-sum
+returns-then-room-sum c = λ names j held count.
     let S = c.before.before.before.before in
     let total = rw count at c.before.before.sum.ensures ∙ sum_pairs S.args.s.now names j held in
-    fit_no_pairs (figures S.args.room) j.queries (omega (arith, total, c.if1.true))
+    fit_no_pairs (figures S.args.room) j.queries (omega (arith, total, c.if-room-sum.true))
 
 sum-requires-2 : tie.Need-sum-requires-2
 sum-requires-2 c κs =
@@ -38,11 +38,11 @@ sum-requires-2 c κs =
       λ q l. (small_counts S.args.s.now S.requires.0 S.requires.1 held q (omega (arith, count))).2,
     )
 
-returns-2 : tie.Need-returns-2
-returns-2 c = λ names j held count.
+returns-then-room-sum-2 : tie.Need-returns-then-room-sum-2
+returns-then-room-sum-2 c = λ names j held count.
     let S = c.before.before.before.before.before.before.before in
-    let total = rw count at c.before.before.sum2.ensures ∙ sum_compounds S.args.s.now names j held in
-    fit_no_compounds (figures S.args.room) j.queries (omega (arith, total, c.if2.true))
+    let total = rw count at c.before.before.sum-2.ensures ∙ sum_compounds S.args.s.now names j held in
+    fit_no_compounds (figures S.args.room) j.queries (omega (arith, total, c.if-room-sum-2.true))
 
 sum-requires-3 : tie.Need-sum-requires-3
 sum-requires-3 c κs =
@@ -57,15 +57,21 @@ sum-requires-3 c κs =
           rw plain (small_counts S.args.s.now S.requires.0 S.requires.1 held q (omega (arith, count))).0,
     )
 
-returns-3 : tie.Need-returns-3
-returns-3 c = λ names j held count.
+returns : tie.Need-returns
+returns c = λ names j held count.
     let S = c.before.before.before.before.before.before.before.before.before in
     let pairs = rw count at c.before.before.before.before.before.before.before.sum.ensures ∙ sum_pairs S.args.s.now names j held in
-    let compounds = rw count at c.before.before.before.before.sum2.ensures ∙ sum_compounds S.args.s.now names j held in
-    let goals = rw count at c.before.sum3.ensures ∙ sum_goals S.args.s.now names j held in
+    let compounds = rw count at c.before.before.before.before.sum-2.ensures ∙ sum_compounds S.args.s.now names j held in
+    let goals = rw count at c.before.sum-3.ensures ∙ sum_goals S.args.s.now names j held in
     ap (λ n. leb n S.args.room.goals) goals
-    ∙ fit_goals (figures S.args.room) j.queries (omega (arith, pairs, c.before.before.before.before.before.if1.false)) (omega (arith, compounds, c.before.before.if2.false))
+    ∙ fit_goals (figures S.args.room) j.queries (omega (arith, pairs, c.before.before.before.before.before.if-room-sum.false)) (omega (arith, compounds, c.before.before.if-room-sum-2.false))
 
 pub fit_spec : {M : Type 1} → statement M
 fit_spec =
-    tie.close (tie.spec sum-requires returns sum-requires-2 returns-2 sum-requires-3 returns-3)
+    tie.close (tie.spec
+    sum-requires
+    returns-then-room-sum
+    sum-requires-2
+    returns-then-room-sum-2
+    sum-requires-3
+    returns)

@@ -6,51 +6,51 @@ use borrow.Author.Rules.{rules}
 use Rattle.run_equal.proofs.equal.equal.Statement.{statement}
 use Rattle.run_equal.proofs.equal.equal.Tie as tie
 
-add-depth : tie.Need-overflow-add-depth
-add-depth c = search rules
+overflow_add-depth : tie.Need-overflow_add-depth
+overflow_add-depth c = search rules
 
-add-depth-2 : tie.Need-overflow-add-depth-2
-add-depth-2 c = search rules
+overflow_add-depth-2 : tie.Need-overflow_add-depth-2
+overflow_add-depth-2 c = search rules
 
-mul-depth : tie.Need-overflow-mul-depth
-mul-depth c =
+overflow_mul-depth : tie.Need-overflow_mul-depth
+overflow_mul-depth c =
     let S = c.before in
     let a = S.args in
     let (x, y, given, n, t, u, E) = S.requires in
     record { fits = omega (arith, depth_fits a.s.now x y given a.values a.marks a.links a.met n a.place t u E) }
 
-add-depth-3 : tie.Need-overflow-add-depth-3
-add-depth-3 c =
+overflow_add-depth-3 : tie.Need-overflow_add-depth-3
+overflow_add-depth-3 c =
     let S = c.before in
     let a = S.args in
     let (x, y, given, n, t, u, E) = S.requires in
     record { fits = depth_fits a.s.now x y given a.values a.marks a.links a.met n a.place t u E }
 
-add-given : tie.Need-overflow-add-given
-add-given c = search rules
+overflow_add-place : tie.Need-overflow_add-place
+overflow_add-place c = search rules
 
-given-requires : tie.Need-given-requires
-given-requires c κs =
+given-t-requires : tie.Need-given-t-requires
+given-t-requires c κs =
     let S = c.before.before in
     let a = S.args in
     let (x, y, given, n, t, u, E) = S.requires in
     first_readable a.s.now x y given a.values a.marks a.links a.met n a.place t u E
 
-add-given-2 : tie.Need-overflow-add-given-2
-add-given-2 c = search rules
+overflow_add-place-2 : tie.Need-overflow_add-place-2
+overflow_add-place-2 c = search rules
 
-given-requires-2 : tie.Need-given-requires-2
-given-requires-2 c κs =
+given-u-requires : tie.Need-given-u-requires
+given-u-requires c κs =
     let S = c.before.before.before.before in
     let a = S.args in
     let (x, y, given, n, t, u, E) = S.requires in
     second_readable a.s.now x y given a.values a.marks a.links a.met n a.place t u E
 
-add_same : tie.Need-overflow-add-same
-add_same c = search rules
+overflow_add-marks : tie.Need-overflow_add-marks
+overflow_add-marks c = search rules
 
-same-requires : tie.Need-same-requires
-same-requires c κs =
+same-r-requires : tie.Need-same-r-requires
+same-r-requires c κs =
     let S = c.before.before.before.before.before.before in
     let a = S.args in
     let (x, y, given, n, t, u, E) = S.requires in (
@@ -59,11 +59,31 @@ same-requires c κs =
       filled (scene a.s.now x y given a.values a.marks a.links a.met n a.place t u E) u,
       begins a.s.now x y given a.values a.marks a.links a.met n a.place t u E,
       first_means a.s.now x y given a.values a.marks a.links a.met n a.place t u E c.before.before.before.given.result c.before.before.before.given.ensures,
-      second_means a.s.now x y given a.values a.marks a.links a.met n a.place t u E c.before.given2.result c.before.given2.ensures,
+      second_means a.s.now x y given a.values a.marks a.links a.met n a.place t u E c.before.given-u.result c.before.given-u.ensures,
     )
 
-same_length : tie.Need-same-length
-same_length c = search rules
+shape_of-s-then-r-eq-UNEQUAL : tie.Need-shape_of-s-then-r-eq-UNEQUAL
+shape_of-s-then-r-eq-UNEQUAL c = search rules
+
+returns-then-r-eq-UNEQUAL : tie.Need-returns-then-r-eq-UNEQUAL
+returns-then-r-eq-UNEQUAL c =
+    let Same = c.before.before.before in
+    let Second = Same.before.before in
+    let First = Second.before.before in
+    let S = First.before.before.before in
+    let a = S.args in
+    λ x y given n t u E.
+    says_unequal a.s.now x y given a.values a.marks a.links a.met n a.place t u E Same.same-r.new.s Same.same-r.result
+    (Same.same-r.ensures (scene a.s.now x y given a.values a.marks a.links a.met n a.place t u E)
+    (filled (scene a.s.now x y given a.values a.marks a.links a.met n a.place t u E) t)
+    (filled (scene a.s.now x y given a.values a.marks a.links a.met n a.place t u E) u)
+    (begins a.s.now x y given a.values a.marks a.links a.met n a.place t u E)
+    (first_means a.s.now x y given a.values a.marks a.links a.met n a.place t u E First.given.result First.given.ensures)
+    (second_means a.s.now x y given a.values a.marks a.links a.met n a.place t u E Second.given-u.result Second.given-u.ensures))
+    c.if-r-eq-UNEQUAL.true
+
+shape_of-s : tie.Need-shape_of-s
+shape_of-s c = search rules
 
 returns : tie.Need-returns
 returns c =
@@ -73,50 +93,30 @@ returns c =
     let S = First.before.before.before in
     let a = S.args in
     λ x y given n t u E.
-    says_unequal a.s.now x y given a.values a.marks a.links a.met n a.place t u E Same.same.new.0 Same.same.result
-    (Same.same.ensures (scene a.s.now x y given a.values a.marks a.links a.met n a.place t u E)
+    says_equal a.s.now x y given a.values a.marks a.links a.met n a.place t u E Same.same-r.new.s Same.same-r.result
+    (Same.same-r.ensures (scene a.s.now x y given a.values a.marks a.links a.met n a.place t u E)
     (filled (scene a.s.now x y given a.values a.marks a.links a.met n a.place t u E) t)
     (filled (scene a.s.now x y given a.values a.marks a.links a.met n a.place t u E) u)
     (begins a.s.now x y given a.values a.marks a.links a.met n a.place t u E)
     (first_means a.s.now x y given a.values a.marks a.links a.met n a.place t u E First.given.result First.given.ensures)
-    (second_means a.s.now x y given a.values a.marks a.links a.met n a.place t u E Second.given2.result Second.given2.ensures))
-    c.if1.true
-
-same-length-2 : tie.Need-same-length-2
-same-length-2 c = search rules
-
-returns-2 : tie.Need-returns-2
-returns-2 c =
-    let Same = c.before.before.before in
-    let Second = Same.before.before in
-    let First = Second.before.before in
-    let S = First.before.before.before in
-    let a = S.args in
-    λ x y given n t u E.
-    says_equal a.s.now x y given a.values a.marks a.links a.met n a.place t u E Same.same.new.0 Same.same.result
-    (Same.same.ensures (scene a.s.now x y given a.values a.marks a.links a.met n a.place t u E)
-    (filled (scene a.s.now x y given a.values a.marks a.links a.met n a.place t u E) t)
-    (filled (scene a.s.now x y given a.values a.marks a.links a.met n a.place t u E) u)
-    (begins a.s.now x y given a.values a.marks a.links a.met n a.place t u E)
-    (first_means a.s.now x y given a.values a.marks a.links a.met n a.place t u E First.given.result First.given.ensures)
-    (second_means a.s.now x y given a.values a.marks a.links a.met n a.place t u E Second.given2.result Second.given2.ensures))
-    c.if1.false
+    (second_means a.s.now x y given a.values a.marks a.links a.met n a.place t u E Second.given-u.result Second.given-u.ensures))
+    c.if-r-eq-UNEQUAL.false
 
 pub equal_spec : {M : Type 1} → statement M
 equal_spec =
     tie.close
     (tie.spec
-    add-depth
-    add-depth-2
-    mul-depth
-    add-depth-3
-    add-given
-    given-requires
-    add-given-2
-    given-requires-2
-    add_same
-    same-requires
-    same_length
-    returns
-    same-length-2
-    returns-2)
+    overflow_add-depth
+    overflow_add-depth-2
+    overflow_mul-depth
+    overflow_add-depth-3
+    overflow_add-place
+    given-t-requires
+    overflow_add-place-2
+    given-u-requires
+    overflow_add-marks
+    same-r-requires
+    shape_of-s-then-r-eq-UNEQUAL
+    returns-then-r-eq-UNEQUAL
+    shape_of-s
+    returns)

@@ -4,20 +4,25 @@ use Rattle.run_equal.proofs.equal.part.Statement.{statement}
 use Rattle.run_equal.proofs.equal.part.Tie as tie
 
 given-requires : tie.Need-given-requires
-given-requires c κs = c.before.before.requires.clause c.if1.true
+given-requires c κs = c.before.before.requires.clause c.if-at-lt-TRIAL.true
+
+returns-then-at-lt-TRIAL : tie.Need-returns-then-at-lt-TRIAL
+returns-then-at-lt-TRIAL c = search rules
+
+offset_bounds-s-at : tie.Need-offset_bounds-s-at
+offset_bounds-s-at c = search rules
+
+bounds-s-at : tie.Need-bounds-s-at
+bounds-s-at c = search rules
 
 returns : tie.Need-returns
 returns c = search rules
 
-mul-result : tie.Need-overflow-mul-result
-mul-result c = search rules
-
-shared-slice-read-result : tie.Need-shared-slice-read-result
-shared-slice-read-result c = search rules
-
-returns-2 : tie.Need-returns-2
-returns-2 c = search rules
-
 pub part_spec : {M : Type 1} → statement M
 part_spec =
-    tie.close (tie.spec given-requires returns mul-result shared-slice-read-result returns-2)
+    tie.close (tie.spec
+    given-requires
+    returns-then-at-lt-TRIAL
+    offset_bounds-s-at
+    bounds-s-at
+    returns)

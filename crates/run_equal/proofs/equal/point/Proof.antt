@@ -7,17 +7,17 @@ use borrow.Author.Rules.{rules}
 use Rattle.run_equal.proofs.equal.point.Statement.{statement}
 use Rattle.run_equal.proofs.equal.point.Tie as tie
 
-is-variable-requires : tie.Need-is-variable-requires
-is-variable-requires c κs = search rules
+is_variable-requires : tie.Need-is_variable-requires
+is_variable-requires c κs = search rules
 
-returns : tie.Need-returns
-returns c = search rules
+returns-then-not-is_variable : tie.Need-returns-then-not-is_variable
+returns-then-not-is_variable c = search rules
 
-is-variable-requires-2 : tie.Need-is-variable-requires-2
-is-variable-requires-2 c κs = search rules
+is_variable-requires-2 : tie.Need-is_variable-requires-2
+is_variable-requires-2 c κs = search rules
 
-returns-2 : tie.Need-returns-2
-returns-2 c = search rules
+returns-then-d-ne-COMPOUND : tie.Need-returns-then-d-ne-COMPOUND
+returns-then-d-ne-COMPOUND c = search rules
 
 index-requires : tie.Need-index-requires
 index-requires c κs = search rules
@@ -29,43 +29,43 @@ put-requires c κs =
     let S = First.before.before in
     let a = S.args in
     let (x, values, v, u, W, m, o) = S.requires in
-    let is = is_variable a.c First.is_variable.result First.is_variable.ensures If2.before.before.if1.false in (
+    let is = is_variable a.c First.is_variable.result First.is_variable.ensures If2.before.before.if-not-is_variable.false in (
       x.met,
       W.readers,
       rw c.index.ensures (puts a.s.now x values a.lists a.links a.taken W a.c a.d v u m o is (λ no.
           ⊎_elim (λ q. q.1.left) (λ q.
-          let it = is_variable a.d If2.before.is-variable2.result If2.before.is-variable2.ensures q.left in
-          absurd (omega (arith, no it.0, it.1))) If2.if2.branch)),
+          let it = is_variable a.d If2.before.is_variable-2.result If2.before.is_variable-2.ensures q.left in
+          absurd (omega (arith, no it.0, it.1))) If2.if-not-is_variable-2.branch)),
     )
 
-same_length : tie.Need-same-length
-same_length c = search rules
+shape_of-s : tie.Need-shape_of-s
+shape_of-s c = search rules
 
-returns-3 : tie.Need-returns-3
-returns-3 c =
+returns : tie.Need-returns
+returns c =
     let Put = c.before.before in
     let If2 = Put.before.before.before in
     let First = If2.before.before.before in
     let S = First.before.before in
     let a = S.args in
-    let is = is_variable a.c First.is_variable.result First.is_variable.ensures If2.before.before.if1.false in
+    let is = is_variable a.c First.is_variable.result First.is_variable.ensures If2.before.before.if-not-is_variable.false in
     λ x values v u W m o.
-    put_linked a.s.now x values a.lists a.links a.taken W a.c a.d v u m o is Put.put.new.0 Put.put.result
+    put_linked a.s.now x values a.lists a.links a.taken W a.c a.d v u m o is Put.put.new.s Put.put.result
     (rw Put.before.index.ensures at (Put.put.ensures x.met W.readers
     (rw Put.before.index.ensures (puts a.s.now x values a.lists a.links a.taken W a.c a.d v u m o is (λ no.
     ⊎_elim (λ q. q.1.left) (λ q.
-    let it = is_variable a.d If2.before.is-variable2.result If2.before.is-variable2.ensures q.left in
-    absurd (omega (arith, no it.0, it.1))) If2.if2.branch)))))
+    let it = is_variable a.d If2.before.is_variable-2.result If2.before.is_variable-2.ensures q.left in
+    absurd (omega (arith, no it.0, it.1))) If2.if-not-is_variable-2.branch)))))
 
 pub point_spec : {M : Type 1} → statement M
 point_spec =
     tie.close
     (tie.spec
-    is-variable-requires
-    returns
-    is-variable-requires-2
-    returns-2
+    is_variable-requires
+    returns-then-not-is_variable
+    is_variable-requires-2
+    returns-then-d-ne-COMPOUND
     index-requires
     put-requires
-    same_length
-    returns-3)
+    shape_of-s
+    returns)

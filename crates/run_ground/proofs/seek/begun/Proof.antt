@@ -4,23 +4,29 @@ use borrow.Author.Rules.{rules}
 use Rattle.run_ground.proofs.seek.begun.Statement.{statement}
 use Rattle.run_ground.proofs.seek.begun.Tie as tie
 
-mul-result : tie.Need-overflow-mul-result
-mul-result c = search rules
+overflow_mul-result : tie.Need-overflow_mul-result
+overflow_mul-result c = search rules
 
-add-result : tie.Need-overflow-add-result
-add-result c = search rules
+overflow_add-result : tie.Need-overflow_add-result
+overflow_add-result c = search rules
 
-mul-result-2 : tie.Need-overflow-mul-result-2
-mul-result-2 c = search rules
+overflow_mul-result-else-first : tie.Need-overflow_mul-result-else-first
+overflow_mul-result-else-first c = search rules
 
-add-result-2 : tie.Need-overflow-add-result-2
-add-result-2 c = search rules
+overflow_add-result-else-first : tie.Need-overflow_add-result-else-first
+overflow_add-result-else-first c = search rules
 
-returns : tie.Need-returns
-returns c = rw c.if1.true (omega arith)
+returns-then-first : tie.Need-returns-then-first
+returns-then-first c = rw c.if-first.true (omega arith)
 
-returns-2 : tie.Need-returns-2
-returns-2 c = rw c.if1.false (omega arith)
+returns-else-first : tie.Need-returns-else-first
+returns-else-first c = rw c.if-first.false (omega arith)
 
 pub begun_spec : {M : Type 1} → statement M
-begun_spec = tie.close (tie.spec mul-result add-result mul-result-2 add-result-2 returns returns-2)
+begun_spec = tie.close (tie.spec
+    overflow_mul-result
+    overflow_add-result
+    overflow_mul-result-else-first
+    overflow_add-result-else-first
+    returns-then-first
+    returns-else-first)

@@ -5,39 +5,39 @@ use borrow.Author.Rules.{rules}
 use Rattle.run_ground.proofs.seek.enters.Statement.{statement}
 use Rattle.run_ground.proofs.seek.enters.Tie as tie
 
-word-at-requires : tie.Need-word-at-requires
-word-at-requires c κs = search rules
+word_at-m-requires : tie.Need-word_at-m-requires
+word_at-m-requires c κs = search rules
 
-same_length : tie.Need-same-length
-same_length c = search rules
+shape_of-s-then-m-eq-GROUND : tie.Need-shape_of-s-then-m-eq-GROUND
+shape_of-s-then-m-eq-GROUND c = search rules
+
+returns-then-m-eq-GROUND : tie.Need-returns-then-m-eq-GROUND
+returns-then-m-eq-GROUND c = (refl, inl (sym c.before.word_at-m.ensures ∙ c.if-m-eq-GROUND.true))
+
+shape_of-s-then-m-stamp : tie.Need-shape_of-s-then-m-stamp
+shape_of-s-then-m-stamp c = search rules
+
+returns-then-m-stamp : tie.Need-returns-then-m-stamp
+returns-then-m-stamp c = (refl, inr (sym c.before.before.word_at-m.ensures ∙ c.if-m-stamp.true))
+
+set_at-requires : tie.Need-set_at-requires
+set_at-requires c κs = search rules
+
+shape_of-s : tie.Need-shape_of-s
+shape_of-s c = search rules
 
 returns : tie.Need-returns
-returns c = (refl, inl (sym c.before.word_at.ensures ∙ c.if1.true))
-
-same-length-2 : tie.Need-same-length-2
-same-length-2 c = search rules
-
-returns-2 : tie.Need-returns-2
-returns-2 c = (refl, inr (sym c.before.before.word_at.ensures ∙ c.if2.true))
-
-set-at-requires : tie.Need-set-at-requires
-set-at-requires c κs = search rules
-
-same-length-3 : tie.Need-same-length-3
-same-length-3 c = search rules
-
-returns-3 : tie.Need-returns-3
-returns-3 c = search rules
+returns c = search rules
 
 pub enters_spec : {M : Type 1} → statement M
 enters_spec =
     tie.close
     (tie.spec
-    word-at-requires
-    same_length
-    returns
-    same-length-2
-    returns-2
-    set-at-requires
-    same-length-3
-    returns-3)
+    word_at-m-requires
+    shape_of-s-then-m-eq-GROUND
+    returns-then-m-eq-GROUND
+    shape_of-s-then-m-stamp
+    returns-then-m-stamp
+    set_at-requires
+    shape_of-s
+    returns)

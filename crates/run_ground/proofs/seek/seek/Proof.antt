@@ -11,64 +11,64 @@ use Rattle.run_ground.proofs.seek.seek.Tie as tie
 begun-requires : tie.Need-begun-requires
 begun-requires c κs = search rules
 
-through-requires : tie.Need-through-requires
-through-requires c κs =
+through-r-requires : tie.Need-through-r-requires
+through-r-requires c κs =
     let S = c.before.before.before in let a = S.args in
     through_asks a.s.now a.values a.marks a.links a.met a.first a.place a.count a.stamp c.begun.result
     c.begun.ensures S.requires
 
-same_length : tie.Need-same-length
-same_length c = search rules
+shape_of-s-then-r-eq-FAILED : tie.Need-shape_of-s-then-r-eq-FAILED
+shape_of-s-then-r-eq-FAILED c = search rules
 
-returns : tie.Need-returns
-returns c =
-    let Through = c.before.before.before in let Begun = Through.before in let S = Begun.before.before.before in let a = S.args in let r = Through.through.result in
+returns-then-r-eq-FAILED : tie.Need-returns-then-r-eq-FAILED
+returns-then-r-eq-FAILED c =
+    let Through = c.before.before.before in let Begun = Through.before in let S = Begun.before.before.before in let a = S.args in let r = Through.through-r.result in
     sees_fails a.s.now a.values a.marks a.links a.met a.first a.place a.count a.stamp Begun.begun.result
-    Begun.begun.ensures Through.through.new.0 r Through.through.ensures c.if1.true
+    Begun.begun.ensures Through.through-r.new.s r Through.through-r.ensures c.if-r-eq-FAILED.true
 
 pending-requires : tie.Need-pending-requires
 pending-requires c κs = search rules
 
-met-in-requires : tie.Need-met-in-requires
-met-in-requires c κs =
+met_in-requires : tie.Need-met_in-requires
+met_in-requires c κs =
     let If1 = c.before.before in let Through = If1.before.before.before in let Begun = Through.before in
-    let S = Begun.before.before.before in let a = S.args in let r = Through.through.result in
+    let S = Begun.before.before.before in let a = S.args in let r = Through.through-r.result in
     found_large a.s.now a.values a.marks a.links a.met a.first a.place a.count a.stamp Begun.begun.result
-    Begun.begun.ensures Through.through.new.0 r Through.through.ensures If1.if1.false S.requires
+    Begun.begun.ensures Through.through-r.new.s r Through.through-r.ensures If1.if-r-eq-FAILED.false S.requires
 
-same-length-2 : tie.Need-same-length-2
-same-length-2 c = search rules
+shape_of-s-then-pending : tie.Need-shape_of-s-then-pending
+shape_of-s-then-pending c = search rules
 
-returns-2 : tie.Need-returns-2
-returns-2 c =
+returns-then-pending : tie.Need-returns-then-pending
+returns-then-pending c =
     let If2 = c.before in let Pending = If2.before in let If1 = Pending.before in let Through = If1.before.before.before in
-    let Begun = Through.before in let S = Begun.before.before.before in let a = S.args in let r = Through.through.result in
+    let Begun = Through.before in let S = Begun.before.before.before in let a = S.args in let r = Through.through-r.result in
     sees_waits a.s.now a.values a.marks a.links a.met a.first a.place a.count a.stamp Begun.begun.result
-    Begun.begun.ensures Through.through.new.0 r Through.through.ensures If1.if1.false
-    (eqb-true (r % 2) 1 (sym Pending.pending.ensures ∙ If2.if2.true)) c.met-in.result c.met-in.ensures
+    Begun.begun.ensures Through.through-r.new.s r Through.through-r.ensures If1.if-r-eq-FAILED.false
+    (eqb-true (r % 2) 1 (sym Pending.pending.ensures ∙ If2.if-pending.true)) c.met_in.result c.met_in.ensures
 
-same-length-3 : tie.Need-same-length-3
-same-length-3 c = search rules
+shape_of-s : tie.Need-shape_of-s
+shape_of-s c = search rules
 
-returns-3 : tie.Need-returns-3
-returns-3 c =
+returns : tie.Need-returns
+returns c =
     let Pending = c.before in let If1 = Pending.before in let Through = If1.before.before.before in
-    let Begun = Through.before in let S = Begun.before.before.before in let a = S.args in let r = Through.through.result in
+    let Begun = Through.before in let S = Begun.before.before.before in let a = S.args in let r = Through.through-r.result in
     sees_ground a.s.now a.values a.marks a.links a.met a.first a.place a.count a.stamp Begun.begun.result
-    Begun.begun.ensures Through.through.new.0 r Through.through.ensures If1.if1.false
-    (even_of r (sym Pending.pending.ensures ∙ c.if2.false))
+    Begun.begun.ensures Through.through-r.new.s r Through.through-r.ensures If1.if-r-eq-FAILED.false
+    (even_of r (sym Pending.pending.ensures ∙ c.if-pending.false))
 
 pub seek_spec : {M : Type 1} → statement M
 seek_spec =
     tie.close
     (tie.spec
     begun-requires
-    through-requires
-    same_length
-    returns
+    through-r-requires
+    shape_of-s-then-r-eq-FAILED
+    returns-then-r-eq-FAILED
     pending-requires
-    met-in-requires
-    same-length-2
-    returns-2
-    same-length-3
-    returns-3)
+    met_in-requires
+    shape_of-s-then-pending
+    returns-then-pending
+    shape_of-s
+    returns)

@@ -21,110 +21,110 @@ use Rattle.run_ground.proofs.Settle.{
 use Rattle.run_ground.proofs.seek.settle.Statement.{statement}
 use Rattle.run_ground.proofs.seek.settle.Tie as tie
 
-abbrev invariant-loop : tie.invariant-loop
-invariant-loop s₀ values marks stamp w state t₀ s t = Settling s₀ values marks stamp w state s t × (length s ≡ length s₀)
+abbrev invariant-loop-s : tie.invariant-loop-s
+invariant-loop-s s₀ values marks stamp w state t₀ s t = Settling s₀ values marks stamp w state s t × (length s ≡ length s₀)
 
-abbrev decreases-loop : tie.decreases-loop
-decreases-loop s₀ values marks stamp w state t₀ s t = settle_weight s marks t
+abbrev decreases-loop-s : tie.decreases-loop-s
+decreases-loop-s s₀ values marks stamp w state t₀ s t = settle_weight s marks t
 
-pending-requires : tie.Need-pending-requires invariant-loop decreases-loop
+pending-requires : tie.Need-pending-requires invariant-loop-s decreases-loop-s
 pending-requires c κs =
     search rules
 
-returns : tie.Need-returns invariant-loop decreases-loop
-returns c =
+returns-then-pending : tie.Need-returns-then-pending invariant-loop-s decreases-loop-s
+returns-then-pending c =
     let S = c.before.before.before in let a = S.args in
     settle_not a.s.now a.values a.marks a.stamp a.w a.state
 
-loop-holds : tie.Need-loop-init invariant-loop decreases-loop
-loop-holds c =
+loop-s-init : tie.Need-loop-s-init invariant-loop-s decreases-loop-s
+loop-s-init c =
     let S = c.before.before.before in let a = S.args in
-    (settling_first a.s.now a.values a.marks a.stamp a.w a.state (even_of a.state (sym c.before.pending.ensures ∙ c.if1.false)), refl)
+    (settling_first a.s.now a.values a.marks a.stamp a.w a.state (even_of a.state (sym c.before.pending.ensures ∙ c.if-pending.false)), refl)
 
-index-requires : tie.Need-index-requires invariant-loop decreases-loop
-index-requires c κs =
+index-p-requires : tie.Need-index-p-requires invariant-loop-s decreases-loop-s
+index-p-requires c κs =
     search rules
 
-count-requires : tie.Need-count-requires invariant-loop decreases-loop
-count-requires c κs =
+count-k-requires : tie.Need-count-k-requires invariant-loop-s decreases-loop-s
+count-k-requires c κs =
     let If2 = c.before in let Index = If2.before in let Loop = Index.before in
     let S = Loop.before.before.before.before in let a = S.args in
     settle_count a.s.now a.values a.marks a.stamp a.w a.state Loop.loop.s Loop.loop.t Loop.loop.invariant.0
     If2.if2.true Index.index.result Index.index.ensures S.requires
 
-same_length : tie.Need-same-length invariant-loop decreases-loop
-same_length c =
+shape_of-s-then-k-eq0 : tie.Need-shape_of-s-then-k-eq0 invariant-loop-s decreases-loop-s
+shape_of-s-then-k-eq0 c =
     let Loop = c.before.before.before.before.before in
     Loop.loop.invariant.1
 
-returns-2 : tie.Need-returns-2 invariant-loop decreases-loop
-returns-2 c =
+returns-then-k-eq0 : tie.Need-returns-then-k-eq0 invariant-loop-s decreases-loop-s
+returns-then-k-eq0 c =
     let Loop = c.before.before.before.before.before in let S = Loop.before.before.before.before in let a = S.args in
     settling_last a.s.now a.values a.marks a.stamp a.w a.state Loop.loop.s Loop.loop.t Loop.loop.invariant.0
 
-argument-requires : tie.Need-argument-requires invariant-loop decreases-loop
-argument-requires c κs =
+argument-t-requires : tie.Need-argument-t-requires invariant-loop-s decreases-loop-s
+argument-t-requires c κs =
     let If3 = c.before in let Count = If3.before in let If2 = Count.before.before in let Index = If2.before in let Loop = Index.before in
     let S = Loop.before.before.before.before in let a = S.args in
     settle_argument a.s.now a.values a.marks a.stamp a.w a.state Loop.loop.s Loop.loop.t Loop.loop.invariant.0
     If2.if2.true Index.index.result Index.index.ensures Count.count.result Count.count.ensures If3.if3.false S.requires
 
-loop-less : tie.Need-loop-smaller invariant-loop decreases-loop
-loop-less c =
+loop-s-smaller-then-tag-eq-COMPOUND : tie.Need-loop-s-smaller-then-tag-eq-COMPOUND invariant-loop-s decreases-loop-s
+loop-s-smaller-then-tag-eq-COMPOUND c =
     let If3 = c.before.before in let Count = If3.before in let If2 = Count.before.before in let Index = If2.before in
     let Loop = Index.before in
     let S = Loop.before.before.before.before in let a = S.args in
     argument_lighter a.s.now a.values a.marks a.stamp a.w a.state Loop.loop.s Loop.loop.t Loop.loop.invariant.0
     If2.if2.true Index.index.result Index.index.ensures Count.count.result Count.count.ensures If3.if3.false
-    c.argument.result c.argument.ensures S.requires
+    c.argument-t.result c.argument-t.ensures S.requires
 
-loop-again : tie.Need-loop-preserved invariant-loop decreases-loop
-loop-again c =
+loop-s-preserved-then-tag-eq-COMPOUND : tie.Need-loop-s-preserved-then-tag-eq-COMPOUND invariant-loop-s decreases-loop-s
+loop-s-preserved-then-tag-eq-COMPOUND c =
     let If3 = c.before.before in let Count = If3.before in let If2 = Count.before.before in let Index = If2.before in
     let Loop = Index.before in
     let S = Loop.before.before.before.before in let a = S.args in (
       settling_argument a.s.now a.values a.marks a.stamp a.w a.state Loop.loop.s Loop.loop.t Loop.loop.invariant.0
           If2.if2.true Index.index.result Index.index.ensures Count.count.result Count.count.ensures If3.if3.false
-          c.argument.result c.argument.ensures,
+          c.argument-t.result c.argument-t.ensures,
       Loop.loop.invariant.1,
     )
 
-same-length-2 : tie.Need-same-length-2 invariant-loop decreases-loop
-same-length-2 c =
+shape_of-s-then-tag-gt-READER : tie.Need-shape_of-s-then-tag-gt-READER invariant-loop-s decreases-loop-s
+shape_of-s-then-tag-gt-READER c =
     let Loop = c.before.before.before in
-    Loop.loop.invariant.1
+    Loop.loop-s.invariant.1
 
-returns-3 : tie.Need-returns-3 invariant-loop decreases-loop
-returns-3 c =
+returns-then-tag-gt-READER : tie.Need-returns-then-tag-gt-READER invariant-loop-s decreases-loop-s
+returns-then-tag-gt-READER c =
     let Loop = c.before.before.before in let S = Loop.before.before.before.before in let a = S.args in
-    settling_last a.s.now a.values a.marks a.stamp a.w a.state Loop.loop.s Loop.loop.t Loop.loop.invariant.0
+    settling_last a.s.now a.values a.marks a.stamp a.w a.state Loop.loop-s.s Loop.loop-s.t Loop.loop-s.invariant.0
 
-word-at-requires : tie.Need-word-at-requires invariant-loop decreases-loop
-word-at-requires c κs =
+word_at-requires : tie.Need-word_at-requires invariant-loop-s decreases-loop-s
+word_at-requires c κs =
     let If4 = c.before in let If2 = If4.before in let Index = If2.before in let Loop = Index.before in
     let S = Loop.before.before.before.before in let a = S.args in
     settle_mark a.s.now a.values a.marks a.stamp a.w a.state Loop.loop.s Loop.loop.t Loop.loop.invariant.0
     If2.if2.false If4.if4.false Index.index.result Index.index.ensures S.requires
 
-same-length-3 : tie.Need-same-length-3 invariant-loop decreases-loop
-same-length-3 c =
+shape_of-s-then-word_at-stamp : tie.Need-shape_of-s-then-word_at-stamp invariant-loop-s decreases-loop-s
+shape_of-s-then-word_at-stamp c =
     let Loop = c.before.before.before.before.before.before in
     Loop.loop.invariant.1
 
-returns-4 : tie.Need-returns-4 invariant-loop decreases-loop
-returns-4 c =
+returns-then-word_at-stamp : tie.Need-returns-then-word_at-stamp invariant-loop-s decreases-loop-s
+returns-then-word_at-stamp c =
     let Loop = c.before.before.before.before.before.before in let S = Loop.before.before.before.before in let a = S.args in
     settling_last a.s.now a.values a.marks a.stamp a.w a.state Loop.loop.s Loop.loop.t Loop.loop.invariant.0
 
-set-at-requires : tie.Need-set-at-requires invariant-loop decreases-loop
-set-at-requires c κs =
+set_at-requires : tie.Need-set_at-requires invariant-loop-s decreases-loop-s
+set_at-requires c κs =
     let If4 = c.before.before.before.before in let If2 = If4.before in let Index = If2.before in let Loop = Index.before in
     let S = Loop.before.before.before.before in let a = S.args in
     settle_mark a.s.now a.values a.marks a.stamp a.w a.state Loop.loop.s Loop.loop.t Loop.loop.invariant.0
     If2.if2.false If4.if4.false Index.index.result Index.index.ensures S.requires
 
-word-at-requires-2 : tie.Need-word-at-requires-2 invariant-loop decreases-loop
-word-at-requires-2 c κs =
+word_at-t-requires : tie.Need-word_at-t-requires invariant-loop-s decreases-loop-s
+word_at-t-requires c κs =
     let SetAt = c.before.before.before in let If5 = SetAt.before.before in let WordAt = If5.before in
     let If4 = WordAt.before.before in let If2 = If4.before in let Index = If2.before in let Loop = Index.before in
     let S = Loop.before.before.before.before in let a = S.args in
@@ -132,25 +132,25 @@ word-at-requires-2 c κs =
     settle_value a.s.now a.values a.marks a.stamp a.w a.state Loop.loop.s Loop.loop.t Loop.loop.invariant.0
     If2.if2.false If4.if4.false Index.index.result Index.index.ensures m SetAt.set_at.new.0 SetAt.set_at.ensures S.requires
 
-loop-less-2 : tie.Need-loop-smaller-2 invariant-loop decreases-loop
-loop-less-2 c =
+loop-s-smaller : tie.Need-loop-s-smaller invariant-loop-s decreases-loop-s
+loop-s-smaller c =
     let SetAt = c.before.before.before.before in let If5 = SetAt.before.before in let WordAt = If5.before in
     let If4 = WordAt.before.before in let If2 = If4.before in let Index = If2.before in let Loop = Index.before in
     let S = Loop.before.before.before.before in let a = S.args in
     let m = sym WordAt.word_at.ensures ∙ If5.if5.false in
     value_lighter a.s.now a.values a.marks a.stamp a.w a.state Loop.loop.s Loop.loop.t Loop.loop.invariant.0
     If2.if2.false If4.if4.false Index.index.result Index.index.ensures m SetAt.set_at.new.0 SetAt.set_at.ensures S.requires
-    c.word-at2.result
+    c.word_at-t.result
 
-loop-again-2 : tie.Need-loop-preserved-2 invariant-loop decreases-loop
-loop-again-2 c =
+loop-s-preserved : tie.Need-loop-s-preserved invariant-loop-s decreases-loop-s
+loop-s-preserved c =
     let SetAt = c.before.before.before.before in let If5 = SetAt.before.before in let WordAt = If5.before in
     let If4 = WordAt.before.before in let If2 = If4.before in let Index = If2.before in let Loop = Index.before in
     let S = Loop.before.before.before.before in let a = S.args in
     let m = sym WordAt.word_at.ensures ∙ If5.if5.false in (
       settling_value a.s.now a.values a.marks a.stamp a.w a.state Loop.loop.s Loop.loop.t Loop.loop.invariant.0
           If2.if2.false If4.if4.false Index.index.result Index.index.ensures m SetAt.set_at.new.0 SetAt.set_at.ensures
-          c.word-at2.result c.word-at2.ensures,
+          c.word_at-t.result c.word_at-t.ensures,
       SetAt.set_at.auto.0 ∙ Loop.loop.invariant.1,
     )
 
@@ -158,24 +158,24 @@ pub settle_spec : {M : Type 1} → statement M
 settle_spec =
     tie.close
     (tie.spec
-    invariant-loop
-    decreases-loop
+    invariant-loop-s
+    decreases-loop-s
     pending-requires
-    returns
-    loop-holds
-    index-requires
-    count-requires
-    same_length
-    returns-2
-    argument-requires
-    loop-less
-    loop-again
-    same-length-2
-    returns-3
-    word-at-requires
-    same-length-3
-    returns-4
-    set-at-requires
-    word-at-requires-2
-    loop-less-2
-    loop-again-2)
+    returns-then-pending
+    loop-s-init
+    index-p-requires
+    count-k-requires
+    shape_of-s-then-k-eq0
+    returns-then-k-eq0
+    argument-t-requires
+    loop-s-smaller-then-tag-eq-COMPOUND
+    loop-s-preserved-then-tag-eq-COMPOUND
+    shape_of-s-then-tag-gt-READER
+    returns-then-tag-gt-READER
+    word_at-requires
+    shape_of-s-then-word_at-stamp
+    returns-then-word_at-stamp
+    set_at-requires
+    word_at-t-requires
+    loop-s-smaller
+    loop-s-preserved)

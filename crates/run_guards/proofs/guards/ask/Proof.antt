@@ -24,89 +24,89 @@ use Rattle.run_guards.proofs.Answers.{
 use Rattle.run_guards.proofs.guards.ask.Statement.{statement}
 use Rattle.run_guards.proofs.guards.ask.Tie as tie
 
-index-requires : tie.Need-index-requires
-index-requires c κs = search rules
+index-place-requires : tie.Need-index-place-requires
+index-place-requires c κs = search rules
 
-is-ground-requires : tie.Need-is-ground-requires
-is-ground-requires c κs =
+is_ground-requires : tie.Need-is_ground-requires
+is_ground-requires c κs =
     let I = c.before.before in
     let p = I.before.before.requires in
-    (p.0, p.1, p.2, p.3, at_place I.index.ensures p.4, three_is_ground p.3.row.test (sym p.5 ∙ c.before.match.keys1))
+    (p.0, p.1, p.2, p.3, at_place I.index-place.ensures p.4, three_is_ground p.3.row.test (sym p.5 ∙ c.before.in-3.is))
 
-are-equal-requires : tie.Need-are-equal-requires
-are-equal-requires c κs =
+are_equal-requires : tie.Need-are_equal-requires
+are_equal-requires c κs =
     let I = c.before.before in
     let p = I.before.before.requires in
-    (p.0, p.1, p.2, p.3, at_place I.index.ensures p.4, five_is_equal p.3.row.test (sym p.5 ∙ c.before.match.keys2))
+    (p.0, p.1, p.2, p.3, at_place I.index-place.ensures p.4, five_is_equal p.3.row.test (sym p.5 ∙ c.before.in-5.is))
 
-returns : tie.Need-returns
-returns c x y given g earlier A e E =
-    as_test earlier (out x given g.arguments) (six_is_otherwise g.row.test (sym e ∙ c.before.match.keys3))
-    (otherwise_succeeds A earlier (out x given g.arguments) (E.none_met c.if1.true))
+returns-then-met-eq0 : tie.Need-returns-then-met-eq0
+returns-then-met-eq0 c x y given g earlier A e E =
+    as_test earlier (out x given g.arguments) (six_is_otherwise g.row.test (sym e ∙ c.before.in-6.is))
+    (otherwise_succeeds A earlier (out x given g.arguments) (E.none_met c.if-met-eq0.true))
 
-look-at-requires : tie.Need-look-at-requires
-look-at-requires c κs =
+look_at-requires : tie.Need-look_at-requires
+look_at-requires c κs =
     let I = c.before.before in
     let S = I.before.before in
     let p = S.requires in
     let looks : Looks p.3.row.test = (λ q. omega (arith, p.5, q), λ q. omega (arith, p.5, q), λ q. omega (arith, p.5, q)) in
-    (p.0, p.1, p.2, S.args.stamp, p.3, at_place I.index.ensures p.4, omega (arith, p.4.counted, looks_one p.3.row.test looks))
+    (p.0, p.1, p.2, S.args.stamp, p.3, at_place I.index-place.ensures p.4, omega (arith, p.4.counted, looks_one p.3.row.test looks))
 
-same_length : tie.Need-same-length
-same_length c = search rules
+shape_of-s-in-3 : tie.Need-shape_of-s-in-3
+shape_of-s-in-3 c = search rules
 
-returns-2 : tie.Need-returns-2
-returns-2 c x y given g earlier A e E =
+returns-in-3 : tie.Need-returns-in-3
+returns-in-3 c x y given g earlier A e E =
     let G = c.before.before in
     let I = G.before.before.before in
-    let is = three_is_ground g.row.test (sym e ∙ G.before.before.match.keys1) in
-    as_test earlier (out x given g.arguments) is (G.is-ground.ensures x y given g earlier (at_place I.index.ensures A) is)
+    let is = three_is_ground g.row.test (sym e ∙ G.before.before.in-3.is) in
+    as_test earlier (out x given g.arguments) is (G.is_ground.ensures x y given g earlier (at_place I.index-place.ensures A) is)
 
-same-length-2 : tie.Need-same-length-2
-same-length-2 c = search rules
+shape_of-s-in-5 : tie.Need-shape_of-s-in-5
+shape_of-s-in-5 c = search rules
 
-returns-3 : tie.Need-returns-3
-returns-3 c x y given g earlier A e E =
+returns-in-5 : tie.Need-returns-in-5
+returns-in-5 c x y given g earlier A e E =
     let G = c.before.before in
     let I = G.before.before.before in
-    let is = five_is_equal g.row.test (sym e ∙ G.before.before.match.keys2) in
-    as_test earlier (out x given g.arguments) is (G.are-equal.ensures x y given g earlier (at_place I.index.ensures A) is)
+    let is = five_is_equal g.row.test (sym e ∙ G.before.before.in-5.is) in
+    as_test earlier (out x given g.arguments) is (G.are_equal.ensures x y given g earlier (at_place I.index-place.ensures A) is)
 
-returns-4 : tie.Need-returns-4
-returns-4 c x y given g earlier A e E =
-    as_test earlier (out x given g.arguments) (six_is_otherwise g.row.test (sym e ∙ c.before.match.keys3))
-    (otherwise_waits A earlier (out x given g.arguments) (λ z. c.if1.false (E.none z)))
+returns-else-met-eq0 : tie.Need-returns-else-met-eq0
+returns-else-met-eq0 c x y given g earlier A e E =
+    as_test earlier (out x given g.arguments) (six_is_otherwise g.row.test (sym e ∙ c.before.in-6.is))
+    (otherwise_waits A earlier (out x given g.arguments) (λ z. c.if-met-eq0.false (E.none z)))
 
-same-length-3 : tie.Need-same-length-3
-same-length-3 c = search rules
+shape_of-s-in_default : tie.Need-shape_of-s-in_default
+shape_of-s-in_default c = search rules
 
-returns-5 : tie.Need-returns-5
-returns-5 c x y given g earlier A e E =
+returns-in_default : tie.Need-returns-in_default
+returns-in_default c x y given g earlier A e E =
     let G = c.before.before in
     let I = G.before.before.before in
     let S = I.before.before in
     let looks : Looks g.row.test = (
-      λ q. omega (arith, e, q, G.before.before.match),
-      λ q. omega (arith, e, q, G.before.before.match),
-      λ q. omega (arith, e, q, G.before.before.match),
+      λ q. omega (arith, e, q, G.before.before.in_default.in_default-own),
+      λ q. omega (arith, e, q, G.before.before.in_default.in_default-own),
+      λ q. omega (arith, e, q, G.before.before.in_default.in_default-own),
     ) in
     let some_here : 0 < count g.arguments = omega (arith, A.counted, looks_one g.row.test looks) in
     as_answer (looks_answer g.row.test (tag_in S.args.w) e looks earlier (out x given g.arguments))
-    (G.look_at.ensures x y given S.args.stamp g (at_place I.index.ensures A) some_here)
+    (G.look_at.ensures x y given S.args.stamp g (at_place I.index-place.ensures A) some_here)
 
 pub ask_spec : {M : Type 1} → statement M
 ask_spec =
     tie.close
     (tie.spec
-    index-requires
-    is-ground-requires
-    are-equal-requires
-    returns
-    look-at-requires
-    same_length
-    returns-2
-    same-length-2
-    returns-3
-    returns-4
-    same-length-3
-    returns-5)
+    index-place-requires
+    is_ground-requires
+    are_equal-requires
+    returns-then-met-eq0
+    look_at-requires
+    shape_of-s-in-3
+    returns-in-3
+    shape_of-s-in-5
+    returns-in-5
+    returns-else-met-eq0
+    shape_of-s-in_default
+    returns-in_default)

@@ -5,17 +5,21 @@ use Rattle.run_guards.proofs.Rows.{kind_any}
 use Rattle.run_guards.proofs.guards.is_kind.Statement.{statement}
 use Rattle.run_guards.proofs.guards.is_kind.Tie as tie
 
-returns : tie.Need-returns
-returns c = rw c.match.keys1 refl
+returns-in-0 : tie.Need-returns-in-0
+returns-in-0 c = rw c.in-0.is refl
 
-returns-2 : tie.Need-returns-2
-returns-2 c = rw c.match.keys2 refl
+returns-in-1 : tie.Need-returns-in-1
+returns-in-1 c = rw c.in-1.is refl
 
-returns-3 : tie.Need-returns-3
-returns-3 c = rw c.match.keys3 refl
+returns-in-2 : tie.Need-returns-in-2
+returns-in-2 c = rw c.in-2.is refl
 
-returns-4 : tie.Need-returns-4
-returns-4 c = sym (kind_any c.before.args.row c.before.args.tag (omega arith))
+returns-in_default : tie.Need-returns-in_default
+returns-in_default c = sym (kind_any c.before.args.row c.before.args.tag (omega arith))
 
 pub is_kind_spec : {M : Type 1} → statement M
-is_kind_spec = tie.close (tie.spec returns returns-2 returns-3 returns-4)
+is_kind_spec = tie.close (tie.spec
+    returns-in-0
+    returns-in-1
+    returns-in-2
+    returns-in_default)

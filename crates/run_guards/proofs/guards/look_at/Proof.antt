@@ -20,14 +20,14 @@ argument-requires c κs =
     let p = c.before.before.requires in
     omega (arith, p.5.arguments.inside)
 
-read-requires : tie.Need-read-requires
-read-requires c κs =
+read-w-requires : tie.Need-read-w-requires
+read-w-requires c κs =
     let p = c.before.before.before.requires in
     let (t, us, is, A) = first_argument p.5 p.6 c.argument.result c.argument.ensures in
     (p.0, p.1, p.2, c.before.before.before.args.marks, t, A)
 
 -- The argument and what its word shows.
-module _ (c : tie.After-read) where
+module _ (c : tie.After-read-w) where
   abbrev start : tie.Start
   start = c.before.before.before.before
 
@@ -36,21 +36,21 @@ module _ (c : tie.After-read) where
       let a = start.args in GuardAt a.s.now x y given a.values a.marks a.links a.met stamp g a.place
 
   shown : (x : Setting) (y : Template) (given : List Assignment) (stamp : ℕ) (g : Guard) → At x y given stamp g → 0 < count g.arguments
-      → (t : Term) × (us : Terms) × (g.arguments ≡ more t us) × Shows x (written x given t) c.read.result
+      → (t : Term) × (us : Terms) × (g.arguments ≡ more t us) × Shows x (written x given t) c.read-w.result
   shown x y given stamp g A some_here =
       let (t, us, is, R) = first_argument A some_here c.before.argument.result c.before.argument.ensures in
-      (t, us, is, c.read.ensures x y given start.args.marks t R)
+      (t, us, is, c.read-w.ensures x y given start.args.marks t R)
 
-same_length : tie.Need-same-length
-same_length c = search rules
+shape_of-s-then-tag-lt-READER : tie.Need-shape_of-s-then-tag-lt-READER
+shape_of-s-then-tag-lt-READER c = search rules
 
-returns : tie.Need-returns
-returns c x y given stamp g A some_here =
+returns-then-tag-lt-READER : tie.Need-returns-then-tag-lt-READER
+returns-then-tag-lt-READER c x y given stamp g A some_here =
     let (t, us, is, S) = shown c.before x y given stamp g A some_here in
-    look_fails A (start c.before).args.row c.before.read.result t us is S (omega (arith, c.if1.true))
+    look_fails A (start c.before).args.row c.before.read-w.result t us is S (omega (arith, c.if-tag-lt-READER.true))
 
-add-meet : tie.Need-overflow-add-meet
-add-meet c = search rules
+overflow_add-marks : tie.Need-overflow_add-marks
+overflow_add-marks c = search rules
 
 index-requires : tie.Need-index-requires
 index-requires c κs = search rules
@@ -60,58 +60,58 @@ meet-requires c κs =
     let R = c.before.before.before.before in
     let p = (start R).requires in
     let (t, us, is, S) = shown R p.0 p.1 p.2 p.3 p.4 p.5 p.6 in
-    let low = look_pair p.5 (start R).args.row R.read.result t us is S (omega (arith, c.before.before.if2.true)) in
+    let low = look_pair p.5 (start R).args.row R.read-w.result t us is S (omega (arith, c.before.before.if-tag-eq-READER.true)) in
     (p.5.readers, omega (arith, low, c.index.ensures))
 
-same-length-2 : tie.Need-same-length-2
-same-length-2 c = search rules
+shape_of-s-then-tag-eq-READER : tie.Need-shape_of-s-then-tag-eq-READER
+shape_of-s-then-tag-eq-READER c = search rules
 
-returns-2 : tie.Need-returns-2
-returns-2 c x y given stamp g A some_here =
+returns-then-tag-eq-READER : tie.Need-returns-then-tag-eq-READER
+returns-then-tag-eq-READER c x y given stamp g A some_here =
     let M = c.before.before in
     let R = M.before.before.before.before.before in
     let (t, us, is, S) = shown R x y given stamp g A some_here in
-    look_waits A (start R).args.row R.read.result t us is S (omega (arith, M.before.before.before.if2.true)) _ M.meet.result
+    look_waits A (start R).args.row R.read-w.result t us is S (omega (arith, M.before.before.before.if-tag-eq-READER.true)) _ M.meet.result
     (rw M.before.index.ensures at M.meet.ensures)
 
-is-kind-requires : tie.Need-is-kind-requires
-is-kind-requires c κs = search rules
+is_kind-requires : tie.Need-is_kind-requires
+is_kind-requires c κs = search rules
 
-same-length-3 : tie.Need-same-length-3
-same-length-3 c = search rules
+shape_of-s-then-is_kind : tie.Need-shape_of-s-then-is_kind
+shape_of-s-then-is_kind c = search rules
 
-returns-3 : tie.Need-returns-3
-returns-3 c x y given stamp g A some_here =
+returns-then-is_kind : tie.Need-returns-then-is_kind
+returns-then-is_kind c x y given stamp g A some_here =
     let R = c.before.before.before.before in
     let (t, us, is, S) = shown R x y given stamp g A some_here in
-    let over : 2 < tag_in R.read.result = omega (arith, c.before.before.if2.false, c.before.before.before.if1.false) in
-    look_succeeds A (start R).args.row R.read.result t us is S over c.before.is-kind.result c.before.is-kind.ensures c.if3.true
+    let over : 2 < tag_in R.read-w.result = omega (arith, c.before.before.if-tag-eq-READER.false, c.before.before.before.if-tag-lt-READER.false) in
+    look_succeeds A (start R).args.row R.read-w.result t us is S over c.before.is_kind.result c.before.is_kind.ensures c.if-is_kind.true
 
-same-length-4 : tie.Need-same-length-4
-same-length-4 c = search rules
+shape_of-s : tie.Need-shape_of-s
+shape_of-s c = search rules
 
-returns-4 : tie.Need-returns-4
-returns-4 c x y given stamp g A some_here =
+returns : tie.Need-returns
+returns c x y given stamp g A some_here =
     let R = c.before.before.before.before in
     let (t, us, is, S) = shown R x y given stamp g A some_here in
-    let over : 2 < tag_in R.read.result = omega (arith, c.before.before.if2.false, c.before.before.before.if1.false) in
-    look_other A (start R).args.row R.read.result t us is S over c.before.is-kind.result c.before.is-kind.ensures c.if3.false
+    let over : 2 < tag_in R.read-w.result = omega (arith, c.before.before.if-tag-eq-READER.false, c.before.before.before.if-tag-lt-READER.false) in
+    look_other A (start R).args.row R.read-w.result t us is S over c.before.is_kind.result c.before.is_kind.ensures c.if-is_kind.false
 
 pub look_at_spec : {M : Type 1} → statement M
 look_at_spec =
     tie.close
     (tie.spec
     argument-requires
-    read-requires
-    same_length
-    returns
-    add-meet
+    read-w-requires
+    shape_of-s-then-tag-lt-READER
+    returns-then-tag-lt-READER
+    overflow_add-marks
     index-requires
     meet-requires
-    same-length-2
-    returns-2
-    is-kind-requires
-    same-length-3
-    returns-3
-    same-length-4
-    returns-4)
+    shape_of-s-then-tag-eq-READER
+    returns-then-tag-eq-READER
+    is_kind-requires
+    shape_of-s-then-is_kind
+    returns-then-is_kind
+    shape_of-s
+    returns)

@@ -7,19 +7,19 @@ use Rattle.run_index.proofs.Joining.{joined}
 use Rattle.run_index.proofs.build.enter.Statement.{statement}
 use Rattle.run_index.proofs.build.enter.Tie as tie
 
-own-key-requires : tie.Need-own-key-requires
-own-key-requires c κs =
+own_key-own-requires : tie.Need-own_key-own-requires
+own_key-own-requires c κs =
     let (clauses, e) = c.before.before.requires in
     (clauses, record { heads = e.heads; number = e.number }, e.behind.told)
 
-find-requires : tie.Need-find-requires
-find-requires c κs =
+find-same-requires : tie.Need-find-same-requires
+find-same-requires c κs =
     let S = c.before.before.before.before in
     let (clauses, e) = S.requires in
     ((S.args.k + 1, clauses, e.behind), e.heads.inside)
 
-functor-of-requires : tie.Need-functor-of-requires
-functor-of-requires c κs =
+functor_of-requires : tie.Need-functor_of-requires
+functor_of-requires c κs =
     let (clauses, e) = c.before.before.before.before.before.before.requires in
     (omega (arith, e.number, e.heads.few), e.heads.inside)
 
@@ -29,8 +29,8 @@ key-requires c κs =
     let (clauses, e) = S.requires in
     omega (arith, c.functor_of.ensures, (e.heads.head S.args.k e.number).functor)
 
-find-requires-2 : tie.Need-find-requires-2
-find-requires-2 c κs =
+find-opened-requires : tie.Need-find-opened-requires
+find-opened-requires c κs =
     let S = c.before.before.before.before.before.before.before.before in
     let (clauses, e) = S.requires in
     ((S.args.k + 1, clauses, e.behind), e.heads.inside)
@@ -40,8 +40,8 @@ put-requires c κs =
     let (clauses, e) = c.before.before.before.before.before.before.before.before.before.before.requires in
     (omega (arith, e.number, e.heads.few), e.heads.inside)
 
-same_length : tie.Need-same-length
-same_length c = c.before.before.put.auto.0
+shape_of-s : tie.Need-shape_of-s
+shape_of-s c = c.before.before.put.auto.s
 
 returns : tie.Need-returns
 returns c =
@@ -56,17 +56,17 @@ returns c =
     let k = S.args.k in
     let key : Y.key.result ≡ key_of (functor_of s k) 0 = Y.key.ensures ∙ ap (λ w. key_of w 0) F.functor_of.ensures in
     λ clauses e. joined e P.put.ensures K.own_key.ensures (M.find.ensures (k + 1) clauses e.behind)
-    (subst (λ q. FirstOf (HasKey s q) (k + 1) clauses O.find2.result) key (O.find2.ensures (k + 1) clauses e.behind))
+    (subst (λ q. FirstOf (HasKey s q) (k + 1) clauses O.find-opened.result) key (O.find-opened.ensures (k + 1) clauses e.behind))
 
 pub enter_spec : {M : Type 1} → statement M
 enter_spec =
     tie.close
     (tie.spec
-    own-key-requires
-    find-requires
-    functor-of-requires
+    own_key-own-requires
+    find-same-requires
+    functor_of-requires
     key-requires
-    find-requires-2
+    find-opened-requires
     put-requires
-    same_length
+    shape_of-s
     returns)

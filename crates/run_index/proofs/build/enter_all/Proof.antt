@@ -7,56 +7,56 @@ use Rattle.run_index.proofs.Telling.{entered_same, entered_then, entering_next}
 use Rattle.run_index.proofs.build.enter_all.Statement.{statement}
 use Rattle.run_index.proofs.build.enter_all.Tie as tie
 
-abbrev invariant-loop : tie.invariant-loop
-invariant-loop s₀ clauses k₀ s k = (k ≤ clauses) × Entered s₀ s clauses k
+abbrev invariant-loop-k : tie.invariant-loop-k
+invariant-loop-k s₀ clauses k₀ s k = (k ≤ clauses) × Entered s₀ s clauses k
 
-abbrev decreases-loop : tie.decreases-loop
-decreases-loop s₀ clauses k₀ s k = k
+abbrev decreases-loop-k : tie.decreases-loop-k
+decreases-loop-k s₀ clauses k₀ s k = k
 
-loop-holds : tie.Need-loop-init invariant-loop decreases-loop
-loop-holds c = (omega arith, entered_same c.before.args.s.now c.before.args.clauses c.before.requires.1)
+loop-k-init : tie.Need-loop-k-init invariant-loop-k decreases-loop-k
+loop-k-init c = (omega arith, entered_same c.before.args.s.now c.before.args.clauses c.before.requires.1)
 
-sub-k : tie.Need-overflow-sub-k invariant-loop decreases-loop
-sub-k c = omega (arith, c.loop-test.true)
+overflow_sub-k : tie.Need-overflow_sub-k invariant-loop-k decreases-loop-k
+overflow_sub-k c = omega (arith, c.loop-k-test.true)
 
-enter-requires : tie.Need-enter-requires invariant-loop decreases-loop
+enter-requires : tie.Need-enter-requires invariant-loop-k decreases-loop-k
 enter-requires c κs =
     let L = c.before.before in
     let S = L.before.before in
-    (S.args.clauses, entering_next L.loop.k S.requires.0 c.before.loop-test.true L.loop.invariant.0 L.loop.invariant.1)
+    (S.args.clauses, entering_next L.loop-k.k S.requires.0 c.before.loop-k-test.true L.loop-k.invariant.0 L.loop-k.invariant.1)
 
-loop-less : tie.Need-loop-smaller invariant-loop decreases-loop
-loop-less c = omega (arith, c.before.before.before.before.loop-test.true)
+loop-k-smaller : tie.Need-loop-k-smaller invariant-loop-k decreases-loop-k
+loop-k-smaller c = omega (arith, c.before.before.before.before.loop-k-test.true)
 
-loop-again : tie.Need-loop-preserved invariant-loop decreases-loop
-loop-again c =
+loop-k-preserved : tie.Need-loop-k-preserved invariant-loop-k decreases-loop-k
+loop-k-preserved c =
     let W = c.before.before in
     let T = W.before.before in
     let L = T.before in
     let S = L.before.before in
-    let i = L.loop.invariant in
-    (omega (arith, i.0), entered_then i.1 (W.enter.ensures S.args.clauses (entering_next L.loop.k S.requires.0 T.loop-test.true i.0 i.1)))
+    let i = L.loop-k.invariant in
+    (omega (arith, i.0), entered_then i.1 (W.enter.ensures S.args.clauses (entering_next L.loop-k.k S.requires.0 T.loop-k-test.true i.0 i.1)))
 
-same_length : tie.Need-same-length invariant-loop decreases-loop
-same_length c = c.before.loop.invariant.1.only.size
+shape_of-s : tie.Need-shape_of-s invariant-loop-k decreases-loop-k
+shape_of-s c = c.before.loop-k.invariant.1.only.size
 
-returns : tie.Need-returns invariant-loop decreases-loop
+returns : tie.Need-returns invariant-loop-k decreases-loop-k
 returns c =
     let L = c.before in
     let S = L.before.before in
-    let none : L.loop.k ≡ 0 = omega (arith, c.loop-test.false) in
-    subst (Entered S.args.s.now L.loop.s S.args.clauses) none L.loop.invariant.1
+    let none : L.loop-k.k ≡ 0 = omega (arith, c.loop-k-test.false) in
+    subst (Entered S.args.s.now L.loop-k.s S.args.clauses) none L.loop-k.invariant.1
 
 pub enter_all_spec : {M : Type 1} → statement M
 enter_all_spec =
     tie.close
     (tie.spec
-    invariant-loop
-    decreases-loop
-    loop-holds
-    sub-k
+    invariant-loop-k
+    decreases-loop-k
+    loop-k-init
+    overflow_sub-k
     enter-requires
-    loop-less
-    loop-again
-    same_length
+    loop-k-smaller
+    loop-k-preserved
+    shape_of-s
     returns)

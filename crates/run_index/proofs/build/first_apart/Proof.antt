@@ -5,66 +5,66 @@ use Rattle.run_index.proofs.Telling.{both_read}
 use Rattle.run_index.proofs.build.first_apart.Statement.{statement}
 use Rattle.run_index.proofs.build.first_apart.Tie as tie
 
-abbrev invariant-loop : tie.invariant-loop
-invariant-loop s k m n i₀ i = 1 ≤ i
+abbrev invariant-loop-i : tie.invariant-loop-i
+invariant-loop-i s k m n i₀ i = 1 ≤ i
 
-abbrev decreases-loop : tie.decreases-loop
-decreases-loop s k m n i₀ i = n + 1 - i
+abbrev decreases-loop-i : tie.decreases-loop-i
+decreases-loop-i s k m n i₀ i = n + 1 - i
 
-mul-count : tie.Need-overflow-mul-count invariant-loop decreases-loop
-mul-count c = omega (arith, c.before.requires.number, c.before.requires.inside)
+overflow_mul-k : tie.Need-overflow_mul-k invariant-loop-i decreases-loop-i
+overflow_mul-k c = omega (arith, c.before.requires.number, c.before.requires.inside)
 
-add-count : tie.Need-overflow-add-count invariant-loop decreases-loop
-add-count c = omega (arith, c.before.requires.number, c.before.requires.inside)
+overflow_add-k : tie.Need-overflow_add-k invariant-loop-i decreases-loop-i
+overflow_add-k c = omega (arith, c.before.requires.number, c.before.requires.inside)
 
-count-requires : tie.Need-count-requires invariant-loop decreases-loop
-count-requires c κs = omega (arith, c.before.requires.number, c.before.requires.inside)
+count-n-requires : tie.Need-count-n-requires invariant-loop-i decreases-loop-i
+count-n-requires c κs = omega (arith, c.before.requires.number, c.before.requires.inside)
 
-loop-holds : tie.Need-loop-init invariant-loop decreases-loop
-loop-holds c = omega arith
+loop-i-init : tie.Need-loop-i-init invariant-loop-i decreases-loop-i
+loop-i-init c = omega arith
 
-apart-requires : tie.Need-apart-requires invariant-loop decreases-loop
+apart-requires : tie.Need-apart-requires invariant-loop-i decreases-loop-i
 apart-requires c κs =
     let L = c.before in
     let S = L.before.before.before in
-    both_read S.requires L.loop.i L.loop.invariant (omega (arith, c.loop-test.true, L.before.count.ensures))
+    both_read S.requires L.loop-i.i L.loop-i.invariant (omega (arith, c.loop-i-test.true, L.before.count-n.ensures))
 
-returns : tie.Need-returns invariant-loop decreases-loop
-returns c =
+returns-then-apart : tie.Need-returns-then-apart invariant-loop-i decreases-loop-i
+returns-then-apart c =
     let T = c.before.before in
-    omega (arith, T.loop-test.true, T.before.before.count.ensures)
+    omega (arith, T.loop-i-test.true, T.before.before.count-n.ensures)
 
-add-i : tie.Need-overflow-add-i invariant-loop decreases-loop
-add-i c =
+overflow_add-i : tie.Need-overflow_add-i invariant-loop-i decreases-loop-i
+overflow_add-i c =
     let T = c.before.before in
-    omega (arith, T.loop-test.true, T.before.before.count.ensures)
+    omega (arith, T.loop-i-test.true, T.before.before.count-n.ensures)
 
-loop-less : tie.Need-loop-smaller invariant-loop decreases-loop
-loop-less c =
+loop-i-smaller : tie.Need-loop-i-smaller invariant-loop-i decreases-loop-i
+loop-i-smaller c =
     let T = c.before.before in
-    omega (arith, T.loop-test.true, T.before.before.count.ensures)
+    omega (arith, T.loop-i-test.true, T.before.before.count-n.ensures)
 
-loop-again : tie.Need-loop-preserved invariant-loop decreases-loop
-loop-again c =
+loop-i-preserved : tie.Need-loop-i-preserved invariant-loop-i decreases-loop-i
+loop-i-preserved c =
     let T = c.before.before in
-    omega (arith, T.loop-test.true, T.before.before.count.ensures)
+    omega (arith, T.loop-i-test.true, T.before.before.count-n.ensures)
 
-returns-2 : tie.Need-returns-2 invariant-loop decreases-loop
-returns-2 c = omega arith
+returns : tie.Need-returns invariant-loop-i decreases-loop-i
+returns c = omega arith
 
 pub first_apart_spec : {M : Type 1} → statement M
 first_apart_spec =
     tie.close
     (tie.spec
-    invariant-loop
-    decreases-loop
-    mul-count
-    add-count
-    count-requires
-    loop-holds
+    invariant-loop-i
+    decreases-loop-i
+    overflow_mul-k
+    overflow_add-k
+    count-n-requires
+    loop-i-init
     apart-requires
-    returns
-    add-i
-    loop-less
-    loop-again
-    returns-2)
+    returns-then-apart
+    overflow_add-i
+    loop-i-smaller
+    loop-i-preserved
+    returns)

@@ -8,14 +8,14 @@ use borrow.Author.Rules.{rules}
 use Rattle.run_index.proofs.build.functor_of.Statement.{statement}
 use Rattle.run_index.proofs.build.functor_of.Tie as tie
 
-mul-word-at : tie.Need-overflow-mul-word-at
-mul-word-at c = search rules
+overflow_mul-k : tie.Need-overflow_mul-k
+overflow_mul-k c = search rules
 
-add-word-at : tie.Need-overflow-add-word-at
-add-word-at c = search rules
+overflow_add-k : tie.Need-overflow_add-k
+overflow_add-k c = search rules
 
-word-at-requires : tie.Need-word-at-requires
-word-at-requires c κs = search rules
+word_at-requires : tie.Need-word_at-requires
+word_at-requires c κs = search rules
 
 returns : tie.Need-returns
 returns c =
@@ -25,4 +25,8 @@ returns c =
     c.word_at.ensures ∙ ap (λ p. get_or s p 0) at
 
 pub functor_of_spec : {M : Type 1} → statement M
-functor_of_spec = tie.close (tie.spec mul-word-at add-word-at word-at-requires returns)
+functor_of_spec = tie.close (tie.spec
+    overflow_mul-k
+    overflow_add-k
+    word_at-requires
+    returns)

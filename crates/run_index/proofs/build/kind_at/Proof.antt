@@ -5,11 +5,11 @@ use borrow.Author.Rules.{rules}
 use Rattle.run_index.proofs.build.kind_at.Statement.{statement}
 use Rattle.run_index.proofs.build.kind_at.Tie as tie
 
-mul-argument : tie.Need-overflow-mul-argument
-mul-argument c = search rules
+overflow_mul-k : tie.Need-overflow_mul-k
+overflow_mul-k c = search rules
 
-add-argument : tie.Need-overflow-add-argument
-add-argument c = search rules
+overflow_add-k : tie.Need-overflow_add-k
+overflow_add-k c = search rules
 
 argument-requires : tie.Need-argument-requires
 argument-requires c κs = search rules
@@ -22,4 +22,9 @@ returns c = c.kind.ensures ∙ ap (kind_of c.before.before.before.args.s.now) c.
 
 pub kind_at_spec : {M : Type 1} → statement M
 kind_at_spec =
-    tie.close (tie.spec mul-argument add-argument argument-requires kind-requires returns)
+    tie.close (tie.spec
+    overflow_mul-k
+    overflow_add-k
+    argument-requires
+    kind-requires
+    returns)

@@ -10,11 +10,11 @@ use Rattle.run_index.proofs.build.set_number.Tie as tie
 word-requires : tie.Need-word-requires
 word-requires c κs = search rules
 
-set-word-requires : tie.Need-set-word-requires
-set-word-requires c κs = search rules
+set_word-requires : tie.Need-set_word-requires
+set_word-requires c κs = search rules
 
-same_length : tie.Need-same-length
-same_length c = c.before.before.set_word.auto.0
+shape_of-s : tie.Need-shape_of-s
+shape_of-s c = c.before.before.set_word.auto.s
 
 returns : tie.Need-returns
 returns c =
@@ -23,4 +23,8 @@ returns c =
     W.set_word.ensures ∙ ap (set S.args.s.now (clause_record S.args.k + S.args.i)) W.before.word.ensures
 
 pub set_number_spec : {M : Type 1} → statement M
-set_number_spec = tie.close (tie.spec word-requires set-word-requires same_length returns)
+set_number_spec = tie.close (tie.spec
+    word-requires
+    set_word-requires
+    shape_of-s
+    returns)

@@ -8,56 +8,56 @@ use Rattle.run_index.proofs.Telling.{next_few, next_alike, count_telling, tellin
 use Rattle.run_index.proofs.build.tell.Statement.{statement}
 use Rattle.run_index.proofs.build.tell.Tie as tie
 
-next-of-requires : tie.Need-next-of-requires
-next-of-requires c κs =
+next_of-next-requires : tie.Need-next_of-next-requires
+next_of-next-requires c κs =
     let S = c.before.before in
     let heads = S.requires.0.heads in
     (omega (arith, S.requires.0.number, heads.few), heads.few, heads.inside)
 
-many-requires : tie.Need-many-requires
-many-requires c κs =
+many-n-requires : tie.Need-many-n-requires
+many-n-requires c κs =
     let N = c.before in
     let S = N.before.before.before in
     (next_few S.requires.0 N.next_of.ensures, S.requires.0.heads.inside)
 
-set-word-requires : tie.Need-set-word-requires
-set-word-requires c κs =
+set_word-requires : tie.Need-set_word-requires
+set_word-requires c κs =
     let S = c.before.before.before.before.before.before in
     let heads = S.requires.0.heads in
     (omega (arith, S.requires.0.number, heads.few), omega arith, heads.inside)
 
-same_length : tie.Need-same-length
-same_length c = c.before.before.before.set_word.auto.0
+shape_of-s-then-n-le-FEW : tie.Need-shape_of-s-then-n-le-FEW
+shape_of-s-then-n-le-FEW c = c.before.before.before.set_word.auto.s
 
-returns : tie.Need-returns
-returns c =
+returns-then-n-le-FEW : tie.Need-returns-then-n-le-FEW
+returns-then-n-le-FEW c =
     let W = c.before.before.before in
     let M = W.before.before in
     let N = M.before.before in
     let S = N.before.before.before in
-    let counted : Telling S.args.s.now W.set_word.new.0 S.args.clauses =
-    count_telling S.args.s.now W.set_word.new.0 S.args.clauses S.requires.0.heads S.requires.1 S.args.k M.many.result S.requires.0.number
+    let counted : Telling S.args.s.now W.set_word.new.s S.args.clauses =
+    count_telling S.args.s.now W.set_word.new.s S.args.clauses S.requires.0.heads S.requires.1 S.args.k M.many-n.result S.requires.0.number
     W.set_word.ensures in
     counted
 
-sub-tell-apart : tie.Need-overflow-sub-tell-apart
-sub-tell-apart c =
+overflow_sub-next : tie.Need-overflow_sub-next
+overflow_sub-next c =
     let T = c.before in
     let M = T.before.before.before.before.before in
-    let some = M.many.ensures (omega (arith, T.if1.false)) in
+    let some = M.many-n.ensures (omega (arith, T.if-n-le-FEW.false)) in
     omega arith
 
-tell-apart-requires : tie.Need-tell-apart-requires
-tell-apart-requires c κs =
+tell_apart-requires : tie.Need-tell_apart-requires
+tell_apart-requires c κs =
     let T = c.before in
     let W = T.before.before.before in
     let M = W.before.before in
     let N = M.before.before in
     let S = N.before.before.before in
-    let counted : Telling S.args.s.now W.set_word.new.0 S.args.clauses =
-    count_telling S.args.s.now W.set_word.new.0 S.args.clauses S.requires.0.heads S.requires.1 S.args.k M.many.result S.requires.0.number
+    let counted : Telling S.args.s.now W.set_word.new.s S.args.clauses =
+    count_telling S.args.s.now W.set_word.new.s S.args.clauses S.requires.0.heads S.requires.1 S.args.k M.many-n.result S.requires.0.number
     W.set_word.ensures in
-    let some = M.many.ensures (omega (arith, T.if1.false)) in
+    let some = M.many-n.ensures (omega (arith, T.if-n-le-FEW.false)) in
     let k = S.args.k in
     let m = N.next_of.result - 1 in (
       S.args.clauses,
@@ -66,34 +66,34 @@ tell-apart-requires c κs =
       counted.told,
     )
 
-same-length-2 : tie.Need-same-length-2
-same-length-2 c =
+shape_of-s : tie.Need-shape_of-s
+shape_of-s c =
     let A = c.before.before in
-    A.tell-apart.auto.0 ∙ A.before.before.before.before.before.set_word.auto.0
+    A.tell_apart.auto.s ∙ A.before.before.before.before.before.set_word.auto.s
 
-returns-2 : tie.Need-returns-2
-returns-2 c =
+returns : tie.Need-returns
+returns c =
     let A = c.before.before in
     let W = A.before.before.before.before.before in
     let M = W.before.before in
     let N = M.before.before in
     let S = N.before.before.before in
-    let counted : Telling S.args.s.now W.set_word.new.0 S.args.clauses =
-    count_telling S.args.s.now W.set_word.new.0 S.args.clauses S.requires.0.heads S.requires.1 S.args.k M.many.result S.requires.0.number
+    let counted : Telling S.args.s.now W.set_word.new.s S.args.clauses =
+    count_telling S.args.s.now W.set_word.new.s S.args.clauses S.requires.0.heads S.requires.1 S.args.k M.many-n.result S.requires.0.number
     W.set_word.ensures in
     telling_then counted
-    (A.tell-apart.ensures S.args.clauses (one_kept counted.only S.args.clauses S.args.k S.requires.0) counted.told)
+    (A.tell_apart.ensures S.args.clauses (one_kept counted.only S.args.clauses S.args.k S.requires.0) counted.told)
 
 pub tell_spec : {M : Type 1} → statement M
 tell_spec =
     tie.close
     (tie.spec
-    next-of-requires
-    many-requires
-    set-word-requires
-    same_length
-    returns
-    sub-tell-apart
-    tell-apart-requires
-    same-length-2
-    returns-2)
+    next_of-next-requires
+    many-n-requires
+    set_word-requires
+    shape_of-s-then-n-le-FEW
+    returns-then-n-le-FEW
+    overflow_sub-next
+    tell_apart-requires
+    shape_of-s
+    returns)

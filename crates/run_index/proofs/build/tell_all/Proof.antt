@@ -7,50 +7,50 @@ use Rattle.run_index.proofs.Telling.{telling_same, telling_then}
 use Rattle.run_index.proofs.build.tell_all.Statement.{statement}
 use Rattle.run_index.proofs.build.tell_all.Tie as tie
 
-abbrev invariant-loop : tie.invariant-loop
-invariant-loop s₀ clauses k₀ s k = (k ≤ clauses) × Telling s₀ s clauses
+abbrev invariant-loop-k : tie.invariant-loop-k
+invariant-loop-k s₀ clauses k₀ s k = (k ≤ clauses) × Telling s₀ s clauses
 
-abbrev decreases-loop : tie.decreases-loop
-decreases-loop s₀ clauses k₀ s k = k
+abbrev decreases-loop-k : tie.decreases-loop-k
+decreases-loop-k s₀ clauses k₀ s k = k
 
-loop-holds : tie.Need-loop-init invariant-loop decreases-loop
-loop-holds c = (omega arith, telling_same c.before.args.s.now c.before.args.clauses c.before.requires.1)
+loop-k-init : tie.Need-loop-k-init invariant-loop-k decreases-loop-k
+loop-k-init c = (omega arith, telling_same c.before.args.s.now c.before.args.clauses c.before.requires.1)
 
-sub-k : tie.Need-overflow-sub-k invariant-loop decreases-loop
-sub-k c = omega (arith, c.loop-test.true)
+overflow_sub-k : tie.Need-overflow_sub-k invariant-loop-k decreases-loop-k
+overflow_sub-k c = omega (arith, c.loop-k-test.true)
 
-tell-requires : tie.Need-tell-requires invariant-loop decreases-loop
+tell-requires : tie.Need-tell-requires invariant-loop-k decreases-loop-k
 tell-requires c κs =
     let L = c.before.before in
     let S = L.before.before in
-    let i = L.loop.invariant in
-    (record { heads = heads_kept i.1.only S.args.clauses S.requires.0; number = omega (arith, i.0, c.before.loop-test.true) }, i.1.told)
+    let i = L.loop-k.invariant in
+    (record { heads = heads_kept i.1.only S.args.clauses S.requires.0; number = omega (arith, i.0, c.before.loop-k-test.true) }, i.1.told)
 
-loop-less : tie.Need-loop-smaller invariant-loop decreases-loop
-loop-less c = omega (arith, c.before.before.before.before.loop-test.true)
+loop-k-smaller : tie.Need-loop-k-smaller invariant-loop-k decreases-loop-k
+loop-k-smaller c = omega (arith, c.before.before.before.before.loop-k-test.true)
 
-loop-again : tie.Need-loop-preserved invariant-loop decreases-loop
-loop-again c =
+loop-k-preserved : tie.Need-loop-k-preserved invariant-loop-k decreases-loop-k
+loop-k-preserved c =
     let W = c.before.before in
-    let i = W.before.before.before.loop.invariant in
+    let i = W.before.before.before.loop-k.invariant in
     (omega (arith, i.0), telling_then i.1 W.tell.ensures)
 
-same_length : tie.Need-same-length invariant-loop decreases-loop
-same_length c = c.before.loop.invariant.1.only.size
+shape_of-s : tie.Need-shape_of-s invariant-loop-k decreases-loop-k
+shape_of-s c = c.before.loop-k.invariant.1.only.size
 
-returns : tie.Need-returns invariant-loop decreases-loop
-returns c = c.before.loop.invariant.1
+returns : tie.Need-returns invariant-loop-k decreases-loop-k
+returns c = c.before.loop-k.invariant.1
 
 pub tell_all_spec : {M : Type 1} → statement M
 tell_all_spec =
     tie.close
     (tie.spec
-    invariant-loop
-    decreases-loop
-    loop-holds
-    sub-k
+    invariant-loop-k
+    decreases-loop-k
+    loop-k-init
+    overflow_sub-k
     tell-requires
-    loop-less
-    loop-again
-    same_length
+    loop-k-smaller
+    loop-k-preserved
+    shape_of-s
     returns)

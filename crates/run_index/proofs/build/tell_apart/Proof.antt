@@ -8,8 +8,8 @@ use Rattle.run_index.proofs.Telling.{argument_telling}
 use Rattle.run_index.proofs.build.tell_apart.Statement.{statement}
 use Rattle.run_index.proofs.build.tell_apart.Tie as tie
 
-first-of-requires : tie.Need-first-of-requires
-first-of-requires c κs =
+first_of-first-requires : tie.Need-first_of-first-requires
+first_of-first-requires c κs =
     let S = c.before.before in
     (S.requires.2.number, S.requires.2.inside, S.requires.2.reads)
 
@@ -19,22 +19,22 @@ told-requires c κs =
     let S = F.before.before.before in
     (omega (arith, F.first_of.ensures, S.requires.2.reads.first), S.requires.2.inside)
 
-telling-requires : tie.Need-telling-requires
-telling-requires c κs =
+telling-i-requires : tie.Need-telling-i-requires
+telling-i-requires c κs =
     let F = c.before.before in
     let S = F.before.before.before in
     let s = S.args.s.now in
     let told : c.told.result ≡ told_by s (functor_of s S.args.k) = c.told.ensures ∙ ap (λ f. get_or s (told_word f) 0) F.first_of.ensures in
     (S.requires.2, omega (arith, told, S.requires.3 S.args.k S.requires.1.number))
 
-set-number-requires : tie.Need-set-number-requires
-set-number-requires c κs =
+set_number-requires : tie.Need-set_number-requires
+set_number-requires c κs =
     let F = c.before.before.before.before in
     let S = F.before.before.before in
     (omega (arith, F.first_of.ensures, S.requires.2.reads.first), omega arith, S.requires.2.inside)
 
-same_length : tie.Need-same-length
-same_length c = c.before.before.set-number.auto.0
+shape_of-s : tie.Need-shape_of-s
+shape_of-s c = c.before.before.set_number.auto.s
 
 returns : tie.Need-returns
 returns c =
@@ -43,16 +43,16 @@ returns c =
     let F = L.before.before.before in
     let S = F.before.before.before in
     λ clauses one fits.
-    argument_telling S.args.s.now W.set-number.new.0 clauses one.heads fits S.args.k F.first_of.result L.telling.result
-    one.number F.first_of.ensures L.telling.ensures W.set-number.ensures
+    argument_telling S.args.s.now W.set_number.new.s clauses one.heads fits S.args.k F.first_of.result L.telling-i.result
+    one.number F.first_of.ensures L.telling-i.ensures W.set_number.ensures
 
 pub tell_apart_spec : {M : Type 1} → statement M
 tell_apart_spec =
     tie.close
     (tie.spec
-    first-of-requires
+    first_of-first-requires
     told-requires
-    telling-requires
-    set-number-requires
-    same_length
+    telling-i-requires
+    set_number-requires
+    shape_of-s
     returns)

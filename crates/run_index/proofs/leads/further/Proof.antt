@@ -4,35 +4,35 @@ use borrow.Author.Rules.{rules}
 use Rattle.run_index.proofs.leads.further.Statement.{statement}
 use Rattle.run_index.proofs.leads.further.Tie as tie
 
-sub-word-at : tie.Need-overflow-sub-word-at
-sub-word-at c = search rules
+overflow_sub-l : tie.Need-overflow_sub-l
+overflow_sub-l c = search rules
 
-mul-word-at : tie.Need-overflow-mul-word-at
-mul-word-at c = search rules
+overflow_mul-l : tie.Need-overflow_mul-l
+overflow_mul-l c = search rules
 
-add-word-at : tie.Need-overflow-add-word-at
-add-word-at c = search rules
+overflow_add-l : tie.Need-overflow_add-l
+overflow_add-l c = search rules
 
-word-at-requires : tie.Need-word-at-requires
-word-at-requires c κs = search rules
+word_at-requires : tie.Need-word_at-requires
+word_at-requires c κs = search rules
 
-index-requires : tie.Need-index-requires
-index-requires c κs = search rules
+index-a-requires : tie.Need-index-a-requires
+index-a-requires c κs = search rules
 
-in-order-requires : tie.Need-in-order-requires
-in-order-requires c κs = search rules
+in_order-requires : tie.Need-in_order-requires
+in_order-requires c κs = search rules
 
 returns : tie.Need-returns
-returns c = rw (c.before.index.ensures ∙ c.before.before.word_at.ensures) at c.in_order.ensures
+returns c = rw (c.before.index-a.ensures ∙ c.before.before.word_at.ensures) at c.in_order.ensures
 
 pub further_spec : {M : Type 1} → statement M
 further_spec =
     tie.close
     (tie.spec
-    sub-word-at
-    mul-word-at
-    add-word-at
-    word-at-requires
-    index-requires
-    in-order-requires
+    overflow_sub-l
+    overflow_mul-l
+    overflow_add-l
+    word_at-requires
+    index-a-requires
+    in_order-requires
     returns)

@@ -5,63 +5,63 @@ use borrow.Author.Rules.{rules}
 use Rattle.run_index.proofs.leads.open_from.Statement.{statement}
 use Rattle.run_index.proofs.leads.open_from.Tie as tie
 
-mul-word-at : tie.Need-overflow-mul-word-at
-mul-word-at c = search rules
+overflow_mul-k : tie.Need-overflow_mul-k
+overflow_mul-k c = search rules
 
-add-word-at : tie.Need-overflow-add-word-at
-add-word-at c = search rules
+overflow_add-k : tie.Need-overflow_add-k
+overflow_add-k c = search rules
 
-word-at-requires : tie.Need-word-at-requires
-word-at-requires c κs = search rules
+word_at-requires : tie.Need-word_at-requires
+word_at-requires c κs = search rules
 
 key-requires : tie.Need-key-requires
 key-requires c κs = search rules
 
-add-result : tie.Need-overflow-add-result
-add-result c = search rules
+overflow_add-result : tie.Need-overflow_add-result
+overflow_add-result c = search rules
 
-returns : tie.Need-returns
-returns c =
+returns-then-word_at-key : tie.Need-returns-then-word_at-key
+returns-then-word_at-key c =
     let W = c.before.before in
     let S = W.before.before in
     λ clauses indexed inside functor.
     open_here S.args.s.now S.args.k S.args.functor clauses indexed inside functor
-    (sym W.word_at.ensures ∙ c.if1.true ∙ c.before.key.ensures)
+    (sym W.word_at.ensures ∙ c.if-word_at-key.true ∙ c.before.key.ensures)
 
-mul-word-at-2 : tie.Need-overflow-mul-word-at-2
-mul-word-at-2 c = search rules
+overflow_mul-k-2 : tie.Need-overflow_mul-k-2
+overflow_mul-k-2 c = search rules
 
-add-word-at-2 : tie.Need-overflow-add-word-at-2
-add-word-at-2 c = search rules
+overflow_add-k-2 : tie.Need-overflow_add-k-2
+overflow_add-k-2 c = search rules
 
-word-at-requires-2 : tie.Need-word-at-requires-2
-word-at-requires-2 c κs = search rules
+word_at-requires-2 : tie.Need-word_at-requires-2
+word_at-requires-2 c κs = search rules
 
 index-requires : tie.Need-index-requires
 index-requires c κs = search rules
 
-returns-2 : tie.Need-returns-2
-returns-2 c =
+returns : tie.Need-returns
+returns c =
     let T = c.before.before in
     let W = T.before.before in
     let S = W.before.before in
     λ clauses indexed inside functor.
-    rw (c.index.ensures ∙ c.before.word-at2.ensures)
+    rw (c.index.ensures ∙ c.before.word_at-2.ensures)
     (open_later S.args.s.now S.args.k S.args.functor clauses indexed inside functor
-    (λ e. T.if1.false (W.word_at.ensures ∙ e ∙ sym T.before.key.ensures)))
+    (λ e. T.if-word_at-key.false (W.word_at.ensures ∙ e ∙ sym T.before.key.ensures)))
 
 pub open_from_spec : {M : Type 1} → statement M
 open_from_spec =
     tie.close
     (tie.spec
-    mul-word-at
-    add-word-at
-    word-at-requires
+    overflow_mul-k
+    overflow_add-k
+    word_at-requires
     key-requires
-    add-result
-    returns
-    mul-word-at-2
-    add-word-at-2
-    word-at-requires-2
+    overflow_add-result
+    returns-then-word_at-key
+    overflow_mul-k-2
+    overflow_add-k-2
+    word_at-requires-2
     index-requires
-    returns-2)
+    returns)

@@ -5,17 +5,21 @@ use Rattle.run_queues.proofs.Ring.{passed_on, passed_round}
 use Rattle.run_queues.proofs.goals.behind.Statement.{statement}
 use Rattle.run_queues.proofs.goals.behind.Tie as tie
 
-add-if1 : tie.Need-overflow-add-if1
-add-if1 c = search rules
+overflow_add-front : tie.Need-overflow_add-front
+overflow_add-front c = search rules
 
-add-result : tie.Need-overflow-add-result
-add-result c = search rules
+overflow_add-result : tie.Need-overflow_add-result
+overflow_add-result c = search rules
 
-returns : tie.Need-returns
-returns c = passed_round c.before.args.size c.before.args.front (omega arith)
+returns-then-front-size : tie.Need-returns-then-front-size
+returns-then-front-size c = passed_round c.before.args.size c.before.args.front (omega arith)
 
-returns-2 : tie.Need-returns-2
-returns-2 c = passed_on c.before.args.size c.before.args.front (omega (arith, c.if1.false))
+returns-else-front-size : tie.Need-returns-else-front-size
+returns-else-front-size c = passed_on c.before.args.size c.before.args.front (omega (arith, c.if-front-size.false))
 
 pub behind_spec : {M : Type 1} → statement M
-behind_spec = tie.close (tie.spec add-if1 add-result returns returns-2)
+behind_spec = tie.close (tie.spec
+    overflow_add-front
+    overflow_add-result
+    returns-then-front-size
+    returns-else-front-size)

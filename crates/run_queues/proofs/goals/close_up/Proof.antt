@@ -10,60 +10,69 @@ use Rattle.run_queues.proofs.Closing.{Halfway, halfway_begins, halfway_settles, 
 use Rattle.run_queues.proofs.goals.close_up.Statement.{statement}
 use Rattle.run_queues.proofs.goals.close_up.Tie as tie
 
-abbrev invariant-loop : tie.invariant-loop
-invariant-loop s₀ log waiters sets used to₀ i₀ s to i =
+abbrev invariant-loop-i : tie.invariant-loop-i
+invariant-loop-i s₀ log waiters sets used to₀ i₀ s to i =
     (i ≤ used)
     × ((pairs : ℕ) (slots : List Slot) (ok : LogOk s₀ log waiters sets pairs slots) (e : used ≡ length slots)
     → (now : List Slot) × Halfway s₀ log waiters sets pairs used slots ok e s i to now)
 
-abbrev decreases-loop : tie.decreases-loop
-decreases-loop s₀ log waiters sets used to₀ i₀ s to i = used - i
+abbrev decreases-loop-i : tie.decreases-loop-i
+decreases-loop-i s₀ log waiters sets used to₀ i₀ s to i = used - i
 
-loop-holds : tie.Need-loop-init invariant-loop decreases-loop
-loop-holds c =
+loop-i-init : tie.Need-loop-i-init invariant-loop-i decreases-loop-i
+loop-i-init c =
     let S = c.before in
     (omega arith, λ pairs slots ok e. (slots, halfway_begins S.args.s.now S.args.log S.args.waiters S.args.sets pairs S.args.used slots ok e))
 
-settle-requires : tie.Need-settle-requires invariant-loop decreases-loop
-settle-requires c κs =
+settle-to-requires : tie.Need-settle-to-requires invariant-loop-i decreases-loop-i
+settle-to-requires c κs =
     let S = c.before.before.before.before in
-    let L = c.before.before.loop in
+    let L = c.before.before.loop-i in
     let a = S.requires in
     let h = L.invariant.1 a.0 a.1 a.2 a.3 in
-    (a.0, h.0, halfway_settles S.args.s.now S.args.log S.args.waiters S.args.sets a.0 S.args.used a.1 a.2 a.3 L.s L.i L.to h.0 h.1 c.before.loop-test.true)
+    (a.0, h.0, halfway_settles S.args.s.now S.args.log S.args.waiters S.args.sets a.0 S.args.used a.1 a.2 a.3 L.s L.i L.to h.0 h.1 c.before.loop-i-test.true)
 
-add-i : tie.Need-overflow-add-i invariant-loop decreases-loop
-add-i c = search rules
+overflow_add-i : tie.Need-overflow_add-i invariant-loop-i decreases-loop-i
+overflow_add-i c = search rules
 
-loop-less : tie.Need-loop-smaller invariant-loop decreases-loop
-loop-less c = search rules
+loop-i-smaller : tie.Need-loop-i-smaller invariant-loop-i decreases-loop-i
+loop-i-smaller c = search rules
 
-loop-again : tie.Need-loop-preserved invariant-loop decreases-loop
-loop-again c =
+loop-i-preserved : tie.Need-loop-i-preserved invariant-loop-i decreases-loop-i
+loop-i-preserved c =
     let S = c.before.before.before.before.before.before.before in
-    let L = c.before.before.before.before.before.loop in
-    let taken = c.before.before.before.before.loop-test.true in (
+    let L = c.before.before.before.before.before.loop-i in
+    let taken = c.before.before.before.before.loop-i-test.true in (
       omega arith,
       λ pairs slots ok e.
           let h = L.invariant.1 pairs slots ok e in
           halfway_on S.args.s.now S.args.log S.args.waiters S.args.sets pairs S.args.used slots ok e L.s L.i L.to h.0 h.1 taken _ _
-          (c.before.before.settle.ensures pairs h.0
+          (c.before.before.settle-to.ensures pairs h.0
           (halfway_settles S.args.s.now S.args.log S.args.waiters S.args.sets pairs S.args.used slots ok e L.s L.i L.to h.0 h.1 taken)),
     )
 
-same_length : tie.Need-same-length invariant-loop decreases-loop
-same_length c =
+shape_of-s : tie.Need-shape_of-s invariant-loop-i decreases-loop-i
+shape_of-s c =
     let a = c.before.before.before.requires in
-    (c.before.loop.invariant.1 a.0 a.1 a.2 a.3).1.log_now.only.size
+    (c.before.loop-i.invariant.1 a.0 a.1 a.2 a.3).1.log_now.only.size
 
-returns : tie.Need-returns invariant-loop decreases-loop
+returns : tie.Need-returns invariant-loop-i decreases-loop-i
 returns c =
     let S = c.before.before.before in
-    let L = c.before.loop in
+    let L = c.before.loop-i in
     λ pairs slots ok e.
     let h = L.invariant.1 pairs slots ok e in
     halfway_ends S.args.s.now S.args.log S.args.waiters S.args.sets pairs S.args.used slots ok e L.s L.i L.to h.0 h.1 (omega arith)
 
 pub close_up_spec : {M : Type 1} → statement M
 close_up_spec =
-    tie.close (tie.spec invariant-loop decreases-loop loop-holds settle-requires add-i loop-less loop-again same_length returns)
+    tie.close (tie.spec
+    invariant-loop-i
+    decreases-loop-i
+    loop-i-init
+    settle-to-requires
+    overflow_add-i
+    loop-i-smaller
+    loop-i-preserved
+    shape_of-s
+    returns)

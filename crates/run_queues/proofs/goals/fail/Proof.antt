@@ -4,20 +4,25 @@ use borrow.Author.Rules.{rules}
 use Rattle.run_queues.proofs.goals.fail.Statement.{statement}
 use Rattle.run_queues.proofs.goals.fail.Tie as tie
 
-add-s : tie.Need-overflow-add-s
-add-s c = search rules
+overflow_add-s : tie.Need-overflow_add-s
+overflow_add-s c = search rules
 
-mul-s : tie.Need-overflow-mul-s
-mul-s c = search rules
+offset_bounds-s-failed : tie.Need-offset_bounds-s-failed
+offset_bounds-s-failed c = search rules
 
-slice-write-s : tie.Need-slice-write-s
-slice-write-s c = search rules
+bounds-s-failed : tie.Need-bounds-s-failed
+bounds-s-failed c = search rules
 
-same_length : tie.Need-same-length
-same_length c = search rules
+shape_of-s : tie.Need-shape_of-s
+shape_of-s c = search rules
 
 returns : tie.Need-returns
 returns c = failed_more c.args.s.now c.args.failed c.args.n c.args.goal c.requires
 
 pub fail_spec : {M : Type 1} → statement M
-fail_spec = tie.close (tie.spec add-s mul-s slice-write-s same_length returns)
+fail_spec = tie.close (tie.spec
+    overflow_add-s
+    offset_bounds-s-failed
+    bounds-s-failed
+    shape_of-s
+    returns)

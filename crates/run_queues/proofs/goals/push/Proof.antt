@@ -6,35 +6,42 @@ use Rattle.run_queues.proofs.Ring.{round_inside, ring_pushed}
 use Rattle.run_queues.proofs.goals.push.Statement.{statement}
 use Rattle.run_queues.proofs.goals.push.Tie as tie
 
-add-spot : tie.Need-overflow-add-spot
-add-spot c = search rules
+overflow_add-front : tie.Need-overflow_add-front
+overflow_add-front c = search rules
 
-spot-requires : tie.Need-spot-requires
-spot-requires c κs = search rules
+spot-at-requires : tie.Need-spot-at-requires
+spot-at-requires c κs = search rules
 
-add-s : tie.Need-overflow-add-s
-add-s c =
+overflow_add-s : tie.Need-overflow_add-s
+overflow_add-s c =
     let S = c.before.before in
-    omega (arith, c.spot.ensures, round_inside S.args.size (S.args.front + S.args.active) (omega arith))
+    omega (arith, c.spot-at.ensures, round_inside S.args.size (S.args.front + S.args.active) (omega arith))
 
-mul-s : tie.Need-overflow-mul-s
-mul-s c =
+offset_bounds-s-queue : tie.Need-offset_bounds-s-queue
+offset_bounds-s-queue c =
     let S = c.before.before in
-    omega (arith, c.spot.ensures, round_inside S.args.size (S.args.front + S.args.active) (omega arith))
+    omega (arith, c.spot-at.ensures, round_inside S.args.size (S.args.front + S.args.active) (omega arith))
 
-slice-write-s : tie.Need-slice-write-s
-slice-write-s c =
+bounds-s-queue : tie.Need-bounds-s-queue
+bounds-s-queue c =
     let S = c.before.before in
-    omega (arith, c.spot.ensures, round_inside S.args.size (S.args.front + S.args.active) (omega arith))
+    omega (arith, c.spot-at.ensures, round_inside S.args.size (S.args.front + S.args.active) (omega arith))
 
-same_length : tie.Need-same-length
-same_length c = search rules
+shape_of-s : tie.Need-shape_of-s
+shape_of-s c = search rules
 
 returns : tie.Need-returns
 returns c =
     let S = c.before.before in
-    rw c.spot.ensures
+    rw c.spot-at.ensures
     (ring_pushed S.args.queue S.args.size S.args.s.now S.args.front S.args.active S.args.goal S.requires.0 S.requires.1)
 
 pub push_spec : {M : Type 1} → statement M
-push_spec = tie.close (tie.spec add-spot spot-requires add-s mul-s slice-write-s same_length returns)
+push_spec = tie.close (tie.spec
+    overflow_add-front
+    spot-at-requires
+    overflow_add-s
+    offset_bounds-s-queue
+    bounds-s-queue
+    shape_of-s
+    returns)

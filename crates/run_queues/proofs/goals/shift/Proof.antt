@@ -6,26 +6,26 @@ use Rattle.run_queues.proofs.Shifting.{goal_word, turns, shifted}
 use Rattle.run_queues.proofs.goals.shift.Statement.{statement}
 use Rattle.run_queues.proofs.goals.shift.Tie as tie
 
-goal-at-requires : tie.Need-goal-at-requires
-goal-at-requires c κs = search rules
+goal_at-goal-requires : tie.Need-goal_at-goal-requires
+goal_at-goal-requires c κs = search rules
 
-first-of-requires : tie.Need-first-of-requires
-first-of-requires c κs = search rules
+first_of-first-requires : tie.Need-first_of-first-requires
+first_of-first-requires c κs = search rules
 
-add-word : tie.Need-overflow-add-word
-add-word c = search rules
+overflow_add-to : tie.Need-overflow_add-to
+overflow_add-to c = search rules
 
 word-requires : tie.Need-word-requires
 word-requires c κs = search rules
 
-turn-all-requires : tie.Need-turn-all-requires
-turn-all-requires c κs =
+turn_all-requires : tie.Need-turn_all-requires
+turn_all-requires c κs =
     let S = c.before.before.before.before.before.before.before in
     let a = S.requires in (
       a.0,
       S.args.from,
       a.3,
-      rw (c.word.ensures, c.before.before.first_of.ensures)
+      rw (c.word.ensures, c.before.before.first_of-first.ensures)
           (turns S.args.s.now S.args.log S.args.waiters S.args.sets a.0 a.1 S.args.from S.args.to a.2 a.3 a.4),
     )
 
@@ -35,8 +35,8 @@ seat-requires c κs = search rules
 put-requires : tie.Need-put-requires
 put-requires c κs = search rules
 
-same_length : tie.Need-same-length
-same_length c = search rules
+shape_of-s : tie.Need-shape_of-s
+shape_of-s c = search rules
 
 returns : tie.Need-returns
 returns c =
@@ -47,12 +47,21 @@ returns c =
       c.before.before.put.ensures,
       c.before.before.before.before.before.before.seat.ensures,
       c.before.before.before.before.before.before.before.before.before.before.before.before.before.before.before.goal-at.ensures ∙ goal_word S.args.s.now S.args.log S.args.waiters S.args.sets pairs slots S.args.from S.args.to goal ps a,
-      c.before.before.before.before.before.before.before.before.before.before.before.before.before.first_of.ensures,
+      c.before.before.before.before.before.before.before.before.before.before.before.before.before.first_of-first.ensures,
     )
     (shifted S.args.s.now S.args.log S.args.waiters S.args.sets pairs slots S.args.from S.args.to goal ps a _
-    ((rw (c.before.before.before.before.before.before.before.before.before.before.before.word.ensures, c.before.before.before.before.before.before.before.before.before.before.before.before.before.first_of.ensures) at c.before.before.before.before.before.before.before.before.before.before.turn-all.ensures) pairs S.args.from ps t))
+    ((rw (c.before.before.before.before.before.before.before.before.before.before.before.word.ensures, c.before.before.before.before.before.before.before.before.before.before.before.before.before.first_of-first.ensures) at c.before.before.before.before.before.before.before.before.before.before.turn_all.ensures) pairs S.args.from ps t))
 
 pub shift_spec : {M : Type 1} → statement M
 shift_spec =
     tie.close
-    (tie.spec goal-at-requires first-of-requires add-word word-requires turn-all-requires seat-requires put-requires same_length returns)
+    (tie.spec
+    goal_at-goal-requires
+    first_of-first-requires
+    overflow_add-to
+    word-requires
+    turn_all-requires
+    seat-requires
+    put-requires
+    shape_of-s
+    returns)

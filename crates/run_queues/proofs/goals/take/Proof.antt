@@ -4,19 +4,19 @@ use Rattle.run_queues.proofs.LogSteps.{taken_out}
 use Rattle.run_queues.proofs.goals.take.Statement.{statement}
 use Rattle.run_queues.proofs.goals.take.Tie as tie
 
-goal-at-requires : tie.Need-goal-at-requires
-goal-at-requires c κs = search rules
+goal_at-goal-requires : tie.Need-goal_at-goal-requires
+goal_at-goal-requires c κs = search rules
 
 put-requires : tie.Need-put-requires
 put-requires c κs = search rules
 
-same_length : tie.Need-same-length
-same_length c = search rules
+shape_of-s : tie.Need-shape_of-s
+shape_of-s c = search rules
 
 returns : tie.Need-returns
 returns c =
     let S = c.before.before.before.before.before.before.before in
-    let read = c.before.before.before.before.goal-at.ensures in
+    let read = c.before.before.before.before.goal_at-goal.ensures in
     let stored = c.before.before.put.ensures in (
       read,
       (
@@ -27,4 +27,8 @@ returns c =
     )
 
 pub take_spec : {M : Type 1} → statement M
-take_spec = tie.close (tie.spec goal-at-requires put-requires same_length returns)
+take_spec = tie.close (tie.spec
+    goal_at-goal-requires
+    put-requires
+    shape_of-s
+    returns)

@@ -9,64 +9,73 @@ use Rattle.run_queues.proofs.Turning.{Turning, turning_begins, turning_ends, tur
 use Rattle.run_queues.proofs.goals.turn_all.Statement.{statement}
 use Rattle.run_queues.proofs.goals.turn_all.Tie as tie
 
-abbrev invariant-loop : tie.invariant-loop
-invariant-loop s₀ waiters sets start waiter first₀ s first =
+abbrev invariant-loop-first : tie.invariant-loop-first
+invariant-loop-first s₀ waiters sets start waiter first₀ s first =
     (pairs from : ℕ) (ps : List ℕ) (t : Turns s₀ waiters sets pairs from waiter start ps)
     → (rest : List ℕ) × Turning s₀ waiters sets pairs from waiter start ps t s first rest
 
-abbrev decreases-loop : tie.decreases-loop
-decreases-loop s₀ waiters sets start waiter first₀ s first = total s
+abbrev decreases-loop-first : tie.decreases-loop-first
+decreases-loop-first s₀ waiters sets start waiter first₀ s first = total s
 
-loop-holds : tie.Need-loop-init invariant-loop decreases-loop
-loop-holds c =
+loop-first-init : tie.Need-loop-first-init invariant-loop-first decreases-loop-first
+loop-first-init c =
     let S = c.before in
     λ pairs from ps t. (ps, turning_begins S.args.s.now S.args.waiters S.args.sets pairs from S.args.waiter S.args.start ps t)
 
-sub-turn : tie.Need-overflow-sub-turn invariant-loop decreases-loop
-sub-turn c = search rules
+overflow_sub-first : tie.Need-overflow_sub-first invariant-loop-first decreases-loop-first
+overflow_sub-first c = search rules
 
-turn-requires : tie.Need-turn-requires invariant-loop decreases-loop
-turn-requires c κs =
+turn-first-requires : tie.Need-turn-first-requires invariant-loop-first decreases-loop-first
+turn-first-requires c κs =
     let S = c.before.before.before.before in
-    let L = c.before.before.loop in
+    let L = c.before.before.loop-first in
     let t = S.requires in
     let u = L.invariant t.0 t.1 t.2 t.3 in
     turning_inside S.args.s.now S.args.waiters S.args.sets t.0 t.1 S.args.waiter S.args.start t.2 t.3 L.s L.first u.0 u.1
-    (omega (arith, c.before.loop-test.true))
+    (omega (arith, c.before.loop-first-test.true))
 
-loop-less : tie.Need-loop-smaller invariant-loop decreases-loop
-loop-less c =
+loop-first-smaller : tie.Need-loop-first-smaller invariant-loop-first decreases-loop-first
+loop-first-smaller c =
     let S = c.before.before.before.before.before.before.before in
-    let L = c.before.before.before.before.before.loop in
+    let L = c.before.before.before.before.before.loop-first in
     let t = S.requires in
     let u = L.invariant t.0 t.1 t.2 t.3 in
-    rw c.before.before.turn.ensures.1
+    rw c.before.before.turn-first.ensures.words
     (turning_less S.args.s.now S.args.waiters S.args.sets t.0 t.1 S.args.waiter S.args.start t.2 t.3 L.s L.first u.0 u.1
-    (omega (arith, c.before.before.before.before.loop-test.true)))
+    (omega (arith, c.before.before.before.before.loop-first-test.true)))
 
-loop-again : tie.Need-loop-preserved invariant-loop decreases-loop
-loop-again c =
+loop-first-preserved : tie.Need-loop-first-preserved invariant-loop-first decreases-loop-first
+loop-first-preserved c =
     let S = c.before.before.before.before.before.before.before in
-    let L = c.before.before.before.before.before.loop in
+    let L = c.before.before.before.before.before.loop-first in
     λ pairs from ps t.
     let u = L.invariant pairs from ps t in
-    rw (c.before.before.turn.ensures.1, c.before.before.turn.ensures.0)
+    rw (c.before.before.turn-first.ensures.words, c.before.before.turn-first.ensures.next)
     (turning_on S.args.s.now S.args.waiters S.args.sets pairs from S.args.waiter S.args.start ps t L.s L.first u.0 u.1
-    (omega (arith, c.before.before.before.before.loop-test.true)))
+    (omega (arith, c.before.before.before.before.loop-first-test.true)))
 
-same_length : tie.Need-same-length invariant-loop decreases-loop
-same_length c =
+shape_of-s : tie.Need-shape_of-s invariant-loop-first decreases-loop-first
+shape_of-s c =
     let t = c.before.before.before.requires in
-    (c.before.loop.invariant t.0 t.1 t.2 t.3).1.size
+    (c.before.loop-first.invariant t.0 t.1 t.2 t.3).1.size
 
-returns : tie.Need-returns invariant-loop decreases-loop
+returns : tie.Need-returns invariant-loop-first decreases-loop-first
 returns c =
     let S = c.before.before.before in
-    let L = c.before.loop in
+    let L = c.before.loop-first in
     λ pairs from ps t.
     let u = L.invariant pairs from ps t in
     turning_ends S.args.s.now S.args.waiters S.args.sets pairs from S.args.waiter S.args.start ps t L.s L.first u.0 u.1
-    (omega (arith, c.loop-test.false))
+    (omega (arith, c.loop-first-test.false))
 
 pub turn_all_spec : {M : Type 1} → statement M
-turn_all_spec = tie.close (tie.spec invariant-loop decreases-loop loop-holds sub-turn turn-requires loop-less loop-again same_length returns)
+turn_all_spec = tie.close (tie.spec
+    invariant-loop-first
+    decreases-loop-first
+    loop-first-init
+    overflow_sub-first
+    turn-first-requires
+    loop-first-smaller
+    loop-first-preserved
+    shape_of-s
+    returns)

@@ -8,8 +8,8 @@ use Rattle.run_queues.proofs.goals.wait.Tie as tie
 put-requires : tie.Need-put-requires
 put-requires c κs = search rules
 
-join-all-requires : tie.Need-join-all-requires
-join-all-requires c κs =
+join_all-requires : tie.Need-join_all-requires
+join_all-requires c κs =
     let S = c.before.before.before.before.before.before in
     let w = S.requires in (
       w.0,
@@ -20,15 +20,15 @@ join-all-requires c κs =
           (waiting_begins S.args.s.now S.args.log S.args.waiters S.args.sets w.0 w.1 S.args.place S.args.goal S.args.readers S.args.n w.2),
     )
 
-same_length : tie.Need-same-length
-same_length c = search rules
+shape_of-s : tie.Need-shape_of-s
+shape_of-s c = search rules
 
 returns : tie.Need-returns
 returns c =
     let S = c.before.before.before.before.before.before.before.before.before in
     λ pairs slots w.
     waiting_ends S.args.s.now S.args.log S.args.waiters S.args.sets pairs slots S.args.place S.args.goal S.args.readers S.args.n w _
-    ((rw c.before.before.before.before.before.before.put.ensures at c.before.before.join-all.ensures)
+    ((rw c.before.before.before.before.before.before.put.ensures at c.before.before.join_all.ensures)
     pairs
     (with_goal S.args.s.now S.args.log S.args.waiters S.args.sets pairs slots S.args.place S.args.goal S.args.readers S.args.n w [])
     S.args.goal
@@ -36,4 +36,8 @@ returns c =
     (waiting_begins S.args.s.now S.args.log S.args.waiters S.args.sets pairs slots S.args.place S.args.goal S.args.readers S.args.n w))
 
 pub wait_spec : {M : Type 1} → statement M
-wait_spec = tie.close (tie.spec put-requires join-all-requires same_length returns)
+wait_spec = tie.close (tie.spec
+    put-requires
+    join_all-requires
+    shape_of-s
+    returns)

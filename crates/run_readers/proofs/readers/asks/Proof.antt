@@ -9,62 +9,62 @@ use Rattle.run_readers.proofs.Asking.{asked_none, asked_less, asked_here}
 use Rattle.run_readers.proofs.readers.asks.Statement.{statement}
 use Rattle.run_readers.proofs.readers.asks.Tie as tie
 
-abbrev invariant-loop : tie.invariant-loop
-invariant-loop s n i₀ i = (i ≤ n) × (asked_in s i ≡ [])
+abbrev invariant-loop-i : tie.invariant-loop-i
+invariant-loop-i s n i₀ i = (i ≤ n) × (asked_in s i ≡ [])
 
-abbrev decreases-loop : tie.decreases-loop
-decreases-loop s n i₀ i = n - i
+abbrev decreases-loop-i : tie.decreases-loop-i
+decreases-loop-i s n i₀ i = n - i
 
-loop-holds : tie.Need-loop-init invariant-loop decreases-loop
-loop-holds c = (omega arith, asked_none c.before.args.s.now)
+loop-i-init : tie.Need-loop-i-init invariant-loop-i decreases-loop-i
+loop-i-init c = (omega arith, asked_none c.before.args.s.now)
 
-add-word-at : tie.Need-overflow-add-word-at invariant-loop decreases-loop
-add-word-at c = omega arith
+overflow_add-word_at : tie.Need-overflow_add-word_at invariant-loop-i decreases-loop-i
+overflow_add-word_at c = omega arith
 
-mul-word-at : tie.Need-overflow-mul-word-at invariant-loop decreases-loop
-mul-word-at c = omega arith
+overflow_mul-i : tie.Need-overflow_mul-i invariant-loop-i decreases-loop-i
+overflow_mul-i c = omega arith
 
-word-at-requires : tie.Need-word-at-requires invariant-loop decreases-loop
-word-at-requires c κs = omega arith
+word_at-requires : tie.Need-word_at-requires invariant-loop-i decreases-loop-i
+word_at-requires c κs = omega arith
 
-returns : tie.Need-returns invariant-loop decreases-loop
-returns c =
+returns-then-word_at-eq0 : tie.Need-returns-then-word_at-eq0 invariant-loop-i decreases-loop-i
+returns-then-word_at-eq0 c =
     let S = c.before.before.before.before.before in
-    sym (asked_here S.args.s.now c.before.before.before.loop.i S.args.n c.before.before.loop-test.true
-    (sym c.before.word_at.ensures ∙ c.if1.true))
+    sym (asked_here S.args.s.now c.before.before.before.loop-i.i S.args.n c.before.before.loop-i-test.true
+    (sym c.before.word_at.ensures ∙ c.if-word_at-eq0.true))
 
-add-i : tie.Need-overflow-add-i invariant-loop decreases-loop
-add-i c = omega arith
+overflow_add-i : tie.Need-overflow_add-i invariant-loop-i decreases-loop-i
+overflow_add-i c = omega arith
 
-loop-less : tie.Need-loop-smaller invariant-loop decreases-loop
-loop-less c = omega arith
+loop-i-smaller : tie.Need-loop-i-smaller invariant-loop-i decreases-loop-i
+loop-i-smaller c = omega arith
 
-loop-again : tie.Need-loop-preserved invariant-loop decreases-loop
-loop-again c =
+loop-i-preserved : tie.Need-loop-i-preserved invariant-loop-i decreases-loop-i
+loop-i-preserved c =
     let S = c.before.before.before.before.before in
-    let L = c.before.before.before.loop in (
+    let L = c.before.before.before.loop-i in (
       omega arith,
-      asked_less S.args.s.now L.i (λ e. c.if1.false (c.before.word_at.ensures ∙ e)) ∙ L.invariant.1,
+      asked_less S.args.s.now L.i (λ e. c.if-word_at-eq0.false (c.before.word_at.ensures ∙ e)) ∙ L.invariant.1,
     )
 
-returns-2 : tie.Need-returns-2 invariant-loop decreases-loop
+returns : tie.Need-returns invariant-loop-i decreases-loop-i
 unfolding is_some
-returns-2 c =
-    let all : c.before.loop.i ≡ c.before.before.before.args.n = omega arith in
-    sym (ap is_some (rw all at c.before.loop.invariant.1))
+returns c =
+    let all : c.before.loop-i.i ≡ c.before.before.before.args.n = omega arith in
+    sym (ap is_some (rw all at c.before.loop-i.invariant.1))
 
 pub asks_spec : {M : Type 1} → statement M
 asks_spec =
     tie.close
     (tie.spec
-    invariant-loop
-    decreases-loop
-    loop-holds
-    add-word-at
-    mul-word-at
-    word-at-requires
-    returns
-    add-i
-    loop-less
-    loop-again
-    returns-2)
+    invariant-loop-i
+    decreases-loop-i
+    loop-i-init
+    overflow_add-word_at
+    overflow_mul-i
+    word_at-requires
+    returns-then-word_at-eq0
+    overflow_add-i
+    loop-i-smaller
+    loop-i-preserved
+    returns)

@@ -10,83 +10,83 @@ use Rattle.run_readers.proofs.Ranks.{met_already, met_stored, not_at_rank}
 use Rattle.run_readers.proofs.readers.meet.Statement.{statement}
 use Rattle.run_readers.proofs.readers.meet.Tie as tie
 
-add-word-at : tie.Need-overflow-add-word-at
-add-word-at c = search rules
+overflow_add-readers : tie.Need-overflow_add-readers
+overflow_add-readers c = search rules
 
-word-at-requires : tie.Need-word-at-requires
-word-at-requires c κs = search rules
+word_at-requires : tie.Need-word_at-requires
+word_at-requires c κs = search rules
+
+index-rank-requires : tie.Need-index-rank-requires
+index-rank-requires c κs = search rules
+
+word_at-requires-then-rank-n : tie.Need-word_at-requires-then-rank-n
+word_at-requires-then-rank-n c κs = search rules
 
 index-requires : tie.Need-index-requires
 index-requires c κs = search rules
 
-word-at-requires-2 : tie.Need-word-at-requires-2
-word-at-requires-2 c κs = search rules
+shape_of-s-then-index-p : tie.Need-shape_of-s-then-index-p
+shape_of-s-then-index-p c = search rules
 
-index-requires-2 : tie.Need-index-requires-2
-index-requires-2 c κs = search rules
-
-same_length : tie.Need-same-length
-same_length c = search rules
-
-returns : tie.Need-returns
-returns c =
+returns-then-index-p : tie.Need-returns-then-index-p
+returns-then-index-p c =
     let S = c.before.before.before.before.before.before.before.before.before in
     met_already S.args.s.now S.args.readers S.args.pairs S.args.n S.requires.0 S.args.p
     c.before.before.before.before.before.index.result c.before.before.before.before.if1.true
-    (sym c.before.before.word-at2.ensures ∙ sym c.before.index2.ensures ∙ c.if2.true)
+    (sym c.before.before.word_at-then-rank-n.ensures ∙ sym c.before.index.ensures ∙ c.if-index-p.true)
 
 word-requires : tie.Need-word-requires
 word-requires c κs = search rules
 
-set-at-requires : tie.Need-set-at-requires
-set-at-requires c κs = search rules
+set_at-requires : tie.Need-set_at-requires
+set_at-requires c κs = search rules
 
-add-set-at : tie.Need-overflow-add-set-at
-add-set-at c = search rules
+overflow_add-readers-2 : tie.Need-overflow_add-readers-2
+overflow_add-readers-2 c = search rules
 
 word-requires-2 : tie.Need-word-requires-2
 word-requires-2 c κs = search rules
 
-set-at-requires-2 : tie.Need-set-at-requires-2
-set-at-requires-2 c κs = search rules
+set_at-requires-2 : tie.Need-set_at-requires-2
+set_at-requires-2 c κs = search rules
 
-add-result : tie.Need-overflow-add-result
-add-result c = search rules
+overflow_add-result : tie.Need-overflow_add-result
+overflow_add-result c = search rules
 
-same-length-2 : tie.Need-same-length-2
-same-length-2 c = search rules
+shape_of-s : tie.Need-shape_of-s
+shape_of-s c = search rules
 
-returns-2 : tie.Need-returns-2
-returns-2 c =
+returns : tie.Need-returns
+returns c =
     let m = c.before.before.before.before.before.before.before.before.before.before in
     let S = m.before.before.before.before.before in
-    let rank = m.before.index.ensures ∙ m.before.before.word_at.ensures in
+    let rank = m.before.index-rank.ensures ∙ m.before.before.word_at.ensures in
     let new =
     not_at_rank S.args.s.now S.args.readers S.args.pairs S.args.n S.args.p S.requires.0 (λ h e.
     ⊎_elim
     (λ w. w.4.left (w.3.ensures ∙ w.2.ensures ∙ ap (λ k. get_or S.args.s.now (S.args.readers + k) 0) rank ∙ e))
     (λ w. omega (arith, rank, w.left))
-    m.if1.branch)
+    m.if-rank-n.branch)
     in
-    rw (c.before.before.set-at2.ensures, c.before.before.before.word2.ensures, c.before.before.before.before.before.before.before.set_at.ensures, c.before.before.before.before.before.before.before.before.word.ensures)
+    rw (c.before.before.set_at-2.ensures, c.before.before.before.word-2.ensures, c.before.before.before.before.before.before.before.set_at.ensures, c.before.before.before.before.before.before.before.before.word.ensures)
     (met_stored S.args.s.now S.args.readers S.args.pairs S.args.n S.requires.0 S.args.p S.requires.1 new)
 
 pub meet_spec : {M : Type 1} → statement M
 meet_spec =
     tie.close
     (tie.spec
-    add-word-at
-    word-at-requires
+    overflow_add-readers
+    word_at-requires
+    index-rank-requires
+    word_at-requires-then-rank-n
     index-requires
-    word-at-requires-2
-    index-requires-2
-    same_length
-    returns
+    shape_of-s-then-index-p
+    returns-then-index-p
     word-requires
-    set-at-requires
-    add-set-at
+    set_at-requires
+    overflow_add-readers-2
     word-requires-2
-    set-at-requires-2
-    add-result
-    same-length-2
-    returns-2)
+    set_at-requires-2
+    overflow_add-result
+    shape_of-s
+    returns)

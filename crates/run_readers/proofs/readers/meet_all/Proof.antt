@@ -11,39 +11,39 @@ use Rattle.run_readers.proofs.Ranks.{met_none, noted_term, noted_pair, met_more,
 use Rattle.run_readers.proofs.readers.meet_all.Statement.{statement}
 use Rattle.run_readers.proofs.readers.meet_all.Tie as tie
 
-abbrev invariant-loop : tie.invariant-loop
-invariant-loop s₀ readers pairs first n met₀ i₀ s met i = (i ≤ n) × Met s₀ s readers pairs first (asked_in s₀ i) met
+abbrev invariant-loop-i : tie.invariant-loop-i
+invariant-loop-i s₀ readers pairs first n met₀ i₀ s met i = (i ≤ n) × Met s₀ s readers pairs first (asked_in s₀ i) met
 
-abbrev decreases-loop : tie.decreases-loop
-decreases-loop s₀ readers pairs first n met₀ i₀ s met i = n - i
+abbrev decreases-loop-i : tie.decreases-loop-i
+decreases-loop-i s₀ readers pairs first n met₀ i₀ s met i = n - i
 
-loop-holds : tie.Need-loop-init invariant-loop decreases-loop
-loop-holds c =
+loop-i-init : tie.Need-loop-i-init invariant-loop-i decreases-loop-i
+loop-i-init c =
     let S = c.before in (
       omega arith,
       rw (asked_none S.args.s.now) (met_none S.args.s.now S.args.readers S.args.pairs S.args.first S.requires.0),
     )
 
-add-word-at : tie.Need-overflow-add-word-at invariant-loop decreases-loop
-add-word-at c = omega arith
+overflow_add-word_at : tie.Need-overflow_add-word_at invariant-loop-i decreases-loop-i
+overflow_add-word_at c = omega arith
 
-mul-word-at : tie.Need-overflow-mul-word-at invariant-loop decreases-loop
-mul-word-at c = omega arith
+overflow_mul-i : tie.Need-overflow_mul-i invariant-loop-i decreases-loop-i
+overflow_mul-i c = omega arith
 
-word-at-requires : tie.Need-word-at-requires invariant-loop decreases-loop
-word-at-requires c κs = search rules
+word_at-requires : tie.Need-word_at-requires invariant-loop-i decreases-loop-i
+word_at-requires c κs = search rules
 
-mul-word-at-2 : tie.Need-overflow-mul-word-at-2 invariant-loop decreases-loop
-mul-word-at-2 c = omega arith
+overflow_mul-i-then-word_at-eq0 : tie.Need-overflow_mul-i-then-word_at-eq0 invariant-loop-i decreases-loop-i
+overflow_mul-i-then-word_at-eq0 c = omega arith
 
-word-at-requires-2 : tie.Need-word-at-requires-2 invariant-loop decreases-loop
-word-at-requires-2 c κs = search rules
+word_at-requires-then-word_at-eq0 : tie.Need-word_at-requires-then-word_at-eq0 invariant-loop-i decreases-loop-i
+word_at-requires-then-word_at-eq0 c κs = search rules
 
-index-requires : tie.Need-index-requires invariant-loop decreases-loop
+index-requires : tie.Need-index-requires invariant-loop-i decreases-loop-i
 index-requires c κs = search rules
 
-meet-requires : tie.Need-meet-requires invariant-loop decreases-loop
-meet-requires c κs =
+meet-met-requires : tie.Need-meet-met-requires invariant-loop-i decreases-loop-i
+meet-met-requires c κs =
     let t = c.before.before.before.before in
     let S = t.before.before.before.before.before.before in
     let L = t.before.before.before.before.loop in
@@ -52,18 +52,18 @@ meet-requires c κs =
     let few : L.i < 192 = omega arith in
     let waits = sym (noted_term s L.s S.args.readers S.args.pairs S.args.first L.i L.met S.requires.1 few m)
     ∙ sym t.before.word_at.ensures ∙ t.if1.true in
-    let same = c.index.ensures ∙ c.before.word-at2.ensures
+    let same = c.index.ensures ∙ c.before.word_at-then-word_at-eq0.ensures
     ∙ noted_pair s L.s S.args.readers S.args.pairs S.args.first L.i L.met S.requires.1 few m in
     (m.ok, rw same (S.requires.3 L.i t.before.before.before.loop-test.true waits))
 
-add-i : tie.Need-overflow-add-i invariant-loop decreases-loop
-add-i c = omega arith
+overflow_add-i : tie.Need-overflow_add-i invariant-loop-i decreases-loop-i
+overflow_add-i c = omega arith
 
-loop-less : tie.Need-loop-smaller invariant-loop decreases-loop
-loop-less c = omega arith
+loop-i-smaller : tie.Need-loop-i-smaller invariant-loop-i decreases-loop-i
+loop-i-smaller c = omega arith
 
-loop-again : tie.Need-loop-preserved invariant-loop decreases-loop
-loop-again c =
+loop-i-preserved : tie.Need-loop-i-preserved invariant-loop-i decreases-loop-i
+loop-i-preserved c =
     let S = c.before.before.before.before.before.before in
     let L = c.before.before.before.before.loop in
     let few : L.i < 192 = omega arith in
@@ -78,33 +78,33 @@ loop-again c =
           rw (w.1, w.2)
           (met_less S.args.s.now L.s S.args.readers S.args.pairs S.args.first L.i L.met S.requires.1 few L.invariant.1
           (λ e. w.0.left (sym term ∙ e))))
-          c.if1.branch,
+          c.if-word_at-eq0.branch,
     )
 
-same_length : tie.Need-same-length invariant-loop decreases-loop
-same_length c = c.before.loop.invariant.1.only.size
+shape_of-s : tie.Need-shape_of-s invariant-loop-i decreases-loop-i
+shape_of-s c = c.before.loop-i.invariant.1.only.size
 
-returns : tie.Need-returns invariant-loop decreases-loop
+returns : tie.Need-returns invariant-loop-i decreases-loop-i
 returns c =
-    let all : c.before.loop.i ≡ c.before.before.before.args.n = omega arith in
-    rw all at c.before.loop.invariant.1
+    let all : c.before.loop-i.i ≡ c.before.before.before.args.n = omega arith in
+    rw all at c.before.loop-i.invariant.1
 
 pub meet_all_spec : {M : Type 1} → statement M
 meet_all_spec =
     tie.close
     (tie.spec
-    invariant-loop
-    decreases-loop
-    loop-holds
-    add-word-at
-    mul-word-at
-    word-at-requires
-    mul-word-at-2
-    word-at-requires-2
+    invariant-loop-i
+    decreases-loop-i
+    loop-i-init
+    overflow_add-word_at
+    overflow_mul-i
+    word_at-requires
+    overflow_mul-i-then-word_at-eq0
+    word_at-requires-then-word_at-eq0
     index-requires
-    meet-requires
-    add-i
-    loop-less
-    loop-again
-    same_length
+    meet-met-requires
+    overflow_add-i
+    loop-i-smaller
+    loop-i-preserved
+    shape_of-s
     returns)

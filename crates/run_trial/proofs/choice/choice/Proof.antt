@@ -20,50 +20,50 @@ invariant-clauses s₀ values marks links goal first readers₀ stamp₀ left₀
 abbrev decreases-clauses : tie.decreases-clauses
 decreases-clauses s₀ values marks links goal first readers₀ stamp₀ left₀ s readers stamp left = first + 32768 - stamp
 
-follow-arguments-requires : tie.Need-follow-arguments-requires invariant-clauses decreases-clauses
-follow-arguments-requires c κs =
+follow_arguments-requires : tie.Need-follow_arguments-requires invariant-clauses decreases-clauses
+follow_arguments-requires c κs =
     let (text, names, j, limit, figures, at, g, others, trying, new, fit) = c.before.before.requires in
     (setting figures at (unit_of j limit figures g), g.goal.number, named g.goal.name, g.goal.arguments, following.goal-follows trying)
 
-word-at-requires : tie.Need-word-at-requires invariant-clauses decreases-clauses
-word-at-requires c κs =
+word_at-requires : tie.Need-word_at-requires invariant-clauses decreases-clauses
+word_at-requires c κs =
     let A = c.before.before.before in
     let trying = (following.ready A.before.before.before.requires A.follow-arguments.ensures).8 in
     omega (arith, idle.goal-inside trying)
 
-first-clause-requires : tie.Need-first-clause-requires invariant-clauses decreases-clauses
-first-clause-requires c κs =
+first_clause-requires : tie.Need-first_clause-requires invariant-clauses decreases-clauses
+first_clause-requires c κs =
     let A = c.before.before.before.before in
     let trying = (following.ready A.before.before.before.requires A.follow-arguments.ensures).8 in
     (idle.goal-inside trying, idle.procedure-inside trying)
 
-to-try-requires : tie.Need-to-try-requires invariant-clauses decreases-clauses
-to-try-requires c κs =
+to_try-left-requires : tie.Need-to_try-left-requires invariant-clauses decreases-clauses
+to_try-left-requires c κs =
     let W = c.before in
     let A = W.before.before.before.before in
     let (text, names, j, limit, figures, at, g, others, trying, stand, new, fit) = following.ready A.before.before.before.requires A.follow-arguments.ensures in
-    (names, j, g.goal, idle.goal-sought trying stand W.word_at.ensures c.first-clause.ensures)
+    (names, j, g.goal, idle.goal-sought trying stand W.word_at.ensures c.first_clause.ensures)
 
-clauses-holds : tie.Need-clauses-init invariant-clauses decreases-clauses
-clauses-holds c =
+clauses-init : tie.Need-clauses-init invariant-clauses decreases-clauses
+clauses-init c =
     let C = c.before in
     let W = C.before in
     let a = W.before.before.before.before.before.before.before.args in
     λ text names j limit figures at g others trying stand new.
-    clauses.walk_first trying a.first c.to-try.result new W.word_at.ensures
-    (c.to-try.ensures names j g.goal (idle.goal-sought trying stand W.word_at.ensures C.first-clause.ensures))
+    clauses.walk_first trying a.first c.to_try-left.result new W.word_at.ensures
+    (c.to_try-left.ensures names j g.goal (idle.goal-sought trying stand W.word_at.ensures C.first_clause.ensures))
 
-sub-k : tie.Need-overflow-sub-k invariant-clauses decreases-clauses
-sub-k c = let left = c.before.if1.true in omega arith
+overflow_sub-k : tie.Need-overflow_sub-k invariant-clauses decreases-clauses
+overflow_sub-k c = let left = c.before.clauses-test.true in omega arith
 
-trial-requires : tie.Need-trial-requires invariant-clauses decreases-clauses
-trial-requires c κs =
+trial-t-requires : tie.Need-trial-t-requires invariant-clauses decreases-clauses
+trial-t-requires c κs =
     let L = c.before.before.before.before in
     let A = L.before.before.before.before.before.before.before in
     let S = A.before.before.before in
     let (text, names, j, limit, figures, at, g, others, trying, stand, new, fit) = following.ready S.requires A.follow-arguments.ensures in
     let w = L.clauses.invariant text names j limit figures at g others trying stand new in
-    let left = c.before.before.if1.true in (
+    let left = c.before.before.clauses-test.true in (
       text,
       names,
       j,
@@ -82,22 +82,22 @@ trial-requires c κs =
       (omega (arith, w.stamp_from, fit.0), omega (arith, clauses.turn-stamp trying stand w left, fit.1)),
     )
 
-enum-known-t : tie.Need-enum-known-t invariant-clauses decreases-clauses
-enum-known-t c = search rules
+enum_known-t : tie.Need-enum_known-t invariant-clauses decreases-clauses
+enum_known-t c = search rules
 
-enum-known-t-2 : tie.Need-enum-known-t-2 invariant-clauses decreases-clauses
-enum-known-t-2 c = search rules
+enum_known-t-in_default : tie.Need-enum_known-t-in_default invariant-clauses decreases-clauses
+enum_known-t-in_default c = search rules
 
-add-stamp : tie.Need-overflow-add-stamp invariant-clauses decreases-clauses
-add-stamp c =
+overflow_add-stamp : tie.Need-overflow_add-stamp invariant-clauses decreases-clauses
+overflow_add-stamp c =
     let T = c.before.before.before.before in
     let L = T.before.before.before.before.before in
     let A = L.before.before.before.before.before.before.before in
-    let n = clauses.turning L.clauses.invariant (following.ready A.before.before.before.requires A.follow-arguments.ensures) T.before.before.before.if1.true in
+    let n = clauses.turning L.clauses.invariant (following.ready A.before.before.before.requires A.follow-arguments.ensures) T.before.before.before.clauses-test.true in
     record { fits = omega (arith, n.stamps, n.stamps_fit) }
 
-further-requires : tie.Need-further-requires invariant-clauses decreases-clauses
-further-requires c κs =
+further-left-requires : tie.Need-further-left-requires invariant-clauses decreases-clauses
+further-left-requires c κs =
     let T = c.before.before.before.before.before in
     let L = T.before.before.before.before.before in
     let A = L.before.before.before.before.before.before.before in
@@ -105,16 +105,16 @@ further-requires c κs =
     let n = clauses.turning L.clauses.invariant (following.ready A.before.before.before.requires A.follow-arguments.ensures) left in
     (left, omega (arith, n.large, n.number, n.link, T.trial.auto.0))
 
-clauses-less : tie.Need-clauses-smaller invariant-clauses decreases-clauses
-clauses-less c =
+clauses-smaller : tie.Need-clauses-smaller invariant-clauses decreases-clauses
+clauses-smaller c =
     let T = c.before.before.before.before.before.before in
     let L = T.before.before.before.before.before in
     let A = L.before.before.before.before.before.before.before in
     let n = clauses.turning L.clauses.invariant (following.ready A.before.before.before.requires A.follow-arguments.ensures) T.before.before.before.if1.true in
     omega (arith, n.stamps)
 
-clauses-again : tie.Need-clauses-preserved invariant-clauses decreases-clauses
-clauses-again c =
+clauses-preserved : tie.Need-clauses-preserved invariant-clauses decreases-clauses
+clauses-preserved c =
     let J = c.before.before in
     let T = J.before.before.before.before in
     let L = T.before.before.before.before.before in
@@ -131,24 +131,24 @@ clauses-again c =
     clauses.turn-passed trying stand w left
     (T.trial.ensures text names j limit figures at g others S.args.goal (clauses.turn-clause trying stand w left) w.waiting
     (clauses.walk-trying trying stand w) (clauses.walk-stand trying stand w) (clauses.turn-candidate trying stand w left) w.marks_now w.gathered)
-    c.further.ensures J.match2.readers passed
+    c.further-left.ensures J.match2.readers passed
 
-same_length : tie.Need-same-length invariant-clauses decreases-clauses
-same_length c =
-    let T = c.before.before.before.before.before in
+shape_of-s-in-clauses : tie.Need-shape_of-s-in-clauses invariant-clauses decreases-clauses
+shape_of-s-in-clauses c =
+    let T = c.before.before.before in
     let L = T.before.before.before.before.before in
     let A = L.before.before.before.before.before.before.before in
-    let n = clauses.turning L.clauses.invariant (following.ready A.before.before.before.requires A.follow-arguments.ensures) T.before.before.before.if1.true in
-    T.trial.auto.0 ∙ n.size ∙ A.follow-arguments.auto.0
+    let n = clauses.turning L.clauses.invariant (following.ready A.before.before.before.requires A.follow-arguments.ensures) T.before.before.before.clauses-test.true in
+    T.trial-t.auto.s ∙ n.size ∙ A.follow-arguments.auto.0
 
-returns : tie.Need-returns invariant-clauses decreases-clauses
-returns c =
-    let W = c.before in
-    let T = W.before.before.before.before in
+returns-in-clauses : tie.Need-returns-in-clauses invariant-clauses decreases-clauses
+returns-in-clauses c =
+    let W = c in
+    let T = W.before.before.before in
     let L = T.before.before.before.before.before in
     let A = L.before.before.before.before.before.before.before in
     let S = A.before.before.before in
-    let left = T.before.before.before.if1.true in
+    let left = T.before.before.before.clauses-test.true in
     let told = A.follow-arguments.ensures in
     let first = S.args.first in
     λ text names j limit figures at g others before new_before.
@@ -158,19 +158,19 @@ returns c =
     let w = L.clauses.invariant text names j limit figures at g others trying stand new in
     following.choice-then before told
     (clauses.turn-succeeds trying stand w left
-    (T.trial.ensures text names j limit figures at g others S.args.goal (clauses.turn-clause trying stand w left) w.waiting
+    (T.trial-t.ensures text names j limit figures at g others S.args.goal (clauses.turn-clause trying stand w left) w.waiting
     (clauses.walk-trying trying stand w) (clauses.walk-stand trying stand w) (clauses.turn-candidate trying stand w left) w.marks_now w.gathered)
-    W.t.given.0.0 W.t.given.1)
+    W.in-Succeeds.n W.in-Succeeds.is)
 
-same-length-2 : tie.Need-same-length-2 invariant-clauses decreases-clauses
-same-length-2 c =
+shape_of-s-then-readers-eq0 : tie.Need-shape_of-s-then-readers-eq0 invariant-clauses decreases-clauses
+shape_of-s-then-readers-eq0 c =
     let L = c.before.before.before in
     let A = L.before.before.before.before.before.before.before in
     let (text, names, j, limit, figures, at, g, others, trying, stand, new, fit) = following.ready A.before.before.before.requires A.follow-arguments.ensures in
     (L.clauses.invariant text names j limit figures at g others trying stand new).only.size ∙ A.follow-arguments.auto.0
 
-returns-2 : tie.Need-returns-2 invariant-clauses decreases-clauses
-returns-2 c =
+returns-then-readers-eq0 : tie.Need-returns-then-readers-eq0 invariant-clauses decreases-clauses
+returns-then-readers-eq0 c =
     let L = c.before.before.before in
     let A = L.before.before.before.before.before.before.before in
     let S = A.before.before.before in
@@ -182,17 +182,17 @@ returns-2 c =
     let new = following.marks_then before told first new_before in
     let w = L.clauses.invariant text names j limit figures at g others trying stand new in
     following.choice-then before told
-    (clauses.all-fail trying stand w c.before.if1.false c.if2.true)
+    (clauses.all-fail trying stand w c.before.clauses-test.false c.if-readers-eq0.true)
 
-same-length-3 : tie.Need-same-length-3 invariant-clauses decreases-clauses
-same-length-3 c =
+shape_of-s : tie.Need-shape_of-s invariant-clauses decreases-clauses
+shape_of-s c =
     let L = c.before.before.before in
     let A = L.before.before.before.before.before.before.before in
     let (text, names, j, limit, figures, at, g, others, trying, stand, new, fit) = following.ready A.before.before.before.requires A.follow-arguments.ensures in
     (L.clauses.invariant text names j limit figures at g others trying stand new).only.size ∙ A.follow-arguments.auto.0
 
-returns-3 : tie.Need-returns-3 invariant-clauses decreases-clauses
-returns-3 c =
+returns : tie.Need-returns invariant-clauses decreases-clauses
+returns c =
     let L = c.before.before.before in
     let A = L.before.before.before.before.before.before.before in
     let S = A.before.before.before in
@@ -204,7 +204,7 @@ returns-3 c =
     let new = following.marks_then before told first new_before in
     let w = L.clauses.invariant text names j limit figures at g others trying stand new in
     following.choice-then before told
-    (clauses.some-wait trying stand w c.before.if1.false c.if2.false)
+    (clauses.some-wait trying stand w c.before.clauses-test.false c.if-readers-eq0.false)
 
 pub choice_spec : {M : Type 1} → statement M
 choice_spec =
@@ -212,22 +212,22 @@ choice_spec =
     (tie.spec
     invariant-clauses
     decreases-clauses
-    follow-arguments-requires
-    word-at-requires
-    first-clause-requires
-    to-try-requires
-    clauses-holds
-    sub-k
-    trial-requires
-    enum-known-t
-    enum-known-t-2
-    add-stamp
-    further-requires
-    clauses-less
-    clauses-again
-    same_length
-    returns
-    same-length-2
-    returns-2
-    same-length-3
-    returns-3)
+    follow_arguments-requires
+    word_at-requires
+    first_clause-requires
+    to_try-left-requires
+    clauses-init
+    overflow_sub-k
+    trial-t-requires
+    enum_known-t
+    enum_known-t-in_default
+    overflow_add-stamp
+    further-left-requires
+    clauses-smaller
+    clauses-preserved
+    shape_of-s-in-clauses
+    returns-in-clauses
+    shape_of-s-then-readers-eq0
+    returns-then-readers-eq0
+    shape_of-s
+    returns)

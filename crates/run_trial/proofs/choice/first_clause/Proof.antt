@@ -6,24 +6,24 @@ use borrow.Author.Rules.{rules}
 use Rattle.run_trial.proofs.choice.first_clause.Statement.{statement}
 use Rattle.run_trial.proofs.choice.first_clause.Tie as tie
 
-word-at-requires : tie.Need-word-at-requires
-word-at-requires c κs = search rules
+word_at-requires : tie.Need-word_at-requires
+word_at-requires c κs = search rules
 
-index-requires : tie.Need-index-requires
-index-requires c κs = search rules
+index-functor-requires : tie.Need-index-functor-requires
+index-functor-requires c κs = search rules
 
-sub-word-at : tie.Need-overflow-sub-word-at
-sub-word-at c = search rules
+overflow_sub-word_at : tie.Need-overflow_sub-word_at
+overflow_sub-word_at c = search rules
 
-word-at-requires-2 : tie.Need-word-at-requires-2
-word-at-requires-2 c κs =
+word_at-requires-2 : tie.Need-word_at-requires-2
+word_at-requires-2 c κs =
     let goal = c.before.before.before.args.goal in
     let same : goal + 0 ≡ goal = omega arith in
     let is = rw same at c.before.word_at.ensures in
-    omega (arith, is, c.index.ensures, c.before.before.before.requires.1)
+    omega (arith, is, c.index-functor.ensures, c.before.before.before.requires.1)
 
-index-requires-2 : tie.Need-index-requires-2
-index-requires-2 c κs = search rules
+index-requires : tie.Need-index-requires
+index-requires c κs = search rules
 
 returns : tie.Need-returns
 returns c =
@@ -32,15 +32,15 @@ returns c =
     let goal = I.before.before.before.args.goal in
     let same : goal + 0 ≡ goal = omega arith in
     let is = rw same at I.before.word_at.ensures in
-    c.index2.ensures ∙ W.word-at2.ensures ∙ rw (I.index.ensures, is) refl
+    c.index.ensures ∙ W.word_at-2.ensures ∙ rw (I.index-functor.ensures, is) refl
 
 pub first_clause_spec : {M : Type 1} → statement M
 first_clause_spec =
     tie.close
     (tie.spec
-    word-at-requires
+    word_at-requires
+    index-functor-requires
+    overflow_sub-word_at
+    word_at-requires-2
     index-requires
-    sub-word-at
-    word-at-requires-2
-    index-requires-2
     returns)

@@ -15,18 +15,18 @@ use Rattle.run_trial.proofs.choice.trial.Tie as tie
 begin-requires : tie.Need-begin-requires
 begin-requires c κs = search rules
 
-mul-head : tie.Need-overflow-mul-head
-mul-head c = search rules
+overflow_mul-k : tie.Need-overflow_mul-k
+overflow_mul-k c = search rules
 
-add-head : tie.Need-overflow-add-head
-add-head c = search rules
+overflow_add-k : tie.Need-overflow_add-k
+overflow_add-k c = search rules
 
 head-requires : tie.Need-head-requires
 head-requires c κs =
     let B = c.before.before.before in
     let S = B.before.before.before in
     let (text, names, j, limit, figures, at, g, others, goal, k, trying, stand, candidate, new, met, fit) = S.requires in
-    let begun = B.begin.ensures.0 in (
+    let begun = B.begin.ensures.only in (
       setting figures at (unit_of j limit figures g),
       template S.args.k k,
       k.head.number,
@@ -38,12 +38,12 @@ head-requires c κs =
       trials.comparing trying stand candidate begun,
     )
 
-enum-known-n : tie.Need-enum-known-n
-enum-known-n c = search rules
+enum_known-n : tie.Need-enum_known-n
+enum_known-n c = search rules
 
 asks-requires : tie.Need-asks-requires
 asks-requires c κs =
-    let N = c.before.before in
+    let N = c in
     let P = N.before.before.before.before in
     let B = P.before.before.before.before in
     let S = B.before.before.before in
@@ -52,18 +52,18 @@ asks-requires c κs =
     let told = trials.comparison t f m begun P.head.new.0 P.head.result (Noted N.n.given.0.0) P.head.ensures N.n.given.1 in
     (trials.large-noted t f m begun told, trials.few-noted t f m begun told)
 
-add-meet-all : tie.Need-overflow-add-meet-all
-add-meet-all c =
+overflow_add-marks : tie.Need-overflow_add-marks
+overflow_add-marks c =
     let A = c.before.before in
-    let N = A.before.before.before in
+    let N = A.before in
     let S = N.before.before.before.before.before.before.before.before.before.before.before in
     let t = S.requires.10 in
     record { fits = omega (arith, t.inside, t.links_are, S.well-formed) }
 
-meet-all-requires : tie.Need-meet-all-requires
-meet-all-requires c κs =
+meet_all-requires : tie.Need-meet_all-requires
+meet_all-requires c κs =
     let A = c.before.before in
-    let N = A.before.before.before in
+    let N = A.before in
     let P = N.before.before.before.before in
     let B = P.before.before.before.before in
     let S = B.before.before.before in
@@ -72,28 +72,28 @@ meet-all-requires c κs =
     let told = trials.comparison t f m begun P.head.new.0 P.head.result (Noted N.n.given.0.0) P.head.ensures N.n.given.1 in
     answering.meets t f m begun met told
 
-same_length : tie.Need-same-length
-same_length c = search rules
+shape_of-s-then-asks : tie.Need-shape_of-s-then-asks
+shape_of-s-then-asks c = search rules
 
-returns : tie.Need-returns
-returns c =
+returns-then-asks : tie.Need-returns-then-asks
+returns-then-asks c =
     let M = c.before.before in
     let E = M.before.before in
     let A = E.before in
-    let N = A.before.before.before in
+    let N = A.before in
     let P = N.before.before.before.before in
     let B = P.before.before.before.before in
     λ text names j limit figures at g others goal k earlier t f m new gathered.
     let begun = B.begin.ensures.0 in
     let told = trials.comparison t f m begun P.head.new.0 P.head.result (Noted N.n.given.0.0) P.head.ensures N.n.given.1 in
-    answering.some-wait t f m begun gathered.ok new N.n.given.0.0 told (trials.waiting t f m begun told A.asks.ensures E.if1.true)
+    answering.some-wait t f m begun gathered.ok new N.n.given.0.0 told (trials.waiting t f m begun told A.asks.ensures E.if-asks.true)
     M.meet_all.result M.meet_all.ensures
 
 circle-requires : tie.Need-circle-requires
 circle-requires c κs =
     let E = c.before in
     let A = E.before in
-    let N = A.before.before.before in
+    let N = A.before in
     let P = N.before.before.before.before in
     let B = P.before.before.before.before in
     let S = B.before.before.before in
@@ -101,18 +101,18 @@ circle-requires c κs =
     let begun = B.begin.ensures.0 in
     let cleared = trials.cleared-all t f m begun B.begin.ensures.1 in
     let told = trials.comparison t f m begun P.head.new.0 P.head.result (Noted N.n.given.0.0) P.head.ensures N.n.given.1 in
-    let quiet = trials.quiet t f m begun told A.asks.ensures E.if1.false in
+    let quiet = trials.quiet t f m begun told A.asks.ensures E.if-asks.false in
     (trials.tried-as t f m begun new fit cleared told quiet, trials.tried t f m begun new fit cleared told quiet)
 
-same-length-2 : tie.Need-same-length-2
-same-length-2 c = search rules
+shape_of-s-then-circle : tie.Need-shape_of-s-then-circle
+shape_of-s-then-circle c = search rules
 
-returns-2 : tie.Need-returns-2
-returns-2 c =
+returns-then-circle : tie.Need-returns-then-circle
+returns-then-circle c =
     let C = c.before.before.before in
     let E = C.before.before in
     let A = E.before in
-    let N = A.before.before.before in
+    let N = A.before in
     let P = N.before.before.before.before in
     let B = P.before.before.before.before in
     let S = B.before.before.before in
@@ -121,14 +121,14 @@ returns-2 c =
     let begun = B.begin.ensures.0 in
     let cleared = trials.cleared-all t f m begun B.begin.ensures.1 in
     let told = trials.comparison t f m begun P.head.new.0 P.head.result (Noted N.n.given.0.0) P.head.ensures N.n.given.1 in
-    let quiet = trials.quiet t f m begun told A.asks.ensures E.if1.false in
+    let quiet = trials.quiet t f m begun told A.asks.ensures E.if-asks.false in
     let tested = C.circle.ensures (trials.tried-as t f m begun new fit cleared told quiet) (trials.tried t f m begun new fit cleared told quiet) in
-    answering.circle-fails t f m begun gathered.ok new fit cleared told quiet tested c.if2.true
+    answering.circle-fails t f m begun gathered.ok new fit cleared told quiet tested c.if-circle.true
 
-add-guards : tie.Need-overflow-add-guards
-add-guards c =
+overflow_add-stamp : tie.Need-overflow_add-stamp
+overflow_add-stamp c =
     let C = c.before.before.before.before in
-    let N = C.before.before.before.before.before.before in
+    let N = C.before.before.before.before in
     let S = N.before.before.before.before.before.before.before.before.before.before.before in
     let fit = S.requires.15 in
     record { fits = omega (arith, fit.1) }
@@ -139,7 +139,7 @@ guards-requires c κs =
     let C = I.before.before.before in
     let E = C.before.before in
     let A = E.before in
-    let N = A.before.before.before in
+    let N = A.before in
     let P = N.before.before.before.before in
     let B = P.before.before.before.before in
     let S = B.before.before.before in
@@ -147,7 +147,7 @@ guards-requires c κs =
     let begun = B.begin.ensures.0 in
     let cleared = trials.cleared-all t f m begun B.begin.ensures.1 in
     let told = trials.comparison t f m begun P.head.new.0 P.head.result (Noted N.n.given.0.0) P.head.ensures N.n.given.1 in
-    let quiet = trials.quiet t f m begun told A.asks.ensures E.if1.false in
+    let quiet = trials.quiet t f m begun told A.asks.ensures E.if-asks.false in
     let tested = C.circle.ensures (trials.tried-as t f m begun new fit cleared told quiet) (trials.tried t f m begun new fit cleared told quiet) in (
       setting figures at (unit_of j limit figures g),
       template S.args.k k,
@@ -157,29 +157,29 @@ guards-requires c κs =
       refl,
     )
 
-enum_told : tie.Need-enum-told
-enum_told c = search rules
+enum_told-1 : tie.Need-enum_told-1
+enum_told-1 c = search rules
 
-enum-known-m : tie.Need-enum-known-m
-enum-known-m c = search rules
+enum_known-m : tie.Need-enum_known-m
+enum_known-m c = search rules
 
-enum-told-2 : tie.Need-enum-told-2
-enum-told-2 c = search rules
+enum_told-in-Fails-guards : tie.Need-enum_told-in-Fails-guards
+enum_told-in-Fails-guards c = search rules
 
-enum-told-3 : tie.Need-enum-told-3
-enum-told-3 c = search rules
+enum_told-in-Fails : tie.Need-enum_told-in-Fails
+enum_told-in-Fails c = search rules
 
-same-length-3 : tie.Need-same-length-3
-same-length-3 c = search rules
+shape_of-s-in-Succeeds : tie.Need-shape_of-s-in-Succeeds
+shape_of-s-in-Succeeds c = search rules
 
-returns-3 : tie.Need-returns-3
-returns-3 c =
-    let G = c.before.before.before.before in
+returns-in-Succeeds : tie.Need-returns-in-Succeeds
+returns-in-Succeeds c =
+    let G = c.before.before.before in
     let I = G.before.before in
     let C = I.before.before.before in
     let E = C.before.before in
     let A = E.before in
-    let N = A.before.before.before in
+    let N = A.before in
     let P = N.before.before.before.before in
     let B = P.before.before.before.before in
     let S = B.before.before.before in
@@ -188,24 +188,24 @@ returns-3 c =
     let begun = B.begin.ensures.0 in
     let cleared = trials.cleared-all t f m begun B.begin.ensures.1 in
     let told = trials.comparison t f m begun P.head.new.0 P.head.result (Noted N.n.given.0.0) P.head.ensures N.n.given.1 in
-    let quiet = trials.quiet t f m begun told A.asks.ensures E.if1.false in
+    let quiet = trials.quiet t f m begun told A.asks.ensures E.if-asks.false in
     let tested = C.circle.ensures (trials.tried-as t f m begun new fit cleared told quiet) (trials.tried t f m begun new fit cleared told quiet) in
     let guarded = G.guards.ensures (setting figures at (unit_of j limit figures g)) (template S.args.k k) k (trials.given t f m begun new fit cleared told quiet)
     earlier (answering.guarding t f m begun gathered.ok new fit cleared told quiet tested) refl (answering.gathered_earlier gathered) in
-    answering.guards-succeed t f m begun gathered.ok new fit cleared told quiet tested I.if2.false guarded c.enum_told.given.1
+    answering.guards-succeed t f m begun gathered.ok new fit cleared told quiet tested I.if-circle.false guarded c.in-Succeeds.is
 
-same-length-4 : tie.Need-same-length-4
-same-length-4 c = search rules
+shape_of-s-in-Waits : tie.Need-shape_of-s-in-Waits
+shape_of-s-in-Waits c = search rules
 
-returns-4 : tie.Need-returns-4
-returns-4 c =
-    let W = c.before in
-    let G = W.before.before.before.before in
+returns-in-Waits : tie.Need-returns-in-Waits
+returns-in-Waits c =
+    let W = c in
+    let G = W.before.before.before in
     let I = G.before.before in
     let C = I.before.before.before in
     let E = C.before.before in
     let A = E.before in
-    let N = A.before.before.before in
+    let N = A.before in
     let P = N.before.before.before.before in
     let B = P.before.before.before.before in
     let S = B.before.before.before in
@@ -214,23 +214,23 @@ returns-4 c =
     let begun = B.begin.ensures.0 in
     let cleared = trials.cleared-all t f m begun B.begin.ensures.1 in
     let told = trials.comparison t f m begun P.head.new.0 P.head.result (Noted N.n.given.0.0) P.head.ensures N.n.given.1 in
-    let quiet = trials.quiet t f m begun told A.asks.ensures E.if1.false in
+    let quiet = trials.quiet t f m begun told A.asks.ensures E.if-asks.false in
     let tested = C.circle.ensures (trials.tried-as t f m begun new fit cleared told quiet) (trials.tried t f m begun new fit cleared told quiet) in
     let guarded = G.guards.ensures (setting figures at (unit_of j limit figures g)) (template S.args.k k) k (trials.given t f m begun new fit cleared told quiet)
     earlier (answering.guarding t f m begun gathered.ok new fit cleared told quiet tested) refl (answering.gathered_earlier gathered) in
-    answering.guards-wait t f m begun gathered.ok new fit cleared told quiet tested I.if2.false guarded W.m.given.0.0 W.m.given.1
+    answering.guards-wait t f m begun gathered.ok new fit cleared told quiet tested I.if-circle.false guarded W.in-Waits.m W.in-Waits.is
 
-same-length-5 : tie.Need-same-length-5
-same-length-5 c = search rules
+shape_of-s-in-Fails-guards : tie.Need-shape_of-s-in-Fails-guards
+shape_of-s-in-Fails-guards c = search rules
 
-returns-5 : tie.Need-returns-5
-returns-5 c =
-    let G = c.before.before.before.before in
+returns-in-Fails-guards : tie.Need-returns-in-Fails-guards
+returns-in-Fails-guards c =
+    let G = c.before.before.before in
     let I = G.before.before in
     let C = I.before.before.before in
     let E = C.before.before in
     let A = E.before in
-    let N = A.before.before.before in
+    let N = A.before in
     let P = N.before.before.before.before in
     let B = P.before.before.before.before in
     let S = B.before.before.before in
@@ -239,51 +239,51 @@ returns-5 c =
     let begun = B.begin.ensures.0 in
     let cleared = trials.cleared-all t f m begun B.begin.ensures.1 in
     let told = trials.comparison t f m begun P.head.new.0 P.head.result (Noted N.n.given.0.0) P.head.ensures N.n.given.1 in
-    let quiet = trials.quiet t f m begun told A.asks.ensures E.if1.false in
+    let quiet = trials.quiet t f m begun told A.asks.ensures E.if-asks.false in
     let tested = C.circle.ensures (trials.tried-as t f m begun new fit cleared told quiet) (trials.tried t f m begun new fit cleared told quiet) in
     let guarded = G.guards.ensures (setting figures at (unit_of j limit figures g)) (template S.args.k k) k (trials.given t f m begun new fit cleared told quiet)
     earlier (answering.guarding t f m begun gathered.ok new fit cleared told quiet tested) refl (answering.gathered_earlier gathered) in
-    answering.guards-fail t f m begun gathered.ok new fit cleared told quiet tested I.if2.false guarded c.enum-told2.given.1
+    answering.guards-fail t f m begun gathered.ok new fit cleared told quiet tested I.if-circle.false guarded c.in-Fails-guards.is
 
-same-length-6 : tie.Need-same-length-6
-same-length-6 c = search rules
+shape_of-s-in-Fails : tie.Need-shape_of-s-in-Fails
+shape_of-s-in-Fails c = search rules
 
-returns-6 : tie.Need-returns-6
-returns-6 c =
-    let P = c.before.before.before.before in
-    let begun = P.before.before.before.before.begin.ensures.0 in
+returns-in-Fails : tie.Need-returns-in-Fails
+returns-in-Fails c =
+    let P = c.before.before.before in
+    let begun = P.before.before.before.before.begin.ensures.only in
     λ text names j limit figures at g others goal k earlier t f m new gathered.
     answering.place-fails t f m begun gathered.ok new
-    (trials.comparison t f m begun P.head.new.0 P.head.result Fails P.head.ensures c.enum-told3.given.1)
+    (trials.comparison t f m begun P.head.new.s P.head.result Fails P.head.ensures c.in-Fails.is)
 
 pub trial_spec : {M : Type 1} → statement M
 trial_spec =
     tie.close
     (tie.spec
     begin-requires
-    mul-head
-    add-head
+    overflow_mul-k
+    overflow_add-k
     head-requires
-    enum-known-n
+    enum_known-n
     asks-requires
-    add-meet-all
-    meet-all-requires
-    same_length
-    returns
+    overflow_add-marks
+    meet_all-requires
+    shape_of-s-then-asks
+    returns-then-asks
     circle-requires
-    same-length-2
-    returns-2
-    add-guards
+    shape_of-s-then-circle
+    returns-then-circle
+    overflow_add-stamp
     guards-requires
-    enum_told
-    enum-known-m
-    enum-told-2
-    enum-told-3
-    same-length-3
-    returns-3
-    same-length-4
-    returns-4
-    same-length-5
-    returns-5
-    same-length-6
-    returns-6)
+    enum_told-1
+    enum_known-m
+    enum_told-in-Fails-guards
+    enum_told-in-Fails
+    shape_of-s-in-Succeeds
+    returns-in-Succeeds
+    shape_of-s-in-Waits
+    returns-in-Waits
+    shape_of-s-in-Fails-guards
+    returns-in-Fails-guards
+    shape_of-s-in-Fails
+    returns-in-Fails)

@@ -16,31 +16,31 @@ use Rattle.run_unreduced.proofs.WaitingStep.{place_inside, wait_asks, waits_trie
 use Rattle.run_unreduced.proofs.join.add_waiting.Statement.{statement}
 use Rattle.run_unreduced.proofs.join.add_waiting.Tie as tie
 
-abbrev start : tie.After-free-place → tie.Start
+abbrev start : tie.After-free_place-log → tie.Start
 start f = f.before.before.before
 
-module _ (f : tie.After-free-place) (text : Bytes) (names : List Bytes) (j : Job) (limit : ℕ) (atlas : Atlas) (slots : List Slot) (g : Goal) (others : List Goal)
+module _ (f : tie.After-free_place-log) (text : Bytes) (names : List Bytes) (j : Job) (limit : ℕ) (atlas : Atlas) (slots : List Slot) (g : Goal) (others : List Goal)
     (readers : List ℕ) (k : Taken (start f).args.s.now text names j (figures (start f).args.room) limit atlas slots g others (start f).args.t)
     (joins : JoiningWaiting (start f).args.s.now j (figures (start f).args.room) limit atlas g
     (start f).args.goal (start f).args.query (start f).args.readers readers) where
-  free : FreePlace (start f).args.s.now f.free-place.new.0 (figures (start f).args.room) slots f.free-place.result
-  free = f.free-place.ensures slots k.running.log k.running.log_number
+  free : FreePlace (start f).args.s.now f.free_place-log.new.s (figures (start f).args.room) slots f.free_place-log.result
+  free = f.free_place-log.ensures slots k.running.log k.running.log_number
 
-  inside : f.free-place.result < 2 * (start f).args.room.goals
+  inside : f.free_place-log.result < 2 * (start f).args.room.goals
   inside =
-      place_inside (start f).args.s.now f.free-place.last.0 text names j (figures (start f).args.room) limit atlas slots g others (start f).args.t
-      (start f).args.goal (start f).args.query (start f).args.readers readers f.free-place.result k joins free
+      place_inside (start f).args.s.now f.free_place-log.last.0 text names j (figures (start f).args.room) limit atlas slots g others (start f).args.t
+      (start f).args.goal (start f).args.query (start f).args.readers readers f.free_place-log.result k joins free
 
-  asks : Waits f.free-place.last.0 (waiting_region (figures (start f).args.room)) (waiters_region (figures (start f).args.room))
+  asks : Waits f.free_place-log.last.0 (waiting_region (figures (start f).args.room)) (waiters_region (figures (start f).args.room))
       (sets_region (figures (start f).args.room))
-      (start f).args.room.pairs free.slots_now f.free-place.result (start f).args.goal
+      (start f).args.room.pairs free.slots_now f.free_place-log.result (start f).args.goal
       (readers_region (figures (start f).args.room)) (start f).args.readers
   asks =
-      wait_asks (start f).args.s.now f.free-place.last.0 text names j (figures (start f).args.room) limit atlas slots g others (start f).args.t
-      (start f).args.goal (start f).args.query (start f).args.readers readers f.free-place.result k joins free
+      wait_asks (start f).args.s.now f.free_place-log.last.0 text names j (figures (start f).args.room) limit atlas slots g others (start f).args.t
+      (start f).args.goal (start f).args.query (start f).args.readers readers f.free_place-log.result k joins free
 
 module _ (w : tie.After-wait) where
-  abbrev found : tie.After-free-place
+  abbrev found : tie.After-free_place-log
   found = w.before.before.before.before.before.before.before.before
 
   waited : (text : Bytes) (names : List Bytes) (j : Job) (limit : ℕ) (atlas : Atlas) (slots : List Slot) (g : Goal) (others : List Goal) (readers : List ℕ)
@@ -57,8 +57,8 @@ module _ (w : tie.After-wait) where
       (start found).args.room.pairs (free found text names j limit atlas slots g others readers k joins).slots_now
       (asks found text names j limit atlas slots g others readers k joins)
 
-free-place-requires : tie.Need-free-place-requires
-free-place-requires c κs =
+free_place-log-requires : tie.Need-free_place-log-requires
+free_place-log-requires c κs =
     let p = c.before.before.requires in
     (p.9.running.in_range, (p.5, p.9.running.log, p.9.running.log_number))
 
@@ -84,48 +84,48 @@ wait-requires c κs =
           (asks f p.0 p.1 p.2 p.3 p.4 p.5 p.6 p.7 p.8 p.9 p.10),
     )
 
-count-try-requires : tie.Need-count-try-requires
-count-try-requires c κs =
+count_try-requires : tie.Need-count_try-requires
+count_try-requires c κs =
     let w = c.before.before.before in
     let f = found w in
     let p = (start f).pre in
     waits_tries (start f).args.s.now f.free-place.last.0 p.0 p.1 p.2 (figures (start f).args.room) p.3 p.4 p.5 p.6 p.7 (start f).args.t
     (start f).args.goal (start f).args.query (start f).args.readers p.8 f.free-place.result p.9 p.10
     (free f p.0 p.1 p.2 p.3 p.4 p.5 p.6 p.7 p.8 p.9 p.10)
-    w.wait.new.0 (waited w p.0 p.1 p.2 p.3 p.4 p.5 p.6 p.7 p.8 p.9 p.10)
+    w.wait.new.s (waited w p.0 p.1 p.2 p.3 p.4 p.5 p.6 p.7 p.8 p.9 p.10)
 
 behind-requires : tie.Need-behind-requires
 behind-requires c κs = search rules
 
-sub-t13 : tie.Need-overflow-sub-t13
-sub-t13 c =
+overflow_sub-result : tie.Need-overflow_sub-result
+overflow_sub-result c =
     let f = found c.before.before.before.before.before.before.before.before in
     let p = (start f).pre in
     omega (arith, some_active (start f).args.s.now p.0 p.1 p.2 (figures (start f).args.room) p.3 p.4 p.5 p.6 p.7 (start f).args.t p.9)
 
-add-t15 : tie.Need-overflow-add-t15
-add-t15 c =
+overflow_add-result : tie.Need-overflow_add-result
+overflow_add-result c =
     let f = found c.before.before.before.before.before.before.before.before in
     let p = (start f).pre in
     let place = inside f p.0 p.1 p.2 p.3 p.4 p.5 p.6 p.7 p.8 p.9 p.10 in
     let most = p.9.running.in_range.goals in
     search rules
 
-add-t14 : tie.Need-overflow-add-t14
-add-t14 c =
+overflow_add-result-2 : tie.Need-overflow_add-result-2
+overflow_add-result-2 c =
     let f = found c.before.before.before.before.before.before.before.before.before in
     let p = (start f).pre in
     let fit = goals_fit (start f).args.s.now p.0 p.1 p.2 (figures (start f).args.room) p.3 p.4 p.5 p.6 p.7 (start f).args.t p.9 in
     let most = p.9.running.in_range.goals in
     search rules
 
-add-t19 : tie.Need-overflow-add-t19
-add-t19 c =
+overflow_add-result-3 : tie.Need-overflow_add-result-3
+overflow_add-result-3 c =
     let few = (start (found c.before.before.before.before.before.before.before.before.before.before)).requires.9.more in
     search rules
 
-same_length : tie.Need-same-length
-same_length c = search rules
+shape_of-s : tie.Need-shape_of-s
+shape_of-s c = search rules
 
 returns : tie.Need-returns
 returns c =
@@ -135,25 +135,25 @@ returns c =
     step_waiting (start f).args.s.now f.free-place.last.0 text names j (figures (start f).args.room) limit atlas slots g others (start f).args.t
     (start f).args.goal (start f).args.query (start f).args.readers readers f.free-place.result k joins
     (free f text names j limit atlas slots g others readers k joins)
-    w.wait.new.0 (waited w text names j limit atlas slots g others readers k joins) _ _
-    c.before.before.before.before.before.before.count-try.ensures
+    w.wait.new.s (waited w text names j limit atlas slots g others readers k joins) _ _
+    c.before.before.before.before.before.before.count_try.ensures
     c.before.before.before.behind.ensures
 
 pub add_waiting_spec : {M : Type 1} → statement M
 add_waiting_spec =
     tie.close
     (tie.spec
-    free-place-requires
+    free_place-log-requires
     waiting-requires
     waiters-requires
     sets-requires
     readers-requires
     wait-requires
-    count-try-requires
+    count_try-requires
     behind-requires
-    sub-t13
-    add-t15
-    add-t14
-    add-t19
-    same_length
+    overflow_sub-result
+    overflow_add-result
+    overflow_add-result-2
+    overflow_add-result-3
+    shape_of-s
     returns)

@@ -5,13 +5,13 @@ use Rattle.run_unreduced.proofs.FreePlaces.{place_free, place_closed}
 use Rattle.run_unreduced.proofs.join.free_place.Statement.{statement}
 use Rattle.run_unreduced.proofs.join.free_place.Tie as tie
 
-mul-if1 : tie.Need-overflow-mul-if1
-mul-if1 c = search rules
+overflow_mul-room : tie.Need-overflow_mul-room
+overflow_mul-room c = search rules
 
-returns : tie.Need-returns
-returns c =
+returns-then-log-room : tie.Need-returns-then-log-room
+returns-then-log-room c =
     let S = c.before.before.before in
-    λ slots ok e. place_free S.args.s.now (figures S.args.room) slots S.args.log ok e c.if1.true
+    λ slots ok e. place_free S.args.s.now (figures S.args.room) slots S.args.log ok e c.if-log-room.true
 
 waiting-requires : tie.Need-waiting-requires
 waiting-requires c κs = search rules
@@ -22,17 +22,17 @@ waiters-requires c κs = search rules
 sets-requires : tie.Need-sets-requires
 sets-requires c κs = search rules
 
-close-up-requires : tie.Need-close-up-requires
-close-up-requires c κs =
+close_up-requires : tie.Need-close_up-requires
+close_up-requires c κs =
     let S = c.before.before.before.before.before.before.before in
     let p = S.requires in
     (S.args.room.pairs, p.1.0, rw (c.sets.ensures, c.before.waiters.ensures, c.before.before.waiting.ensures) p.1.1, p.1.2)
 
-same_length : tie.Need-same-length
-same_length c = search rules
+shape_of-s : tie.Need-shape_of-s
+shape_of-s c = search rules
 
-returns-2 : tie.Need-returns-2
-returns-2 c =
+returns : tie.Need-returns
+returns c =
     let C = c.before.before in
     let S = C.before.before.before.before.before.before.before.before in
     λ slots ok e.
@@ -43,4 +43,12 @@ returns-2 c =
 pub free_place_spec : {M : Type 1} → statement M
 free_place_spec =
     tie.close
-    (tie.spec mul-if1 returns waiting-requires waiters-requires sets-requires close-up-requires same_length returns-2)
+    (tie.spec
+    overflow_mul-room
+    returns-then-log-room
+    waiting-requires
+    waiters-requires
+    sets-requires
+    close_up-requires
+    shape_of-s
+    returns)

@@ -16,8 +16,8 @@ fail-requires c κs =
     rw c.failed.ensures
     (failed_space S.args.s.now p.0 p.1 p.2 (figures S.args.room) p.3 p.4 p.5 p.6 p.7 S.args.t p.8)
 
-count-try-requires : tie.Need-count-try-requires
-count-try-requires c κs =
+count_try-requires : tie.Need-count_try-requires
+count_try-requires c κs =
     let S = c.before.before.before.before.before.before.before in
     let p = S.requires in
     fails_tries S.args.s.now _ p.0 p.1 p.2 (figures S.args.room) p.3 p.4 p.5 p.6 p.7 S.args.t
@@ -27,25 +27,25 @@ count-try-requires c κs =
 behind-requires : tie.Need-behind-requires
 behind-requires c κs = search rules
 
-sub-t12 : tie.Need-overflow-sub-t12
-sub-t12 c =
+overflow_sub-result : tie.Need-overflow_sub-result
+overflow_sub-result c =
     let S = c.before.before.before.before.before.before.before.before.before.before.before.before in
     let p = S.requires in
     omega (arith, some_active S.args.s.now p.0 p.1 p.2 (figures S.args.room) p.3 p.4 p.5 p.6 p.7 S.args.t p.8)
 
-add-t13 : tie.Need-overflow-add-t13
-add-t13 c =
+overflow_add-result : tie.Need-overflow_add-result
+overflow_add-result c =
     let S = c.before.before.before.before.before.before.before.before.before.before.before.before.before in
     let p = S.requires in
     let fit = goals_fit S.args.s.now p.0 p.1 p.2 (figures S.args.room) p.3 p.4 p.5 p.6 p.7 S.args.t p.8 in
     let most = p.8.running.in_range.goals in
     search rules
 
-add-t14 : tie.Need-overflow-add-t14
-add-t14 c = search rules
+overflow_add-result-2 : tie.Need-overflow_add-result-2
+overflow_add-result-2 c = search rules
 
-same_length : tie.Need-same-length
-same_length c = search rules
+shape_of-s : tie.Need-shape_of-s
+shape_of-s c = search rules
 
 returns : tie.Need-returns
 returns c =
@@ -54,10 +54,19 @@ returns c =
     λ text names j limit atlas slots g others k joins.
     step_failed S.args.s.now _ _ text names j (figures S.args.room) limit atlas slots g others S.args.t S.args.goal S.args.query _ k joins
     (rw A.before.failed.ensures at A.fail.ensures)
-    c.before.before.before.before.before.before.count-try.ensures
+    c.before.before.before.before.before.before.count_try.ensures
     c.before.before.before.behind.ensures
 
 pub join_failed_spec : {M : Type 1} → statement M
 join_failed_spec =
     tie.close
-    (tie.spec failed-requires fail-requires count-try-requires behind-requires sub-t12 add-t13 add-t14 same_length returns)
+    (tie.spec
+    failed-requires
+    fail-requires
+    count_try-requires
+    behind-requires
+    overflow_sub-result
+    overflow_add-result
+    overflow_add-result-2
+    shape_of-s
+    returns)

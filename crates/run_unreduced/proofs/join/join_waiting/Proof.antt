@@ -14,26 +14,26 @@ use Rattle.run_unreduced.proofs.KeepingEnds as keeping
 use Rattle.run_unreduced.proofs.join.join_waiting.Statement.{statement}
 use Rattle.run_unreduced.proofs.join.join_waiting.Tie as tie
 
-module _ (e : tie.After-keep-ends) where
+module _ (e : tie.After-keep_ends) where
   abbrev start : tie.Start
   start = e.before.before.before.before.before
 
   kept : (text : Bytes) (names : List Bytes) (j : Job) (limit : ℕ) (atlas : Atlas) (slots : List Slot) (g : Goal) (others : List Goal) (readers : List ℕ)
       (k : Taken start.args.s.now text names j (figures start.args.room) limit atlas slots g others start.args.t)
       (joins : JoiningWaiting start.args.s.now j (figures start.args.room) limit atlas g start.args.goal start.args.query start.args.readers readers)
-      → EndsKept start.args.s.now e.keep-ends.last.0 (keeping.x k joins) (values_region (figures start.args.room)) start.args.room.pairs
+      → EndsKept start.args.s.now e.keep_ends.last.0 (keeping.x k joins) (values_region (figures start.args.room)) start.args.room.pairs
   kept text names j limit atlas slots g others readers k joins =
-      (rw e.before.before.values.ensures at e.keep-ends.ensures)
+      (rw e.before.before.values.ensures at e.keep_ends.ensures)
       (keeping.x k joins) g.goal.number (named g.goal.name) g.goal.arguments (keeping.keeps k joins e.before.place_of.result e.before.place_of.ensures)
 
 values-requires : tie.Need-values-requires
 values-requires c κs = search rules
 
-place-of-requires : tie.Need-place-of-requires
-place-of-requires c κs = search rules
+place_of-requires : tie.Need-place_of-requires
+place_of-requires c κs = search rules
 
-keep-ends-requires : tie.Need-keep-ends-requires
-keep-ends-requires c κs =
+keep_ends-requires : tie.Need-keep_ends-requires
+keep_ends-requires c κs =
     let p = c.before.before.before.before.requires in (
       keeping.x p.9 p.10,
       p.6.goal.number,
@@ -42,8 +42,8 @@ keep-ends-requires c κs =
       rw c.before.values.ensures (keeping.keeps p.9 p.10 c.place_of.result c.place_of.ensures),
     )
 
-add-waiting-requires : tie.Need-add-waiting-requires
-add-waiting-requires c κs =
+add_waiting-requires : tie.Need-add_waiting-requires
+add_waiting-requires c κs =
     let e = c.before.before.before in
     let p = (start e).requires in
     let now = kept e p.0 p.1 p.2 p.3 p.4 p.5 p.6 p.7 p.8 p.9 p.10 in (
@@ -60,8 +60,8 @@ add-waiting-requires c κs =
       keeping.still-joins p.9 p.10 now,
     )
 
-same_length : tie.Need-same-length
-same_length c = search rules
+shape_of-s : tie.Need-shape_of-s
+shape_of-s c = search rules
 
 returns : tie.Need-returns
 returns c =
@@ -69,15 +69,15 @@ returns c =
     λ text names j limit atlas slots g others readers k joins.
     let now = kept e text names j limit atlas slots g others readers k joins in
     keeping.step_kept k joins now
-    (c.before.before.add-waiting.ensures text names j limit atlas slots g others readers (keeping.still-taken k joins now) (keeping.still-joins k joins now))
+    (c.before.before.add_waiting.ensures text names j limit atlas slots g others readers (keeping.still-taken k joins now) (keeping.still-joins k joins now))
 
 pub join_waiting_spec : {M : Type 1} → statement M
 join_waiting_spec =
     tie.close
     (tie.spec
     values-requires
-    place-of-requires
-    keep-ends-requires
-    add-waiting-requires
-    same_length
+    place_of-requires
+    keep_ends-requires
+    add_waiting-requires
+    shape_of-s
     returns)
