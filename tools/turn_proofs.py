@@ -161,14 +161,14 @@ class Turn:
         # Variables in the order in which they are bound.
         pattern = re.compile(r"let (\w+) = (\w+)((?:\.%s)*) in|(?<![\w.'-])(\w+)((?:\.before)*)(?![\w'-])((?:\.%s)*)" % (W, W))
 
-        def chain(var, words):
+        def chain(var, words, ahead=None):
             """What a path from a variable is today, and what it leads to; or None. A variable stands for a place, or for a step of one with a path behind."""
             at, held, path, now = env[var]
             ups = 0
             while not path and words[ups : ups + 1] == ["before"]:
                 ups += 1
             words = words[ups:]
-            wanted = f.up(at, ups)
+            wanted = at if path else self.sought(at, ups, words[0] if words else ahead)
             found = wanted and f.way(held, wanted)
             if not found:
                 return None
@@ -190,7 +190,12 @@ class Turn:
                 return m.group(0)
             if not m.group(1) and not words:
                 return m.group(0)
-            found = chain(var, words)
+            ahead = None
+            if m.group(1):
+                # What is read of the variable says which place it is.
+                use = re.search(r"(?<![\w.'-])%s\.(?!before)(%s)" % (m.group(1), W), m.string[m.end() :])
+                ahead = use and use.group(1)
+            found = chain(var, words, ahead)
             if m.group(1):
                 env[m.group(1)] = found and found[1]
             if not found:
@@ -200,6 +205,23 @@ class Turn:
 
         parts = re.split(r"((?:^|(?<=\s))--[^\n]*)", text)
         return "".join(p if i % 2 else pattern.sub(one, p) for i, p in enumerate(parts))
+
+    def sought(self, at, ups, field):
+        """The place so far above. Older chains were longer: what is read there decides, if it is known."""
+        f = self.f
+        exact = f.up(at, ups)
+        if field is None:
+            return exact
+        if field in ("args", "requires", "ranges", "well-formed", "well_formed", "lifetimes"):
+            return "Start" if "Start" in f.places else exact
+        if exact and plain(f.places[exact]["old"]) == plain(field):
+            return exact
+        above, n = [], 0
+        while at is not None:
+            if plain(f.places[at]["old"]) == plain(field) and n <= ups:
+                above.append(at)
+            at, n = f.places[at]["up"], n + 1
+        return above[-1] if above else exact
 
     def read(self, wanted, held, path, whole):
         """What is read of an old place, of the record that has it."""

@@ -11,10 +11,10 @@ call-answer-requires c κs = search rules
 
 show-requires : tie.Need-show-requires
 show-requires c κs = λ n e.
-    let a = c.before.before.before.before.before.before.before.before.before.before.before.args in
-    let called = c.before.before.before.before.before.call in
+    let a = c.before.before.before.before.before.before.before.before.before.before.args in
+    let called = c.before.before.before.before.call-answer in
     let g = given a.text.now a.budget (room_of a.pairs a.compounds a.goals) a.s.now a.buffer.now in
-    omega (arith, ran_fits g called.result called.new.1.1.1.1.1.1.0 called.new.1.1.1.1.1.0 called.ensures n e, called.auto.1.1.1.1.1.1.0)
+    omega (arith, ran_fits g called.result called.new.buffer called.new.s called.ensures n e, called.auto.buffer)
 
 shape_of-s : tie.Need-shape_of-s
 shape_of-s c = search rules

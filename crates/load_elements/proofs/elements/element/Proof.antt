@@ -60,20 +60,20 @@ enum_known-a c = search rules
 stands_alone-requires : tie.Need-stands_alone-requires
 stands_alone-requires c κs =
     let back1 = c.before.before in
-    let the_w = back1.w in
-    let back2 = back1.before.before.before.before.before.before.before.before in
+    let the_w = back1.in-Got in
+    let back2 = back1.before.before.before.before.before.before.before in
     let the_term = back2.term in
     let entry = back2.before.before.before.before.before.before.before.before.before in
     let a = entry.args in
-    let r = entry.requires.0 in
-    let p = entry.requires.1 in
-    let b = rw the_w.given.1 at (the_term.ensures p.0 p.1 p.2) in
-    let l : length the_term.new.1.1.1.0 ≡ length a.s.now = the_term.auto.1.1.1.0 in (
+    let r = entry.requires.base_in_bounds in
+    let p = entry.requires.stands in
+    let b = rw the_w.is at (the_term.ensures p.0 p.1 p.2) in
+    let l : length the_term.new.s ≡ length a.s.now = the_term.auto.s in (
       names_over b.1 p.0,
       a.base,
       b.0,
-      stored_own (names_over b.1 p.0) a.base a.c.compounds the_w.given.0.1.0.compounds the_w.given.0.0
-          b.0 a.s.now the_term.new.1.1.1.0 b.2.word_is b.2.stored_is b.2.numbered b.2.stands.compounds_few (omega (arith, l, r.0)),
+      stored_own (names_over b.1 p.0) a.base a.c.compounds the_w.d.compounds the_w.w
+          b.0 a.s.now the_term.new.s b.2.word_is b.2.stored_is b.2.numbered b.2.stands.compounds_few (omega (arith, l, r.0)),
     )
 
 shape_of-s-then-stands_alone : tie.Need-shape_of-s-then-stands_alone
@@ -90,23 +90,23 @@ returns-then-stands_alone c =
     let the_if1 = c.if-stands_alone in
     let the_stands_alone = c.before.stands_alone in
     let back1 = c.before.before in
-    let the_a = back1.a in
-    let the_next_is = back1.before.before.next_is in
+    let the_a = back1.in-No in
+    let the_next_is = back1.before.next_is in
     let back2 = back1.before.before in
-    let the_w = back2.w in
-    let back3 = back2.before.before.before.before.before.before.before.before in
+    let the_w = back2.in-Got in
+    let back3 = back2.before.before.before.before.before.before.before in
     let the_term = back3.term in
     let entry = back3.before.before.before.before.before.before.before.before.before in
     let a = entry.args in
-    let r = entry.requires.0 in
-    let l : length the_term.new.1.1.1.0 ≡ length a.s.now = the_term.auto.1.1.1.0 in
-    let stops = rw the_a.given.1 at the_next_is.ensures in
+    let r = entry.requires.base_in_bounds in
+    let l : length the_term.new.s ≡ length a.s.now = the_term.auto.s in
+    let stops = rw the_a.is at the_next_is.ensures in
     λ known vars st.
-    let b = rw the_w.given.1 at (the_term.ensures known vars st) in
-    let own = stored_own (names_over b.1 known) a.base a.c.compounds the_w.given.0.1.0.compounds the_w.given.0.0 b.0 a.s.now
-    the_term.new.1.1.1.0 b.2.word_is b.2.stored_is b.2.numbered b.2.stands.compounds_few (omega (arith, l, r.0)) in
-    one_alone a.text.now a.rest.now a.from a.base known vars a.c a.s.now a.item.now the_term.new.1.1.1.0 the_term.new.1.1.1.1.0
-    the_term.new.1.1.1.1.1.0 the_w.given.0.0 the_w.given.0.1.0 b.0 b.1 b.2 the_a.given.0.0 (stops.1 a.from)
+    let b = rw the_w.is at (the_term.ensures known vars st) in
+    let own = stored_own (names_over b.1 known) a.base a.c.compounds the_w.d.compounds the_w.w b.0 a.s.now
+    the_term.new.s b.2.word_is b.2.stored_is b.2.numbered b.2.stands.compounds_few (omega (arith, l, r.0)) in
+    one_alone a.text.now a.rest.now a.from a.base known vars a.c a.s.now a.item.now the_term.new.s the_term.new.names
+    the_term.new.item the_w.w the_w.d b.0 b.1 b.2 the_a.a (stops.1 a.from)
     (sym (the_stands_alone.ensures (names_over b.1 known) a.base b.0 own) ∙ the_if1.true)
 
 enum_known-a-in-Malformed-1 : tie.Need-enum_known-a-in-Malformed-1
@@ -159,23 +159,23 @@ returns-else-stands_alone c =
     let the_if1 = c.if-stands_alone in
     let the_stands_alone = c.before.stands_alone in
     let back1 = c.before.before in
-    let the_a = back1.a in
-    let the_next_is = back1.before.before.next_is in
+    let the_a = back1.in-No in
+    let the_next_is = back1.before.next_is in
     let back2 = back1.before.before in
-    let the_w = back2.w in
-    let back3 = back2.before.before.before.before.before.before.before.before in
+    let the_w = back2.in-Got in
+    let back3 = back2.before.before.before.before.before.before.before in
     let the_term = back3.term in
     let entry = back3.before.before.before.before.before.before.before.before.before in
     let a = entry.args in
-    let r = entry.requires.0 in
-    let l : length the_term.new.1.1.1.0 ≡ length a.s.now = the_term.auto.1.1.1.0 in
-    let stops = rw the_a.given.1 at the_next_is.ensures in
+    let r = entry.requires.base_in_bounds in
+    let l : length the_term.new.s ≡ length a.s.now = the_term.auto.s in
+    let stops = rw the_a.is at the_next_is.ensures in
     λ known vars st.
-    let b = rw the_w.given.1 at (the_term.ensures known vars st) in
-    let own = stored_own (names_over b.1 known) a.base a.c.compounds the_w.given.0.1.0.compounds the_w.given.0.0 b.0 a.s.now
-    the_term.new.1.1.1.0 b.2.word_is b.2.stored_is b.2.numbered b.2.stands.compounds_few (omega (arith, l, r.0)) in
-    one_not a.text.now a.rest.now a.from a.base known vars a.c a.s.now a.item.now the_term.new.1.1.1.0 the_term.new.1.1.1.1.0
-    the_term.new.1.1.1.1.1.0 the_w.given.0.0 the_w.given.0.1.0 b.0 b.1 b.2 the_a.given.0.0 (stops.1 a.from) stops.0
+    let b = rw the_w.is at (the_term.ensures known vars st) in
+    let own = stored_own (names_over b.1 known) a.base a.c.compounds the_w.d.compounds the_w.w b.0 a.s.now
+    the_term.new.s b.2.word_is b.2.stored_is b.2.numbered b.2.stands.compounds_few (omega (arith, l, r.0)) in
+    one_not a.text.now a.rest.now a.from a.base known vars a.c a.s.now a.item.now the_term.new.s the_term.new.names
+    the_term.new.item the_w.w the_w.d b.0 b.1 b.2 the_a.a (stops.1 a.from) stops.0
     (sym (the_stands_alone.ensures (names_over b.1 known) a.base b.0 own) ∙ the_if1.false)
 
 shape_of-s-in-Malformed : tie.Need-shape_of-s-in-Malformed

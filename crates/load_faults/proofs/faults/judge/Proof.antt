@@ -61,12 +61,12 @@ bounds-seen-half : tie.Need-bounds-seen-half
 bounds-seen-half c = omega (arith, number_few c, half_few c)
 
 excused-requires : tie.Need-excused-requires
-excused-requires c κs = omega (arith, number_few c.before.before, c.before.before.before.before.before.before.before.requires.searched.3.frees_size)
+excused-requires c κs = omega (arith, number_few c.before.before, c.before.before.before.before.before.before.before.before.requires.searched.3.frees_size)
 
 returns-then-excused : tie.Need-returns-then-excused
 returns-then-excused c h places free whole implied at ts f half_is pardon_is searched reached =
     let found_at = c.before.before.before.before in
-    let start = found_at.before.before.before.before.before in
+    let start = found_at.before.before.before.before.before.before in
     let a = start.args in
     let here = sym (found_at.before.find.ensures places searched.table searched.count_is) ∙ ap found found_at.before.n.given.1 in
     seen_again a.both places free whole implied a.seen.now f a.rest.now a.item.now a.count a.licensed.now searched h (slice a.a a.e a.rest.now)
@@ -76,7 +76,7 @@ returns-then-excused c h places free whole implied at ts f half_is pardon_is sea
 returns-then-seen-half-ne0 : tie.Need-returns-then-seen-half-ne0
 returns-then-seen-half-ne0 c h places free whole implied at ts f half_is pardon_is searched reached =
     let found_at = c.before.before.before.before in
-    let start = found_at.before.before.before.before.before in
+    let start = found_at.before.before.before.before.before.before in
     let a = start.args in
     let here = sym (found_at.before.find.ensures places searched.table searched.count_is) ∙ ap found found_at.before.n.given.1 in
     second_time a.both places free whole implied a.seen.now f a.rest.now a.item.now a.count a.licensed.now searched h (slice a.a a.e a.rest.now)
@@ -90,12 +90,12 @@ overflow_add-half-2 : tie.Need-overflow_add-half-2
 overflow_add-half-2 c = omega (arith, number_few c.before.before, half_few c.before.before)
 
 lone-requires : tie.Need-lone-requires
-lone-requires c κs = omega (arith, number_few c.before.before, half_few c.before.before, c.before.before.before.before.before.before.before.requires.searched.3.table.size)
+lone-requires c κs = omega (arith, number_few c.before.before, half_few c.before.before, c.before.before.before.before.before.before.before.before.requires.searched.3.table.size)
 
 returns-then-lone : tie.Need-returns-then-lone
 returns-then-lone c h places free whole implied at ts f half_is pardon_is searched reached =
     let found_at = c.before.before.before.before in
-    let start = found_at.before.before.before.before.before in
+    let start = found_at.before.before.before.before.before.before in
     let a = start.args in
     let here = sym (found_at.before.find.ensures places searched.table searched.count_is) ∙ ap found found_at.before.n.given.1 in
     is_lone a.both places free whole implied a.seen.now f a.rest.now a.item.now a.count a.licensed.now searched h (slice a.a a.e a.rest.now)
@@ -114,7 +114,7 @@ bounds-seen-half-2 c = omega (arith, number_few c.before.before.before.before, h
 returns : tie.Need-returns
 returns c h places free whole implied at ts f half_is pardon_is searched reached =
     let found_at = c.before.before.before.before in
-    let start = found_at.before.before.before.before.before in
+    let start = found_at.before.before.before.before.before.before in
     let a = start.args in
     let here = sym (found_at.before.find.ensures places searched.table searched.count_is) ∙ ap found found_at.before.n.given.1 in
     rw half_is (noted_on a.both places free whole implied a.seen.now f a.rest.now a.item.now a.count a.licensed.now searched h (slice a.a a.e a.rest.now)

@@ -43,78 +43,78 @@ bounds-words-i c =
 
 row_for-row-requires : tie.Need-row_for-row-requires invariant-loop-i decreases-loop-i
 row_for-row-requires c κs =
-    let at = c.before.before.before in
+    let at = c.before.before in
     let start = at.before.before.before.before.before in
     let a = start.args in
-    let (known, es, l) = start.requires.1 in (
+    let (known, es, l) = start.requires.listed in (
       a.base,
       known,
-      (first a.text.now a.names.now a.s.now a.words.now a.n a.base a.place known es l at.loop.i at.loop.s (at.loop.invariant.2 known es l)
-          at.loop.invariant.0 (omega arith)).0,
-      alone a.text.now a.names.now a.s.now a.words.now a.n a.base a.place known es l at.loop.i at.loop.s
-          (at.loop.invariant.2 known es l) at.loop.invariant.0 (omega arith),
+      (first a.text.now a.names.now a.s.now a.words.now a.n a.base a.place known es l at.loop-i.i at.loop-i.s (at.loop-i.invariant.2 known es l)
+          at.loop-i.invariant.0 (omega arith)).0,
+      alone a.text.now a.names.now a.s.now a.words.now a.n a.base a.place known es l at.loop-i.i at.loop-i.s
+          (at.loop-i.invariant.2 known es l) at.loop-i.invariant.0 (omega arith),
     )
 
 shape_of-s-then-row-eq-ROWS : tie.Need-shape_of-s-then-row-eq-ROWS invariant-loop-i decreases-loop-i
-shape_of-s-then-row-eq-ROWS c = c.before.before.before.before.before.loop.invariant.1
+shape_of-s-then-row-eq-ROWS c = c.before.before.before.before.loop-i.invariant.1
 
 returns-then-row-eq-ROWS : tie.Need-returns-then-row-eq-ROWS invariant-loop-i decreases-loop-i
 returns-then-row-eq-ROWS c known es l =
-    let at = c.before.before.before.before.before in
+    let at = c.before.before.before.before in
     let start = at.before.before.before.before.before in
     let a = start.args in
-    let further : at.loop.i < a.n = omega arith in
-    let row = c.before.row_for-row.ensures a.base known (first a.text.now a.names.now a.s.now a.words.now a.n a.base a.place known es l at.loop.i at.loop.s
-    (at.loop.invariant.2 known es l) at.loop.invariant.0 further).0 (alone a.text.now a.names.now a.s.now a.words.now a.n a.base a.place known es l at.loop.i
-    at.loop.s (at.loop.invariant.2 known es l) at.loop.invariant.0 further) in (
-      stops a.text.now a.names.now a.s.now a.words.now a.n a.base a.place known es l at.loop.i at.loop.s (at.loop.invariant.2 known es l) at.loop.invariant.0 further
+    let further : at.loop-i.i < a.n = omega arith in
+    let row = c.before.row_for-row.ensures a.base known (first a.text.now a.names.now a.s.now a.words.now a.n a.base a.place known es l at.loop-i.i at.loop-i.s
+    (at.loop-i.invariant.2 known es l) at.loop-i.invariant.0 further).0 (alone a.text.now a.names.now a.s.now a.words.now a.n a.base a.place known es l at.loop-i.i
+    at.loop-i.s (at.loop-i.invariant.2 known es l) at.loop-i.invariant.0 further) in (
+      stops a.text.now a.names.now a.s.now a.words.now a.n a.base a.place known es l at.loop-i.i at.loop-i.s (at.loop-i.invariant.2 known es l) at.loop-i.invariant.0 further
           (sym c.if-row-eq-ROWS.true ∙ row),
-      only a.text.now a.names.now a.s.now a.words.now a.n a.base a.place known es l at.loop.i at.loop.s (at.loop.invariant.2 known es l)
-          at.loop.invariant.0,
+      only a.text.now a.names.now a.s.now a.words.now a.n a.base a.place known es l at.loop-i.i at.loop-i.s (at.loop-i.invariant.2 known es l)
+          at.loop-i.invariant.0,
     )
 
 test_word-requires : tie.Need-test_word-requires invariant-loop-i decreases-loop-i
 test_word-requires c κs =
-    let at = c.before.before.before.before.before in
+    let at = c.before.before.before.before in
     let start = at.before.before.before.before.before in
     let a = start.args in
-    let (known, es, l) = start.requires.1 in
-    let further : at.loop.i < a.n = omega arith in
-    let row = c.before.row_for-row.ensures a.base known (first a.text.now a.names.now a.s.now a.words.now a.n a.base a.place known es l at.loop.i at.loop.s
-    (at.loop.invariant.2 known es l) at.loop.invariant.0 further).0 (alone a.text.now a.names.now a.s.now a.words.now a.n a.base a.place known es l at.loop.i
-    at.loop.s (at.loop.invariant.2 known es l) at.loop.invariant.0 further) in (
+    let (known, es, l) = start.requires.listed in
+    let further : at.loop-i.i < a.n = omega arith in
+    let row = c.before.row_for-row.ensures a.base known (first a.text.now a.names.now a.s.now a.words.now a.n a.base a.place known es l at.loop-i.i at.loop-i.s
+    (at.loop-i.invariant.2 known es l) at.loop-i.invariant.0 further).0 (alone a.text.now a.names.now a.s.now a.words.now a.n a.base a.place known es l at.loop-i.i
+    at.loop-i.s (at.loop-i.invariant.2 known es l) at.loop-i.invariant.0 further) in (
       omega (
         arith,
         row,
-        row_few (first a.text.now a.names.now a.s.now a.words.now a.n a.base a.place known es l at.loop.i at.loop.s (at.loop.invariant.2 known es l)
-            at.loop.invariant.0 further).0,
+        row_few (first a.text.now a.names.now a.s.now a.words.now a.n a.base a.place known es l at.loop-i.i at.loop-i.s (at.loop-i.invariant.2 known es l)
+            at.loop-i.invariant.0 further).0,
       ),
-      omega (arith, l.inside, start.requires.0),
+      omega (arith, l.inside, start.requires.s_len_bound),
     )
 
 overflow_add-s : tie.Need-overflow_add-s invariant-loop-i decreases-loop-i
 overflow_add-s c =
     let at = c.before.before.before.before.before.before in
-    let start = at.before.before.before.before.before in
+    let start = at.before.before.before.before in
     let a = start.args in
-    let (known, es, l) = start.requires.1 in
-    omega (arith, l.few, l.apart, l.inside, start.requires.0)
+    let (known, es, l) = start.requires.listed in
+    omega (arith, l.few, l.apart, l.inside, start.requires.s_len_bound)
 
 offset_bounds-s-place : tie.Need-offset_bounds-s-place invariant-loop-i decreases-loop-i
 offset_bounds-s-place c =
     let at = c.before.before.before.before.before.before in
-    let start = at.before.before.before.before.before in
+    let start = at.before.before.before.before in
     let a = start.args in
-    let (known, es, l) = start.requires.1 in
-    omega (arith, l.few, l.apart, l.inside, start.requires.0)
+    let (known, es, l) = start.requires.listed in
+    omega (arith, l.few, l.apart, l.inside, start.requires.s_len_bound)
 
 bounds-s-place : tie.Need-bounds-s-place invariant-loop-i decreases-loop-i
 bounds-s-place c =
-    let at = c.before.before.before.before.before.before in
+    let at = c.before.before.before.before.before in
     let start = at.before.before.before.before.before in
     let a = start.args in
-    let (known, es, l) = start.requires.1 in
-    omega (arith, l.few, l.apart, l.inside, at.loop.invariant.1)
+    let (known, es, l) = start.requires.listed in
+    omega (arith, l.few, l.apart, l.inside, at.loop-i.invariant.1)
 
 overflow_add-i : tie.Need-overflow_add-i invariant-loop-i decreases-loop-i
 overflow_add-i c = search rules
@@ -124,18 +124,18 @@ loop-i-smaller c = search rules
 
 loop-i-preserved : tie.Need-loop-i-preserved invariant-loop-i decreases-loop-i
 loop-i-preserved c =
-    let at = c.before.before.before.before.before.before in
+    let at = c.before.before.before.before.before in
     let start = at.before.before.before.before.before in
     let a = start.args in
-    let further : at.loop.i < a.n = omega arith in (
+    let further : at.loop-i.i < a.n = omega arith in (
       omega arith,
-      length-set at.loop.s (a.place + at.loop.i) c.test_word.result ∙ at.loop.invariant.1,
+      length-set at.loop-i.s (a.place + at.loop-i.i) c.test_word.result ∙ at.loop-i.invariant.1,
       λ known es l.
           let row = c.before.before.row_for-row.ensures a.base known
-          (first a.text.now a.names.now a.s.now a.words.now a.n a.base a.place known es l at.loop.i at.loop.s (at.loop.invariant.2 known es l) at.loop.invariant.0
-          further).0 (alone a.text.now a.names.now a.s.now a.words.now a.n a.base a.place known es l at.loop.i at.loop.s (at.loop.invariant.2 known es l)
-          at.loop.invariant.0 further) in
-          goes_on a.text.now a.names.now a.s.now a.words.now a.n a.base a.place known es l at.loop.i at.loop.s (at.loop.invariant.2 known es l) at.loop.invariant.0
+          (first a.text.now a.names.now a.s.now a.words.now a.n a.base a.place known es l at.loop-i.i at.loop-i.s (at.loop-i.invariant.2 known es l) at.loop-i.invariant.0
+          further).0 (alone a.text.now a.names.now a.s.now a.words.now a.n a.base a.place known es l at.loop-i.i at.loop-i.s (at.loop-i.invariant.2 known es l)
+          at.loop-i.invariant.0 further) in
+          goes_on a.text.now a.names.now a.s.now a.words.now a.n a.base a.place known es l at.loop-i.i at.loop-i.s (at.loop-i.invariant.2 known es l) at.loop-i.invariant.0
           further c.before.before.row_for-row.result c.test_word.result row c.before.if-row-eq-ROWS.false c.test_word.ensures,
     )
 

@@ -63,18 +63,18 @@ slice_bounds-judged-end-in-Got-2 c = search rules
 judged-requires : tie.Need-judged-requires
 judged-requires c κs =
     let at_guards = c.before.before.before.before in
-    let at_rule = at_guards.before.before.before.before.before.before.before.before.before.before.before.before.before in
+    let at_rule = at_guards.before.before.before.before.before.before.before.before.before.before.before.before in
     let at_first = at_rule.before in
     let at_if1 = at_first.before.before.before.before.before.before.before.before in
     let start = at_if1.before.before.before.before.before.before.before in
     let a = start.args in
     let q = start.requires in
-    let x = q.1.1 in
-    let known = q.1.0.0 in
-    let b = q.1.0.1 in
+    let x = q.begins_in_bounds in
+    let known = q.begins.0 in
+    let b = q.begins.1 in
     let f = at_first.first.ensures in
     let st = begin_stands a.text.now a.rest.now a.from a.names.now a.item.now a.known known b at_first.first.result (omega (arith, f.0)) f.1 f.2 f.3 in
-    let got = rw at_guards.guards.given.1 at (at_rule.rule.ensures known [] st) in
+    let got = rw at_guards.in-Got.is at (at_rule.rule.ensures known [] st) in
     let w : Whole = record {
       text = a.text.now;
       from = a.from;
@@ -84,21 +84,21 @@ judged-requires c κs =
       behind = x.1;
       scratch = a.s.now;
       names = a.names.now;
-      names' = at_rule.rule.new.1.1.1.1.0;
+      names' = at_rule.rule.new.names;
       item = a.item.now;
       heads = a.heads.now;
-      heads' = at_rule.rule.new.1.1.1.1.1.1.0;
+      heads' = at_rule.rule.new.heads;
       rule = got.0;
       guards = got.1;
       passed = got.2;
       stop = got.3;
     } in
-    let j : Judging a.rest.now at_rule.rule.new.1.1.1.0 at_rule.rule.new.1.1.1.1.1.0 at_rule.rule.new.1.1.1.1.1.1.1.0
-    at_rule.rule.new.1.1.1.1.1.1.1.1.0 at_rule.rule.new.1.1.1.1.1.1.1.1.1.0 a.k a.begins at_guards.guards.given.0.0
-    at_guards.guards.given.0.1.0 at_guards.guards.given.0.1.1.0 at_guards.guards.given.0.1.1.1.0 w = record
+    let j : Judging a.rest.now at_rule.rule.new.s at_rule.rule.new.item at_rule.rule.new.in_head
+    at_rule.rule.new.in_guards at_rule.rule.new.licensed a.k a.begins at_guards.in-Got.guards
+    at_guards.in-Got.bar at_guards.in-Got.goals at_guards.in-Got.c w = record
     { was_read = got.4; empty = b.empty; at_first = (f.0, f.3); tokens = x.3; inside = x.2 } in
-    let l = q.0 in
-    ((at_if1.if1.false, omega (arith, l.enough, at_rule.rule.auto.1.1.1.0), omega (arith, l.fits, at_rule.rule.auto.1.1.1.0)), (w, j))
+    let l = q.lent in
+    ((at_if1.if-k-ge128.false, omega (arith, l.enough, at_rule.rule.auto.s), omega (arith, l.fits, at_rule.rule.auto.s)), (w, j))
 
 enum_told-1 : tie.Need-enum_told-1
 enum_told-1 c = search rules
@@ -125,16 +125,16 @@ returns-in-Got : tie.Need-returns-in-Got
 returns-in-Got c =
     let at_judged = c.before.before in
     let at_guards = at_judged.before.before.before.before.before in
-    let at_rule = at_guards.before.before.before.before.before.before.before.before.before.before.before.before.before in
+    let at_rule = at_guards.before.before.before.before.before.before.before.before.before.before.before.before in
     let at_first = at_rule.before in
     let start = at_first.before.before.before.before.before.before.before.before.before.before.before.before.before.before.before in
     let a = start.args in
     let q = start.requires in
-    let x = q.1.1 in
+    let x = q.begins_in_bounds in
     λ known queries b.
     let f = at_first.first.ensures in
     let st = begin_stands a.text.now a.rest.now a.from a.names.now a.item.now a.known known b at_first.first.result (omega (arith, f.0)) f.1 f.2 f.3 in
-    let got = rw at_guards.guards.given.1 at (at_rule.rule.ensures known [] st) in
+    let got = rw at_guards.in-Got.is at (at_rule.rule.ensures known [] st) in
     let w : Whole = record {
       text = a.text.now;
       from = a.from;
@@ -144,18 +144,18 @@ returns-in-Got c =
       behind = x.1;
       scratch = a.s.now;
       names = a.names.now;
-      names' = at_rule.rule.new.1.1.1.1.0;
+      names' = at_rule.rule.new.names;
       item = a.item.now;
       heads = a.heads.now;
-      heads' = at_rule.rule.new.1.1.1.1.1.1.0;
+      heads' = at_rule.rule.new.heads;
       rule = got.0;
       guards = got.1;
       passed = got.2;
       stop = got.3;
     } in
-    let j : Judging a.rest.now at_rule.rule.new.1.1.1.0 at_rule.rule.new.1.1.1.1.1.0 at_rule.rule.new.1.1.1.1.1.1.1.0
-    at_rule.rule.new.1.1.1.1.1.1.1.1.0 at_rule.rule.new.1.1.1.1.1.1.1.1.1.0 a.k a.begins at_guards.guards.given.0.0
-    at_guards.guards.given.0.1.0 at_guards.guards.given.0.1.1.0 at_guards.guards.given.0.1.1.1.0 w = record
+    let j : Judging a.rest.now at_rule.rule.new.s at_rule.rule.new.item at_rule.rule.new.in_head
+    at_rule.rule.new.in_guards at_rule.rule.new.licensed a.k a.begins at_guards.in-Got.guards
+    at_guards.in-Got.bar at_guards.in-Got.goals at_guards.in-Got.c w = record
     { was_read = got.4; empty = b.empty; at_first = (f.0, f.3); tokens = x.3; inside = x.2 } in
     at_judged.judged.ensures w j queries
 

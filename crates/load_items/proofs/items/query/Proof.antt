@@ -63,59 +63,59 @@ enum_known-count c = search rules
 
 nothing_twice-requires : tie.Need-nothing_twice-requires
 nothing_twice-requires c κs =
-    let a = c.before.before.before.before.before.before.before.before.before.before.before.before.before.before.before.before.before.before.before.before.before.before.args in
-    let known = c.before.before.before.before.before.before.before.before.before.before.before.before.before.before.before.before.before.before.before.before.before.before.requires.1.0.0 in
-    let b = c.before.before.before.before.before.before.before.before.before.before.before.before.before.before.before.before.before.before.before.before.before.before.requires.1.0.1 in
-    let f = c.before.before.before.before.before.before.before.before.before.first.ensures in
-    let st = begin_stands a.text.now a.rest.now a.from a.names.now a.item.now a.known known b c.before.before.before.before.before.before.before.before.before.first.result (omega (arith, f.0, c.before.before.before.before.before.before.before.before.before.before.before.before.before.before.before.before.before.before.before.before.before.before.requires.1.1.0)) f.1 f.2 f.3 in
-    let got = rw c.count.given.1 at (c.before.before.before.before.before.before.before.before.goals.ensures known [] st) in
+    let a = c.before.before.before.before.before.before.before.before.before.before.before.before.before.before.before.before.before.before.before.args in
+    let known = c.before.before.before.before.before.before.before.before.before.before.before.before.before.before.before.before.before.before.before.requires.begins.0 in
+    let b = c.before.before.before.before.before.before.before.before.before.before.before.before.before.before.before.before.before.before.before.requires.begins.1 in
+    let f = c.before.before.before.before.before.before.before.before.first.ensures in
+    let st = begin_stands a.text.now a.rest.now a.from a.names.now a.item.now a.known known b c.before.before.before.before.before.before.before.before.first.result (omega (arith, f.0, c.before.before.before.before.before.before.before.before.before.before.before.before.before.before.before.before.before.before.before.requires.begins_in_bounds.0)) f.1 f.2 f.3 in
+    let got = rw c.in-Got.is at (c.before.before.before.before.before.before.before.goals.ensures known [] st) in
     (got.3.stands.variables_in.size, omega (arith, got.3.stands.variables_count, got.3.stands.variables_in.few))
 
 overflow_add-begins-then-not-nothing_twice : tie.Need-overflow_add-begins-then-not-nothing_twice
-overflow_add-begins-then-not-nothing_twice c = omega (arith, c.before.before.before.before.before.before.before.before.before.before.before.before.before.before.before.before.before.before.before.before.before.before.before.before.before.requires.1.1.0)
+overflow_add-begins-then-not-nothing_twice c = omega (arith, c.before.before.before.before.before.before.before.before.before.before.before.before.before.before.before.before.before.before.before.before.before.requires.begins_in_bounds.0)
 
 slice_bounds-first_fault-end : tie.Need-slice_bounds-first_fault-end
 slice_bounds-first_fault-end c = search rules
 
 first_fault-fault-requires : tie.Need-first_fault-fault-requires
 first_fault-fault-requires c κs =
-    let e = c.before.before in
-    let a = e.before.before.before.before.before.before.before.before.before.before.before.before.before.before.before.before.before.before.before.before.before.before.before.before.args in
-    let x = e.before.before.before.before.before.before.before.before.before.before.before.before.before.before.before.before.before.before.before.before.before.before.before.before.requires.1.1 in
-    let known = e.before.before.before.before.before.before.before.before.before.before.before.before.before.before.before.before.before.before.before.before.before.before.before.before.requires.1.0.0 in
-    let b = e.before.before.before.before.before.before.before.before.before.before.before.before.before.before.before.before.before.before.before.before.before.before.before.before.requires.1.0.1 in
-    let f = e.before.before.before.before.before.before.before.before.before.before.before.first.ensures in
-    let st = begin_stands a.text.now a.rest.now a.from a.names.now a.item.now a.known known b e.before.before.before.before.before.before.before.before.before.before.before.first.result (omega (arith, f.0, e.before.before.before.before.before.before.before.before.before.before.before.before.before.before.before.before.before.before.before.before.before.before.before.before.requires.1.1.0)) f.1 f.2 f.3 in
-    let got = rw e.before.before.count.given.1 at (e.before.before.before.before.before.before.before.before.before.before.goals.ensures known [] st) in
-    let told = query_broken a.text.now a.rest.now a.from a.names.now a.item.now a.known known b 0 a.k a.begins a.s.now a.heads.now x.1 e.before.before.before.before.before.before.before.before.before.before.before.before.before.before.before.if1.false e.before.before.before.before.before.before.before.before.before.before.before.first.result f.0 f.3 e.before.before.before.before.before.before.before.before.before.before.goals.new.1.1.1.0 e.before.before.before.before.before.before.before.before.before.before.goals.new.1.1.1.1.0 e.before.before.before.before.before.before.before.before.before.before.goals.new.1.1.1.1.1.0 e.before.before.count.given.0.0 e.before.before.count.given.0.1.0 got.0 got.1 got.2 got.3 (sym e.before.nothing_twice.ensures ∙ not-true _ e.if2.true) in
+    let e = c.before in
+    let a = e.before.before.before.before.before.before.before.before.before.before.before.before.before.before.before.before.before.before.before.before.before.args in
+    let x = e.before.before.before.before.before.before.before.before.before.before.before.before.before.before.before.before.before.before.before.before.before.requires.begins_in_bounds in
+    let known = e.before.before.before.before.before.before.before.before.before.before.before.before.before.before.before.before.before.before.before.before.before.requires.begins.0 in
+    let b = e.before.before.before.before.before.before.before.before.before.before.before.before.before.before.before.before.before.before.before.before.before.requires.begins.1 in
+    let f = e.before.before.before.before.before.before.before.before.before.before.first.ensures in
+    let st = begin_stands a.text.now a.rest.now a.from a.names.now a.item.now a.known known b e.before.before.before.before.before.before.before.before.before.before.first.result (omega (arith, f.0, e.before.before.before.before.before.before.before.before.before.before.before.before.before.before.before.before.before.before.before.before.before.requires.begins_in_bounds.0)) f.1 f.2 f.3 in
+    let got = rw e.before.before.in-Got.is at (e.before.before.before.before.before.before.before.before.before.goals.ensures known [] st) in
+    let told = query_broken a.text.now a.rest.now a.from a.names.now a.item.now a.known known b 0 a.k a.begins a.s.now a.heads.now x.1 e.before.before.before.before.before.before.before.before.before.before.before.before.before.before.if-k-ge8.false e.before.before.before.before.before.before.before.before.before.before.first.result f.0 f.3 e.before.before.before.before.before.before.before.before.before.goals.new.s e.before.before.before.before.before.before.before.before.before.goals.new.names e.before.before.before.before.before.before.before.before.before.goals.new.item e.before.before.in-Got.count e.before.before.in-Got.c got.0 got.1 got.2 got.3 (sym e.before.nothing_twice.ensures ∙ not-true _ e.if-not-nothing_twice.true) in
     (x.0, (a.from, variables_over a.from got.1 [], none_free, none, told.0, told.2))
 
 shape_of-s-then-not-nothing_twice : tie.Need-shape_of-s-then-not-nothing_twice
-shape_of-s-then-not-nothing_twice c = c.before.before.before.before.before.before.before.before.before.before.before.before.before.goals.auto.1.1.1.0
+shape_of-s-then-not-nothing_twice c = c.before.before.before.before.before.before.before.before.before.before.before.goals.auto.s
 
 shape_of-names-then-not-nothing_twice : tie.Need-shape_of-names-then-not-nothing_twice
-shape_of-names-then-not-nothing_twice c = c.before.before.before.before.before.before.before.before.before.before.before.before.before.goals.auto.1.1.1.1.0
+shape_of-names-then-not-nothing_twice c = c.before.before.before.before.before.before.before.before.before.before.before.goals.auto.names
 
 shape_of-item-then-not-nothing_twice : tie.Need-shape_of-item-then-not-nothing_twice
-shape_of-item-then-not-nothing_twice c = c.before.before.before.before.before.before.before.before.before.before.before.before.before.goals.auto.1.1.1.1.1.0
+shape_of-item-then-not-nothing_twice c = c.before.before.before.before.before.before.before.before.before.before.before.goals.auto.item
 
 returns-then-not-nothing_twice : tie.Need-returns-then-not-nothing_twice
 returns-then-not-nothing_twice c =
-    let e = c.before.before.before in
-    let a = e.before.before.before.before.before.before.before.before.before.before.before.before.before.before.before.before.before.before.before.before.before.before.before.before.args in
-    let x = e.before.before.before.before.before.before.before.before.before.before.before.before.before.before.before.before.before.before.before.before.before.before.before.before.requires.1.1 in
+    let e = c.before.before in
+    let a = e.before.before.before.before.before.before.before.before.before.before.before.before.before.before.before.before.before.before.before.before.before.args in
+    let x = e.before.before.before.before.before.before.before.before.before.before.before.before.before.before.before.before.before.before.before.before.before.requires.begins_in_bounds in
     λ known clauses b.
-    let f = e.before.before.before.before.before.before.before.before.before.before.before.first.ensures in
-    let st = begin_stands a.text.now a.rest.now a.from a.names.now a.item.now a.known known b e.before.before.before.before.before.before.before.before.before.before.before.first.result (omega (arith, f.0, e.before.before.before.before.before.before.before.before.before.before.before.before.before.before.before.before.before.before.before.before.before.before.before.before.requires.1.1.0)) f.1 f.2 f.3 in
-    let got = rw e.before.before.count.given.1 at (e.before.before.before.before.before.before.before.before.before.before.goals.ensures known [] st) in
-    let told = query_broken a.text.now a.rest.now a.from a.names.now a.item.now a.known known b clauses a.k a.begins a.s.now a.heads.now x.1 e.before.before.before.before.before.before.before.before.before.before.before.before.before.before.before.if1.false e.before.before.before.before.before.before.before.before.before.before.before.first.result f.0 f.3 e.before.before.before.before.before.before.before.before.before.before.goals.new.1.1.1.0 e.before.before.before.before.before.before.before.before.before.before.goals.new.1.1.1.1.0 e.before.before.before.before.before.before.before.before.before.before.goals.new.1.1.1.1.1.0 e.before.before.count.given.0.0 e.before.before.count.given.0.1.0 got.0 got.1 got.2 got.3 (sym e.before.nothing_twice.ensures ∙ not-true _ e.if2.true) in
+    let f = e.before.before.before.before.before.before.before.before.before.before.first.ensures in
+    let st = begin_stands a.text.now a.rest.now a.from a.names.now a.item.now a.known known b e.before.before.before.before.before.before.before.before.before.before.first.result (omega (arith, f.0, e.before.before.before.before.before.before.before.before.before.before.before.before.before.before.before.before.before.before.before.before.before.requires.begins_in_bounds.0)) f.1 f.2 f.3 in
+    let got = rw e.before.before.in-Got.is at (e.before.before.before.before.before.before.before.before.before.goals.ensures known [] st) in
+    let told = query_broken a.text.now a.rest.now a.from a.names.now a.item.now a.known known b clauses a.k a.begins a.s.now a.heads.now x.1 e.before.before.before.before.before.before.before.before.before.before.before.before.before.before.if-k-ge8.false e.before.before.before.before.before.before.before.before.before.before.first.result f.0 f.3 e.before.before.before.before.before.before.before.before.before.goals.new.s e.before.before.before.before.before.before.before.before.before.goals.new.names e.before.before.before.before.before.before.before.before.before.goals.new.item e.before.before.in-Got.count e.before.before.in-Got.c got.0 got.1 got.2 got.3 (sym e.before.nothing_twice.ensures ∙ not-true _ e.if-not-nothing_twice.true) in
     (told.0, told.1, c.first_fault-fault.ensures a.from (variables_over a.from got.1 []) none_free none told.0 told.2, omega (arith, x.0), got.3.only)
 
 offset_bounds-s-record : tie.Need-offset_bounds-s-record
 offset_bounds-s-record c = search rules
 
 bounds-s-record : tie.Need-bounds-s-record
-bounds-s-record c = omega (arith, c.before.before.before.before.before.before.before.before.before.before.before.before.before.before.before.if1.false, c.before.before.before.before.before.before.before.before.before.before.before.before.before.before.before.before.before.before.before.before.before.before.before.before.requires.0.enough, c.before.before.before.before.before.before.before.before.before.before.goals.auto.1.1.1.0)
+bounds-s-record c = omega (arith, c.before.before.before.before.before.before.before.before.before.before.before.before.before.before.if-k-ge8.false, c.before.before.before.before.before.before.before.before.before.before.before.before.before.before.before.before.before.before.before.before.before.requires.lent.enough, c.before.before.before.before.before.before.before.before.before.goals.auto.s)
 
 word-requires : tie.Need-word-requires
 word-requires c κs = search rules
@@ -127,7 +127,7 @@ offset_bounds-s-record-in-Got : tie.Need-offset_bounds-s-record-in-Got
 offset_bounds-s-record-in-Got c = search rules
 
 bounds-s-record-in-Got : tie.Need-bounds-s-record-in-Got
-bounds-s-record-in-Got c = simp length-set (omega (arith, c.before.before.before.before.before.before.before.before.before.before.before.before.before.before.before.before.if1.false, c.before.before.before.before.before.before.before.before.before.before.before.before.before.before.before.before.before.before.before.before.before.before.before.before.before.requires.0.enough, c.before.before.before.before.before.before.before.before.before.before.before.goals.auto.1.1.1.0))
+bounds-s-record-in-Got c = simp length-set (omega (arith, c.before.before.before.before.before.before.before.before.before.before.before.before.before.before.before.if-k-ge8.false, c.before.before.before.before.before.before.before.before.before.before.before.before.before.before.before.before.before.before.before.before.before.before.requires.lent.enough, c.before.before.before.before.before.before.before.before.before.before.goals.auto.s))
 
 word-requires-in-Got : tie.Need-word-requires-in-Got
 word-requires-in-Got c κs = search rules
@@ -139,26 +139,26 @@ offset_bounds-s-record-in-Got-2 : tie.Need-offset_bounds-s-record-in-Got-2
 offset_bounds-s-record-in-Got-2 c = search rules
 
 bounds-s-record-in-Got-2 : tie.Need-bounds-s-record-in-Got-2
-bounds-s-record-in-Got-2 c = simp length-set (omega (arith, c.before.before.before.before.before.before.before.before.before.before.before.before.before.before.before.before.before.if1.false, c.before.before.before.before.before.before.before.before.before.before.before.before.before.before.before.before.before.before.before.before.before.before.before.before.before.before.requires.0.enough, c.before.before.before.before.before.before.before.before.before.before.before.before.goals.auto.1.1.1.0))
+bounds-s-record-in-Got-2 c = simp length-set (omega (arith, c.before.before.before.before.before.before.before.before.before.before.before.before.before.before.before.before.if-k-ge8.false, c.before.before.before.before.before.before.before.before.before.before.before.before.before.before.before.before.before.before.before.before.before.before.before.requires.lent.enough, c.before.before.before.before.before.before.before.before.before.before.before.goals.auto.s))
 
 overflow_add-record-in-Got : tie.Need-overflow_add-record-in-Got
 overflow_add-record-in-Got c = search rules
 
 keep_places-requires : tie.Need-keep_places-requires
 keep_places-requires c κs =
-    let a = c.before.before.before.before.before.before.before.before.before.before.before.before.before.before.before.before.before.before.before.before.before.before.before.before.before.before.before.before.args in
-    let known = c.before.before.before.before.before.before.before.before.before.before.before.before.before.before.before.before.before.before.before.before.before.before.before.before.before.before.before.before.requires.1.0.0 in
-    let b = c.before.before.before.before.before.before.before.before.before.before.before.before.before.before.before.before.before.before.before.before.before.before.before.before.before.before.before.before.requires.1.0.1 in
-    let f = c.before.before.before.before.before.before.before.before.before.before.before.before.before.before.before.first.ensures in
-    let st = begin_stands a.text.now a.rest.now a.from a.names.now a.item.now a.known known b c.before.before.before.before.before.before.before.before.before.before.before.before.before.before.before.first.result (omega (arith, f.0, c.before.before.before.before.before.before.before.before.before.before.before.before.before.before.before.before.before.before.before.before.before.before.before.before.before.before.before.before.requires.1.1.0)) f.1 f.2 f.3 in
-    let got = rw c.before.before.before.before.before.before.count.given.1 at (c.before.before.before.before.before.before.before.before.before.before.before.before.before.before.goals.ensures known [] st) in
+    let a = c.before.before.before.before.before.before.before.before.before.before.before.before.before.before.before.before.before.before.before.before.before.before.before.before.args in
+    let known = c.before.before.before.before.before.before.before.before.before.before.before.before.before.before.before.before.before.before.before.before.before.before.before.before.requires.begins.0 in
+    let b = c.before.before.before.before.before.before.before.before.before.before.before.before.before.before.before.before.before.before.before.before.before.before.before.before.requires.begins.1 in
+    let f = c.before.before.before.before.before.before.before.before.before.before.before.before.before.first.ensures in
+    let st = begin_stands a.text.now a.rest.now a.from a.names.now a.item.now a.known known b c.before.before.before.before.before.before.before.before.before.before.before.before.before.first.result (omega (arith, f.0, c.before.before.before.before.before.before.before.before.before.before.before.before.before.before.before.before.before.before.before.before.before.before.before.before.requires.begins_in_bounds.0)) f.1 f.2 f.3 in
+    let got = rw c.before.before.before.before.before.in-Got.is at (c.before.before.before.before.before.before.before.before.before.before.before.before.goals.ensures known [] st) in
     let v = got.3.stands.variables_in in
     let n = got.3.stands.variables_count in
     let whole = length-drop a.from a.text.now in (
-      (simp length-set (omega (arith, c.before.before.before.before.before.before.before.before.before.before.before.before.before.before.before.before.before.before.before.if1.false, c.before.before.before.before.before.before.before.before.before.before.before.before.before.before.before.before.before.before.before.before.before.before.before.before.before.before.before.before.requires.0.enough, c.before.before.before.before.before.before.before.before.before.before.before.before.before.before.goals.auto.1.1.1.0, n, v.few)), omega (arith, n, v.few, v.size)),
+      (simp length-set (omega (arith, c.before.before.before.before.before.before.before.before.before.before.before.before.before.before.before.before.before.if-k-ge8.false, c.before.before.before.before.before.before.before.before.before.before.before.before.before.before.before.before.before.before.before.before.before.before.before.before.requires.lent.enough, c.before.before.before.before.before.before.before.before.before.before.before.before.goals.auto.s, n, v.few)), omega (arith, n, v.few, v.size)),
       (λ i l.
           let inside : i < length (variables_over a.from got.1 []) = omega (arith, n) in
-          omega (arith, v.starts i inside, v.inside i inside, b.part.0, ap length b.part.1 ∙ whole, c.before.before.before.before.before.before.before.before.before.before.before.before.before.before.before.before.before.before.before.before.before.before.before.before.before.before.before.before.well-formed.0.0)),
+          omega (arith, v.starts i inside, v.inside i inside, b.part.0, ap length b.part.1 ∙ whole, c.before.before.before.before.before.before.before.before.before.before.before.before.before.before.before.before.before.before.before.before.before.before.before.before.well_formed.0.0)),
     )
 
 enum_known-a : tie.Need-enum_known-a
@@ -168,23 +168,23 @@ enum_told-1 : tie.Need-enum_told-1
 enum_told-1 c = search rules
 
 shape_of-s-else-not-nothing_twice : tie.Need-shape_of-s-else-not-nothing_twice
-shape_of-s-else-not-nothing_twice c = c.before.before.keep_places.auto.s ∙ simp length-set c.before.before.before.before.before.before.before.before.before.before.before.before.before.before.before.before.before.goals.auto.1.1.1.0
+shape_of-s-else-not-nothing_twice c = c.before.before.keep_places.auto.s ∙ simp length-set c.before.before.before.before.before.before.before.before.before.before.before.before.before.before.before.goals.auto.s
 
 shape_of-names-else-not-nothing_twice : tie.Need-shape_of-names-else-not-nothing_twice
-shape_of-names-else-not-nothing_twice c = c.before.before.before.before.before.before.before.before.before.before.before.before.before.before.before.before.before.goals.auto.1.1.1.1.0
+shape_of-names-else-not-nothing_twice c = c.before.before.before.before.before.before.before.before.before.before.before.before.before.before.before.goals.auto.names
 
 shape_of-item-else-not-nothing_twice : tie.Need-shape_of-item-else-not-nothing_twice
-shape_of-item-else-not-nothing_twice c = c.before.before.before.before.before.before.before.before.before.before.before.before.before.before.before.before.before.goals.auto.1.1.1.1.1.0
+shape_of-item-else-not-nothing_twice c = c.before.before.before.before.before.before.before.before.before.before.before.before.before.before.before.goals.auto.item
 
 returns-else-not-nothing_twice : tie.Need-returns-else-not-nothing_twice
 returns-else-not-nothing_twice c =
-    let a = c.before.before.before.before.before.before.before.before.before.before.before.before.before.before.before.before.before.before.before.before.before.before.before.before.before.before.before.before.before.before.before.args in
-    let x = c.before.before.before.before.before.before.before.before.before.before.before.before.before.before.before.before.before.before.before.before.before.before.before.before.before.before.before.before.before.before.before.requires.1.1 in
+    let a = c.before.before.before.before.before.before.before.before.before.before.before.before.before.before.before.before.before.before.before.before.before.before.before.before.before.before.before.args in
+    let x = c.before.before.before.before.before.before.before.before.before.before.before.before.before.before.before.before.before.before.before.before.before.before.before.before.before.before.before.requires.begins_in_bounds in
     λ known clauses b.
-    let f = c.before.before.before.before.before.before.before.before.before.before.before.before.before.before.before.before.before.before.first.ensures in
-    let st = begin_stands a.text.now a.rest.now a.from a.names.now a.item.now a.known known b c.before.before.before.before.before.before.before.before.before.before.before.before.before.before.before.before.before.before.first.result (omega (arith, f.0, c.before.before.before.before.before.before.before.before.before.before.before.before.before.before.before.before.before.before.before.before.before.before.before.before.before.before.before.before.before.before.before.requires.1.1.0)) f.1 f.2 f.3 in
-    let got = rw c.before.before.before.before.before.before.before.before.before.count.given.1 at (c.before.before.before.before.before.before.before.before.before.before.before.before.before.before.before.before.before.goals.ensures known [] st) in
-    query_took a.text.now a.rest.now a.from a.names.now a.item.now a.known known b clauses a.k a.begins a.s.now a.heads.now x.1 c.before.before.before.before.before.before.before.before.before.before.before.before.before.before.before.before.before.before.before.before.before.before.if1.false c.before.before.before.before.before.before.before.before.before.before.before.before.before.before.before.before.before.before.first.result f.0 f.3 c.before.before.before.before.before.before.before.before.before.before.before.before.before.before.before.before.before.goals.new.1.1.1.0 c.before.before.before.before.before.before.before.before.before.before.before.before.before.before.before.before.before.goals.new.1.1.1.1.0 c.before.before.before.before.before.before.before.before.before.before.before.before.before.before.before.before.before.goals.new.1.1.1.1.1.0 c.before.before.before.before.before.before.before.before.before.count.given.0.0 c.before.before.before.before.before.before.before.before.before.count.given.0.1.0 got.0 got.1 got.2 got.3 c.before.before.keep_places.new.s c.before.before.before.before.before.before.word.result c.before.before.before.before.before.word2.result (sym c.before.before.before.before.before.before.before.before.nothing_twice.ensures ∙ not-false _ c.before.before.before.before.before.before.before.if2.false) c.before.before.before.before.before.before.word.ensures c.before.before.before.before.before.word2.ensures c.before.before.keep_places.ensures
+    let f = c.before.before.before.before.before.before.before.before.before.before.before.before.before.before.before.before.first.ensures in
+    let st = begin_stands a.text.now a.rest.now a.from a.names.now a.item.now a.known known b c.before.before.before.before.before.before.before.before.before.before.before.before.before.before.before.before.first.result (omega (arith, f.0, c.before.before.before.before.before.before.before.before.before.before.before.before.before.before.before.before.before.before.before.before.before.before.before.before.before.before.before.requires.begins_in_bounds.0)) f.1 f.2 f.3 in
+    let got = rw c.before.before.before.before.before.before.before.before.in-Got.is at (c.before.before.before.before.before.before.before.before.before.before.before.before.before.before.before.goals.ensures known [] st) in
+    query_took a.text.now a.rest.now a.from a.names.now a.item.now a.known known b clauses a.k a.begins a.s.now a.heads.now x.1 c.before.before.before.before.before.before.before.before.before.before.before.before.before.before.before.before.before.before.before.before.if-k-ge8.false c.before.before.before.before.before.before.before.before.before.before.before.before.before.before.before.before.first.result f.0 f.3 c.before.before.before.before.before.before.before.before.before.before.before.before.before.before.before.goals.new.s c.before.before.before.before.before.before.before.before.before.before.before.before.before.before.before.goals.new.names c.before.before.before.before.before.before.before.before.before.before.before.before.before.before.before.goals.new.item c.before.before.before.before.before.before.before.before.in-Got.count c.before.before.before.before.before.before.before.before.in-Got.c got.0 got.1 got.2 got.3 c.before.before.keep_places.new.s c.before.before.before.before.before.word.result c.before.before.before.before.word-in-Got.result (sym c.before.before.before.before.before.before.before.nothing_twice.ensures ∙ not-false _ c.before.before.before.before.before.before.if-not-nothing_twice.false) c.before.before.before.before.before.word.ensures c.before.before.before.before.word-in-Got.ensures c.before.before.keep_places.ensures
 
 shape_of-s-in-Malformed : tie.Need-shape_of-s-in-Malformed
 shape_of-s-in-Malformed c = c.before.before.before.before.before.before.before.goals.auto.s

@@ -41,27 +41,27 @@ bounds-heads-k c = search rules
 copy_counts-requires : tie.Need-copy_counts-requires
 copy_counts-requires c κs =
     let at_e = c.before.before in
-    let at_goal = at_e.before.before.before.before.before.before.before.before in
+    let at_goal = at_e.before.before.before.before.before.before.before in
     let start = at_goal.before.before.before.before.before.before.before.before.before.before.before.before.before in
     let a = start.args in
     let q = start.requires in
-    let known = q.1.1.0 in
-    let vars = q.1.1.1 in
-    let st = q.1.1.2 in
-    let gave = rw at_e.e.given.1 at (at_goal.goal.ensures known vars st) in
-    (gave.2.stands.variables_in.size, q.1.0.0)
+    let known = q.stands.0 in
+    let vars = q.stands.1 in
+    let st = q.stands.2 in
+    let gave = rw at_e.in-Got.is at (at_goal.goal.ensures known vars st) in
+    (gave.2.stands.variables_in.size, q.in_head_len.0)
 
 next_of-requires : tie.Need-next_of-requires
 next_of-requires c κs =
     let at_e = c.before.before.before.before.before in
-    let at_goal = at_e.before.before.before.before.before.before.before.before in
+    let at_goal = at_e.before.before.before.before.before.before.before in
     let start = at_goal.before.before.before.before.before.before.before.before.before.before.before.before.before in
     let a = start.args in
     let q = start.requires in
-    let known = q.1.1.0 in
-    let vars = q.1.1.1 in
-    let st = q.1.1.2 in
-    let gave = rw at_e.e.given.1 at (at_goal.goal.ensures known vars st) in
+    let known = q.stands.0 in
+    let vars = q.stands.1 in
+    let st = q.stands.2 in
+    let gave = rw at_e.in-Got.is at (at_goal.goal.ensures known vars st) in
     gave.2.stands.inside
 
 enum_known-behind : tie.Need-enum_known-behind
@@ -70,31 +70,31 @@ enum_known-behind c = search rules
 body-requires : tie.Need-body-requires
 body-requires c κs =
     let at_behind = c.before.before.before.before.before in
-    let at_next_of = at_behind.before.before in
+    let at_next_of = at_behind.before in
     let at_copy_counts = at_next_of.before.before.before in
     let at_e = at_copy_counts.before.before.before in
-    let at_goal = at_e.before.before.before.before.before.before.before.before in
+    let at_goal = at_e.before.before.before.before.before.before.before in
     let start = at_goal.before.before.before.before.before.before.before.before.before.before.before.before.before in
     let a = start.args in
     let q = start.requires in
-    let known = q.1.1.0 in
-    let vars = q.1.1.1 in
-    let st = q.1.1.2 in
-    let gave = rw at_e.e.given.1 at (at_goal.goal.ensures known vars st) in
-    let next = rw at_behind.behind.given.1 at at_next_of.next_of.ensures in (
-      (q.0.0, omega (arith, q.0.1, at_goal.goal.auto.1.1.1.0), omega (arith, q.0.2, at_goal.goal.auto.1.1.1.0)),
+    let known = q.stands.0 in
+    let vars = q.stands.1 in
+    let st = q.stands.2 in
+    let gave = rw at_e.in-Got.is at (at_goal.goal.ensures known vars st) in
+    let next = rw at_behind.in-First.is at at_next_of.next_of.ensures in (
+      (q.k_bound.0, omega (arith, q.k_bound.1, at_goal.goal.auto.s), omega (arith, q.k_bound.2, at_goal.goal.auto.s)),
       (
-        (at_copy_counts.copy-counts.auto.1.0 ∙ q.1.0.0, q.1.0.1, q.1.0.2),
+        (at_copy_counts.copy_counts.auto.table ∙ q.in_head_len.0, q.in_head_len.1, q.in_head_len.2),
         (
           same_counts a.k a.text.now a.rest.now a.from known vars a.c a.s.now
-              a.item.now a.heads.now q.0.0 at_goal.goal.new.1.1.1.0 at_goal.goal.new.1.1.1.1.0 at_goal.goal.new.1.1.1.1.1.0 at_e.e.given.0.0
-              at_e.e.given.0.1.0 gave.0 gave.1 gave.2 q.0.4 (omega (arith, q.0.0, q.0.1)) a.in_head.now at_copy_counts.copy-counts.new.1.0
-              (at_copy_counts.copy-counts.auto.1.0 ∙ q.1.0.0) at_copy_counts.copy-counts.ensures,
+              a.item.now a.heads.now q.k_bound.0 at_goal.goal.new.s at_goal.goal.new.names at_goal.goal.new.item at_e.in-Got.field-0
+              at_e.in-Got.e gave.0 gave.1 gave.2 q.k_bound.4 (omega (arith, q.k_bound.0, q.k_bound.1)) a.in_head.now at_copy_counts.copy_counts.new.table
+              (at_copy_counts.copy_counts.auto.table ∙ q.in_head_len.0) at_copy_counts.copy_counts.ensures,
           (
             names_over gave.1 known,
             variables_over a.from gave.1 vars,
-            stands_behind a.text.now a.rest.now a.from at_goal.goal.new.1.1.1.1.0
-                at_goal.goal.new.1.1.1.1.1.0 at_e.e.given.0.1.0 (names_over gave.1 known) (variables_over a.from gave.1 vars) at_behind.behind.given.0.0
+            stands_behind a.text.now a.rest.now a.from at_goal.goal.new.names
+                at_goal.goal.new.item at_e.in-Got.e (names_over gave.1 known) (variables_over a.from gave.1 vars) at_behind.in-First.behind
                 gave.2.stands next.inside,
           ),
         ),
@@ -119,13 +119,13 @@ enum_told-1 c = search rules
 shape_of-s-in-First : tie.Need-shape_of-s-in-First
 shape_of-s-in-First c =
     let at_body = c.before.before.before.before.before.before.before.before.before.before in
-    let at_goal = at_body.before.before.before.before.before.before.before.before.before.before.before.before.before.before.before.before.before.before.before.before.before.before in
+    let at_goal = at_body.before.before.before.before.before.before.before.before.before.before.before.before.before.before.before.before.before.before.before.before in
     at_body.body.auto.s ∙ at_goal.goal.kept.1.1.1.0
 
 shape_of-names-in-First : tie.Need-shape_of-names-in-First
 shape_of-names-in-First c =
     let at_body = c.before.before.before.before.before.before.before.before.before.before in
-    let at_goal = at_body.before.before.before.before.before.before.before.before.before.before.before.before.before.before.before.before.before.before.before.before.before.before in
+    let at_goal = at_body.before.before.before.before.before.before.before.before.before.before.before.before.before.before.before.before.before.before.before.before in
     at_body.body.auto.names ∙ at_goal.goal.kept.1.1.1.1.0
 
 shape_of-item-in-First : tie.Need-shape_of-item-in-First
@@ -147,23 +147,23 @@ returns-in-First : tie.Need-returns-in-First
 returns-in-First c =
     let at_body = c.before.before.before.before.before.before.before.before.before.before in
     let at_behind = at_body.before.before.before.before.before.before in
-    let at_next_of = at_behind.before.before in
+    let at_next_of = at_behind.before in
     let at_copy_counts = at_next_of.before.before.before in
     let at_e = at_copy_counts.before.before.before in
-    let at_goal = at_e.before.before.before.before.before.before.before.before in
+    let at_goal = at_e.before.before.before.before.before.before.before in
     let start = at_goal.before.before.before.before.before.before.before.before.before.before.before.before.before in
     let a = start.args in
     let q = start.requires in
     λ known vars st.
-    let gave = rw at_e.e.given.1 at (at_goal.goal.ensures known vars st) in
-    let next = rw at_behind.behind.given.1 at at_next_of.next_of.ensures in
-    head_body a.k a.text.now a.rest.now a.from known vars a.c a.s.now a.item.now a.heads.now q.0.0 at_goal.goal.new.1.1.1.0
-    at_goal.goal.new.1.1.1.1.0 at_goal.goal.new.1.1.1.1.1.0 at_e.e.given.0.0 at_e.e.given.0.1.0 gave.0 gave.1 gave.2 q.0.4
-    (omega (arith, q.0.0, q.0.1)) a.in_head.now at_copy_counts.copy-counts.new.1.0 (at_copy_counts.copy-counts.auto.1.0 ∙ q.1.0.0)
-    at_copy_counts.copy-counts.ensures at_behind.behind.given.0.0 next at_body.body.new.s at_body.body.new.names
+    let gave = rw at_e.in-Got.is at (at_goal.goal.ensures known vars st) in
+    let next = rw at_behind.in-First.is at at_next_of.next_of.ensures in
+    head_body a.k a.text.now a.rest.now a.from known vars a.c a.s.now a.item.now a.heads.now q.k_bound.0 at_goal.goal.new.s
+    at_goal.goal.new.names at_goal.goal.new.item at_e.in-Got.field-0 at_e.in-Got.e gave.0 gave.1 gave.2 q.k_bound.4
+    (omega (arith, q.k_bound.0, q.k_bound.1)) a.in_head.now at_copy_counts.copy_counts.new.table (at_copy_counts.copy_counts.auto.table ∙ q.in_head_len.0)
+    at_copy_counts.copy_counts.ensures at_behind.in-First.behind next at_body.body.new.s at_body.body.new.names
     at_body.body.new.item at_body.body.new.in_guards at_body.body.new.licensed at_body.body.result
-    (at_body.body.ensures (names_over gave.1 known) (variables_over a.from gave.1 vars) (stands_behind a.text.now a.rest.now a.from at_goal.goal.new.1.1.1.1.0
-    at_goal.goal.new.1.1.1.1.1.0 at_e.e.given.0.1.0 (names_over gave.1 known) (variables_over a.from gave.1 vars) at_behind.behind.given.0.0
+    (at_body.body.ensures (names_over gave.1 known) (variables_over a.from gave.1 vars) (stands_behind a.text.now a.rest.now a.from at_goal.goal.new.names
+    at_goal.goal.new.item at_e.in-Got.e (names_over gave.1 known) (variables_over a.from gave.1 vars) at_behind.in-First.behind
     gave.2.stands next.inside))
 
 shape_of-s-in-Second : tie.Need-shape_of-s-in-Second
@@ -187,17 +187,17 @@ returns-in-Second c =
     let at_next_of = at_behind2.before in
     let at_copy_counts = at_next_of.before.before.before in
     let at_e = at_copy_counts.before.before.before in
-    let at_goal = at_e.before.before.before.before.before.before.before.before in
+    let at_goal = at_e.before.before.before.before.before.before.before in
     let start = at_goal.before.before.before.before.before.before.before.before.before.before.before.before.before in
     let a = start.args in
     let q = start.requires in
     λ known vars st.
-    let gave = rw at_e.e.given.1 at (at_goal.goal.ensures known vars st) in
+    let gave = rw at_e.in-Got.is at (at_goal.goal.ensures known vars st) in
     let next = rw at_behind2.in-Second.is at at_next_of.next_of.ensures in
-    head_stop a.k a.text.now a.rest.now a.from known vars a.c a.s.now a.item.now a.heads.now q.0.0 at_goal.goal.new.1.1.1.0
-    at_goal.goal.new.1.1.1.1.0 at_goal.goal.new.1.1.1.1.1.0 at_e.e.given.0.0 at_e.e.given.0.1.0 gave.0 gave.1 gave.2 q.0.4
-    (omega (arith, q.0.0, q.0.1)) a.in_head.now at_copy_counts.copy_counts.new.table (at_copy_counts.copy_counts.auto.table ∙ q.1.0.0)
-    at_copy_counts.copy_counts.ensures a.in-guards.now a.licensed.now q.1.0.1 q.1.0.2 at_behind2.in-Second.behind next.1
+    head_stop a.k a.text.now a.rest.now a.from known vars a.c a.s.now a.item.now a.heads.now q.k_bound.0 at_goal.goal.new.s
+    at_goal.goal.new.names at_goal.goal.new.item at_e.in-Got.field-0 at_e.in-Got.e gave.0 gave.1 gave.2 q.k_bound.4
+    (omega (arith, q.k_bound.0, q.k_bound.1)) a.in_head.now at_copy_counts.copy_counts.new.table (at_copy_counts.copy_counts.auto.table ∙ q.in_head_len.0)
+    at_copy_counts.copy_counts.ensures a.in-guards.now a.licensed.now q.in_head_len.1 q.in_head_len.2 at_behind2.in-Second.behind next.1
 
 shape_of-s-in-Third : tie.Need-shape_of-s-in-Third
 shape_of-s-in-Third c = search rules
@@ -219,12 +219,12 @@ returns-in-Third c =
     let at_a = c in
     let at_next_of = at_a.before in
     let at_e = at_next_of.before.before.before.before.before.before in
-    let at_goal = at_e.before.before.before.before.before.before.before.before in
+    let at_goal = at_e.before.before.before.before.before.before.before in
     let start = at_goal.before.before.before.before.before.before.before.before.before.before.before.before.before in
     let a = start.args in
     let q = start.requires in
     λ known vars st.
-    let gave = rw at_e.e.given.1 at (at_goal.goal.ensures known vars st) in
+    let gave = rw at_e.in-Got.is at (at_goal.goal.ensures known vars st) in
     let next = rw at_a.in-Third.is at at_next_of.next_of.ensures in
     never next.1
 
@@ -249,16 +249,16 @@ returns-in-Other c =
     let at_next_of = at_a2.before in
     let at_copy_counts = at_next_of.before.before.before in
     let at_e = at_copy_counts.before.before.before in
-    let at_goal = at_e.before.before.before.before.before.before.before.before in
+    let at_goal = at_e.before.before.before.before.before.before.before in
     let start = at_goal.before.before.before.before.before.before.before.before.before.before.before.before.before in
     let a = start.args in
     let q = start.requires in
     λ known vars st.
-    let gave = rw at_e.e.given.1 at (at_goal.goal.ensures known vars st) in
+    let gave = rw at_e.in-Got.is at (at_goal.goal.ensures known vars st) in
     let next = rw at_a2.in-Other.is at at_next_of.next_of.ensures in
-    head_other a.k a.text.now a.rest.now a.from known vars a.c a.s.now a.item.now a.heads.now q.0.0 at_goal.goal.new.1.1.1.0
-    at_goal.goal.new.1.1.1.1.0 at_goal.goal.new.1.1.1.1.1.0 at_e.e.given.0.0 at_e.e.given.0.1.0 gave.0 gave.1 gave.2 q.0.4
-    (omega (arith, q.0.0, q.0.1)) a.in_head.now at_copy_counts.copy_counts.new.table (at_copy_counts.copy_counts.auto.table ∙ q.1.0.0)
+    head_other a.k a.text.now a.rest.now a.from known vars a.c a.s.now a.item.now a.heads.now q.k_bound.0 at_goal.goal.new.s
+    at_goal.goal.new.names at_goal.goal.new.item at_e.in-Got.field-0 at_e.in-Got.e gave.0 gave.1 gave.2 q.k_bound.4
+    (omega (arith, q.k_bound.0, q.k_bound.1)) a.in_head.now at_copy_counts.copy_counts.new.table (at_copy_counts.copy_counts.auto.table ∙ q.in_head_len.0)
     at_copy_counts.copy_counts.ensures a.in-guards.now a.licensed.now at_a2.in-Other.a (next.1 a.from) next.0
 
 shape_of-s-in-Malformed : tie.Need-shape_of-s-in-Malformed

@@ -22,11 +22,11 @@ returns-then-not-resolve c =
 
 licences-requires : tie.Need-licences-requires
 licences-requires c κs =
-    let resolve = c.before.before.before.before.before.resolve in
-    let start = c.before.before.before.before.before.before.before.before.before.before.before.before in
-    let (known, es, listed) = start.requires.1 in
-    let found = rw (not-false resolve.result c.before.before.if1.false) at (resolve.ensures known es listed) in
-    ((start.requires.0.0, omega (arith, start.requires.0.1, resolve.auto.1.1.0)), (start.args.base, known, found.0, found.1.tests))
+    let resolve = c.before.before.before.before.resolve in
+    let start = c.before.before.before.before.before.before.before.before.before.before.before in
+    let (known, es, listed) = start.requires.listed in
+    let found = rw (not-false resolve.result c.before.if-not-resolve.false) at (resolve.ensures known es listed) in
+    ((start.requires.licensed_value.0, omega (arith, start.requires.licensed_value.1, resolve.auto.s)), (start.args.base, known, found.0, found.1.tests))
 
 shape_of-s : tie.Need-shape_of-s
 shape_of-s c = search rules
@@ -36,11 +36,11 @@ shape_of-licensed c = search rules
 
 returns : tie.Need-returns
 returns c =
-    let resolve = c.before.before.before.before.before.before.before.before.resolve in
-    let start = c.before.before.before.before.before.before.before.before.before.before.before.before.before.before.before in
+    let resolve = c.before.before.before.before.before.before.before.resolve in
+    let start = c.before.before.before.before.before.before.before.before.before.before.before.before.before.before in
     let a = start.args in
     λ known es listed.
-    let found = rw (not-false resolve.result c.before.before.before.before.before.if1.false) at (resolve.ensures known es listed) in
+    let found = rw (not-false resolve.result c.before.before.before.before.if-not-resolve.false) at (resolve.ensures known es listed) in
     let got = found.1 in (
       found.0,
       got.guards_are,

@@ -26,7 +26,7 @@ build-requires c κs = search rules
 -- When the index is built, the job is ready as it was.
 enter_all-t-requires : tie.Need-enter_all-t-requires
 enter_all-t-requires c κs =
-    let S = c.before.before.before.before.before.before.before.before.before in
+    let S = c.before.before.before.before.before.before.before.before in
     let a = S.requires in
     let built = c.before.before.before.build.ensures a.1 a.2 a.3.held a.5 in
     let fits = sym (c.before.before.before.before.before.before.fit.ensures a.1 a.2 a.3.held a.6) ∙ not-false _ c.before.before.before.before.before.if-not-fit.false in
@@ -34,7 +34,7 @@ enter_all-t-requires c κs =
 
 go_on-requires : tie.Need-go_on-requires
 go_on-requires c κs =
-    let S = c.before.before.before.before.before.before.before.before.before.before.before.before.before in
+    let S = c.before.before.before.before.before.before.before.before.before.before.before.before in
     let a = S.requires in
     let room = figures S.args.room in
     let built = c.before.before.before.before.before.before.before.build.ensures a.1 a.2 a.3.held a.5 in
@@ -48,7 +48,7 @@ shape_of-s c = search rules
 
 returns : tie.Need-returns
 returns c = λ text names j ready few clauses count.
-    let S = c.before.before.before.before.before.before.before.before.before.before.before.before.before.before.before.before in
+    let S = c.before.before.before.before.before.before.before.before.before.before.before.before.before.before.before in
     let room = figures S.args.room in
     let built = c.before.before.before.before.before.before.before.before.before.before.build.ensures names j ready.held clauses in
     let fits = sym (c.before.before.before.before.before.before.before.before.before.before.before.before.before.fit.ensures names j ready.held count) ∙ not-false _ c.before.before.before.before.before.before.before.before.before.before.before.before.if-not-fit.false in

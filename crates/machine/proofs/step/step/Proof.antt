@@ -142,7 +142,7 @@ queue-requires c κs = search rules
 
 word_at-goal-requires : tie.Need-word_at-goal-requires
 word_at-goal-requires c κs =
-    let S = c.before.before.before in
+    let S = c.before.before in
     let p = S.requires in
     rw c.queue.ensures
     (front_inside S.args.s.now p.0 p.1 p.2 (figures S.args.room) p.3 p.4 p.5 S.args.t _ p.8)

@@ -68,13 +68,13 @@ returns-then-buffer-n c =
 -- src/report.rt:105:5
 write_report-requires : tie.Need-write_report-requires
 write_report-requires c κs =
-    let st = c.before.before.before.before.before.before.before.before.before.before.before.before.before.before.before.before.before.before.before.before in
-    let f = c.before.before.before.before.before.before.before.before.before.before.before.before.before.before.forget in
-    let w = c.before.before.before.before.before.before.before.before.before.before.before.before.before.before.before.waiters in
-    let p = c.before.before.before.before.before.before.before.before.before.before.note-pairs in
-    let n = c.before.before.before.before.before.before.count-report in
+    let st = c.before.before.before.before.before.before.before.before.before.before.before.before.before.before.before.before.before.before.before in
+    let f = c.before.before.before.before.before.before.before.before.before.before.before.before.before.forget in
+    let w = c.before.before.before.before.before.before.before.before.before.before.before.before.before.before.waiters in
+    let p = c.before.before.before.before.before.before.before.before.before.note_pairs in
+    let n = c.before.before.before.before.before.count_report-n in
     let (names, j, limit, F, all, short) = st.requires in
-    asked_to_write st.args.s.now f.new.0 p.new.0 st.args.text.now names (figures st.args.room) j limit st.args.verdict st.args.t w.result st.args.queries F all short w.ensures f.ensures p.ensures n.new.0 n.result n.ensures st.args.buffer.now (λ e. omega arith) (omega arith)
+    asked_to_write st.args.s.now f.new.s p.new.s st.args.text.now names (figures st.args.room) j limit st.args.verdict st.args.t w.result st.args.queries F all short w.ensures f.ensures p.ensures n.new.s n.result n.ensures st.args.buffer.now (λ e. omega arith) (omega arith)
 
 -- src/report.rt:81:1
 shape_of-s : tie.Need-shape_of-s
@@ -87,14 +87,14 @@ shape_of-buffer c = search rules
 -- src/report.rt:81:1
 returns : tie.Need-returns
 returns c =
-    let st = c.before.before.before.before.before.before.before.before.before.before.before.before.before.before.before.before.before.before.before.before.before.before.before in
-    let f = c.before.before.before.before.before.before.before.before.before.before.before.before.before.before.before.before.before.forget in
-    let w = c.before.before.before.before.before.before.before.before.before.before.before.before.before.before.before.before.before.before.waiters in
-    let p = c.before.before.before.before.before.before.before.before.before.before.before.before.before.note-pairs in
-    let n = c.before.before.before.before.before.before.before.before.before.count-report in
+    let st = c.before.before.before.before.before.before.before.before.before.before.before.before.before.before.before.before.before.before.before.before.before.before in
+    let f = c.before.before.before.before.before.before.before.before.before.before.before.before.before.before.before.before.forget in
+    let w = c.before.before.before.before.before.before.before.before.before.before.before.before.before.before.before.before.before.waiters in
+    let p = c.before.before.before.before.before.before.before.before.before.before.before.before.note_pairs in
+    let n = c.before.before.before.before.before.before.before.before.count_report-n in
     let b = c.before.before.write_report in
     λ names j limit F all short.
-    written_whole st.args.s.now f.new.0 p.new.0 st.args.text.now names (figures st.args.room) j limit st.args.verdict st.args.t w.result st.args.queries F all short w.ensures f.ensures p.ensures n.new.0 n.result n.ensures st.args.buffer.now c.before.before.before.before.before.before.if1.false (omega arith) b.new.buffer b.result b.ensures
+    written_whole st.args.s.now f.new.s p.new.s st.args.text.now names (figures st.args.room) j limit st.args.verdict st.args.t w.result st.args.queries F all short w.ensures f.ensures p.ensures n.new.s n.result n.ensures st.args.buffer.now c.before.before.before.before.before.if-n-eq-CEILING.false (omega arith) b.new.buffer b.result b.ensures
 
 pub report_spec : {M : Type 1} → statement M
 report_spec =

@@ -67,10 +67,10 @@ enum_known-k c = search rules
 
 name-requires : tie.Need-name-requires
 name-requires c κs =
-    let looked = c.before.before in
+    let looked = c.before in
     let S = looked.before.before in
-    let k = c.k.given.0.0 in
-    let at : look S.args.w ≡ Name k = sym looked.look.ensures ∙ c.k.given.1 in
+    let k = c.in-Name.k in
+    let at : look S.args.w ≡ Name k = sym looked.look.ensures ∙ c.in-Name.is in
     (leaf_name _ _ _ _ S.requires.4 _ _ S.requires.7 k at).2
 
 enum_told-1 : tie.Need-enum_told-1
@@ -119,10 +119,10 @@ shape_of-s-in-Name c = search rules
 
 returns-in-Name : tie.Need-returns-in-Name
 returns-in-Name c text x seen t r k l d =
-    let looked = c.before.before.before in
+    let looked = c.before.before in
     let S = looked.before.before in
-    let m = c.before.k.given.0.0 in
-    let at : look S.args.w ≡ Name m = sym looked.look.ensures ∙ c.before.k.given.1 in
+    let m = c.before.in-Name.k in
+    let at : look S.args.w ≡ Name m = sym looked.look.ensures ∙ c.before.in-Name.is in
     let N = leaf_name _ _ _ _ r _ _ l m at in
     constant_counted S.args.s.now text x S.args.facts seen t (Constant.name N.0) N.0 c.name.result r k N.1
     (λ order. name_written order N.0) (c.name.ensures ∙ N.3.sized)

@@ -12,7 +12,7 @@ use Rattle.report_count.proofs.counting.number.Tie as tie
 
 fact-k-requires : tie.Need-fact-k-requires
 fact-k-requires c κs =
-    let start = c.before.before in
+    let start = c.before in
     omega (arith, fact_inside start.args.s.now start.requires.0 start.requires.1 start.args.facts start.requires.4 start.requires.3 start.requires.7, start.requires.9)
 
 shape_of-s-then-k-ne0 : tie.Need-shape_of-s-then-k-ne0
@@ -20,7 +20,7 @@ shape_of-s-then-k-ne0 c = search rules
 
 returns-then-k-ne0 : tie.Need-returns-then-k-ne0
 returns-then-k-ne0 c text x seen n r k b e q h =
-    let start = c.before.before.before.before in
+    let start = c.before.before.before in
     number_had start.args.s.now text x start.args.facts seen n start.args.p c.before.fact-k.result r k b q c.before.fact-k.ensures c.if-k-ne0.true h
 
 bounds-s-41984 : tie.Need-bounds-s-41984
@@ -34,18 +34,18 @@ bounds-s-41984-2 c = search rules
 
 set_fact-requires : tie.Need-set_fact-requires
 set_fact-requires c κs =
-    let start = c.before.before.before.before.before.before in
+    let start = c.before.before.before.before.before in
     omega (arith, fact_inside start.args.s.now start.requires.0 start.requires.1 start.args.facts start.requires.4 start.requires.3 start.requires.7, start.requires.9, length-set start.args.s.now trial_region (get_or start.args.s.now trial_region 0 + 1))
 
 shape_of-s : tie.Need-shape_of-s
 shape_of-s c =
-    let start = c.before.before.before.before.before.before.before.before.before in
+    let start = c.before.before.before.before.before.before.before.before in
     let s = start.args.s.now in let v = get_or s trial_region 0 + 1 in
     ap length c.before.before.set_fact.ensures ∙ length-set (set s trial_region v) (start.args.facts + pair_facts * start.args.p + 2) v ∙ length-set s trial_region v
 
 returns : tie.Need-returns
 returns c text x seen n r k b e q h =
-    let start = c.before.before.before.before.before.before.before.before.before in
+    let start = c.before.before.before.before.before.before.before.before in
     let told = c.before.before.before.before.before.before.fact-k in
     let new = number_missing start.args.s.now x start.args.facts seen n start.args.p told.result k b q told.ensures c.before.before.before.before.before.if-k-ne0.false in
     rw c.before.before.set_fact.ensures

@@ -83,7 +83,7 @@ slice-aggregate-words c = search rules
 words-requires : tie.Need-words-requires
 words-requires c κs =
     let looked = c.before.before.before in
-    let entry = looked.before.before.before.before in
+    let entry = looked.before.before.before.before.before in
     let at : seen entry.args.w ≡ Empty = sym looked.look.ensures ∙ c.before.before.enum_told.given.1 in
     let bytes_are = ap (written entry.requires.1 alone) (leaf_empty _ _ _ _ entry.requires.3.readable _ _ entry.requires.4 at) ∙ empty_written entry.requires.1 in
     omega (arith, ap length bytes_are, entry.requires.3.fits)
@@ -140,7 +140,7 @@ shape_of-buffer-in-Empty c = search rules
 returns-in-Empty : tie.Need-returns-in-Empty
 returns-in-Empty c x order t W l d =
     let looked = c.before.before.before.before.before.before in
-    let entry = looked.before.before.before.before in
+    let entry = looked.before.before.before.before.before in
     let at : seen entry.args.w ≡ Empty = sym looked.look.ensures ∙ c.before.before.before.before.before.enum_told.given.1 in
     puts_is (sym (ap (written order alone) (leaf_empty _ _ _ _ W.readable _ _ l at) ∙ empty_written order)) c.before.before.words.ensures
 

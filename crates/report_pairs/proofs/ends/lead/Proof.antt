@@ -13,7 +13,7 @@ shape_of-s-then-e-w c = search rules
 
 returns-then-e-w : tie.Need-returns-then-e-w
 returns-then-e-w c text x t r k =
-    let start = c.before.before.before.before in
+    let start = c.before.before.before in
     lead_same start.args.s.now text x start.args.facts r t c.before.end-e.result (c.before.end-e.ensures text x t r k)
 
 pair-p-requires : tie.Need-pair-p-requires
@@ -24,7 +24,7 @@ shape_of-s-then-p-eq0 c = search rules
 
 returns-then-p-eq0 : tie.Need-returns-then-p-eq0
 returns-then-p-eq0 c text x t r k =
-    let start = c.before.before.before.before.before.before in
+    let start = c.before.before.before.before.before in
     let told = c.before.before.before.end-e in
     lead_same start.args.s.now text x start.args.facts r t told.result (told.ensures text x t r k)
 
@@ -33,7 +33,7 @@ overflow_sub-p c = search rules
 
 set_fact-requires : tie.Need-set_fact-requires
 set_fact-requires c κs =
-    let start = c.before.before.before.before.before.before.before in
+    let start = c.before.before.before.before.before.before in
     let inside = pair_inside start.args.s.now start.requires.0 start.requires.1 start.args.facts start.requires.3 start.requires.2 start.args.w
     c.before.before.pair-p.result start.requires.4 c.before.before.pair-p.ensures c.before.if-p-eq0.false in
     omega arith
@@ -43,7 +43,7 @@ shape_of-s c = search rules
 
 returns : tie.Need-returns
 returns c text x t r k =
-    let start = c.before.before.before.before.before.before.before.before.before.before in
+    let start = c.before.before.before.before.before.before.before.before.before in
     let told = c.before.before.before.before.before.before.before.end-e in
     let pair_told = c.before.before.before.before.before.pair-p in
     rw c.before.before.set_fact.ensures

@@ -49,7 +49,7 @@ overflow_add-behind c = omega (arith, c.origin_length-behind.ensures.1)
 -- src/sections.rt:156:9
 count_line-requires : tie.Need-count_line-requires
 count_line-requires c κs =
-    let S = c.before.before.before.before.before.before.before.before in
+    let S = c.before.before.before.before.before.before.before in
     let a = S.args in
     let at = c.before.before.before.before.before.goal_at-goal in
     let term = c.before.before.goal_term-w in
@@ -67,7 +67,7 @@ shape_of-s-then-own c = search rules
 -- src/sections.rt:156:9
 returns-then-own : tie.Need-returns-then-own
 returns-then-own c =
-    let a = c.before.before.before.before.before.before.before.before.before.before.before.args in
+    let a = c.before.before.before.before.before.before.before.before.before.before.args in
     let at = c.before.before.before.before.before.before.before.before.goal_at-goal in
     let term = c.before.before.before.before.before.goal_term-w in
     let line = c.before.before.count_line in
@@ -89,8 +89,8 @@ shape_of-s c = search rules
 -- src/sections.rt:119:1
 returns : tie.Need-returns
 returns c =
-    let is : own c.before.before.before.before.before.args.q (goal_in c.before.before.before.before.before.args.s.now c.before.before.before.before.before.args.g c.before.before.before.before.before.args.i) ≡ false =
-    sym (ap (own c.before.before.before.before.before.args.q) c.before.before.goal_at-goal.ensures) ∙ sym c.before.own.ensures ∙ c.if-own.false in
+    let is : own c.before.before.before.before.args.q (goal_in c.before.before.before.before.args.s.now c.before.before.before.before.args.g c.before.before.before.before.args.i) ≡ false =
+    sym (ap (own c.before.before.before.before.args.q) c.before.before.goal_at-goal.ensures) ∙ sym c.before.own.ensures ∙ c.if-own.false in
     (λ e. (refl, refl), λ text x seen t label e counts shows labelled. absurd (false_not_true _ is e))
 
 pub count_goal_spec : {M : Type 1} → statement M

@@ -40,8 +40,8 @@ further-to-requires c κs = search rules
 -- src/sections.rt:193:5
 count_values-to-requires : tie.Need-count_values-to-requires
 count_values-to-requires c κs =
-    let a = c.before.before.before.before.before.before.args in
-    let (text, x, xs, actives, ws, fs, counts, sec) = c.before.before.before.before.before.before.requires in
+    let a = c.before.before.before.before.before.args in
+    let (text, x, xs, actives, ws, fs, counts, sec) = c.before.before.before.before.before.requires in
     let counts₀ = counts_further a.s.now text x a.facts [] a.at _ _ counts c.before.further-to.ensures in
     (text, x, [], xs, counts₀, sec.variables)
 
@@ -53,8 +53,8 @@ active-requires c κs = search rules
 count_goals-to-requires : tie.Need-count_goals-to-requires
 unfolding bytes
 count_goals-to-requires c κs =
-    let a = c.before.before.before.before.before.before.before.before.before.before.before.args in
-    let (text, x, xs, actives, ws, fs, counts, sec) = c.before.before.before.before.before.before.before.before.before.before.before.requires in
+    let a = c.before.before.before.before.before.before.before.before.before.before.args in
+    let (text, x, xs, actives, ws, fs, counts, sec) = c.before.before.before.before.before.before.before.before.before.before.requires in
     let counts₀ = counts_further a.s.now text x a.facts [] a.at _ _ counts c.before.before.before.before.before.before.further-to.ensures in
     let v = c.before.before.before.before.count_values-to in
     let c₁ = v.ensures text x [] xs counts₀ sec.variables in
@@ -70,8 +70,8 @@ waiting-requires c κs = search rules
 count_goals-to-requires-2 : tie.Need-count_goals-to-requires-2
 unfolding bytes
 count_goals-to-requires-2 c κs =
-    let a = c.before.before.before.before.before.before.before.before.before.before.before.before.before.before.before.before.args in
-    let (text, x, xs, actives, ws, fs, counts, sec) = c.before.before.before.before.before.before.before.before.before.before.before.before.before.before.before.before.requires in
+    let a = c.before.before.before.before.before.before.before.before.before.before.before.before.before.before.before.args in
+    let (text, x, xs, actives, ws, fs, counts, sec) = c.before.before.before.before.before.before.before.before.before.before.before.before.before.before.before.requires in
     let counts₀ = counts_further a.s.now text x a.facts [] a.at _ _ counts c.before.before.before.before.before.before.before.before.before.before.before.further-to.ensures in
     let v = c.before.before.before.before.before.before.before.before.before.count_values-to in
     let c₁ = v.ensures text x [] xs counts₀ sec.variables in
@@ -87,16 +87,16 @@ count_goals-to-requires-2 c κs =
 -- src/sections.rt:196:34
 failed-requires : tie.Need-failed-requires
 failed-requires c κs =
-    let a = c.before.before.before.before.before.before.before.before.before.before.before.before.before.before.before.before.before.before.before.before.args in
-    let (text, x, xs, actives, ws, fs, counts, sec) = c.before.before.before.before.before.before.before.before.before.before.before.before.before.before.before.before.before.before.before.before.requires in
+    let a = c.before.before.before.before.before.before.before.before.before.before.before.before.before.before.before.before.before.before.before.args in
+    let (text, x, xs, actives, ws, fs, counts, sec) = c.before.before.before.before.before.before.before.before.before.before.before.before.before.before.before.before.before.before.before.requires in
     sec.in_range
 
 -- src/sections.rt:196:5
 count_goals-requires : tie.Need-count_goals-requires
 unfolding bytes
 count_goals-requires c κs =
-    let a = c.before.before.before.before.before.before.before.before.before.before.before.before.before.before.before.before.before.before.before.before.before.args in
-    let (text, x, xs, actives, ws, fs, counts, sec) = c.before.before.before.before.before.before.before.before.before.before.before.before.before.before.before.before.before.before.before.before.before.requires in
+    let a = c.before.before.before.before.before.before.before.before.before.before.before.before.before.before.before.before.before.before.before.before.args in
+    let (text, x, xs, actives, ws, fs, counts, sec) = c.before.before.before.before.before.before.before.before.before.before.before.before.before.before.before.before.before.before.before.before.requires in
     let counts₀ = counts_further a.s.now text x a.facts [] a.at _ _ counts c.before.before.before.before.before.before.before.before.before.before.before.before.before.before.before.before.further-to.ensures in
     let v = c.before.before.before.before.before.before.before.before.before.before.before.before.before.before.count_values-to in
     let c₁ = v.ensures text x [] xs counts₀ sec.variables in
@@ -122,7 +122,7 @@ shape_of-s c = search rules
 returns : tie.Need-returns
 unfolding bytes section_bytes
 returns c =
-    let a = c.before.before.before.before.before.before.before.before.before.before.before.before.before.before.before.before.before.before.before.before.before.before.before.before.args in
+    let a = c.before.before.before.before.before.before.before.before.before.before.before.before.before.before.before.before.before.before.before.before.before.before.before.args in
     λ text x xs actives ws fs counts sec.
     let counts₀ = counts_further a.s.now text x a.facts [] a.at _ _ counts c.before.before.before.before.before.before.before.before.before.before.before.before.before.before.before.before.before.before.before.further-to.ensures in
     let v = c.before.before.before.before.before.before.before.before.before.before.before.before.before.before.before.before.before.count_values-to in

@@ -30,23 +30,23 @@ spelled-n-requires c κs = search rules
 -- src/sections.rt:90:9
 variable-w-requires : tie.Need-variable-w-requires
 variable-w-requires c κs =
-    let a = c.before.before.before.before.args in
-    let (text, x, seen, xs, counts, vs, h) = c.before.before.before.before.requires in
+    let a = c.before.before.args in
+    let (text, x, seen, xs, counts, vs, h) = c.before.before.requires in
     omega (arith, vs.small, vs.few, h, vs.low a.v h, vs.pair a.v h, counts.readable.inside, counts.readable.behind)
 
 -- src/sections.rt:91:30
 overflow_add-n : tie.Need-overflow_add-n
 overflow_add-n c =
-    let a = c.before.before.before.before.before.before.args in
-    let (text, x, seen, xs, counts, vs, h) = c.before.before.before.before.before.before.requires in
+    let a = c.before.before.before.before.args in
+    let (text, x, seen, xs, counts, vs, h) = c.before.before.before.before.requires in
     let spelled = name_size a.s.now text x a.q xs a.v vs h in
-    omega (arith, c.before.before.before.spelled.ensures, spelled.inside, counts.readable.short)
+    omega (arith, c.before.before.spelled-n.ensures, spelled.inside, counts.readable.short)
 
 -- src/sections.rt:91:5
 count_line-requires : tie.Need-count_line-requires
 count_line-requires c κs =
-    let a = c.before.before.before.before.before.before.args in
-    let (text, x, seen, xs, counts, vs, h) = c.before.before.before.before.before.before.requires in
+    let a = c.before.before.before.before.args in
+    let (text, x, seen, xs, counts, vs, h) = c.before.before.before.before.requires in
     (text, x, seen, _, counts, shows_variable a.s.now text x a.q xs a.v _ vs h c.before.variable-w.ensures)
 
 -- src/sections.rt:80:1
@@ -56,12 +56,12 @@ shape_of-s c = search rules
 -- src/sections.rt:80:1
 returns : tie.Need-returns
 returns c =
-    let a = c.before.before.before.before.before.before.before.before.before.args in
+    let a = c.before.before.before.before.before.before.before.args in
     λ text x seen xs counts vs h.
     let spelled = name_size a.s.now text x a.q xs a.v vs h in
     c.before.before.count_line.ensures text x seen _ (get_or xs a.v [] ++ bytes " = ") (bytes "\n") counts
     (shows_variable a.s.now text x a.q xs a.v _ vs h c.before.before.before.before.variable-w.ensures)
-    (three_more (get_or xs a.v []) (c.before.before.before.before.before.before.spelled.ensures ∙ spelled.sized)) one
+    (three_more (get_or xs a.v []) (c.before.before.before.before.before.spelled-n.ensures ∙ spelled.sized)) one
 
 pub count_value_spec : {M : Type 1} → statement M
 count_value_spec =

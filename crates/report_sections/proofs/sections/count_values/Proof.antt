@@ -30,21 +30,21 @@ decreases-loop-v s₀ facts at q k to₀ v₀ s to v = k - v
 -- src/sections.rt:99:9
 variables-k-requires : tie.Need-variables-k-requires invariant-loop-v decreases-loop-v
 variables-k-requires c κs =
-    let (text, x, seen, xs, counts, vs) = c.before.before.requires in
+    let (text, x, seen, xs, counts, vs) = c.before.requires in
     omega (arith, vs.small, counts.readable.inside, counts.readable.behind)
 
 -- src/sections.rt:102:5
 loop-v-init : tie.Need-loop-v-init invariant-loop-v decreases-loop-v
 loop-v-init c =
-    let a = c.before.before.before.args in
+    let a = c.before.before.args in
     (omega arith, refl, λ text x seen xs counts vs. (c.variables-k.ensures ∙ vs.number, no_values a.s.now text x a.facts seen a.at xs counts))
 
 -- src/sections.rt:103:9
 count_value-to-requires : tie.Need-count_value-to-requires invariant-loop-v decreases-loop-v
 count_value-to-requires c κs =
-    let a = c.before.before.before.before.before.before.args in
+    let a = c.before.before.before.before.before.args in
     let l = c.before.before.loop-v in
-    let (text, x, seen, xs, counts, vs) = c.before.before.before.before.before.before.requires in
+    let (text, x, seen, xs, counts, vs) = c.before.before.before.before.before.requires in
     let (all, counted) = l.invariant.2 text x seen xs counts vs in
     let ready = counts_on a.s.now l.s text x a.facts a.at seen _ _ l.to counted in
     (text, x, counted.after, xs, ready, variables_kept a.s.now l.s text x a.facts a.q xs counts.readable counted.changed vs, omega arith)
@@ -60,7 +60,7 @@ loop-v-smaller c = omega arith
 -- src/sections.rt:102:5
 loop-v-preserved : tie.Need-loop-v-preserved invariant-loop-v decreases-loop-v
 loop-v-preserved c =
-    let a = c.before.before.before.before.before.before.before.before.before.args in
+    let a = c.before.before.before.before.before.before.before.before.args in
     let l = c.before.before.before.before.before.loop-v in
     let r = c.before.before.count_value-to in (
       omega arith,
@@ -82,7 +82,7 @@ shape_of-s c = c.before.loop-v.invariant.1
 returns : tie.Need-returns invariant-loop-v decreases-loop-v
 returns c =
     let l = c.before.loop-v in
-    let a = c.before.before.before.before.before.args in
+    let a = c.before.before.before.before.args in
     λ text x seen xs counts vs.
     let (all, counted) = l.invariant.2 text x seen xs counts vs in
     let whole : take l.v xs ≡ xs = take_all l.v xs (omega arith) in

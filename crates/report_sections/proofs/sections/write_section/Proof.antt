@@ -83,7 +83,7 @@ active-requires c κs = search rules
 write_goals-to-requires : tie.Need-write_goals-to-requires
 unfolding bytes
 write_goals-to-requires c κs =
-    let S = c.before.before.before.before.before.before.before.before.before.before.before.before.before.before.before.before in
+    let S = c.before.before.before.before.before.before.before.before.before.before.before.before.before.before.before.before.before in
     let a = S.args in
     let (x, xs, actives, ws, fs, stands, numbers, fits) = S.requires in
     let order = lines_seen x.values xs actives ws fs in
@@ -108,7 +108,7 @@ slice-aggregate-write-goals-2 c = search rules
 -- src/sections.rt:345:63
 waiting-requires : tie.Need-waiting-requires
 waiting-requires c κs =
-    let S = c.before.before.before.before.before.before.before.before.before.before.before.before.before.before.before.before.before.before.before.before.before in
+    let S = c.before.before.before.before.before.before.before.before.before.before.before.before.before.before.before.before.before.before.before.before.before.before.before in
     let a = S.args in
     let (x, xs, actives, ws, fs, stands, numbers, fits) = S.requires in
     stands.here.in_range
@@ -117,7 +117,7 @@ waiting-requires c κs =
 write_goals-to-requires-2 : tie.Need-write_goals-to-requires-2
 unfolding bytes
 write_goals-to-requires-2 c κs =
-    let S = c.before.before.before.before.before.before.before.before.before.before.before.before.before.before.before.before.before.before.before.before.before.before in
+    let S = c.before.before.before.before.before.before.before.before.before.before.before.before.before.before.before.before.before.before.before.before.before.before.before.before in
     let a = S.args in
     let (x, xs, actives, ws, fs, stands, numbers, fits) = S.requires in
     let order = lines_seen x.values xs actives ws fs in
@@ -148,7 +148,7 @@ slice-aggregate-write-goals-3 c = search rules
 -- src/sections.rt:346:57
 failed-requires : tie.Need-failed-requires
 failed-requires c κs =
-    let S = c.before.before.before.before.before.before.before.before.before.before.before.before.before.before.before.before.before.before.before.before.before.before.before.before.before.before.before in
+    let S = c.before.before.before.before.before.before.before.before.before.before.before.before.before.before.before.before.before.before.before.before.before.before.before.before.before.before.before.before.before.before in
     let a = S.args in
     let (x, xs, actives, ws, fs, stands, numbers, fits) = S.requires in
     stands.here.in_range
@@ -157,7 +157,7 @@ failed-requires c κs =
 write_goals-requires : tie.Need-write_goals-requires
 unfolding bytes
 write_goals-requires c κs =
-    let S = c.before.before.before.before.before.before.before.before.before.before.before.before.before.before.before.before.before.before.before.before.before.before.before.before.before.before.before.before in
+    let S = c.before.before.before.before.before.before.before.before.before.before.before.before.before.before.before.before.before.before.before.before.before.before.before.before.before.before.before.before.before.before.before in
     let a = S.args in
     let (x, xs, actives, ws, fs, stands, numbers, fits) = S.requires in
     let order = lines_seen x.values xs actives ws fs in
@@ -201,7 +201,7 @@ shape_of-buffer c =
 returns : tie.Need-returns
 unfolding bytes
 returns c =
-    let S = c.before.before.before.before.before.before.before.before.before.before.before.before.before.before.before.before.before.before.before.before.before.before.before.before.before.before.before.before.before.before.before in
+    let S = c.before.before.before.before.before.before.before.before.before.before.before.before.before.before.before.before.before.before.before.before.before.before.before.before.before.before.before.before.before.before.before.before.before.before in
     let a = S.args in
     λ x xs actives ws fs stands numbers fits.
     let order = lines_seen x.values xs actives ws fs in

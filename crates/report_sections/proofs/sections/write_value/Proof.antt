@@ -44,8 +44,8 @@ slice-aggregate-words c = search rules
 -- src/sections.rt:166:5
 words-to-requires : tie.Need-words-to-requires
 words-to-requires c κs =
-    let a = c.before.before.before.before.before.before.before.before.before.before.before.args in
-    let (x, order, xs, vs, h, writes, fits) = c.before.before.before.before.before.before.before.before.before.before.before.requires in
+    let a = c.before.before.before.before.before.before.before.before.before.before.before.before.args in
+    let (x, order, xs, vs, h, writes, fits) = c.before.before.before.before.before.before.before.before.before.before.before.before.requires in
     let spelled = name_size a.s.now a.text.now x a.q xs a.v vs h in
     let size = value_line_size x.values order xs a.v h in
     omega (arith, fits.room, size, spelled.sized, c.before.before.before.before.before.before.spelled2.ensures, c.before.before.before.before.spelling.auto.1.0, (puts_name a.text.now _ _ _ _ _ _ _ _ _ c.before.before.before.before.before.before.before.spelled.ensures c.before.before.before.before.before.before.spelled2.ensures spelled c.before.before.before.before.spelling.ensures).place)
@@ -53,8 +53,8 @@ words-to-requires c κs =
 -- src/sections.rt:167:9
 variable-w-requires : tie.Need-variable-w-requires
 variable-w-requires c κs =
-    let a = c.before.before.before.before.before.before.before.before.before.before.before.before.before.before.args in
-    let (x, order, xs, vs, h, writes, fits) = c.before.before.before.before.before.before.before.before.before.before.before.before.before.before.requires in
+    let a = c.before.before.before.before.before.before.before.before.before.before.before.before.before.before.before.args in
+    let (x, order, xs, vs, h, writes, fits) = c.before.before.before.before.before.before.before.before.before.before.before.before.before.before.before.requires in
     let spelled = name_size a.s.now a.text.now x a.q xs a.v vs h in
     omega (arith, vs.small, vs.few, h, vs.low a.v h, vs.pair a.v h, writes.readable.inside, writes.readable.behind)
 
@@ -62,8 +62,8 @@ variable-w-requires c κs =
 write_line-requires : tie.Need-write_line-requires
 unfolding bytes
 write_line-requires c κs =
-    let a = c.before.before.before.before.before.before.before.before.before.before.before.before.before.before.before.before.args in
-    let (x, order, xs, vs, h, writes, fits) = c.before.before.before.before.before.before.before.before.before.before.before.before.before.before.before.before.requires in
+    let a = c.before.before.before.before.before.before.before.before.before.before.before.before.before.before.before.before.before.args in
+    let (x, order, xs, vs, h, writes, fits) = c.before.before.before.before.before.before.before.before.before.before.before.before.before.before.before.before.before.requires in
     let spelled = name_size a.s.now a.text.now x a.q xs a.v vs h in
     let name = puts_name a.text.now _ _ _ _ _ _ _ _ _ c.before.before.before.before.before.before.before.before.before.before.before.before.spelled.ensures c.before.before.before.before.before.before.before.before.before.before.before.spelled2.ensures spelled c.before.before.before.before.before.before.before.before.before.spelling.ensures in
     let same = c.before.before.before.before.words-to.auto.buffer ∙ c.before.before.before.before.before.before.before.before.before.spelling.auto.1.0 in (
@@ -83,7 +83,7 @@ shape_of-buffer c = search rules
 returns : tie.Need-returns
 unfolding bytes
 returns c =
-    let a = c.before.before.before.before.before.before.before.before.before.before.before.before.before.before.before.before.before.before.before.args in
+    let a = c.before.before.before.before.before.before.before.before.before.before.before.before.before.before.before.before.before.before.before.before.args in
     λ x order xs vs h writes fits.
     let spelled = name_size a.s.now a.text.now x a.q xs a.v vs h in
     let name = puts_name a.text.now _ _ _ _ _ _ _ _ _ c.before.before.before.before.before.before.before.before.before.before.before.before.before.before.before.spelled.ensures c.before.before.before.before.before.before.before.before.before.before.before.before.before.before.spelled2.ensures spelled c.before.before.before.before.before.before.before.before.before.before.before.before.spelling.ensures in

@@ -24,7 +24,7 @@ slice-aggregate-words c = search rules
 words-requires : tie.Need-words-requires
 unfolding run_words_of verdict_bytes bytes
 words-requires c κs =
-    let fits = rw c.before.before.enum_told.given.1 at c.before.before.before.before.requires in
+    let fits = rw c.before.before.enum_told.given.1 at c.before.before.before.before.before.requires in
     omega (arith, fits)
 
 -- src/header.rt:91:34
@@ -39,7 +39,7 @@ slice-aggregate-words-2 c = search rules
 words-requires-in-Budget : tie.Need-words-requires-in-Budget
 unfolding run_words_of verdict_bytes bytes
 words-requires-in-Budget c κs =
-    let fits = rw c.before.before.enum-told2.given.1 at c.before.before.before.before.requires in
+    let fits = rw c.before.before.enum-told2.given.1 at c.before.before.before.before.before.requires in
     omega (arith, fits)
 
 -- src/header.rt:92:32
@@ -54,7 +54,7 @@ slice-aggregate-words-3 c = search rules
 words-requires-in-Room : tie.Need-words-requires-in-Room
 unfolding run_words_of verdict_bytes bytes
 words-requires-in-Room c κs =
-    let fits = rw c.before.before.enum-told3.given.1 at c.before.before.before.before.requires in
+    let fits = rw c.before.before.enum-told3.given.1 at c.before.before.before.before.before.requires in
     omega (arith, fits)
 
 -- src/header.rt:85:1

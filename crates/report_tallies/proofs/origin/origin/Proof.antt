@@ -24,7 +24,7 @@ clause_of-requires c κs = search rules
 -- src/origin.rt:23:9
 count-to-requires : tie.Need-count-to-requires
 count-to-requires c κs =
-    let S = c.before.before.before.before in
+    let S = c.before.before.before.before.before in
     omega (arith, origin_size S.args.goal c.clause_of.result (tries_in S.args.goal) c.clause_of.ensures refl, S.requires)
 
 -- src/origin.rt:24:23
@@ -38,7 +38,7 @@ tries_of-requires c κs = search rules
 -- src/origin.rt:24:5
 count-requires : tie.Need-count-requires
 count-requires c κs =
-    let S = c.before.before.before.before.before.before.before.before.before.before in
+    let S = c.before.before.before.before.before.before.before.before.before.before.before.before in
     let clause = c.before.before.before.before.before.before.clause_of in
     let first = c.before.before.before.before.before.count in
     omega (arith, origin_size S.args.goal clause.result c.tries_of.result clause.ensures c.tries_of.ensures, S.requires, first.auto.0, first.ensures.place)
@@ -51,7 +51,7 @@ shape_of-buffer c = search rules
 returns : tie.Need-returns
 unfolding bytes
 returns c =
-    let S = c.before.before.before.before.before.before.before.before.before.before.before.before.before in
+    let S = c.before.before.before.before.before.before.before.before.before.before.before.before.before.before.before in
     let clause = c.before.before.before.before.before.before.before.before.before.clause_of in
     let tries = c.before.before.before.tries_of in
     puts_origin S.args.goal clause.result tries.result clause.ensures tries.ensures _ _ _ _ _ _ c.before.before.before.before.before.before.before.before.count.ensures c.before.before.count.ensures

@@ -108,7 +108,7 @@ offset_bounds-frames-depth c =
 
 bounds-frames-depth : tie.Need-bounds-frames-depth invariant-loop-b decreases-loop-b
 bounds-frames-depth c =
-    let S = c.before.before.before.before.before.before.before.before.before.before in let pre = S.requires in
+    let S = c.before.before.before.before.before.before.before.before.before.before.before in let pre = S.requires in
     let at = c.before.before.before.before.before.before.before.loop in
     let R = at.invariant pre.0 pre.1 pre.2 pre.3 pre.4 pre.5 in
     let B = R.behind in
@@ -119,7 +119,7 @@ loop-b-smaller c = omega (arith, c.before.if1.false)
 
 loop-b-preserved : tie.Need-loop-b-preserved invariant-loop-b decreases-loop-b
 loop-b-preserved c text x order bs r B₀ =
-    let S = c.before.before.before.before.before.before.before.before.before.before.before in let pre = S.requires in
+    let S = c.before.before.before.before.before.before.before.before.before.before.before.before in let pre = S.requires in
     let at = c.before.before.before.before.before.before.before.before.loop in
     let R = at.invariant text x order bs r B₀ in
     let B = R.behind in

@@ -8,7 +8,7 @@ use Rattle.run_chains.proofs.ends.keep.Tie as tie
 
 word_at-v-requires : tie.Need-word_at-v-requires
 word_at-v-requires c κs =
-    let start = c.before.before in
+    let start = c.before in
     omega (arith, pair_inside start.args.s.now start.requires.0 start.args.values start.args.links start.requires.2 start.args.p start.requires.4)
 
 shape_of-s-then-v-ne-READER : tie.Need-shape_of-s-then-v-ne-READER
@@ -16,7 +16,7 @@ shape_of-s-then-v-ne-READER c = search rules
 
 returns-then-v-ne-READER : tie.Need-returns-then-v-ne-READER
 returns-then-v-ne-READER c x h n k a =
-    let start = c.before.before.before.before in
+    let start = c.before.before.before in
     kept_same x start.args.values start.args.links start.args.s.now k.keepable
 
 follow-e-requires : tie.Need-follow-e-requires
@@ -27,7 +27,7 @@ shape_of-s-then-e-v c = search rules
 
 returns-then-e-v : tie.Need-returns-then-e-v
 returns-then-e-v c x h n k a =
-    let start = c.before.before.before.before.before.before.before in
+    let start = c.before.before.before.before.before in
     kept_same x start.args.values start.args.links start.args.s.now k.keepable
 
 overflow_mul-links : tie.Need-overflow_mul-links
@@ -38,7 +38,7 @@ overflow_add-values c = search rules
 
 set_at-requires : tie.Need-set_at-requires
 set_at-requires c κs =
-    let start = c.before.before.before.before.before.before.before.before in
+    let start = c.before.before.before.before.before.before in
     omega (arith, pair_inside start.args.s.now start.requires.0 start.args.values start.args.links start.requires.2 start.args.p start.requires.4)
 
 shape_of-s : tie.Need-shape_of-s
@@ -46,13 +46,13 @@ shape_of-s c = search rules
 
 returns : tie.Need-returns
 returns c x h n k a =
-    let start = c.before.before.before.before.before.before.before.before.before.before.before in
+    let start = c.before.before.before.before.before.before.before.before.before in
     let w = start.args.w in
     let followed = c.before.before.before.before.before.follow-e in
-    let value = c.before.before.before.before.before.before.before.before.word_at in
+    let value = c.before.before.before.before.before.before.before.word_at-v in
     rw c.before.before.set_at.ensures
     (kept_where x start.args.values start.args.links start.args.s.now h n w start.args.p followed.result value.result k a
-    (followed.ensures x _ k.reads) value.ensures c.before.before.before.before.before.before.before.if1.false)
+    (followed.ensures x _ k.reads) value.ensures c.before.before.before.before.before.before.if-v-ne-READER.false)
 
 pub keep_spec : {M : Type 1} → statement M
 keep_spec =

@@ -21,88 +21,88 @@ loop-i-init c =
 
 entry_pair-z-requires : tie.Need-entry_pair-z-requires invariant-loop-i decreases-loop-i
 entry_pair-z-requires c κs =
-    let L = c.before.before in
+    let L = c.before in
     let S = L.before.before in
     let a = S.args in
     omega (
       arith,
-      starts.entry_at a.s.now a.values a.marks a.n a.stamp L.loop.s L.loop.i L.loop.invariant.0
-          c.before.loop-test.true S.requires,
+      starts.entry_at a.s.now a.values a.marks a.n a.stamp L.loop-i.s L.loop-i.i L.loop-i.invariant.0
+          c.loop-i-test.true S.requires,
     )
 
 given_term-h-requires : tie.Need-given_term-h-requires invariant-loop-i decreases-loop-i
 given_term-h-requires c κs =
-    let L = c.before.before.before.before in
+    let L = c.before.before in
     let S = L.before.before in
     let a = S.args in
-    starts.entry_at a.s.now a.values a.marks a.n a.stamp L.loop.s L.loop.i L.loop.invariant.0
-    c.before.before.before.loop-test.true S.requires
+    starts.entry_at a.s.now a.values a.marks a.n a.stamp L.loop-i.s L.loop-i.i L.loop-i.invariant.0
+    c.before.loop-i-test.true S.requires
 
 word-requires : tie.Need-word-requires invariant-loop-i decreases-loop-i
 word-requires c κs = search rules
 
 overflow_add-stamp : tie.Need-overflow_add-stamp invariant-loop-i decreases-loop-i
 overflow_add-stamp c =
-    let L = c.before.before.before.before.before.before.before in
+    let L = c.before.before.before.before.before in
     let S = L.before.before in
     let a = S.args in
     omega (
       arith,
       c.word.ensures,
-      starts.stamp-fits a.s.now a.values a.marks a.n a.stamp L.loop.s L.loop.i L.loop.invariant.0
-          c.before.before.before.before.before.before.loop-test.true S.requires,
+      starts.stamp-fits a.s.now a.values a.marks a.n a.stamp L.loop-i.s L.loop-i.i L.loop-i.invariant.0
+          c.before.before.before.before.loop-i-test.true S.requires,
     )
 
 from_term-r-requires : tie.Need-from_term-r-requires invariant-loop-i decreases-loop-i
 from_term-r-requires c κs =
     let G = c.before.before in
-    let E = G.before.before in
-    let L = E.before.before.before in
+    let E = G.before in
+    let L = E.before.before in
     let S = L.before.before in
     let a = S.args in
-    starts.entry-call a.s.now a.values a.marks a.n a.stamp L.loop.s L.loop.i L.loop.invariant.0
-    E.before.before.loop-test.true E.entry_pair.result c.word.result G.given_term-h.result
-    E.entry_pair.ensures c.word.ensures G.given_term-h.ensures S.requires
+    starts.entry-call a.s.now a.values a.marks a.n a.stamp L.loop-i.s L.loop-i.i L.loop-i.invariant.0
+    E.before.loop-i-test.true E.entry_pair-z.result c.word.result G.given_term-h.result
+    E.entry_pair-z.ensures c.word.ensures G.given_term-h.ensures S.requires
 
 shape_of-s-then-r-eq-REACHED : tie.Need-shape_of-s-then-r-eq-REACHED invariant-loop-i decreases-loop-i
 shape_of-s-then-r-eq-REACHED c =
     let F = c.before.before.before in
-    let L = F.before.before.before.before.before.before.before.before in
-    F.from_term-r.auto.s ∙ L.loop.invariant.2
+    let L = F.before.before.before.before.before.before in
+    F.from_term-r.auto.s ∙ L.loop-i.invariant.2
 
 returns-then-r-eq-REACHED : tie.Need-returns-then-r-eq-REACHED invariant-loop-i decreases-loop-i
 returns-then-r-eq-REACHED c =
     let F = c.before.before.before in
     let W = F.before in
     let G = W.before.before in
-    let E = G.before.before in
-    let L = E.before.before.before in
+    let E = G.before in
+    let L = E.before.before in
     let a = L.before.before.args in
-    starts.entry-tells a.s.now a.values a.marks a.n a.stamp L.loop.s L.loop.i L.loop.invariant.0
-    E.before.before.loop-test.true E.entry_pair.result W.word.result G.given_term-h.result
-    E.entry_pair.ensures W.word.ensures G.given_term-h.ensures
+    starts.entry-tells a.s.now a.values a.marks a.n a.stamp L.loop-i.s L.loop-i.i L.loop-i.invariant.0
+    E.before.loop-i-test.true E.entry_pair-z.result W.word.result G.given_term-h.result
+    E.entry_pair-z.ensures W.word.ensures G.given_term-h.ensures
     F.from_term-r.new.s F.from_term-r.result F.from_term-r.ensures c.if-r-eq-REACHED.true
 
 overflow_add-i : tie.Need-overflow_add-i invariant-loop-i decreases-loop-i
-overflow_add-i c = omega (arith, c.before.before.before.before.before.before.before.before.before.before.loop-test.true)
+overflow_add-i c = omega (arith, c.before.before.before.before.before.before.before.before.loop-i-test.true)
 
 loop-i-smaller : tie.Need-loop-i-smaller invariant-loop-i decreases-loop-i
-loop-i-smaller c = omega (arith, c.before.before.before.before.before.before.before.before.before.before.loop-test.true)
+loop-i-smaller c = omega (arith, c.before.before.before.before.before.before.before.before.loop-i-test.true)
 
 loop-i-preserved : tie.Need-loop-i-preserved invariant-loop-i decreases-loop-i
 loop-i-preserved c =
     let F = c.before.before.before in
     let W = F.before in
     let G = W.before.before in
-    let E = G.before.before in
-    let L = E.before.before.before in
+    let E = G.before in
+    let L = E.before.before in
     let a = L.before.before.args in (
-      starts.passing-next a.s.now a.values a.marks a.n a.stamp L.loop.s L.loop.i L.loop.invariant.0
-          E.before.before.loop-test.true E.entry_pair.result W.word.result G.given_term-h.result
-          E.entry_pair.ensures W.word.ensures G.given_term-h.ensures
+      starts.passing-next a.s.now a.values a.marks a.n a.stamp L.loop-i.s L.loop-i.i L.loop-i.invariant.0
+          E.before.loop-i-test.true E.entry_pair-z.result W.word.result G.given_term-h.result
+          E.entry_pair-z.ensures W.word.ensures G.given_term-h.ensures
           F.from_term-r.new.s F.from_term-r.result F.from_term-r.ensures c.if-r-eq-REACHED.false,
-      omega (arith, E.before.before.loop-test.true),
-      F.from_term-r.auto.s ∙ L.loop.invariant.2,
+      omega (arith, E.before.loop-i-test.true),
+      F.from_term-r.auto.s ∙ L.loop-i.invariant.2,
     )
 
 shape_of-s : tie.Need-shape_of-s invariant-loop-i decreases-loop-i

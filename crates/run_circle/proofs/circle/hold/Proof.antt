@@ -21,50 +21,50 @@ loop-i-init c =
 
 entry_pair-z-requires : tie.Need-entry_pair-z-requires invariant-loop-i decreases-loop-i
 entry_pair-z-requires c κs =
-    let S = c.before.before.before.before in
-    let L = c.before.before in
-    omega (arith, S.requires.inside L.loop.i c.before.loop-test.true, S.requires.before, L.loop.invariant.0.size)
+    let S = c.before.before.before in
+    let L = c.before in
+    omega (arith, S.requires.inside L.loop-i.i c.loop-i-test.true, S.requires.before, L.loop-i.invariant.0.size)
 
 held-v-requires : tie.Need-held-v-requires invariant-loop-i decreases-loop-i
 held-v-requires c κs =
-    let S = c.before.before.before.before.before in
-    let L = c.before.before.before in
-    omega (arith, S.requires.inside L.loop.i c.before.before.loop-test.true, S.requires.before, S.well-formed.0.1, c.before.before.loop-test.true)
+    let S = c.before.before.before.before in
+    let L = c.before.before in
+    omega (arith, S.requires.inside L.loop-i.i c.before.loop-i-test.true, S.requires.before, S.well_formed.0.1, c.before.loop-i-test.true)
 
 set_at-requires : tie.Need-set_at-requires invariant-loop-i decreases-loop-i
 set_at-requires c κs =
-    let S = c.before.before.before.before.before.before.before in
-    let L = c.before.before.before.before.before in
-    let l = c.before.before.before.before.loop-test.true in
+    let S = c.before.before.before.before.before.before in
+    let L = c.before.before.before.before in
+    let l = c.before.before.before.loop-i-test.true in
     let s₀ = S.args.s.now in
     omega (
       arith,
       c.before.before.entry_pair-z.ensures,
-      entry_stays s₀ L.loop.s S.args.values S.args.n S.args.testing S.requires L.loop.i L.loop.invariant.1 L.loop.invariant.0 L.loop.i l,
-      S.requires.inside L.loop.i l,
-      L.loop.invariant.0.size,
+      entry_stays s₀ L.loop-i.s S.args.values S.args.n S.args.testing S.requires L.loop-i.i L.loop-i.invariant.1 L.loop-i.invariant.0 L.loop-i.i l,
+      S.requires.inside L.loop-i.i l,
+      L.loop-i.invariant.0.size,
     )
 
 overflow_add-i : tie.Need-overflow_add-i invariant-loop-i decreases-loop-i
-overflow_add-i c = omega (arith, c.before.before.before.before.before.before.before.loop-test.true)
+overflow_add-i c = omega (arith, c.before.before.before.before.before.before.loop-i-test.true)
 
 loop-i-smaller : tie.Need-loop-i-smaller invariant-loop-i decreases-loop-i
-loop-i-smaller c = omega (arith, c.before.before.before.before.before.before.before.loop-test.true)
+loop-i-smaller c = omega (arith, c.before.before.before.before.before.before.loop-i-test.true)
 
 loop-i-preserved : tie.Need-loop-i-preserved invariant-loop-i decreases-loop-i
 loop-i-preserved c =
     let M = c.before.before in
     let E = M.before.before.before in
-    let L = E.before.before.before in
+    let L = E.before.before in
     let S = L.before.before in
-    let l = E.before.before.loop-test.true in
+    let l = E.before.loop-i-test.true in
     let s₀ = S.args.s.now in
-    let stays = entry_stays s₀ L.loop.s S.args.values S.args.n S.args.testing S.requires L.loop.i L.loop.invariant.1 L.loop.invariant.0 L.loop.i l in
-    let is : E.entry_pair-z.result ≡ entry_pair s₀ L.loop.i = E.entry_pair-z.ensures ∙ stays in
-    let all : M.set_at.new.s ≡ set L.loop.s (S.args.values + entry_pair s₀ L.loop.i) (held_word S.args.testing L.loop.i) =
+    let stays = entry_stays s₀ L.loop-i.s S.args.values S.args.n S.args.testing S.requires L.loop-i.i L.loop-i.invariant.1 L.loop-i.invariant.0 L.loop-i.i l in
+    let is : E.entry_pair-z.result ≡ entry_pair s₀ L.loop-i.i = E.entry_pair-z.ensures ∙ stays in
+    let all : M.set_at.new.s ≡ set L.loop-i.s (S.args.values + entry_pair s₀ L.loop-i.i) (held_word S.args.testing L.loop-i.i) =
     M.set_at.ensures ∙ rw (is, M.before.before.held-v.ensures) refl in (
-      subst (λ s. Held s₀ s S.args.values (L.loop.i + 1) S.args.testing) (sym all)
-          (held_next s₀ L.loop.s S.args.values S.args.n S.args.testing S.requires L.loop.i l L.loop.invariant.0),
+      subst (λ s. Held s₀ s S.args.values (L.loop-i.i + 1) S.args.testing) (sym all)
+          (held_next s₀ L.loop-i.s S.args.values S.args.n S.args.testing S.requires L.loop-i.i l L.loop-i.invariant.0),
       omega arith,
     )
 

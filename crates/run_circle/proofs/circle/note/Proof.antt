@@ -19,40 +19,40 @@ first_visited-q-requires c κs =
 
 word_at-m-requires : tie.Need-word_at-m-requires
 word_at-m-requires c κs =
-    let First = c.before in
+    let First = c in
     let S = First.before.before.before.before in
     let a = S.args in
     let (x, place, goal, h, leading, below) = S.requires in
-    first_inside a.s.now x a.values a.marks place a.stamp goal a.state a.p h leading First.first-visited.result First.first-visited.ensures
+    first_inside a.s.now x a.values a.marks place a.stamp goal a.state a.p h leading First.first_visited-q.result First.first_visited-q.ensures
 
 word-requires : tie.Need-word-requires
 word-requires c κs = search rules
 
 overflow_add-word : tie.Need-overflow_add-word
 overflow_add-word c =
-    let S = c.before.before.before.before.before.before.before.before.before in
+    let S = c.before.before.before.before.before.before.before.before in
     let (x, place, goal, h, leading, below) = S.requires in
     omega (arith, c.word.ensures, below, h.few)
 
 overflow_mul-word : tie.Need-overflow_mul-word
 overflow_mul-word c =
-    let S = c.before.before.before.before.before.before.before.before.before in
+    let S = c.before.before.before.before.before.before.before.before in
     let (x, place, goal, h, leading, below) = S.requires in
     omega (arith, c.word.ensures, below, h.few)
 
 overflow_add-word-then-m-stamp : tie.Need-overflow_add-word-then-m-stamp
 overflow_add-word-then-m-stamp c =
-    let S = c.before.before.before.before.before.before.before.before.before in
+    let S = c.before.before.before.before.before.before.before.before in
     let (x, place, goal, h, leading, below) = S.requires in
     omega (arith, c.word.ensures, below, h.few, h.stamp_below)
 
 set_at-requires : tie.Need-set_at-requires
 set_at-requires c κs =
-    let First = c.before.before.before.before.before in
+    let First = c.before.before.before.before in
     let S = First.before.before.before.before in
     let a = S.args in
     let (x, place, goal, h, leading, below) = S.requires in
-    first_inside a.s.now x a.values a.marks place a.stamp goal a.state a.p h leading First.first-visited.result First.first-visited.ensures
+    first_inside a.s.now x a.values a.marks place a.stamp goal a.state a.p h leading First.first_visited-q.result First.first_visited-q.ensures
 
 shape_of-s-then-m-stamp : tie.Need-shape_of-s-then-m-stamp
 shape_of-s-then-m-stamp c = c.before.before.set_at.auto.s
@@ -63,12 +63,12 @@ returns-then-m-stamp c =
     let Word = SetAt.before in
     let If2 = Word.before.before in
     let WordAt = If2.before in
-    let First = WordAt.before.before in
+    let First = WordAt.before in
     let S = First.before.before.before.before in
     let a = S.args in λ x place goal h leading below.
     let m : stamp_in WordAt.word_at-m.result ≡ a.stamp = If2.if-m-stamp.true in
     rw (SetAt.set_at.ensures, Word.word.ensures)
-    (note_settled a.s.now x a.values a.marks place a.stamp goal a.state a.p h leading First.first-visited.result First.first-visited.ensures
+    (note_settled a.s.now x a.values a.marks place a.stamp goal a.state a.p h leading First.first_visited-q.result First.first_visited-q.ensures
     (ap (λ n. stamp_in n) (sym WordAt.word_at-m.ensures) ∙ m))
 
 shape_of-s-else-m-stamp : tie.Need-shape_of-s-else-m-stamp
@@ -76,7 +76,7 @@ shape_of-s-else-m-stamp c = refl
 
 returns-else-m-stamp : tie.Need-returns-else-m-stamp
 returns-else-m-stamp c =
-    let S = c.before.before.before.before.before.before.before in
+    let S = c.before.before.before.before.before.before in
     λ x place goal h leading below. settled_same x S.args.marks S.args.stamp S.args.s.now
 
 returns-else-visited_one : tie.Need-returns-else-visited_one

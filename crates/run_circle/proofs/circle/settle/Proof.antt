@@ -60,140 +60,140 @@ index-q-requires c κs =
 
 last-k-requires : tie.Need-last-k-requires invariant-loop-q decreases-loop-q
 last-k-requires c κs =
-    let If2 = c.before in
+    let If2 = c in
     let Index = If2.before in
     let Loop = Index.before.before.before in
     let S = Loop.before.before.before in
-    settle_count S.args.s.now S.args.values S.args.marks S.args.stamp S.args.pair Loop.loop.s Loop.loop.t Loop.loop.invariant.0 If2.if2.true
-    Index.index.result Index.index.ensures S.requires
+    settle_count S.args.s.now S.args.values S.args.marks S.args.stamp S.args.pair Loop.loop-q.s Loop.loop-q.t Loop.loop-q.invariant.0 If2.if-t-eq-COMPOUND.true
+    Index.index-q.result Index.index-q.ensures S.requires
 
 shape_of-s-then-k-eq0 : tie.Need-shape_of-s-then-k-eq0 invariant-loop-q decreases-loop-q
 shape_of-s-then-k-eq0 c =
-    let Loop = c.before.before.before.before.before.before.before in
-    Loop.loop.invariant.1
+    let Loop = c.before.before.before.before.before.before in
+    Loop.loop-q.invariant.1
 
 returns-then-k-eq0 : tie.Need-returns-then-k-eq0 invariant-loop-q decreases-loop-q
 returns-then-k-eq0 c =
-    let Loop = c.before.before.before.before.before.before.before in
+    let Loop = c.before.before.before.before.before.before in
     let S = Loop.before.before.before in
-    settling_last S.args.s.now S.args.values S.args.marks S.args.stamp S.args.pair Loop.loop.s Loop.loop.t Loop.loop.invariant.0
+    settling_last S.args.s.now S.args.values S.args.marks S.args.stamp S.args.pair Loop.loop-q.s Loop.loop-q.t Loop.loop-q.invariant.0
 
 argument-t-requires : tie.Need-argument-t-requires invariant-loop-q decreases-loop-q
 argument-t-requires c κs =
-    let Last = c.before.before in
-    let If2 = Last.before.before in
+    let Last = c.before in
+    let If2 = Last.before in
     let Index = If2.before in
     let Loop = Index.before.before.before in
     let S = Loop.before.before.before in
     omega (
       arith,
-      settle_count S.args.s.now S.args.values S.args.marks S.args.stamp S.args.pair Loop.loop.s Loop.loop.t Loop.loop.invariant.0 If2.if2.true
-          Index.index.result Index.index.ensures S.requires,
-      Last.last.ensures.among,
+      settle_count S.args.s.now S.args.values S.args.marks S.args.stamp S.args.pair Loop.loop-q.s Loop.loop-q.t Loop.loop-q.invariant.0 If2.if-t-eq-COMPOUND.true
+          Index.index-q.result Index.index-q.ensures S.requires,
+      Last.last-k.ensures.among,
     )
 
 loop-q-smaller-then-t-eq-COMPOUND : tie.Need-loop-q-smaller-then-t-eq-COMPOUND invariant-loop-q decreases-loop-q
 loop-q-smaller-then-t-eq-COMPOUND c =
-    let If3 = c.before.before in
+    let If3 = c.before in
     let Last = If3.before in
-    let If2 = Last.before.before in
+    let If2 = Last.before in
     let Index = If2.before in
     let Loop = Index.before.before.before in
     let S = Loop.before.before.before in
-    argument_lighter S.args.s.now S.args.values S.args.marks S.args.stamp S.args.pair Loop.loop.s Loop.loop.t Loop.loop.invariant.0 If2.if2.true
-    Index.index.result Index.index.ensures Last.last.result Last.last.ensures If3.if3.false c.argument-t.result c.argument-t.ensures S.requires
+    argument_lighter S.args.s.now S.args.values S.args.marks S.args.stamp S.args.pair Loop.loop-q.s Loop.loop-q.t Loop.loop-q.invariant.0 If2.if-t-eq-COMPOUND.true
+    Index.index-q.result Index.index-q.ensures Last.last-k.result Last.last-k.ensures If3.if-k-eq0.false c.argument-t.result c.argument-t.ensures S.requires
 
 loop-q-preserved-then-t-eq-COMPOUND : tie.Need-loop-q-preserved-then-t-eq-COMPOUND invariant-loop-q decreases-loop-q
 loop-q-preserved-then-t-eq-COMPOUND c =
-    let If3 = c.before.before in
+    let If3 = c.before in
     let Last = If3.before in
-    let If2 = Last.before.before in
+    let If2 = Last.before in
     let Index = If2.before in
     let Loop = Index.before.before.before in
     let S = Loop.before.before.before in (
-      settling_argument S.args.s.now S.args.values S.args.marks S.args.stamp S.args.pair Loop.loop.s Loop.loop.t Loop.loop.invariant.0 If2.if2.true
-          Index.index.result Index.index.ensures Last.last.result Last.last.ensures If3.if3.false c.argument-t.result c.argument-t.ensures,
-      Loop.loop.invariant.1,
+      settling_argument S.args.s.now S.args.values S.args.marks S.args.stamp S.args.pair Loop.loop-q.s Loop.loop-q.t Loop.loop-q.invariant.0 If2.if-t-eq-COMPOUND.true
+          Index.index-q.result Index.index-q.ensures Last.last-k.result Last.last-k.ensures If3.if-k-eq0.false c.argument-t.result c.argument-t.ensures,
+      Loop.loop-q.invariant.1,
     )
 
 word_at-m-requires : tie.Need-word_at-m-requires invariant-loop-q decreases-loop-q
 word_at-m-requires c κs =
-    let If2 = c.before in
+    let If2 = c in
     let Index = If2.before in
     let If1 = Index.before in
     let Leads = If1.before in
     let Loop = Leads.before in
     let S = Loop.before.before.before in
-    settle_mark S.args.s.now S.args.values S.args.marks S.args.stamp S.args.pair Loop.loop.s Loop.loop.t Loop.loop.invariant.0 If2.if2.false (rw
-    If1.if1.true at Leads.leads.ensures) Index.index.result Index.index.ensures S.requires
+    settle_mark S.args.s.now S.args.values S.args.marks S.args.stamp S.args.pair Loop.loop-q.s Loop.loop-q.t Loop.loop-q.invariant.0 If2.if-t-eq-COMPOUND.false (rw
+    If1.loop-q-test.true at Leads.leads.ensures) Index.index-q.result Index.index-q.ensures S.requires
 
 shape_of-s-then-m-stamp : tie.Need-shape_of-s-then-m-stamp invariant-loop-q decreases-loop-q
 shape_of-s-then-m-stamp c =
-    let Loop = c.before.before.before.before.before.before.before in
-    Loop.loop.invariant.1
+    let Loop = c.before.before.before.before.before.before in
+    Loop.loop-q.invariant.1
 
 returns-then-m-stamp : tie.Need-returns-then-m-stamp invariant-loop-q decreases-loop-q
 returns-then-m-stamp c =
-    let Loop = c.before.before.before.before.before.before.before in
+    let Loop = c.before.before.before.before.before.before in
     let S = Loop.before.before.before in
-    settling_last S.args.s.now S.args.values S.args.marks S.args.stamp S.args.pair Loop.loop.s Loop.loop.t Loop.loop.invariant.0
+    settling_last S.args.s.now S.args.values S.args.marks S.args.stamp S.args.pair Loop.loop-q.s Loop.loop-q.t Loop.loop-q.invariant.0
 
 set_at-requires : tie.Need-set_at-requires invariant-loop-q decreases-loop-q
 set_at-requires c κs =
-    let If2 = c.before.before.before.before in
+    let If2 = c.before.before.before in
     let Index = If2.before in
     let If1 = Index.before in
     let Leads = If1.before in
     let Loop = Leads.before in
     let S = Loop.before.before.before in
-    settle_mark S.args.s.now S.args.values S.args.marks S.args.stamp S.args.pair Loop.loop.s Loop.loop.t Loop.loop.invariant.0 If2.if2.false (rw
-    If1.if1.true at Leads.leads.ensures) Index.index.result Index.index.ensures S.requires
+    settle_mark S.args.s.now S.args.values S.args.marks S.args.stamp S.args.pair Loop.loop-q.s Loop.loop-q.t Loop.loop-q.invariant.0 If2.if-t-eq-COMPOUND.false (rw
+    If1.loop-q-test.true at Leads.leads.ensures) Index.index-q.result Index.index-q.ensures S.requires
 
 word_at-t-requires : tie.Need-word_at-t-requires invariant-loop-q decreases-loop-q
 word_at-t-requires c κs =
-    let SetAt = c.before.before.before in
+    let SetAt = c.before.before in
     let If4 = SetAt.before.before in
     let WordAt = If4.before in
-    let If2 = WordAt.before.before in
+    let If2 = WordAt.before in
     let Index = If2.before in
     let If1 = Index.before in
     let Leads = If1.before in
     let Loop = Leads.before in
     let S = Loop.before.before.before in
-    settle_value S.args.s.now S.args.values S.args.marks S.args.stamp S.args.pair Loop.loop.s Loop.loop.t Loop.loop.invariant.0 If2.if2.false (rw
-    If1.if1.true at Leads.leads.ensures) Index.index.result Index.index.ensures (ap (λ m. stamp_in m) (sym WordAt.word_at.ensures) ∙ If4.if4.false)
-    SetAt.set_at.new.0 SetAt.set_at.ensures S.requires
+    settle_value S.args.s.now S.args.values S.args.marks S.args.stamp S.args.pair Loop.loop-q.s Loop.loop-q.t Loop.loop-q.invariant.0 If2.if-t-eq-COMPOUND.false (rw
+    If1.loop-q-test.true at Leads.leads.ensures) Index.index-q.result Index.index-q.ensures (ap (λ m. stamp_in m) (sym WordAt.word_at-m.ensures) ∙ If4.if-m-stamp.false)
+    SetAt.set_at.new.s SetAt.set_at.ensures S.requires
 
 loop-q-smaller : tie.Need-loop-q-smaller invariant-loop-q decreases-loop-q
 loop-q-smaller c =
-    let SetAt = c.before.before.before.before in
+    let SetAt = c.before.before.before in
     let If4 = SetAt.before.before in
     let WordAt = If4.before in
-    let If2 = WordAt.before.before in
+    let If2 = WordAt.before in
     let Index = If2.before in
     let If1 = Index.before in
     let Leads = If1.before in
     let Loop = Leads.before in
     let S = Loop.before.before.before in
-    value_lighter S.args.s.now S.args.values S.args.marks S.args.stamp S.args.pair Loop.loop.s Loop.loop.t Loop.loop.invariant.0 If2.if2.false (rw
-    If1.if1.true at Leads.leads.ensures) Index.index.result Index.index.ensures (ap (λ m. stamp_in m) (sym WordAt.word_at.ensures) ∙ If4.if4.false)
-    SetAt.set_at.new.0 SetAt.set_at.ensures S.requires c.word_at-t.result
+    value_lighter S.args.s.now S.args.values S.args.marks S.args.stamp S.args.pair Loop.loop-q.s Loop.loop-q.t Loop.loop-q.invariant.0 If2.if-t-eq-COMPOUND.false (rw
+    If1.loop-q-test.true at Leads.leads.ensures) Index.index-q.result Index.index-q.ensures (ap (λ m. stamp_in m) (sym WordAt.word_at-m.ensures) ∙ If4.if-m-stamp.false)
+    SetAt.set_at.new.s SetAt.set_at.ensures S.requires c.word_at-t.result
 
 loop-q-preserved : tie.Need-loop-q-preserved invariant-loop-q decreases-loop-q
 loop-q-preserved c =
-    let SetAt = c.before.before.before.before in
+    let SetAt = c.before.before.before in
     let If4 = SetAt.before.before in
     let WordAt = If4.before in
-    let If2 = WordAt.before.before in
+    let If2 = WordAt.before in
     let Index = If2.before in
     let If1 = Index.before in
     let Leads = If1.before in
     let Loop = Leads.before in
     let S = Loop.before.before.before in (
-      settling_value S.args.s.now S.args.values S.args.marks S.args.stamp S.args.pair Loop.loop.s Loop.loop.t Loop.loop.invariant.0 If2.if2.false
-          (rw If1.if1.true at Leads.leads.ensures) Index.index.result Index.index.ensures (ap (λ m. stamp_in m) (sym WordAt.word_at.ensures) ∙ If4.if4.false)
-          SetAt.set_at.new.0 SetAt.set_at.ensures c.word_at-t.result c.word_at-t.ensures,
-      SetAt.set_at.auto.0 ∙ Loop.loop.invariant.1,
+      settling_value S.args.s.now S.args.values S.args.marks S.args.stamp S.args.pair Loop.loop-q.s Loop.loop-q.t Loop.loop-q.invariant.0 If2.if-t-eq-COMPOUND.false
+          (rw If1.loop-q-test.true at Leads.leads.ensures) Index.index-q.result Index.index-q.ensures (ap (λ m. stamp_in m) (sym WordAt.word_at-m.ensures) ∙ If4.if-m-stamp.false)
+          SetAt.set_at.new.s SetAt.set_at.ensures c.word_at-t.result c.word_at-t.ensures,
+      SetAt.set_at.auto.s ∙ Loop.loop-q.invariant.1,
     )
 
 shape_of-s : tie.Need-shape_of-s invariant-loop-q decreases-loop-q

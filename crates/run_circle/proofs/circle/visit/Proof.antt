@@ -45,25 +45,25 @@ returns-then-end-ne0 c =
 
 word_at-t-requires : tie.Need-word_at-t-requires
 word_at-t-requires c κs =
-    let SetAt = c.before.before.before.before in
+    let SetAt = c.before.before.before in
     let S = SetAt.before.before.before in
     let a = S.args in
     let (x, place, goal, n, v) = S.requires in
-    visit_value a.s.now x a.values a.marks place a.stamp goal a.state a.p a.m n v SetAt.set_at.new.0 SetAt.set_at.ensures
+    visit_value a.s.now x a.values a.marks place a.stamp goal a.state a.p a.m n v SetAt.set_at.new.s SetAt.set_at.ensures
 
 unassigned-requires : tie.Need-unassigned-requires
 unassigned-requires c κs = search rules
 
 note-requires : tie.Need-note-requires
 note-requires c κs =
-    let SetAt = c.before.before.before.before.before.before.before.before in
+    let SetAt = c.before.before.before.before.before.before.before in
     let S = SetAt.before.before.before in
     let a = S.args in
     let (x, place, goal, n, v) = S.requires in (
       x,
       place,
       goal,
-      visit_searching a.s.now x a.values a.marks place a.stamp goal a.state a.p a.m n v SetAt.set_at.new.0 SetAt.set_at.ensures,
+      visit_searching a.s.now x a.values a.marks place a.stamp goal a.state a.p a.m n v SetAt.set_at.new.s SetAt.set_at.ensures,
       v.leading,
       (visit_fits a.s.now x a.values a.marks place a.stamp goal a.state a.p a.m n v).1,
     )
@@ -71,19 +71,19 @@ note-requires c κs =
 shape_of-s-then-unassigned : tie.Need-shape_of-s-then-unassigned
 shape_of-s-then-unassigned c =
     let Note = c.before.before in
-    let SetAt = Note.before.before.before.before.before.before.before.before.before in
-    Note.note.auto.s ∙ SetAt.set_at.auto.0
+    let SetAt = Note.before.before.before.before.before.before.before.before in
+    Note.note.auto.s ∙ SetAt.set_at.auto.s
 
 returns-then-unassigned : tie.Need-returns-then-unassigned
 returns-then-unassigned c =
     let Note = c.before.before in
     let WordAt = Note.before.before.before.before in
-    let SetAt = WordAt.before.before.before.before.before in
+    let SetAt = WordAt.before.before.before.before in
     let S = SetAt.before.before.before in
     let a = S.args in λ x place goal n v.
-    let here = visit_searching a.s.now x a.values a.marks place a.stamp goal a.state a.p a.m n v SetAt.set_at.new.0
+    let here = visit_searching a.s.now x a.values a.marks place a.stamp goal a.state a.p a.m n v SetAt.set_at.new.s
     SetAt.set_at.ensures in
-    visits_value a.s.now x a.values a.marks place a.stamp goal a.state a.p a.m n v SetAt.set_at.new.0 Note.note.new.s
+    visits_value a.s.now x a.values a.marks place a.stamp goal a.state a.p a.m n v SetAt.set_at.new.s Note.note.new.s
     WordAt.word_at-t.result SetAt.set_at.ensures
     (Note.note.ensures x place goal here v.leading
     (visit_fits a.s.now x a.values a.marks place a.stamp goal a.state a.p a.m n v).1)
@@ -91,17 +91,17 @@ returns-then-unassigned c =
 
 shape_of-s-else-unassigned : tie.Need-shape_of-s-else-unassigned
 shape_of-s-else-unassigned c =
-    let SetAt = c.before.before.before.before.before.before.before in
-    SetAt.set_at.auto.0
+    let SetAt = c.before.before.before.before.before.before in
+    SetAt.set_at.auto.s
 
 returns-else-unassigned : tie.Need-returns-else-unassigned
 returns-else-unassigned c =
     let WordAt = c.before.before in
-    let SetAt = WordAt.before.before.before.before.before in
+    let SetAt = WordAt.before.before.before.before in
     let S = SetAt.before.before.before in
     let a = S.args in λ x place goal n v.
-    visits_value a.s.now x a.values a.marks place a.stamp goal a.state a.p a.m n v SetAt.set_at.new.0 SetAt.set_at.new.0
-    WordAt.word_at-t.result SetAt.set_at.ensures (settled_same x a.marks a.stamp SetAt.set_at.new.0) WordAt.word_at-t.ensures
+    visits_value a.s.now x a.values a.marks place a.stamp goal a.state a.p a.m n v SetAt.set_at.new.s SetAt.set_at.new.s
+    WordAt.word_at-t.result SetAt.set_at.ensures (settled_same x a.marks a.stamp SetAt.set_at.new.s) WordAt.word_at-t.ensures
 
 pub visit_spec : {M : Type 1} → statement M
 visit_spec =

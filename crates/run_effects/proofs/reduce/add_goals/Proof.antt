@@ -20,77 +20,77 @@ loop-i-init c =
 
 word_at-h-requires : tie.Need-word_at-h-requires invariant-loop-i decreases-loop-i
 word_at-h-requires c κs =
-    let S = c.before.before.before.before in let a = S.args in
-    let L = c.before.before.loop in
+    let S = c.before.before.before in let a = S.args in
+    let L = c.before.loop-i in
     (calls.adds-inside a.s.now a.from a.n a.pair a.to a.mark a.queue a.size a.front a.active
-    L.s L.free L.i L.invariant S.requires c.before.loop-test.true).0
+    L.s L.free L.i L.invariant S.requires c.loop-i-test.true).0
 
 overflow_add-active : tie.Need-overflow_add-active invariant-loop-i decreases-loop-i
 overflow_add-active c =
-    let S = c.before.before.before.before.before.before in let a = S.args in
+    let S = c.before.before.before.before.before in let a = S.args in
     let few =
     calls.adds-few a.s.now a.from a.n a.pair a.to a.mark a.queue a.size a.front a.active S.requires
     in
-    omega (arith, c.before.before.before.loop-test.true, few.1, few.2, S.well-formed)
+    omega (arith, c.before.before.loop-i-test.true, few.1, few.2, S.well_formed)
 
 goal_of-requires : tie.Need-goal_of-requires invariant-loop-i decreases-loop-i
 goal_of-requires c κs =
-    let S = c.before.before.before.before.before.before in let a = S.args in
-    let L = c.before.before.before.before.loop in
+    let S = c.before.before.before.before.before in let a = S.args in
+    let L = c.before.before.before.loop-i in
     let few =
     calls.adds-few a.s.now a.from a.n a.pair a.to a.mark a.queue a.size a.front a.active S.requires
     in
     let inside =
     calls.adds-inside a.s.now a.from a.n a.pair a.to a.mark a.queue a.size a.front a.active
-    L.s L.free L.i L.invariant S.requires c.before.before.before.loop-test.true
+    L.s L.free L.i L.invariant S.requires c.before.before.loop-i-test.true
     in
     let same =
     calls.adds-size a.s.now a.from a.n a.pair a.to a.mark a.queue a.size a.front a.active L.s L.free L.i L.invariant S.requires
     in
-    (omega (arith, inside.1, same, S.well-formed), few.0)
+    (omega (arith, inside.1, same, S.well_formed), few.0)
 
 push-requires : tie.Need-push-requires invariant-loop-i decreases-loop-i
 push-requires c κs =
-    let S = c.before.before.before.before.before.before.before in let a = S.args in
-    let L = c.before.before.before.before.before.loop in
+    let S = c.before.before.before.before.before.before in let a = S.args in
+    let L = c.before.before.before.before.loop-i in
     let few =
     calls.adds-few a.s.now a.from a.n a.pair a.to a.mark a.queue a.size a.front a.active S.requires
     in
     let ok =
     calls.adds-ring a.s.now a.from a.n a.pair a.to a.mark a.queue a.size a.front a.active L.s L.free L.i L.invariant S.requires
     in
-    (ok, omega (arith, c.before.before.before.before.loop-test.true, few.1))
+    (ok, omega (arith, c.before.before.before.loop-i-test.true, few.1))
 
 index-requires : tie.Need-index-requires invariant-loop-i decreases-loop-i
 index-requires c κs = tt
 
 copy_arguments-free-requires : tie.Need-copy_arguments-free-requires invariant-loop-i decreases-loop-i
 copy_arguments-free-requires c κs =
-    let S = c.before.before.before.before.before.before.before.before.before.before.before.before in let a = S.args in
-    let L = c.before.before.before.before.before.before.before.before.before.before.loop in
+    let S = c.before.before.before.before.before.before.before.before.before.before.before in let a = S.args in
+    let L = c.before.before.before.before.before.before.before.before.before.loop-i in
     let G = c.before.before.before.before.before.goal_of in
     calls.adds-asks a.s.now a.from a.n a.pair a.to a.mark a.queue a.size a.front a.active
-    L.s L.free L.i L.invariant c.before.before.before.before.before.before.before.before.before.loop-test.true _ G.result G.ensures c.before.before.before.before.push.ensures
+    L.s L.free L.i L.invariant c.before.before.before.before.before.before.before.before.loop-i-test.true _ G.result G.ensures c.before.before.before.before.push.ensures
     _ (c.index.ensures ∙ ap (λ w. rest_in w) c.before.before.before.before.before.before.before.word_at-h.ensures) S.requires
 
 overflow_add-i : tie.Need-overflow_add-i invariant-loop-i decreases-loop-i
 overflow_add-i c =
-    let S = c.before.before.before.before.before.before.before.before.before.before.before.before.before.before.before in let a = S.args in
+    let S = c.before.before.before.before.before.before.before.before.before.before.before.before.before.before in let a = S.args in
     let few =
     calls.adds-few a.s.now a.from a.n a.pair a.to a.mark a.queue a.size a.front a.active S.requires
     in
-    omega (arith, c.before.before.before.before.before.before.before.before.before.before.before.before.loop-test.true, few.1, few.2, S.well-formed)
+    omega (arith, c.before.before.before.before.before.before.before.before.before.before.before.loop-i-test.true, few.1, few.2, S.well_formed)
 
 loop-i-smaller : tie.Need-loop-i-smaller invariant-loop-i decreases-loop-i
-loop-i-smaller c = omega (arith, c.before.before.before.before.before.before.before.before.before.before.before.before.loop-test.true)
+loop-i-smaller c = omega (arith, c.before.before.before.before.before.before.before.before.before.before.before.loop-i-test.true)
 
 loop-i-preserved : tie.Need-loop-i-preserved invariant-loop-i decreases-loop-i
 loop-i-preserved c =
-    let a = c.before.before.before.before.before.before.before.before.before.before.before.before.before.before.before.args in
-    let L = c.before.before.before.before.before.before.before.before.before.before.before.before.before.loop in
+    let a = c.before.before.before.before.before.before.before.before.before.before.before.before.before.before.args in
+    let L = c.before.before.before.before.before.before.before.before.before.before.before.before.loop-i in
     let G = c.before.before.before.before.before.before.before.before.goal_of in
     calls.adds_on a.s.now a.from a.n a.pair a.to a.mark a.queue a.size a.front a.active
-    L.s L.free L.i L.invariant c.before.before.before.before.before.before.before.before.before.before.before.before.loop-test.true _ G.result G.ensures c.before.before.before.before.before.before.before.push.ensures
+    L.s L.free L.i L.invariant c.before.before.before.before.before.before.before.before.before.before.before.loop-i-test.true _ G.result G.ensures c.before.before.before.before.before.before.before.push.ensures
     _ (c.before.before.before.index.ensures ∙ ap (λ w. rest_in w) c.before.before.before.before.before.before.before.before.before.before.word_at-h.ensures) _ _ c.before.before.copy_arguments-free.ensures
 
 shape_of-s : tie.Need-shape_of-s invariant-loop-i decreases-loop-i

@@ -29,33 +29,33 @@ loop-i-init c =
 
 word_at-requires : tie.Need-word_at-requires invariant-loop-i decreases-loop-i
 word_at-requires c κs =
-    let S = c.before.before.before.before in
-    let L = c.before.before.loop in
+    let S = c.before.before.before in
+    let L = c.before.loop-i in
     let p = S.requires in
     steps.place_inside S.args.s.now S.args.log p.0 p.1 p.2 p.3 p.4 S.args.n S.args.queue S.args.size S.args.front S.args.active p.5
-    L.s L.i (L.invariant.1 p.0 p.1 p.2 p.3 p.4 p.5) c.before.loop-test.true
+    L.s L.i (L.invariant.1 p.0 p.1 p.2 p.3 p.4 p.5) c.loop-i-test.true
 
 index-place-requires : tie.Need-index-place-requires invariant-loop-i decreases-loop-i
 index-place-requires c κs = search rules
 
 take-goal-requires : tie.Need-take-goal-requires invariant-loop-i decreases-loop-i
 take-goal-requires c κs =
-    let S = c.before.before.before.before.before.before.before in
-    let L = c.before.before.before.before.before.loop in
+    let S = c.before.before.before.before.before.before in
+    let L = c.before.before.before.before.loop-i in
     let p = S.requires in
     steps.slot-inside S.args.s.now S.args.log p.0 p.1 p.2 p.3 p.4 S.args.n S.args.queue S.args.size S.args.front S.args.active p.5
-    L.s L.i (L.invariant.1 p.0 p.1 p.2 p.3 p.4 p.5) c.before.before.before.before.loop-test.true _
+    L.s L.i (L.invariant.1 p.0 p.1 p.2 p.3 p.4 p.5) c.before.before.before.loop-i-test.true _
     (c.before.index-place.ensures ∙ c.before.before.word_at.ensures)
 
 overflow_add-active : tie.Need-overflow_add-active invariant-loop-i decreases-loop-i
 overflow_add-active c =
-    let S = c.before.before.before.before.before.before.before.before.before.before.before in omega (arith, S.requires.5.space, c.before.before.before.before.before.before.before.before.loop-test.true)
+    let S = c.before.before.before.before.before.before.before.before.before.before in omega (arith, S.requires.5.space, c.before.before.before.before.before.before.before.loop-i-test.true)
 
 push-requires : tie.Need-push-requires invariant-loop-i decreases-loop-i
 push-requires c κs =
-    let S = c.before.before.before.before.before.before.before.before.before.before.before in
-    let L = c.before.before.before.before.before.before.before.before.before.loop in
-    let less = c.before.before.before.before.before.before.before.before.loop-test.true in
+    let S = c.before.before.before.before.before.before.before.before.before.before in
+    let L = c.before.before.before.before.before.before.before.before.loop-i in
+    let less = c.before.before.before.before.before.before.before.loop-i-test.true in
     let read = c.before.before.before.before.before.index-place.ensures ∙ c.before.before.before.before.before.before.word_at.ensures in
     let p = S.requires in
     let r = L.invariant.1 p.0 p.1 p.2 p.3 p.4 p.5 in
@@ -73,9 +73,9 @@ loop-i-smaller c = search rules
 
 loop-i-preserved : tie.Need-loop-i-preserved invariant-loop-i decreases-loop-i
 loop-i-preserved c =
-    let S = c.before.before.before.before.before.before.before.before.before.before.before.before.before.before in
-    let L = c.before.before.before.before.before.before.before.before.before.before.before.before.loop in
-    let less = c.before.before.before.before.before.before.before.before.before.before.before.loop-test.true in
+    let S = c.before.before.before.before.before.before.before.before.before.before.before.before.before in
+    let L = c.before.before.before.before.before.before.before.before.before.before.before.loop-i in
+    let less = c.before.before.before.before.before.before.before.before.before.before.loop-i-test.true in
     let read = c.before.before.before.before.before.before.before.before.index-place.ensures ∙ c.before.before.before.before.before.before.before.before.before.word_at.ensures in (
       omega arith,
       λ waiters sets pairs slots zs a.

@@ -18,30 +18,30 @@ loop-x-init c = let S = c.before in let a = S.args in assigned.none_given a.s.no
 
 word_at-w-requires : tie.Need-word_at-w-requires invariant-loop-x decreases-loop-x
 word_at-w-requires c κs =
-    let S = c.before.before.before.before in
-    omega (arith, S.requires.0, S.requires.1, S.requires.2, c.before.before.loop.invariant.kept.size, c.before.loop-test.true)
+    let S = c.before.before.before in
+    omega (arith, S.requires.0, S.requires.1, S.requires.2, c.before.loop-x.invariant.kept.size, c.loop-x-test.true)
 
 overflow_add-values : tie.Need-overflow_add-values invariant-loop-x decreases-loop-x
-overflow_add-values c = let S = c.before.before.before.before.before.before in omega (arith, S.requires.2, S.well-formed)
+overflow_add-values c = let S = c.before.before.before.before.before in omega (arith, S.requires.2, S.well_formed)
 
 set_at-requires : tie.Need-set_at-requires invariant-loop-x decreases-loop-x
 set_at-requires c κs =
-    let S = c.before.before.before.before.before.before in
-    omega (arith, S.requires.2, c.before.before.before.before.loop.invariant.kept.size, c.before.before.before.loop-test.true)
+    let S = c.before.before.before.before.before in
+    omega (arith, S.requires.2, c.before.before.before.loop-x.invariant.kept.size, c.before.before.loop-x-test.true)
 
 overflow_add-x : tie.Need-overflow_add-x invariant-loop-x decreases-loop-x
-overflow_add-x c = let S = c.before.before.before.before.before.before.before.before.before in omega (arith, c.before.before.before.before.before.before.loop-test.true, S.requires.0)
+overflow_add-x c = let S = c.before.before.before.before.before.before.before.before in omega (arith, c.before.before.before.before.before.loop-x-test.true, S.requires.0)
 
 loop-x-smaller : tie.Need-loop-x-smaller invariant-loop-x decreases-loop-x
-loop-x-smaller c = omega (arith, c.before.before.before.before.before.before.loop-test.true)
+loop-x-smaller c = omega (arith, c.before.before.before.before.before.loop-x-test.true)
 
 loop-x-preserved : tie.Need-loop-x-preserved invariant-loop-x decreases-loop-x
 loop-x-preserved c =
-    let S = c.before.before.before.before.before.before.before.before.before in let a = S.args in
-    let L = c.before.before.before.before.before.before.before.loop in
+    let S = c.before.before.before.before.before.before.before.before in let a = S.args in
+    let L = c.before.before.before.before.before.before.loop-x in
     rw c.before.before.set_at.ensures
     (assigned.one_given a.s.now L.s a.values a.pair a.pairs L.x _ S.requires.0 S.requires.1 S.requires.2 L.invariant
-    c.before.before.before.before.before.before.loop-test.true c.before.before.before.before.word_at-w.ensures)
+    c.before.before.before.before.before.loop-x-test.true c.before.before.before.before.word_at-w.ensures)
 
 shape_of-s : tie.Need-shape_of-s invariant-loop-x decreases-loop-x
 shape_of-s c = c.before.loop-x.invariant.kept.size

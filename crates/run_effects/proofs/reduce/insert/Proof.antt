@@ -24,8 +24,8 @@ overflow_sub-i c = search rules
 
 word_at-before-requires : tie.Need-word_at-before-requires invariant-loop-i decreases-loop-i
 word_at-before-requires c κs =
-    let o = c.before.before.loop.invariant in
-    let a = c.before.before.before.before.requires in
+    let o = c.before.loop-i.invariant in
+    let a = c.before.before.before.requires in
     omega (arith, o.size, o.before, a.few, a.inside)
 
 index-requires : tie.Need-index-requires invariant-loop-i decreases-loop-i
@@ -33,8 +33,8 @@ index-requires c κs = search rules
 
 set_at-requires : tie.Need-set_at-requires invariant-loop-i decreases-loop-i
 set_at-requires c κs =
-    let o = c.before.before.before.before.before.before.loop.invariant in
-    let a = c.before.before.before.before.before.before.before.before.requires in
+    let o = c.before.before.before.before.before.loop-i.invariant in
+    let a = c.before.before.before.before.before.before.before.requires in
     omega (arith, o.size, o.before, a.few, a.inside)
 
 overflow_sub-i-in-loop-i : tie.Need-overflow_sub-i-in-loop-i invariant-loop-i decreases-loop-i
@@ -45,9 +45,9 @@ loop-i-smaller c = search rules
 
 loop-i-preserved : tie.Need-loop-i-preserved invariant-loop-i decreases-loop-i
 loop-i-preserved c =
-    let S = c.before.before.before.before.before.before.before.before.before.before.before in
-    let L = c.before.before.before.before.before.before.before.before.before.loop in
-    let taken = c.before.before.before.before.before.before.before.before.loop-test.true in
+    let S = c.before.before.before.before.before.before.before.before.before.before in
+    let L = c.before.before.before.before.before.before.before.before.loop-i in
+    let taken = c.before.before.before.before.before.before.before.loop-i-test.true in
     let read = c.before.before.before.before.before.before.word_at-before.ensures in
     let index = c.before.before.before.before.before.index.ensures in
     let left = c.before.before.before.before.if-index-place.false in

@@ -26,27 +26,27 @@ loop-i-init c =
 
 overflow_mul-i : tie.Need-overflow_mul-i invariant-loop-i decreases-loop-i
 overflow_mul-i c =
-    let S = c.before.before.before.before in omega (arith, S.requires.2.few, c.before.loop-test.true)
+    let S = c.before.before.before in omega (arith, S.requires.2.few, c.loop-i-test.true)
 
 word_at-requires : tie.Need-word_at-requires invariant-loop-i decreases-loop-i
 word_at-requires c κs =
-    let S = c.before.before.before.before in
-    let L = c.before.before.loop in
+    let S = c.before.before.before in
+    let L = c.before.loop-i in
     let p = S.requires in
     steps.entry-inside S.args.s.now S.args.log S.args.waiters S.args.sets p.0 p.1 S.args.n p.2 L.s L.i L.woken
-    (L.invariant.1 p.0 p.1 p.2) c.before.loop-test.true
+    (L.invariant.1 p.0 p.1 p.2) c.loop-i-test.true
 
 index-z-requires : tie.Need-index-z-requires invariant-loop-i decreases-loop-i
 index-z-requires c κs = search rules
 
 word_at-requires-in-loop-i : tie.Need-word_at-requires-in-loop-i invariant-loop-i decreases-loop-i
 word_at-requires-in-loop-i c κs =
-    let S = c.before.before.before.before.before.before.before in
-    let L = c.before.before.before.before.before.loop in
+    let S = c.before.before.before.before.before in
+    let L = c.before.before.before.loop-i in
     let p = S.requires in
     steps.waiter-inside S.args.s.now S.args.log S.args.waiters S.args.sets p.0 p.1 S.args.n p.2 L.s L.i L.woken
-    (L.invariant.1 p.0 p.1 p.2) c.before.before.before.before.loop-test.true _
-    (c.before.index.ensures ∙ c.before.before.word_at.ensures)
+    (L.invariant.1 p.0 p.1 p.2) c.before.before.loop-i-test.true _
+    (c.index-z.ensures ∙ c.before.word_at.ensures)
 
 index-waiter-requires : tie.Need-index-waiter-requires invariant-loop-i decreases-loop-i
 index-waiter-requires c κs = search rules
@@ -56,10 +56,10 @@ overflow_sub-waiter c = search rules
 
 leave-requires : tie.Need-leave-requires invariant-loop-i decreases-loop-i
 leave-requires c κs =
-    let S = c.before.before.before.before.before.before.before.before.before.before.before in
-    let L = c.before.before.before.before.before.before.before.before.before.loop in
-    let less = c.before.before.before.before.before.before.before.before.loop-test.true in
-    let read = c.before.before.before.before.before.index.ensures ∙ c.before.before.before.before.before.before.word_at.ensures in
+    let S = c.before.before.before.before.before.before.before.before.before in
+    let L = c.before.before.before.before.before.before.before.loop-i in
+    let less = c.before.before.before.before.before.before.loop-i-test.true in
+    let read = c.before.before.before.before.index-z.ensures ∙ c.before.before.before.before.before.word_at.ensures in
     let waiter = c.before.before.index-waiter.ensures ∙ c.before.before.before.word_at-in-loop-i.ensures in
     let p = S.requires in
     let a = L.invariant.1 p.0 p.1 p.2 in
@@ -78,10 +78,10 @@ overflow_sub-waiter-then-waiter-ne0 c = search rules
 insert-requires : tie.Need-insert-requires invariant-loop-i decreases-loop-i
 insert-requires c κs =
     let C = c.before.before.before.before in
-    let S = C.before.before.before.before.before.before.before.before.before.before.before in
-    let L = C.before.before.before.before.before.before.before.before.before.loop in
-    let less = C.before.before.before.before.before.before.before.before.loop-test.true in
-    let read = C.before.before.before.before.before.index.ensures ∙ C.before.before.before.before.before.before.word_at.ensures in
+    let S = C.before.before.before.before.before.before.before.before.before in
+    let L = C.before.before.before.before.before.before.before.loop-i in
+    let less = C.before.before.before.before.before.before.loop-i-test.true in
+    let read = C.before.before.before.before.index-z.ensures ∙ C.before.before.before.before.before.word_at.ensures in
     let waiter = C.before.before.index-waiter.ensures ∙ C.before.before.before.word_at-in-loop-i.ensures in
     let p = S.requires in
     let a = L.invariant.1 p.0 p.1 p.2 in
@@ -92,10 +92,10 @@ insert-requires c κs =
 
 overflow_add-woken : tie.Need-overflow_add-woken invariant-loop-i decreases-loop-i
 overflow_add-woken c =
-    let S = c.before.before.before.before.before.before.before.before.before.before.before.before.before.before.before.before.before.before in
-    let L = c.before.before.before.before.before.before.before.before.before.before.before.before.before.before.before.before.loop in
+    let S = c.before.before.before.before.before.before.before.before.before.before.before.before.before.before.before.before in
+    let L = c.before.before.before.before.before.before.before.before.before.before.before.before.before.before.loop-i in
     let p = S.requires in
-    omega (arith, (L.invariant.1 p.0 p.1 p.2).few, p.2.few, c.before.before.before.before.before.before.before.before.before.before.before.before.before.before.before.loop-test.true)
+    omega (arith, (L.invariant.1 p.0 p.1 p.2).few, p.2.few, c.before.before.before.before.before.before.before.before.before.before.before.before.before.loop-i-test.true)
 
 overflow_add-i : tie.Need-overflow_add-i invariant-loop-i decreases-loop-i
 overflow_add-i c = search rules
@@ -105,10 +105,10 @@ loop-i-smaller c = search rules
 
 loop-i-preserved : tie.Need-loop-i-preserved invariant-loop-i decreases-loop-i
 loop-i-preserved c =
-    let S = c.before.before.before.before.before.before.before.before.before.before in
-    let L = c.before.before.before.before.before.before.before.before.loop in
-    let less = c.before.before.before.before.before.before.before.loop-test.true in
-    let read = c.before.before.before.before.index.ensures ∙ c.before.before.before.before.before.word_at.ensures in
+    let S = c.before.before.before.before.before.before.before.before in
+    let L = c.before.before.before.before.before.before.loop-i in
+    let less = c.before.before.before.before.before.loop-i-test.true in
+    let read = c.before.before.before.index-z.ensures ∙ c.before.before.before.before.word_at.ensures in
     let waiter = c.before.index-waiter.ensures ∙ c.before.before.word_at-in-loop-i.ensures in (
       omega arith,
       λ pairs slots w.

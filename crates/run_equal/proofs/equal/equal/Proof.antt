@@ -31,7 +31,7 @@ overflow_add-place c = search rules
 
 given-t-requires : tie.Need-given-t-requires
 given-t-requires c κs =
-    let S = c.before.before in
+    let S = c.before in
     let a = S.args in
     let (x, y, given, n, t, u, E) = S.requires in
     first_readable a.s.now x y given a.values a.marks a.links a.met n a.place t u E
@@ -41,7 +41,7 @@ overflow_add-place-2 c = search rules
 
 given-u-requires : tie.Need-given-u-requires
 given-u-requires c κs =
-    let S = c.before.before.before.before in
+    let S = c.before.before in
     let a = S.args in
     let (x, y, given, n, t, u, E) = S.requires in
     second_readable a.s.now x y given a.values a.marks a.links a.met n a.place t u E
@@ -51,14 +51,14 @@ overflow_add-marks c = search rules
 
 same-r-requires : tie.Need-same-r-requires
 same-r-requires c κs =
-    let S = c.before.before.before.before.before.before in
+    let S = c.before.before.before.before in
     let a = S.args in
     let (x, y, given, n, t, u, E) = S.requires in (
       scene a.s.now x y given a.values a.marks a.links a.met n a.place t u E,
       filled (scene a.s.now x y given a.values a.marks a.links a.met n a.place t u E) t,
       filled (scene a.s.now x y given a.values a.marks a.links a.met n a.place t u E) u,
       begins a.s.now x y given a.values a.marks a.links a.met n a.place t u E,
-      first_means a.s.now x y given a.values a.marks a.links a.met n a.place t u E c.before.before.before.given.result c.before.before.before.given.ensures,
+      first_means a.s.now x y given a.values a.marks a.links a.met n a.place t u E c.before.before.given-t.result c.before.before.given-t.ensures,
       second_means a.s.now x y given a.values a.marks a.links a.met n a.place t u E c.before.given-u.result c.before.given-u.ensures,
     )
 
@@ -69,8 +69,8 @@ returns-then-r-eq-UNEQUAL : tie.Need-returns-then-r-eq-UNEQUAL
 returns-then-r-eq-UNEQUAL c =
     let Same = c.before.before.before in
     let Second = Same.before.before in
-    let First = Second.before.before in
-    let S = First.before.before.before in
+    let First = Second.before in
+    let S = First.before.before in
     let a = S.args in
     λ x y given n t u E.
     says_unequal a.s.now x y given a.values a.marks a.links a.met n a.place t u E Same.same-r.new.s Same.same-r.result
@@ -78,7 +78,7 @@ returns-then-r-eq-UNEQUAL c =
     (filled (scene a.s.now x y given a.values a.marks a.links a.met n a.place t u E) t)
     (filled (scene a.s.now x y given a.values a.marks a.links a.met n a.place t u E) u)
     (begins a.s.now x y given a.values a.marks a.links a.met n a.place t u E)
-    (first_means a.s.now x y given a.values a.marks a.links a.met n a.place t u E First.given.result First.given.ensures)
+    (first_means a.s.now x y given a.values a.marks a.links a.met n a.place t u E First.given-t.result First.given-t.ensures)
     (second_means a.s.now x y given a.values a.marks a.links a.met n a.place t u E Second.given-u.result Second.given-u.ensures))
     c.if-r-eq-UNEQUAL.true
 
@@ -89,8 +89,8 @@ returns : tie.Need-returns
 returns c =
     let Same = c.before.before.before in
     let Second = Same.before.before in
-    let First = Second.before.before in
-    let S = First.before.before.before in
+    let First = Second.before in
+    let S = First.before.before in
     let a = S.args in
     λ x y given n t u E.
     says_equal a.s.now x y given a.values a.marks a.links a.met n a.place t u E Same.same-r.new.s Same.same-r.result
@@ -98,7 +98,7 @@ returns c =
     (filled (scene a.s.now x y given a.values a.marks a.links a.met n a.place t u E) t)
     (filled (scene a.s.now x y given a.values a.marks a.links a.met n a.place t u E) u)
     (begins a.s.now x y given a.values a.marks a.links a.met n a.place t u E)
-    (first_means a.s.now x y given a.values a.marks a.links a.met n a.place t u E First.given.result First.given.ensures)
+    (first_means a.s.now x y given a.values a.marks a.links a.met n a.place t u E First.given-t.result First.given-t.ensures)
     (second_means a.s.now x y given a.values a.marks a.links a.met n a.place t u E Second.given-u.result Second.given-u.ensures))
     c.if-r-eq-UNEQUAL.false
 

@@ -45,14 +45,14 @@ returns-then-old-ge-PLACES c =
     let If3 = SetAt.before.before in
     let If2 = If3.before in
     let Old = If2.before.before in
-    let If1 = Old.before.before in
+    let If1 = Old.before in
     let Index = If1.before in
-    let Word = Index.before.before.before in
+    let Word = Index.before.before in
     let S = Word.before.before in
     let a = S.args in
     λ met r k.
     rw (SetAt.set_at.ensures, Word.word.ensures)
-    (put_over a.s.now a.lists a.links a.taken met a.p a.w r k Index.index.result If1.if1.true
+    (put_over a.s.now a.lists a.links a.taken met a.p a.w r k Index.index-rank.result If1.if-rank-taken.true
     (omega (arith, If3.if-old-ge-PLACES.true, Old.word_at-old.ensures)))
 
 shape_of-s-else-old-ge-PLACES : tie.Need-shape_of-s-else-old-ge-PLACES
@@ -60,7 +60,7 @@ shape_of-s-else-old-ge-PLACES c = search rules
 
 returns-else-old-ge-PLACES : tie.Need-returns-else-old-ge-PLACES
 returns-else-old-ge-PLACES c =
-    let S = c.before.before.before.before.before.before.before.before.before.before.before in
+    let S = c.before.before.before.before.before.before.before.before.before in
     let a = S.args in
     λ met r k. put_none a.s.now a.lists a.links a.taken met a.p a.w r k
 
@@ -69,7 +69,7 @@ shape_of-s-then-taken-links c = search rules
 
 returns-then-taken-links : tie.Need-returns-then-taken-links
 returns-then-taken-links c =
-    let S = c.before.before.before.before.before.before.before in
+    let S = c.before.before.before.before.before.before in
     let a = S.args in
     λ met r k. put_none a.s.now a.lists a.links a.taken met a.p a.w r k
 
@@ -99,7 +99,7 @@ returns c =
     let If4 = Set2.before.before in
     let If1 = If4.before in
     let Index = If1.before in
-    let Word = Index.before.before.before in
+    let Word = Index.before.before in
     let S = Word.before.before in
     let a = S.args in
     let rank = Index.index-rank.ensures ∙ Index.before.word_at.ensures in

@@ -47,46 +47,46 @@ index-p-requires c κs =
 
 count-k-requires : tie.Need-count-k-requires invariant-loop-s decreases-loop-s
 count-k-requires c κs =
-    let If2 = c.before in let Index = If2.before in let Loop = Index.before in
+    let If2 = c in let Index = If2.before in let Loop = Index.before in
     let S = Loop.before.before.before.before in let a = S.args in
-    settle_count a.s.now a.values a.marks a.stamp a.w a.state Loop.loop.s Loop.loop.t Loop.loop.invariant.0
-    If2.if2.true Index.index.result Index.index.ensures S.requires
+    settle_count a.s.now a.values a.marks a.stamp a.w a.state Loop.loop-s.s Loop.loop-s.t Loop.loop-s.invariant.0
+    If2.if-tag-eq-COMPOUND.true Index.index-p.result Index.index-p.ensures S.requires
 
 shape_of-s-then-k-eq0 : tie.Need-shape_of-s-then-k-eq0 invariant-loop-s decreases-loop-s
 shape_of-s-then-k-eq0 c =
-    let Loop = c.before.before.before.before.before in
-    Loop.loop.invariant.1
+    let Loop = c.before.before.before.before in
+    Loop.loop-s.invariant.1
 
 returns-then-k-eq0 : tie.Need-returns-then-k-eq0 invariant-loop-s decreases-loop-s
 returns-then-k-eq0 c =
-    let Loop = c.before.before.before.before.before in let S = Loop.before.before.before.before in let a = S.args in
-    settling_last a.s.now a.values a.marks a.stamp a.w a.state Loop.loop.s Loop.loop.t Loop.loop.invariant.0
+    let Loop = c.before.before.before.before in let S = Loop.before.before.before.before in let a = S.args in
+    settling_last a.s.now a.values a.marks a.stamp a.w a.state Loop.loop-s.s Loop.loop-s.t Loop.loop-s.invariant.0
 
 argument-t-requires : tie.Need-argument-t-requires invariant-loop-s decreases-loop-s
 argument-t-requires c κs =
-    let If3 = c.before in let Count = If3.before in let If2 = Count.before.before in let Index = If2.before in let Loop = Index.before in
+    let If3 = c in let Count = If3.before in let If2 = Count.before in let Index = If2.before in let Loop = Index.before in
     let S = Loop.before.before.before.before in let a = S.args in
-    settle_argument a.s.now a.values a.marks a.stamp a.w a.state Loop.loop.s Loop.loop.t Loop.loop.invariant.0
-    If2.if2.true Index.index.result Index.index.ensures Count.count.result Count.count.ensures If3.if3.false S.requires
+    settle_argument a.s.now a.values a.marks a.stamp a.w a.state Loop.loop-s.s Loop.loop-s.t Loop.loop-s.invariant.0
+    If2.if-tag-eq-COMPOUND.true Index.index-p.result Index.index-p.ensures Count.count-k.result Count.count-k.ensures If3.if-k-eq0.false S.requires
 
 loop-s-smaller-then-tag-eq-COMPOUND : tie.Need-loop-s-smaller-then-tag-eq-COMPOUND invariant-loop-s decreases-loop-s
 loop-s-smaller-then-tag-eq-COMPOUND c =
-    let If3 = c.before.before in let Count = If3.before in let If2 = Count.before.before in let Index = If2.before in
+    let If3 = c.before in let Count = If3.before in let If2 = Count.before in let Index = If2.before in
     let Loop = Index.before in
     let S = Loop.before.before.before.before in let a = S.args in
-    argument_lighter a.s.now a.values a.marks a.stamp a.w a.state Loop.loop.s Loop.loop.t Loop.loop.invariant.0
-    If2.if2.true Index.index.result Index.index.ensures Count.count.result Count.count.ensures If3.if3.false
+    argument_lighter a.s.now a.values a.marks a.stamp a.w a.state Loop.loop-s.s Loop.loop-s.t Loop.loop-s.invariant.0
+    If2.if-tag-eq-COMPOUND.true Index.index-p.result Index.index-p.ensures Count.count-k.result Count.count-k.ensures If3.if-k-eq0.false
     c.argument-t.result c.argument-t.ensures S.requires
 
 loop-s-preserved-then-tag-eq-COMPOUND : tie.Need-loop-s-preserved-then-tag-eq-COMPOUND invariant-loop-s decreases-loop-s
 loop-s-preserved-then-tag-eq-COMPOUND c =
-    let If3 = c.before.before in let Count = If3.before in let If2 = Count.before.before in let Index = If2.before in
+    let If3 = c.before in let Count = If3.before in let If2 = Count.before in let Index = If2.before in
     let Loop = Index.before in
     let S = Loop.before.before.before.before in let a = S.args in (
-      settling_argument a.s.now a.values a.marks a.stamp a.w a.state Loop.loop.s Loop.loop.t Loop.loop.invariant.0
-          If2.if2.true Index.index.result Index.index.ensures Count.count.result Count.count.ensures If3.if3.false
+      settling_argument a.s.now a.values a.marks a.stamp a.w a.state Loop.loop-s.s Loop.loop-s.t Loop.loop-s.invariant.0
+          If2.if-tag-eq-COMPOUND.true Index.index-p.result Index.index-p.ensures Count.count-k.result Count.count-k.ensures If3.if-k-eq0.false
           c.argument-t.result c.argument-t.ensures,
-      Loop.loop.invariant.1,
+      Loop.loop-s.invariant.1,
     )
 
 shape_of-s-then-tag-gt-READER : tie.Need-shape_of-s-then-tag-gt-READER invariant-loop-s decreases-loop-s
@@ -101,57 +101,57 @@ returns-then-tag-gt-READER c =
 
 word_at-requires : tie.Need-word_at-requires invariant-loop-s decreases-loop-s
 word_at-requires c κs =
-    let If4 = c.before in let If2 = If4.before in let Index = If2.before in let Loop = Index.before in
+    let If4 = c in let If2 = If4.before in let Index = If2.before in let Loop = Index.before in
     let S = Loop.before.before.before.before in let a = S.args in
-    settle_mark a.s.now a.values a.marks a.stamp a.w a.state Loop.loop.s Loop.loop.t Loop.loop.invariant.0
-    If2.if2.false If4.if4.false Index.index.result Index.index.ensures S.requires
+    settle_mark a.s.now a.values a.marks a.stamp a.w a.state Loop.loop-s.s Loop.loop-s.t Loop.loop-s.invariant.0
+    If2.if-tag-eq-COMPOUND.false If4.if-tag-gt-READER.false Index.index-p.result Index.index-p.ensures S.requires
 
 shape_of-s-then-word_at-stamp : tie.Need-shape_of-s-then-word_at-stamp invariant-loop-s decreases-loop-s
 shape_of-s-then-word_at-stamp c =
-    let Loop = c.before.before.before.before.before.before in
-    Loop.loop.invariant.1
+    let Loop = c.before.before.before.before.before in
+    Loop.loop-s.invariant.1
 
 returns-then-word_at-stamp : tie.Need-returns-then-word_at-stamp invariant-loop-s decreases-loop-s
 returns-then-word_at-stamp c =
-    let Loop = c.before.before.before.before.before.before in let S = Loop.before.before.before.before in let a = S.args in
-    settling_last a.s.now a.values a.marks a.stamp a.w a.state Loop.loop.s Loop.loop.t Loop.loop.invariant.0
+    let Loop = c.before.before.before.before.before in let S = Loop.before.before.before.before in let a = S.args in
+    settling_last a.s.now a.values a.marks a.stamp a.w a.state Loop.loop-s.s Loop.loop-s.t Loop.loop-s.invariant.0
 
 set_at-requires : tie.Need-set_at-requires invariant-loop-s decreases-loop-s
 set_at-requires c κs =
-    let If4 = c.before.before.before.before in let If2 = If4.before in let Index = If2.before in let Loop = Index.before in
+    let If4 = c.before.before.before in let If2 = If4.before in let Index = If2.before in let Loop = Index.before in
     let S = Loop.before.before.before.before in let a = S.args in
-    settle_mark a.s.now a.values a.marks a.stamp a.w a.state Loop.loop.s Loop.loop.t Loop.loop.invariant.0
-    If2.if2.false If4.if4.false Index.index.result Index.index.ensures S.requires
+    settle_mark a.s.now a.values a.marks a.stamp a.w a.state Loop.loop-s.s Loop.loop-s.t Loop.loop-s.invariant.0
+    If2.if-tag-eq-COMPOUND.false If4.if-tag-gt-READER.false Index.index-p.result Index.index-p.ensures S.requires
 
 word_at-t-requires : tie.Need-word_at-t-requires invariant-loop-s decreases-loop-s
 word_at-t-requires c κs =
-    let SetAt = c.before.before.before in let If5 = SetAt.before.before in let WordAt = If5.before in
-    let If4 = WordAt.before.before in let If2 = If4.before in let Index = If2.before in let Loop = Index.before in
+    let SetAt = c.before.before in let If5 = SetAt.before.before in let WordAt = If5.before in
+    let If4 = WordAt.before in let If2 = If4.before in let Index = If2.before in let Loop = Index.before in
     let S = Loop.before.before.before.before in let a = S.args in
-    let m = sym WordAt.word_at.ensures ∙ If5.if5.false in
-    settle_value a.s.now a.values a.marks a.stamp a.w a.state Loop.loop.s Loop.loop.t Loop.loop.invariant.0
-    If2.if2.false If4.if4.false Index.index.result Index.index.ensures m SetAt.set_at.new.0 SetAt.set_at.ensures S.requires
+    let m = sym WordAt.word_at.ensures ∙ If5.if-word_at-stamp.false in
+    settle_value a.s.now a.values a.marks a.stamp a.w a.state Loop.loop-s.s Loop.loop-s.t Loop.loop-s.invariant.0
+    If2.if-tag-eq-COMPOUND.false If4.if-tag-gt-READER.false Index.index-p.result Index.index-p.ensures m SetAt.set_at.new.s SetAt.set_at.ensures S.requires
 
 loop-s-smaller : tie.Need-loop-s-smaller invariant-loop-s decreases-loop-s
 loop-s-smaller c =
-    let SetAt = c.before.before.before.before in let If5 = SetAt.before.before in let WordAt = If5.before in
-    let If4 = WordAt.before.before in let If2 = If4.before in let Index = If2.before in let Loop = Index.before in
+    let SetAt = c.before.before.before in let If5 = SetAt.before.before in let WordAt = If5.before in
+    let If4 = WordAt.before in let If2 = If4.before in let Index = If2.before in let Loop = Index.before in
     let S = Loop.before.before.before.before in let a = S.args in
-    let m = sym WordAt.word_at.ensures ∙ If5.if5.false in
-    value_lighter a.s.now a.values a.marks a.stamp a.w a.state Loop.loop.s Loop.loop.t Loop.loop.invariant.0
-    If2.if2.false If4.if4.false Index.index.result Index.index.ensures m SetAt.set_at.new.0 SetAt.set_at.ensures S.requires
+    let m = sym WordAt.word_at.ensures ∙ If5.if-word_at-stamp.false in
+    value_lighter a.s.now a.values a.marks a.stamp a.w a.state Loop.loop-s.s Loop.loop-s.t Loop.loop-s.invariant.0
+    If2.if-tag-eq-COMPOUND.false If4.if-tag-gt-READER.false Index.index-p.result Index.index-p.ensures m SetAt.set_at.new.s SetAt.set_at.ensures S.requires
     c.word_at-t.result
 
 loop-s-preserved : tie.Need-loop-s-preserved invariant-loop-s decreases-loop-s
 loop-s-preserved c =
-    let SetAt = c.before.before.before.before in let If5 = SetAt.before.before in let WordAt = If5.before in
-    let If4 = WordAt.before.before in let If2 = If4.before in let Index = If2.before in let Loop = Index.before in
+    let SetAt = c.before.before.before in let If5 = SetAt.before.before in let WordAt = If5.before in
+    let If4 = WordAt.before in let If2 = If4.before in let Index = If2.before in let Loop = Index.before in
     let S = Loop.before.before.before.before in let a = S.args in
-    let m = sym WordAt.word_at.ensures ∙ If5.if5.false in (
-      settling_value a.s.now a.values a.marks a.stamp a.w a.state Loop.loop.s Loop.loop.t Loop.loop.invariant.0
-          If2.if2.false If4.if4.false Index.index.result Index.index.ensures m SetAt.set_at.new.0 SetAt.set_at.ensures
+    let m = sym WordAt.word_at.ensures ∙ If5.if-word_at-stamp.false in (
+      settling_value a.s.now a.values a.marks a.stamp a.w a.state Loop.loop-s.s Loop.loop-s.t Loop.loop-s.invariant.0
+          If2.if-tag-eq-COMPOUND.false If4.if-tag-gt-READER.false Index.index-p.result Index.index-p.ensures m SetAt.set_at.new.s SetAt.set_at.ensures
           c.word_at-t.result c.word_at-t.ensures,
-      SetAt.set_at.auto.0 ∙ Loop.loop.invariant.1,
+      SetAt.set_at.auto.s ∙ Loop.loop-s.invariant.1,
     )
 
 pub settle_spec : {M : Type 1} → statement M

@@ -51,7 +51,7 @@ index-n-requires c κs = search rules
 
 loop-i-init : tie.Need-loop-i-init invariant-loop-i decreases-loop-i
 loop-i-init c =
-    let S = c.before.before.before.before in
+    let S = c.before.before.before in
     let a = S.args in (
       omega arith,
       λ x y cl given earlier G e E.
@@ -90,7 +90,7 @@ overflow_add-i c = omega (arith, few c.before)
 word_at-w-requires : tie.Need-word_at-w-requires invariant-loop-i decreases-loop-i
 word_at-w-requires c κs =
     let T = c.before in
-    omega (arith, inside (start T) (16 + T.before.loop.i) (omega (arith, few T)), size T)
+    omega (arith, inside (start T) (16 + T.loop-i.i) (omega (arith, few T)), size T)
 
 word-requires : tie.Need-word-requires invariant-loop-i decreases-loop-i
 word-requires c κs = search rules
@@ -104,18 +104,18 @@ overflow_add-stamp c =
 module _ (W : tie.After-word invariant-loop-i decreases-loop-i) (x : Setting) (y : Template) (cl : Clause) (given : List Assignment) (earlier : List ℕ)
     (G : Asks W.before.before.before.before x y cl given) (e : (start W.before.before.before.before).args.k ≡ y.number)
     (E : Earlier earlier (start W.before.before.before.before).args.met) where
-  asked : let T = W.before.before.before.before in
+  asked : let T = W.before.before.before in
       let a = (start T).args in
-      Next a.s.now x y cl given earlier a.values a.marks a.links a.met a.stamp G T.before.loop.s T.before.loop.i
-      T.before.before.index.result W.before.before.word_at-w.result
+      Next a.s.now x y cl given earlier a.values a.marks a.links a.met a.stamp G T.before.loop-i.s T.before.loop-i.i
+      T.before.before.index-n.result W.before.before.word_at-w.result
   asked =
-      let T = W.before.before.before.before in
+      let T = W.before.before.before in
       let a = (start T).args in
-      let L = T.before.loop in
+      let L = T.before.loop-i in
       let (counted, go) = L.invariant.1 x y cl given earlier G e E in
-      next a.s.now x y cl given earlier a.values a.marks a.links a.met a.stamp G L.s T.before.before.index.result L.i
+      next a.s.now x y cl given earlier a.values a.marks a.links a.met a.stamp G L.s T.before.before.index-n.result L.i
       W.before.before.word_at-w.result counted
-      (W.before.before.word_at-w.ensures ∙ ap (λ (j : ℕ). get_or L.s (clause_record j + (16 + L.i)) 0) e) go T.loop-test.true
+      (W.before.before.word_at-w.ensures ∙ ap (λ (j : ℕ). get_or L.s (clause_record j + (16 + L.i)) 0) e) go T.loop-i-test.true
 
 ask-requires : tie.Need-ask-requires invariant-loop-i decreases-loop-i
 ask-requires c κs =
@@ -140,13 +140,13 @@ returns-in-Waits : tie.Need-returns-in-Waits invariant-loop-i decreases-loop-i
 returns-in-Waits c x y cl given earlier G e E =
     let A = c.before.before.before in
     let W = A.before in
-    let T = W.before.before.before.before in
-    let L = T.before.loop in
+    let T = W.before.before.before in
+    let L = T.before.loop-i in
     let a = (start T).args in
     let (counted, go) = L.invariant.1 x y cl given earlier G e E in
     let N = asked W x y cl given earlier G e E in
-    one_waits a.s.now x y cl given earlier a.values a.marks a.links a.met a.stamp G L.s T.before.before.index.result L.i counted go
-    W.before.before.word_at-w.result N _ T.loop-test.true A.ask.result
+    one_waits a.s.now x y cl given earlier a.values a.marks a.links a.met a.stamp G L.s T.before.before.index-n.result L.i counted go
+    W.before.before.word_at-w.result N _ T.loop-i-test.true A.ask.result
     (is_stamp a.stamp W.word.ensures (A.ask.ensures x y given N.guard earlier (at_stamp a.stamp W.word.ensures N.at) N.row E))
     c.in-Waits.m c.in-Waits.is
 
@@ -162,13 +162,13 @@ returns-in-Fails : tie.Need-returns-in-Fails invariant-loop-i decreases-loop-i
 returns-in-Fails c x y cl given earlier G e E =
     let A = c.before.before.before in
     let W = A.before in
-    let T = W.before.before.before.before in
-    let L = T.before.loop in
+    let T = W.before.before.before in
+    let L = T.before.loop-i in
     let a = (start T).args in
     let (counted, go) = L.invariant.1 x y cl given earlier G e E in
     let N = asked W x y cl given earlier G e E in
-    one_fails a.s.now x y cl given earlier a.values a.marks a.links a.met a.stamp G L.s T.before.before.index.result L.i counted go
-    W.before.before.word_at-w.result N _ T.loop-test.true A.ask.result
+    one_fails a.s.now x y cl given earlier a.values a.marks a.links a.met a.stamp G L.s T.before.before.index-n.result L.i counted go
+    W.before.before.word_at-w.result N _ T.loop-i-test.true A.ask.result
     (is_stamp a.stamp W.word.ensures (A.ask.ensures x y given N.guard earlier (at_stamp a.stamp W.word.ensures N.at) N.row E))
     c.in-Fails.is
 
@@ -182,16 +182,16 @@ loop-i-preserved : tie.Need-loop-i-preserved invariant-loop-i decreases-loop-i
 loop-i-preserved c =
     let A = c.before.before.before in
     let W = A.before in
-    let T = W.before.before.before.before in
-    let L = T.before.loop in
+    let T = W.before.before.before in
+    let L = T.before.loop-i in
     let a = (start T).args in (
       omega arith,
       λ x y cl given earlier G e E.
           let (counted, go) = L.invariant.1 x y cl given earlier G e E in
           let N = asked W x y cl given earlier G e E in (
             counted,
-            succeeded a.s.now x y cl given earlier a.values a.marks a.links a.met a.stamp G L.s T.before.before.index.result L.i counted go
-                W.before.before.word_at-w.result N _ T.loop-test.true A.ask.result
+            succeeded a.s.now x y cl given earlier a.values a.marks a.links a.met a.stamp G L.s T.before.before.index-n.result L.i counted go
+                W.before.before.word_at-w.result N _ T.loop-i-test.true A.ask.result
                 (is_stamp a.stamp W.word.ensures (A.ask.ensures x y given N.guard earlier (at_stamp a.stamp W.word.ensures N.at) N.row E))
                 c.in-Succeeds.is,
           ),
@@ -199,14 +199,14 @@ loop-i-preserved c =
 
 shape_of-s : tie.Need-shape_of-s invariant-loop-i decreases-loop-i
 shape_of-s c =
-    let S = c.before.before.before.before.before.before in
+    let S = c.before.before.before.before.before in
     let p = S.requires in
     let E = some_earlier S.args.met in
     (c.before.loop-i.invariant.1 p.0 p.1 p.2 p.3 E.0 p.4 p.5 E.1).1.only.size
 
 returns : tie.Need-returns invariant-loop-i decreases-loop-i
 returns c x y cl given earlier G e E =
-    let a = c.before.before.before.before.before.before.args in
+    let a = c.before.before.before.before.before.args in
     let L = c.before.loop-i in
     let (counted, go) = L.invariant.1 x y cl given earlier G e E in
     all_succeed a.s.now x y cl given earlier a.values a.marks a.links a.met a.stamp G L.s c.before.before.index-n.result L.i counted go

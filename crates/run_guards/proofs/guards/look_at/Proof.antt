@@ -17,14 +17,14 @@ use Rattle.run_guards.proofs.guards.look_at.Tie as tie
 
 argument-requires : tie.Need-argument-requires
 argument-requires c κs =
-    let p = c.before.before.requires in
+    let p = c.before.requires in
     omega (arith, p.5.arguments.inside)
 
 read-w-requires : tie.Need-read-w-requires
 read-w-requires c κs =
-    let p = c.before.before.before.requires in
+    let p = c.before.before.requires in
     let (t, us, is, A) = first_argument p.5 p.6 c.argument.result c.argument.ensures in
-    (p.0, p.1, p.2, c.before.before.before.args.marks, t, A)
+    (p.0, p.1, p.2, c.before.before.args.marks, t, A)
 
 -- The argument and what its word shows.
 module _ (c : tie.After-read-w) where

@@ -13,25 +13,25 @@ bucket-b-requires c κs = search rules
 
 record_word-later-requires : tie.Need-record_word-later-requires
 record_word-later-requires c κs =
-    let Q = c.before in
-    (omega (arith, Q.bucket.ensures), omega arith, Q.before.before.requires.1)
+    let Q = c in
+    (omega (arith, Q.bucket-b.ensures), omega arith, Q.before.before.requires.1)
 
 set_word-requires : tie.Need-set_word-requires
 set_word-requires c κs =
-    let S = c.before.before.before.before.before in
+    let S = c.before.before.before.before in
     (S.requires.0, omega arith, S.requires.1)
 
 set_number-requires : tie.Need-set_number-requires
 set_number-requires c κs =
     let K = c.before.before.before in
-    let S = K.before.before.before.before.before.before in
+    let S = K.before.before.before.before.before in
     (S.requires.0, omega arith, omega (arith, S.requires.1, K.set_word.auto.s))
 
 set_number-requires-2 : tie.Need-set_number-requires-2
 set_number-requires-2 c κs =
     let N = c.before.before.before in
     let K = N.before.before.before.before in
-    let S = K.before.before.before.before.before.before in
+    let S = K.before.before.before.before.before in
     (S.requires.0, omega arith, omega (arith, S.requires.1, K.set_word.auto.s, N.set_number.auto.s))
 
 set_word-requires-2 : tie.Need-set_word-requires-2
@@ -39,13 +39,13 @@ set_word-requires-2 c κs =
     let O = c.before.before.before in
     let N = O.before.before.before.before in
     let K = N.before.before.before.before in
-    let S = K.before.before.before.before.before.before in
+    let S = K.before.before.before.before.before in
     (S.requires.0, omega arith, omega (arith, S.requires.1, K.set_word.auto.s, N.set_number.auto.s, O.set_number-2.auto.s))
 
 overflow_add-k : tie.Need-overflow_add-k
 overflow_add-k c =
     let K = c.before.before.before.before.before.before.before.before.before.before.before.before.before.before.before in
-    omega (arith, K.before.before.before.before.before.before.requires.0)
+    omega (arith, K.before.before.before.before.before.requires.0)
 
 set_number-requires-3 : tie.Need-set_number-requires-3
 set_number-requires-3 c κs =
@@ -53,10 +53,10 @@ set_number-requires-3 c κs =
     let O = W.before.before.before.before in
     let N = O.before.before.before.before in
     let K = N.before.before.before.before in
-    let Q = K.before.before.before.before in
+    let Q = K.before.before.before in
     let S = Q.before.before in
     let sizes = W.set_word-2.auto.s ∙ O.set_number-2.auto.s ∙ N.set_number.auto.s ∙ K.set_word.auto.s in
-    (omega (arith, Q.bucket.ensures), omega arith, omega (arith, S.requires.1, sizes))
+    (omega (arith, Q.bucket-b.ensures), omega arith, omega (arith, S.requires.1, sizes))
 
 shape_of-s : tie.Need-shape_of-s
 shape_of-s c =
@@ -75,13 +75,13 @@ returns c =
     let N = O.before.before.before.before in
     let K = N.before.before.before.before in
     let R = K.before.before in
-    let Q = R.before.before in
+    let Q = R.before in
     let S = Q.before.before in
     let s = S.args.s.now in
-    let is : Q.bucket.result ≡ bucket_of S.args.own = Q.bucket.ensures in
+    let is : Q.bucket-b.result ≡ bucket_of S.args.own = Q.bucket-b.ensures in
     subst (λ b. Put s X.set_number-3.new.s S.args.k b S.args.own S.args.same S.args.opened) is
     (words_put s K.set_word.new.s N.set_number.new.s O.set_number-2.new.s W.set_word-2.new.s X.set_number-3.new.s
-    S.args.k Q.bucket.result S.args.own S.args.same S.args.opened R.record_word-later.result
+    S.args.k Q.bucket-b.result S.args.own S.args.same S.args.opened R.record_word-later.result
     S.requires.0 (omega (arith, is)) S.requires.1 R.record_word-later.ensures
     K.set_word.ensures N.set_number.ensures O.set_number-2.ensures W.set_word-2.ensures X.set_number-3.ensures)
 

@@ -10,19 +10,19 @@ use Rattle.run_index.proofs.build.tell.Tie as tie
 
 next_of-next-requires : tie.Need-next_of-next-requires
 next_of-next-requires c κs =
-    let S = c.before.before in
+    let S = c.before in
     let heads = S.requires.0.heads in
     (omega (arith, S.requires.0.number, heads.few), heads.few, heads.inside)
 
 many-n-requires : tie.Need-many-n-requires
 many-n-requires c κs =
-    let N = c.before in
-    let S = N.before.before.before in
-    (next_few S.requires.0 N.next_of.ensures, S.requires.0.heads.inside)
+    let N = c in
+    let S = N.before.before in
+    (next_few S.requires.0 N.next_of-next.ensures, S.requires.0.heads.inside)
 
 set_word-requires : tie.Need-set_word-requires
 set_word-requires c κs =
-    let S = c.before.before.before.before.before.before in
+    let S = c.before.before.before.before in
     let heads = S.requires.0.heads in
     (omega (arith, S.requires.0.number, heads.few), omega arith, heads.inside)
 
@@ -34,7 +34,7 @@ returns-then-n-le-FEW c =
     let W = c.before.before.before in
     let M = W.before.before in
     let N = M.before.before in
-    let S = N.before.before.before in
+    let S = N.before in
     let counted : Telling S.args.s.now W.set_word.new.s S.args.clauses =
     count_telling S.args.s.now W.set_word.new.s S.args.clauses S.requires.0.heads S.requires.1 S.args.k M.many-n.result S.requires.0.number
     W.set_word.ensures in
@@ -52,17 +52,17 @@ tell_apart-requires c κs =
     let T = c.before in
     let W = T.before.before.before in
     let M = W.before.before in
-    let N = M.before.before in
-    let S = N.before.before.before in
+    let N = M.before in
+    let S = N.before.before in
     let counted : Telling S.args.s.now W.set_word.new.s S.args.clauses =
     count_telling S.args.s.now W.set_word.new.s S.args.clauses S.requires.0.heads S.requires.1 S.args.k M.many-n.result S.requires.0.number
     W.set_word.ensures in
     let some = M.many-n.ensures (omega (arith, T.if-n-le-FEW.false)) in
     let k = S.args.k in
-    let m = N.next_of.result - 1 in (
+    let m = N.next_of-next.result - 1 in (
       S.args.clauses,
       one_kept counted.only S.args.clauses k S.requires.0,
-      alike_kept counted.only k m (next_alike S.requires.0 N.next_of.ensures some),
+      alike_kept counted.only k m (next_alike S.requires.0 N.next_of-next.ensures some),
       counted.told,
     )
 
@@ -77,7 +77,7 @@ returns c =
     let W = A.before.before.before.before.before in
     let M = W.before.before in
     let N = M.before.before in
-    let S = N.before.before.before in
+    let S = N.before in
     let counted : Telling S.args.s.now W.set_word.new.s S.args.clauses =
     count_telling S.args.s.now W.set_word.new.s S.args.clauses S.requires.0.heads S.requires.1 S.args.k M.many-n.result S.requires.0.number
     W.set_word.ensures in

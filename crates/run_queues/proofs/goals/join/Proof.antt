@@ -37,11 +37,11 @@ shape_of-s c = search rules
 
 returns-then-s-waiters-eq0 : tie.Need-returns-then-s-waiters-eq0
 returns-then-s-waiters-eq0 c =
-    let S = c.before.before.before.before.before.before.before.before.before.before.before in
+    let S = c.before.before.before.before.before.before.before.before.before.before in
     λ pairs slots goal ps j.
     rw (c.before.before.point.ensures, c.before.before.before.before.word.ensures, c.before.before.before.word-then-s-waiters-eq0.ensures, c.before.before.before.before.before.before.first_of-first.ensures)
     (joins_new S.args.s.now S.args.log S.args.waiters S.args.sets pairs slots S.args.place goal ps S.args.p j
-    c.before.before.before.before.before.before.before.before.if1.true)
+    c.before.before.before.before.before.before.before.if-s-waiters-eq0.true)
 
 returns-else-s-waiters-eq0 : tie.Need-returns-else-s-waiters-eq0
 returns-else-s-waiters-eq0 c =

@@ -28,20 +28,20 @@ loop-i-init c =
 
 reader-p-requires : tie.Need-reader-p-requires invariant-loop-i decreases-loop-i
 reader-p-requires c κs =
-    let S = c.before.before.before.before in
-    let L = c.before.before.loop in
+    let S = c.before.before.before in
+    let L = c.before.loop-i in
     let a = S.requires in
     steps.reader-inside S.args.s.now S.args.log S.args.waiters S.args.sets a.0 a.1 S.args.place a.2 a.3 S.args.readers S.args.n a.4 L.s L.i
-    (L.invariant.1 a.0 a.1 a.2 a.3 a.4) c.before.loop-test.true
+    (L.invariant.1 a.0 a.1 a.2 a.3 a.4) c.loop-i-test.true
 
 join-requires : tie.Need-join-requires invariant-loop-i decreases-loop-i
 join-requires c κs =
-    let S = c.before.before.before.before.before.before in
-    let L = c.before.before.before.before.loop in
+    let S = c.before.before.before.before.before in
+    let L = c.before.before.before.loop-i in
     let a = S.requires in
     let j =
     steps.joining S.args.s.now S.args.log S.args.waiters S.args.sets a.0 a.1 S.args.place a.2 a.3 S.args.readers S.args.n a.4 L.s L.i
-    (L.invariant.1 a.0 a.1 a.2 a.3 a.4) c.before.before.before.loop-test.true
+    (L.invariant.1 a.0 a.1 a.2 a.3 a.4) c.before.before.loop-i-test.true
     in (
       a.0,
       steps.slots-after S.args.s.now S.args.log S.args.waiters S.args.sets a.0 a.1 S.args.place a.2 a.3 S.args.readers S.args.n a.4 L.i,
@@ -58,9 +58,9 @@ loop-i-smaller c = search rules
 
 loop-i-preserved : tie.Need-loop-i-preserved invariant-loop-i decreases-loop-i
 loop-i-preserved c =
-    let S = c.before.before.before.before.before.before.before.before.before in
-    let L = c.before.before.before.before.before.before.before.loop in
-    let taken = c.before.before.before.before.before.before.loop-test.true in (
+    let S = c.before.before.before.before.before.before.before.before in
+    let L = c.before.before.before.before.before.before.loop-i in
+    let taken = c.before.before.before.before.before.loop-i-test.true in (
       omega arith,
       λ pairs slots goal ps a.
           let now = L.invariant.1 pairs slots goal ps a in

@@ -20,11 +20,11 @@ decreases-loop-first s₀ log waiters sets place first₀ s first = total s
 
 first_of-first-requires : tie.Need-first_of-first-requires invariant-loop-first decreases-loop-first
 first_of-first-requires c κs =
-    let a = c.before.before.requires.4 in omega (arith, a.ok.inside, a.here)
+    let a = c.before.requires.4 in omega (arith, a.ok.inside, a.here)
 
 loop-first-init : tie.Need-loop-first-init invariant-loop-first decreases-loop-first
 loop-first-init c =
-    let S = c.before.before.before in
+    let S = c.before.before in
     λ pairs slots goal ps a. (
       ps,
       rw c.first_of-first.ensures
@@ -36,7 +36,7 @@ overflow_sub-first c = search rules
 
 part-first-requires : tie.Need-part-first-requires invariant-loop-first decreases-loop-first
 part-first-requires c κs =
-    let S = c.before.before.before.before.before.before in
+    let S = c.before.before.before.before.before in
     let L = c.before.before.loop-first in
     let a = S.requires in
     let l = L.invariant a.0 a.1 a.2 a.3 a.4 in
@@ -45,7 +45,7 @@ part-first-requires c κs =
 
 loop-first-smaller : tie.Need-loop-first-smaller invariant-loop-first decreases-loop-first
 loop-first-smaller c =
-    let S = c.before.before.before.before.before.before.before.before.before in
+    let S = c.before.before.before.before.before.before.before.before in
     let L = c.before.before.before.before.before.loop-first in
     let a = S.requires in
     let l = L.invariant a.0 a.1 a.2 a.3 a.4 in
@@ -55,7 +55,7 @@ loop-first-smaller c =
 
 loop-first-preserved : tie.Need-loop-first-preserved invariant-loop-first decreases-loop-first
 loop-first-preserved c =
-    let S = c.before.before.before.before.before.before.before.before.before in
+    let S = c.before.before.before.before.before.before.before.before in
     let L = c.before.before.before.before.before.loop-first in
     λ pairs slots goal ps a.
     let l = L.invariant pairs slots goal ps a in
@@ -65,12 +65,12 @@ loop-first-preserved c =
 
 shape_of-s : tie.Need-shape_of-s invariant-loop-first decreases-loop-first
 shape_of-s c =
-    let a = c.before.before.before.before.before.requires in
+    let a = c.before.before.before.before.requires in
     (c.before.loop-first.invariant a.0 a.1 a.2 a.3 a.4).1.now.only.size
 
 returns : tie.Need-returns invariant-loop-first decreases-loop-first
 returns c =
-    let S = c.before.before.before.before.before in
+    let S = c.before.before.before.before in
     let L = c.before.loop-first in
     λ pairs slots goal ps a.
     let l = L.invariant pairs slots goal ps a in

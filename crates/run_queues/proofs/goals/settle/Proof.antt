@@ -14,7 +14,7 @@ shape_of-s-then-goal-eq0 c = search rules
 
 returns-then-goal-eq0 : tie.Need-returns-then-goal-eq0
 returns-then-goal-eq0 c =
-    let S = c.before.before.before.before in
+    let S = c.before.before.before in
     λ pairs slots a.
     settle_none S.args.s.now S.args.log S.args.waiters S.args.sets pairs slots S.args.place S.args.to a (sym c.before.goal_at-goal.ensures ∙ c.if-goal-eq0.true)
 
@@ -26,13 +26,13 @@ shape_of-s-then-to-place c = search rules
 
 returns-then-to-place : tie.Need-returns-then-to-place
 returns-then-to-place c =
-    let S = c.before.before.before.before.before in
+    let S = c.before.before.before.before in
     λ pairs slots a.
     settle_here S.args.s.now S.args.log S.args.waiters S.args.sets pairs slots S.args.place S.args.to a (λ z. c.before.if-goal-eq0.false (c.before.before.goal_at-goal.ensures ∙ z)) c.if-to-place.true
 
 shift-requires : tie.Need-shift-requires
 shift-requires c κs =
-    let S = c.before.before.before.before.before.before in
+    let S = c.before.before.before.before.before in
     let a = S.requires in
     let u =
     settle_shifts S.args.s.now S.args.log S.args.waiters S.args.sets a.0 a.1 S.args.place S.args.to a.2 (λ z. c.before.before.if-goal-eq0.false (c.before.before.before.goal_at-goal.ensures ∙ z)) c.before.if-to-place.false
@@ -47,7 +47,7 @@ shape_of-s c = search rules
 
 returns : tie.Need-returns
 returns c =
-    let S = c.before.before.before.before.before.before.before.before.before in
+    let S = c.before.before.before.before.before.before.before.before in
     λ pairs slots a.
     settle_moved S.args.s.now S.args.log S.args.waiters S.args.sets pairs slots S.args.place S.args.to a _ (λ z. c.before.before.before.before.before.if-goal-eq0.false (c.before.before.before.before.before.before.goal_at-goal.ensures ∙ z)) c.before.before.before.before.if-to-place.false
     c.before.before.shift.ensures

@@ -20,7 +20,7 @@ word-requires c κs = search rules
 
 turn_all-requires : tie.Need-turn_all-requires
 turn_all-requires c κs =
-    let S = c.before.before.before.before.before.before.before in
+    let S = c.before.before.before.before.before in
     let a = S.requires in (
       a.0,
       S.args.from,
@@ -40,13 +40,13 @@ shape_of-s c = search rules
 
 returns : tie.Need-returns
 returns c =
-    let S = c.before.before.before.before.before.before.before.before.before.before.before.before.before.before.before.before.before.before in
+    let S = c.before.before.before.before.before.before.before.before.before.before.before.before.before.before.before.before in
     λ pairs slots goal ps a.
     let t = turns S.args.s.now S.args.log S.args.waiters S.args.sets pairs slots S.args.from S.args.to goal ps a in
     rw (
       c.before.before.put.ensures,
       c.before.before.before.before.before.before.seat.ensures,
-      c.before.before.before.before.before.before.before.before.before.before.before.before.before.before.before.goal-at.ensures ∙ goal_word S.args.s.now S.args.log S.args.waiters S.args.sets pairs slots S.args.from S.args.to goal ps a,
+      c.before.before.before.before.before.before.before.before.before.before.before.before.before.before.goal_at-goal.ensures ∙ goal_word S.args.s.now S.args.log S.args.waiters S.args.sets pairs slots S.args.from S.args.to goal ps a,
       c.before.before.before.before.before.before.before.before.before.before.before.before.before.first_of-first.ensures,
     )
     (shifted S.args.s.now S.args.log S.args.waiters S.args.sets pairs slots S.args.from S.args.to goal ps a _

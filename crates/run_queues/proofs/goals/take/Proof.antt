@@ -15,7 +15,7 @@ shape_of-s c = search rules
 
 returns : tie.Need-returns
 returns c =
-    let S = c.before.before.before.before.before.before.before in
+    let S = c.before.before.before.before.before.before in
     let read = c.before.before.before.before.goal_at-goal.ensures in
     let stored = c.before.before.put.ensures in (
       read,

@@ -30,9 +30,9 @@ shape_of-s-then-index-p c = search rules
 
 returns-then-index-p : tie.Need-returns-then-index-p
 returns-then-index-p c =
-    let S = c.before.before.before.before.before.before.before.before.before in
+    let S = c.before.before.before.before.before.before.before in
     met_already S.args.s.now S.args.readers S.args.pairs S.args.n S.requires.0 S.args.p
-    c.before.before.before.before.before.index.result c.before.before.before.before.if1.true
+    c.before.before.before.before.index-rank.result c.before.before.before.if-rank-n.true
     (sym c.before.before.word_at-then-rank-n.ensures ∙ sym c.before.index.ensures ∙ c.if-index-p.true)
 
 word-requires : tie.Need-word-requires
@@ -59,7 +59,7 @@ shape_of-s c = search rules
 returns : tie.Need-returns
 returns c =
     let m = c.before.before.before.before.before.before.before.before.before.before in
-    let S = m.before.before.before.before.before in
+    let S = m.before.before.before.before in
     let rank = m.before.index-rank.ensures ∙ m.before.before.word_at.ensures in
     let new =
     not_at_rank S.args.s.now S.args.readers S.args.pairs S.args.n S.args.p S.requires.0 (λ h e.

@@ -44,17 +44,17 @@ index-requires c κs = search rules
 
 meet-met-requires : tie.Need-meet-met-requires invariant-loop-i decreases-loop-i
 meet-met-requires c κs =
-    let t = c.before.before.before.before in
-    let S = t.before.before.before.before.before.before in
-    let L = t.before.before.before.before.loop in
+    let t = c.before.before.before in
+    let S = t.before.before.before.before.before in
+    let L = t.before.before.before.loop-i in
     let m = L.invariant.1 in
     let s = S.args.s.now in
     let few : L.i < 192 = omega arith in
     let waits = sym (noted_term s L.s S.args.readers S.args.pairs S.args.first L.i L.met S.requires.1 few m)
-    ∙ sym t.before.word_at.ensures ∙ t.if1.true in
+    ∙ sym t.before.word_at.ensures ∙ t.if-word_at-eq0.true in
     let same = c.index.ensures ∙ c.before.word_at-then-word_at-eq0.ensures
     ∙ noted_pair s L.s S.args.readers S.args.pairs S.args.first L.i L.met S.requires.1 few m in
-    (m.ok, rw same (S.requires.3 L.i t.before.before.before.loop-test.true waits))
+    (m.ok, rw same (S.requires.3 L.i t.before.before.loop-i-test.true waits))
 
 overflow_add-i : tie.Need-overflow_add-i invariant-loop-i decreases-loop-i
 overflow_add-i c = omega arith
@@ -64,8 +64,8 @@ loop-i-smaller c = omega arith
 
 loop-i-preserved : tie.Need-loop-i-preserved invariant-loop-i decreases-loop-i
 loop-i-preserved c =
-    let S = c.before.before.before.before.before.before in
-    let L = c.before.before.before.before.loop in
+    let S = c.before.before.before.before.before in
+    let L = c.before.before.before.loop-i in
     let few : L.i < 192 = omega arith in
     let term = sym c.before.word_at.ensures in (
       omega arith,

@@ -15,7 +15,7 @@ small : (x : ℕ) → x ≤ 2000000 → Fits w64 x
 small x h = search rules
 
 made-mark-requires : tie.Need-made-mark-requires
-made-mark-requires c κs = origins.made_asks c.before.before.requires.10 c.before.before.requires.11
+made-mark-requires c κs = origins.made_asks c.before.requires.10 c.before.requires.11
 
 overflow_mul-k : tie.Need-overflow_mul-k
 overflow_mul-k c = search rules
@@ -55,14 +55,14 @@ index-body-requires c κs = search rules
 
 fits-requires : tie.Need-fits-requires
 fits-requires c κs =
-    let second = c.before.before.before in
-    let first = second.before.before.before in
-    let S = first.before.before.before.before.before.before in
+    let second = c.before.before in
+    let first = second.before.before in
+    let S = first.before.before.before.before in
     let p = S.requires in
     let taken = p.10 in
     let red = p.11 in
-    let e_pairs = first.index.ensures ∙ first.before.word_at.ensures ∙ red.at.held.pairs in
-    let e_compounds = second.index2.ensures ∙ second.before.word-at2.ensures ∙ red.at.held.compounds in
+    let e_pairs = first.index-pairs.ensures ∙ first.before.word_at.ensures ∙ red.at.held.pairs in
+    let e_compounds = second.index-compounds.ensures ∙ second.before.word_at-2.ensures ∙ red.at.held.compounds in
     let e_body = c.index-body.ensures ∙ c.before.word_at-3.ensures ∙ red.at.held.goals in (
       calls.counted taken,
       omega (arith, e_pairs, red.at.held.laid.few_pairs),
@@ -77,11 +77,11 @@ returns-then-not-fits : tie.Need-returns-then-not-fits
 returns-then-not-fits c =
     λ text names j limit atlas slots g others clause given taken red.
     let third = c.before.before in
-    let second = third.before.before.before in
-    let first = second.before.before.before in
+    let second = third.before.before in
+    let first = second.before.before in
     let S = first.before.before.before.before.before.before in
-    let e_pairs = first.index.ensures ∙ first.before.word_at.ensures ∙ red.at.held.pairs in
-    let e_compounds = second.index2.ensures ∙ second.before.word-at2.ensures ∙ red.at.held.compounds in
+    let e_pairs = first.index-pairs.ensures ∙ first.before.word_at.ensures ∙ red.at.held.pairs in
+    let e_compounds = second.index-compounds.ensures ∙ second.before.word_at-2.ensures ∙ red.at.held.compounds in
     let e_body = third.index-body.ensures ∙ third.before.word_at-3.ensures ∙ red.at.held.goals in
     let fit = calls.fit-told taken clause given _ _ _ e_pairs e_compounds e_body _ false c.before.fits2.ensures (calls.not_true _ c.if-not-fits.true) in
     calls.reduction-stops taken red fit
@@ -90,7 +90,7 @@ behind-front-requires : tie.Need-behind-front-requires
 behind-front-requires c κs = search rules
 
 overflow_sub-active : tie.Need-overflow_sub-active
-overflow_sub-active c = let n = calls.counted c.before.before.before.before.before.before.before.before.before.before.before.before.before.before.before.before.requires.10 in omega (arith, n.some)
+overflow_sub-active c = let n = calls.counted c.before.before.before.before.before.before.before.before.before.before.before.before.requires.10 in omega (arith, n.some)
 
 values-requires : tie.Need-values-requires
 values-requires c κs =
@@ -98,21 +98,21 @@ values-requires c κs =
     let third = test.before.before in
     let second = third.before.before.before in
     let first = second.before.before.before in
-    let S = first.before.before.before.before.before.before in
+    let S = first.before.before in
     S.requires.10.running.in_range
 
 assign_head-requires : tie.Need-assign_head-requires
 assign_head-requires c κs =
     let test = c.before.before.before.before in
     let third = test.before.before in
-    let second = third.before.before.before in
-    let first = second.before.before.before in
-    let S = first.before.before.before.before.before.before in
+    let second = third.before.before in
+    let first = second.before.before in
+    let S = first.before.before.before.before in
     let p = S.requires in
     let taken = p.10 in
     let red = p.11 in
-    let e_pairs = first.index.ensures ∙ first.before.word_at.ensures ∙ red.at.held.pairs in
-    let e_compounds = second.index2.ensures ∙ second.before.word-at2.ensures ∙ red.at.held.compounds in
+    let e_pairs = first.index-pairs.ensures ∙ first.before.word_at.ensures ∙ red.at.held.pairs in
+    let e_compounds = second.index-compounds.ensures ∙ second.before.word_at-2.ensures ∙ red.at.held.compounds in
     let e_body = third.index-body.ensures ∙ third.before.word_at-3.ensures ∙ red.at.held.goals in
     let fit = calls.fit-told taken p.8 p.9 _ _ _ e_pairs e_compounds e_body _ true test.before.fits2.ensures (calls.not_false _ test.if-not-fits.false) in
     calls.asks-1 taken red fit
@@ -125,7 +125,7 @@ values-requires-2 c κs =
     let third = test.before.before in
     let second = third.before.before.before in
     let first = second.before.before.before in
-    let S = first.before.before.before.before.before.before in
+    let S = first.before.before in
     S.requires.10.running.in_range
 
 assign_goal-free-requires : tie.Need-assign_goal-free-requires
@@ -133,14 +133,14 @@ assign_goal-free-requires c κs =
     let heads = c.before.before.before.before in
     let test = heads.before.before.before.before.before in
     let third = test.before.before in
-    let second = third.before.before.before in
-    let first = second.before.before.before in
-    let S = first.before.before.before.before.before.before in
+    let second = third.before.before in
+    let first = second.before.before in
+    let S = first.before.before.before.before in
     let p = S.requires in
     let taken = p.10 in
     let red = p.11 in
-    let e_pairs = first.index.ensures ∙ first.before.word_at.ensures ∙ red.at.held.pairs in
-    let e_compounds = second.index2.ensures ∙ second.before.word-at2.ensures ∙ red.at.held.compounds in
+    let e_pairs = first.index-pairs.ensures ∙ first.before.word_at.ensures ∙ red.at.held.pairs in
+    let e_compounds = second.index-compounds.ensures ∙ second.before.word_at-2.ensures ∙ red.at.held.compounds in
     let e_body = third.index-body.ensures ∙ third.before.word_at-3.ensures ∙ red.at.held.goals in
     let fit = calls.fit-told taken p.8 p.9 _ _ _ e_pairs e_compounds e_body _ true test.before.fits2.ensures (calls.not_false _ test.if-not-fits.false) in
     calls.asks-2 taken red fit
@@ -154,7 +154,7 @@ waiting-requires c κs =
     let third = test.before.before in
     let second = third.before.before.before in
     let first = second.before.before.before in
-    let S = first.before.before.before.before.before.before in
+    let S = first.before.before in
     S.requires.10.running.in_range
 
 waiters-requires : tie.Need-waiters-requires
@@ -165,7 +165,7 @@ waiters-requires c κs =
     let third = test.before.before in
     let second = third.before.before.before in
     let first = second.before.before.before in
-    let S = first.before.before.before.before.before.before in
+    let S = first.before.before in
     S.requires.10.running.in_range
 
 sets-requires : tie.Need-sets-requires
@@ -176,7 +176,7 @@ sets-requires c κs =
     let third = test.before.before in
     let second = third.before.before.before in
     let first = second.before.before.before in
-    let S = first.before.before.before.before.before.before in
+    let S = first.before.before in
     S.requires.10.running.in_range
 
 wake-woken-requires : tie.Need-wake-woken-requires
@@ -185,14 +185,14 @@ wake-woken-requires c κs =
     let heads = gives.before.before.before.before.before in
     let test = heads.before.before.before.before.before in
     let third = test.before.before in
-    let second = third.before.before.before in
-    let first = second.before.before.before in
-    let S = first.before.before.before.before.before.before in
+    let second = third.before.before in
+    let first = second.before.before in
+    let S = first.before.before.before.before in
     let p = S.requires in
     let taken = p.10 in
     let red = p.11 in
-    let e_pairs = first.index.ensures ∙ first.before.word_at.ensures ∙ red.at.held.pairs in
-    let e_compounds = second.index2.ensures ∙ second.before.word-at2.ensures ∙ red.at.held.compounds in
+    let e_pairs = first.index-pairs.ensures ∙ first.before.word_at.ensures ∙ red.at.held.pairs in
+    let e_compounds = second.index-compounds.ensures ∙ second.before.word_at-2.ensures ∙ red.at.held.compounds in
     let e_body = third.index-body.ensures ∙ third.before.word_at-3.ensures ∙ red.at.held.goals in
     let fit = calls.fit-told taken p.8 p.9 _ _ _ e_pairs e_compounds e_body _ true test.before.fits2.ensures (calls.not_false _ test.if-not-fits.false) in
     calls.asks-3 taken red fit
@@ -208,7 +208,7 @@ overflow_mul-k-4 c =
     let third = test.before.before in
     let second = third.before.before.before in
     let first = second.before.before.before in
-    let S = first.before.before.before.before.before.before in
+    let S = first.before.before in
     omega (arith, S.requires.11.at.number)
 
 overflow_add-k-4 : tie.Need-overflow_add-k-4
@@ -220,7 +220,7 @@ overflow_add-k-4 c =
     let third = test.before.before in
     let second = third.before.before.before in
     let first = second.before.before.before in
-    let S = first.before.before.before.before.before.before in
+    let S = first.before.before in
     omega (arith, S.requires.11.at.number)
 
 overflow_add-k-5 : tie.Need-overflow_add-k-5
@@ -232,7 +232,7 @@ overflow_add-k-5 c =
     let third = test.before.before in
     let second = third.before.before.before in
     let first = second.before.before.before in
-    let S = first.before.before.before.before.before.before in
+    let S = first.before.before in
     omega (arith, S.requires.11.at.number)
 
 queue-requires : tie.Need-queue-requires
@@ -244,7 +244,7 @@ queue-requires c κs =
     let third = test.before.before in
     let second = third.before.before.before in
     let first = second.before.before.before in
-    let S = first.before.before.before.before.before.before in
+    let S = first.before.before in
     S.requires.10.running.in_range
 
 add_goals-cells-requires : tie.Need-add_goals-cells-requires
@@ -254,20 +254,20 @@ add_goals-cells-requires c κs =
     let heads = gives.before.before.before.before.before in
     let test = heads.before.before.before.before.before in
     let third = test.before.before in
-    let second = third.before.before.before in
-    let first = second.before.before.before in
-    let S = first.before.before.before.before.before.before in
+    let second = third.before.before in
+    let first = second.before.before in
+    let S = first.before.before.before.before in
     let p = S.requires in
     let taken = p.10 in
     let red = p.11 in
-    let e_pairs = first.index.ensures ∙ first.before.word_at.ensures ∙ red.at.held.pairs in
-    let e_compounds = second.index2.ensures ∙ second.before.word-at2.ensures ∙ red.at.held.compounds in
+    let e_pairs = first.index-pairs.ensures ∙ first.before.word_at.ensures ∙ red.at.held.pairs in
+    let e_compounds = second.index-compounds.ensures ∙ second.before.word_at-2.ensures ∙ red.at.held.compounds in
     let e_body = third.index-body.ensures ∙ third.before.word_at-3.ensures ∙ red.at.held.goals in
     let fit = calls.fit-told taken p.8 p.9 _ _ _ e_pairs e_compounds e_body _ true test.before.fits2.ensures (calls.not_false _ test.if-not-fits.false) in
     calls.asks-4 taken red fit
     heads.before.values.ensures e_pairs heads.assign_head.ensures gives.before.values-2.ensures gives.assign_goal-free.ensures
     wakes.before.before.before.waiting.ensures wakes.before.before.waiters.ensures wakes.before.sets.ensures
-    wakes.wake-woken.ensures heads.before.before.before.before.behind-front.ensures refl e_body c.queue.ensures (origins.made-is taken red first.before.before.before.made.ensures)
+    wakes.wake-woken.ensures heads.before.before.before.before.behind-front.ensures refl e_body c.queue.ensures (origins.made-is taken red first.before.before.made-mark.ensures)
 
 waiting-requires-2 : tie.Need-waiting-requires-2
 waiting-requires-2 c κs =
@@ -279,7 +279,7 @@ waiting-requires-2 c κs =
     let third = test.before.before in
     let second = third.before.before.before in
     let first = second.before.before.before in
-    let S = first.before.before.before.before.before.before in
+    let S = first.before.before in
     S.requires.10.running.in_range
 
 queue-requires-2 : tie.Need-queue-requires-2
@@ -292,7 +292,7 @@ queue-requires-2 c κs =
     let third = test.before.before in
     let second = third.before.before.before in
     let first = second.before.before.before in
-    let S = first.before.before.before.before.before.before in
+    let S = first.before.before in
     S.requires.10.running.in_range
 
 overflow_add-active : tie.Need-overflow_add-active
@@ -305,7 +305,7 @@ overflow_add-active c =
     let third = test.before.before in
     let second = third.before.before.before in
     let first = second.before.before.before in
-    let S = first.before.before.before.before.before.before in
+    let S = first.before.before in
     let red = S.requires.11 in
     let e = third.index-body.ensures ∙ third.before.word_at-3.ensures ∙ red.at.held.goals in
     small (S.args.t.active - 1 + third.index-body.result)
@@ -319,20 +319,20 @@ add_woken-requires c κs =
     let heads = gives.before.before.before.before.before in
     let test = heads.before.before.before.before.before in
     let third = test.before.before in
-    let second = third.before.before.before in
-    let first = second.before.before.before in
-    let S = first.before.before.before.before.before.before in
+    let second = third.before.before in
+    let first = second.before.before in
+    let S = first.before.before.before.before in
     let p = S.requires in
     let taken = p.10 in
     let red = p.11 in
-    let e_pairs = first.index.ensures ∙ first.before.word_at.ensures ∙ red.at.held.pairs in
-    let e_compounds = second.index2.ensures ∙ second.before.word-at2.ensures ∙ red.at.held.compounds in
+    let e_pairs = first.index-pairs.ensures ∙ first.before.word_at.ensures ∙ red.at.held.pairs in
+    let e_compounds = second.index-compounds.ensures ∙ second.before.word_at-2.ensures ∙ red.at.held.compounds in
     let e_body = third.index-body.ensures ∙ third.before.word_at-3.ensures ∙ red.at.held.goals in
     let fit = calls.fit-told taken p.8 p.9 _ _ _ e_pairs e_compounds e_body _ true test.before.fits2.ensures (calls.not_false _ test.if-not-fits.false) in
     calls.asks-5 taken red fit
     heads.before.values.ensures e_pairs heads.assign_head.ensures gives.before.values-2.ensures gives.assign_goal-free.ensures
     wakes.before.before.before.waiting.ensures wakes.before.before.waiters.ensures wakes.before.sets.ensures
-    wakes.wake-woken.ensures heads.before.before.before.before.behind-front.ensures refl e_body goals.before.queue.ensures (origins.made-is taken red first.before.before.before.made.ensures)
+    wakes.wake-woken.ensures heads.before.before.before.before.behind-front.ensures refl e_body goals.before.queue.ensures (origins.made-is taken red first.before.before.made-mark.ensures)
     goals.add_goals-cells.ensures c.before.waiting-2.ensures c.queue-2.ensures
 
 count_try-requires : tie.Need-count_try-requires
@@ -344,20 +344,20 @@ count_try-requires c κs =
     let heads = gives.before.before.before.before.before in
     let test = heads.before.before.before.before.before in
     let third = test.before.before in
-    let second = third.before.before.before in
-    let first = second.before.before.before in
-    let S = first.before.before.before.before.before.before in
+    let second = third.before.before in
+    let first = second.before.before in
+    let S = first.before.before.before.before in
     let p = S.requires in
     let taken = p.10 in
     let red = p.11 in
-    let e_pairs = first.index.ensures ∙ first.before.word_at.ensures ∙ red.at.held.pairs in
-    let e_compounds = second.index2.ensures ∙ second.before.word-at2.ensures ∙ red.at.held.compounds in
+    let e_pairs = first.index-pairs.ensures ∙ first.before.word_at.ensures ∙ red.at.held.pairs in
+    let e_compounds = second.index-compounds.ensures ∙ second.before.word_at-2.ensures ∙ red.at.held.compounds in
     let e_body = third.index-body.ensures ∙ third.before.word_at-3.ensures ∙ red.at.held.goals in
     let fit = calls.fit-told taken p.8 p.9 _ _ _ e_pairs e_compounds e_body _ true test.before.fits2.ensures (calls.not_false _ test.if-not-fits.false) in
     calls.asks-6 taken red fit
     heads.before.values.ensures e_pairs heads.assign_head.ensures gives.before.values-2.ensures gives.assign_goal-free.ensures
     wakes.before.before.before.waiting.ensures wakes.before.before.waiters.ensures wakes.before.sets.ensures
-    wakes.wake-woken.ensures heads.before.before.before.before.behind-front.ensures refl e_body goals.before.queue.ensures (origins.made-is taken red first.before.before.before.made.ensures)
+    wakes.wake-woken.ensures heads.before.before.before.before.behind-front.ensures refl e_body goals.before.queue.ensures (origins.made-is taken red first.before.before.made-mark.ensures)
     goals.add_goals-cells.ensures woken.before.before.waiting-2.ensures woken.before.queue-2.ensures woken.add_woken.ensures
 
 overflow_add-result : tie.Need-overflow_add-result
@@ -371,12 +371,12 @@ overflow_add-result c =
     let test = heads.before.before.before.before.before in
     let third = test.before.before in
     let second = third.before.before.before in
-    let first = second.before.before.before in
-    let S = first.before.before.before.before.before.before in
+    let first = second.before in
+    let S = first.before.before.before.before in
     let red = S.requires.11 in
-    let e = first.index.ensures ∙ first.before.word_at.ensures ∙ red.at.held.pairs in
-    small (S.args.t.pairs + first.index.result)
-    (calls.small_pairs S.args.t first.index.result _ (calls.counted S.requires.10) e red.at.held.laid.few_pairs)
+    let e = first.index-pairs.ensures ∙ first.before.word_at.ensures ∙ red.at.held.pairs in
+    small (S.args.t.pairs + first.index-pairs.result)
+    (calls.small_pairs S.args.t first.index-pairs.result _ (calls.counted S.requires.10) e red.at.held.laid.few_pairs)
 
 overflow_add-result-2 : tie.Need-overflow_add-result-2
 overflow_add-result-2 c =
@@ -388,13 +388,13 @@ overflow_add-result-2 c =
     let heads = gives.before.before.before.before.before in
     let test = heads.before.before.before.before.before in
     let third = test.before.before in
-    let second = third.before.before.before in
+    let second = third.before.before in
     let first = second.before.before.before in
-    let S = first.before.before.before.before.before.before in
+    let S = first.before.before.before in
     let red = S.requires.11 in
-    let e = second.index2.ensures ∙ second.before.word-at2.ensures ∙ red.at.held.compounds in
-    small (S.args.t.compounds + second.index2.result)
-    (calls.small_compounds S.args.t second.index2.result _ (calls.counted S.requires.10) e red.at.held.laid.few_compounds)
+    let e = second.index-compounds.ensures ∙ second.before.word_at-2.ensures ∙ red.at.held.compounds in
+    small (S.args.t.compounds + second.index-compounds.result)
+    (calls.small_compounds S.args.t second.index-compounds.result _ (calls.counted S.requires.10) e red.at.held.laid.few_compounds)
 
 overflow_add-result-3 : tie.Need-overflow_add-result-3
 overflow_add-result-3 c =
@@ -408,7 +408,7 @@ overflow_add-result-3 c =
     let third = test.before.before in
     let second = third.before.before.before in
     let first = second.before.before.before in
-    let S = first.before.before.before.before.before.before in
+    let S = first.before.before in
     let red = S.requires.11 in
     let e = third.index-body.ensures ∙ third.before.word_at-3.ensures ∙ red.at.held.goals in
     small (S.args.t.active - 1 + third.index-body.result)
@@ -424,21 +424,21 @@ overflow_add-result-4 c =
     let heads = gives.before.before.before.before.before in
     let test = heads.before.before.before.before.before in
     let third = test.before.before in
-    let second = third.before.before.before in
-    let first = second.before.before.before in
-    let S = first.before.before.before.before.before.before in
+    let second = third.before.before in
+    let first = second.before.before in
+    let S = first.before.before.before.before in
     let p = S.requires in
     let taken = p.10 in
     let red = p.11 in
-    let e_pairs = first.index.ensures ∙ first.before.word_at.ensures ∙ red.at.held.pairs in
-    let e_compounds = second.index2.ensures ∙ second.before.word-at2.ensures ∙ red.at.held.compounds in
+    let e_pairs = first.index-pairs.ensures ∙ first.before.word_at.ensures ∙ red.at.held.pairs in
+    let e_compounds = second.index-compounds.ensures ∙ second.before.word_at-2.ensures ∙ red.at.held.compounds in
     let e_body = third.index-body.ensures ∙ third.before.word_at-3.ensures ∙ red.at.held.goals in
     let fit = calls.fit-told taken p.8 p.9 _ _ _ e_pairs e_compounds e_body _ true test.before.fits2.ensures (calls.not_false _ test.if-not-fits.false) in
     let few =
     calls.woken-few taken red fit
     heads.before.values.ensures e_pairs heads.assign_head.ensures gives.before.values-2.ensures gives.assign_goal-free.ensures
     wakes.before.before.before.waiting.ensures wakes.before.before.waiters.ensures wakes.before.sets.ensures
-    wakes.wake-woken.ensures heads.before.before.before.before.behind-front.ensures refl e_body goals.before.queue.ensures (origins.made-is taken red first.before.before.before.made.ensures)
+    wakes.wake-woken.ensures heads.before.before.before.before.behind-front.ensures refl e_body goals.before.queue.ensures (origins.made-is taken red first.before.before.made-mark.ensures)
     goals.add_goals-cells.ensures woken.before.before.waiting-2.ensures woken.before.queue-2.ensures woken.add_woken.ensures
     in
     small (S.args.t.active - 1 + third.index-body.result + wakes.wake-woken.result) (calls.small_goals _ _ few.0 taken.running.in_range.goals)
@@ -453,20 +453,20 @@ overflow_sub-result c =
     let heads = gives.before.before.before.before.before in
     let test = heads.before.before.before.before.before in
     let third = test.before.before in
-    let second = third.before.before.before in
-    let first = second.before.before.before in
-    let S = first.before.before.before.before.before.before in
+    let second = third.before.before in
+    let first = second.before.before in
+    let S = first.before.before.before.before in
     let p = S.requires in
     let taken = p.10 in
     let red = p.11 in
-    let e_pairs = first.index.ensures ∙ first.before.word_at.ensures ∙ red.at.held.pairs in
-    let e_compounds = second.index2.ensures ∙ second.before.word-at2.ensures ∙ red.at.held.compounds in
+    let e_pairs = first.index-pairs.ensures ∙ first.before.word_at.ensures ∙ red.at.held.pairs in
+    let e_compounds = second.index-compounds.ensures ∙ second.before.word_at-2.ensures ∙ red.at.held.compounds in
     let e_body = third.index-body.ensures ∙ third.before.word_at-3.ensures ∙ red.at.held.goals in
     let fit = calls.fit-told taken p.8 p.9 _ _ _ e_pairs e_compounds e_body _ true test.before.fits2.ensures (calls.not_false _ test.if-not-fits.false) in
     (calls.woken-few taken red fit
     heads.before.values.ensures e_pairs heads.assign_head.ensures gives.before.values-2.ensures gives.assign_goal-free.ensures
     wakes.before.before.before.waiting.ensures wakes.before.before.waiters.ensures wakes.before.sets.ensures
-    wakes.wake-woken.ensures heads.before.before.before.before.behind-front.ensures refl e_body goals.before.queue.ensures (origins.made-is taken red first.before.before.before.made.ensures)
+    wakes.wake-woken.ensures heads.before.before.before.before.behind-front.ensures refl e_body goals.before.queue.ensures (origins.made-is taken red first.before.before.made-mark.ensures)
     goals.add_goals-cells.ensures woken.before.before.waiting-2.ensures woken.before.queue-2.ensures woken.add_woken.ensures).1
 
 overflow_add-result-5 : tie.Need-overflow_add-result-5
@@ -481,7 +481,7 @@ overflow_add-result-5 c =
     let third = test.before.before in
     let second = third.before.before.before in
     let first = second.before.before.before in
-    let S = first.before.before.before.before.before.before in
+    let S = first.before.before in
     small (S.args.t.steps + 1) (calls.small_steps S.args.t.steps S.requires.10.more)
 
 shape_of-s : tie.Need-shape_of-s
@@ -494,20 +494,20 @@ shape_of-s c =
     let heads = gives.before.before.before.before.before in
     let test = heads.before.before.before.before.before in
     let third = test.before.before in
-    let second = third.before.before.before in
-    let first = second.before.before.before in
-    let S = first.before.before.before.before.before.before in
+    let second = third.before.before in
+    let first = second.before.before in
+    let S = first.before.before.before.before in
     let p = S.requires in
     let taken = p.10 in
     let red = p.11 in
-    let e_pairs = first.index.ensures ∙ first.before.word_at.ensures ∙ red.at.held.pairs in
-    let e_compounds = second.index2.ensures ∙ second.before.word-at2.ensures ∙ red.at.held.compounds in
+    let e_pairs = first.index-pairs.ensures ∙ first.before.word_at.ensures ∙ red.at.held.pairs in
+    let e_compounds = second.index-compounds.ensures ∙ second.before.word_at-2.ensures ∙ red.at.held.compounds in
     let e_body = third.index-body.ensures ∙ third.before.word_at-3.ensures ∙ red.at.held.goals in
     let fit = calls.fit-told taken p.8 p.9 _ _ _ e_pairs e_compounds e_body _ true test.before.fits2.ensures (calls.not_false _ test.if-not-fits.false) in
     calls.size-6 taken red fit
     heads.before.values.ensures e_pairs heads.assign_head.ensures gives.before.values-2.ensures gives.assign_goal-free.ensures
     wakes.before.before.before.waiting.ensures wakes.before.before.waiters.ensures wakes.before.sets.ensures
-    wakes.wake-woken.ensures heads.before.before.before.before.behind-front.ensures refl e_body goals.before.queue.ensures (origins.made-is taken red first.before.before.before.made.ensures)
+    wakes.wake-woken.ensures heads.before.before.before.before.behind-front.ensures refl e_body goals.before.queue.ensures (origins.made-is taken red first.before.before.made-mark.ensures)
     goals.add_goals-cells.ensures woken.before.before.waiting-2.ensures woken.before.queue-2.ensures woken.add_woken.ensures _ tries.count_try.ensures
 
 returns : tie.Need-returns
@@ -521,17 +521,17 @@ returns c =
     let heads = gives.before.before.before.before.before in
     let test = heads.before.before.before.before.before in
     let third = test.before.before in
-    let second = third.before.before.before in
-    let first = second.before.before.before in
-    let S = first.before.before.before.before.before.before in
-    let e_pairs = first.index.ensures ∙ first.before.word_at.ensures ∙ red.at.held.pairs in
-    let e_compounds = second.index2.ensures ∙ second.before.word-at2.ensures ∙ red.at.held.compounds in
+    let second = third.before.before in
+    let first = second.before.before in
+    let S = first.before.before.before.before in
+    let e_pairs = first.index-pairs.ensures ∙ first.before.word_at.ensures ∙ red.at.held.pairs in
+    let e_compounds = second.index-compounds.ensures ∙ second.before.word_at-2.ensures ∙ red.at.held.compounds in
     let e_body = third.index-body.ensures ∙ third.before.word_at-3.ensures ∙ red.at.held.goals in
     let fit = calls.fit-told taken clause given _ _ _ e_pairs e_compounds e_body _ true test.before.fits2.ensures (calls.not_false _ test.if-not-fits.false) in
     calls.ends taken red fit
     heads.before.values.ensures e_pairs heads.assign_head.ensures gives.before.values-2.ensures gives.assign_goal-free.ensures
     wakes.before.before.before.waiting.ensures wakes.before.before.waiters.ensures wakes.before.sets.ensures
-    wakes.wake-woken.ensures heads.before.before.before.before.behind-front.ensures refl e_body goals.before.queue.ensures (origins.made-is taken red first.before.before.before.made.ensures)
+    wakes.wake-woken.ensures heads.before.before.before.before.behind-front.ensures refl e_body goals.before.queue.ensures (origins.made-is taken red first.before.before.made-mark.ensures)
     goals.add_goals-cells.ensures woken.before.before.waiting-2.ensures woken.before.queue-2.ensures woken.add_woken.ensures _ tries.count_try.ensures _
     (record {
       pairs = ap (λ m. S.args.t.pairs + m) e_pairs;

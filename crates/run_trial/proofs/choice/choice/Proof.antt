@@ -27,28 +27,28 @@ follow_arguments-requires c κs =
 
 word_at-requires : tie.Need-word_at-requires invariant-clauses decreases-clauses
 word_at-requires c κs =
-    let A = c.before.before.before in
-    let trying = (following.ready A.before.before.before.requires A.follow-arguments.ensures).8 in
+    let A = c.before.before in
+    let trying = (following.ready A.before.before.before.requires A.follow_arguments.ensures).8 in
     omega (arith, idle.goal-inside trying)
 
 first_clause-requires : tie.Need-first_clause-requires invariant-clauses decreases-clauses
 first_clause-requires c κs =
-    let A = c.before.before.before.before in
-    let trying = (following.ready A.before.before.before.requires A.follow-arguments.ensures).8 in
+    let A = c.before.before.before in
+    let trying = (following.ready A.before.before.before.requires A.follow_arguments.ensures).8 in
     (idle.goal-inside trying, idle.procedure-inside trying)
 
 to_try-left-requires : tie.Need-to_try-left-requires invariant-clauses decreases-clauses
 to_try-left-requires c κs =
     let W = c.before in
-    let A = W.before.before.before.before in
-    let (text, names, j, limit, figures, at, g, others, trying, stand, new, fit) = following.ready A.before.before.before.requires A.follow-arguments.ensures in
+    let A = W.before.before.before in
+    let (text, names, j, limit, figures, at, g, others, trying, stand, new, fit) = following.ready A.before.before.before.requires A.follow_arguments.ensures in
     (names, j, g.goal, idle.goal-sought trying stand W.word_at.ensures c.first_clause.ensures)
 
 clauses-init : tie.Need-clauses-init invariant-clauses decreases-clauses
 clauses-init c =
     let C = c.before in
     let W = C.before in
-    let a = W.before.before.before.before.before.before.before.args in
+    let a = W.before.before.before.before.before.before.args in
     λ text names j limit figures at g others trying stand new.
     clauses.walk_first trying a.first c.to_try-left.result new W.word_at.ensures
     (c.to_try-left.ensures names j g.goal (idle.goal-sought trying stand W.word_at.ensures C.first_clause.ensures))
@@ -59,9 +59,9 @@ overflow_sub-k c = let left = c.before.clauses-test.true in omega arith
 trial-t-requires : tie.Need-trial-t-requires invariant-clauses decreases-clauses
 trial-t-requires c κs =
     let L = c.before.before.before.before in
-    let A = L.before.before.before.before.before.before.before in
+    let A = L.before.before.before.before.before.before in
     let S = A.before.before.before in
-    let (text, names, j, limit, figures, at, g, others, trying, stand, new, fit) = following.ready S.requires A.follow-arguments.ensures in
+    let (text, names, j, limit, figures, at, g, others, trying, stand, new, fit) = following.ready S.requires A.follow_arguments.ensures in
     let w = L.clauses.invariant text names j limit figures at g others trying stand new in
     let left = c.before.before.clauses-test.true in (
       text,
@@ -92,64 +92,64 @@ overflow_add-stamp : tie.Need-overflow_add-stamp invariant-clauses decreases-cla
 overflow_add-stamp c =
     let T = c.before.before.before.before in
     let L = T.before.before.before.before.before in
-    let A = L.before.before.before.before.before.before.before in
-    let n = clauses.turning L.clauses.invariant (following.ready A.before.before.before.requires A.follow-arguments.ensures) T.before.before.before.clauses-test.true in
+    let A = L.before.before.before.before.before.before in
+    let n = clauses.turning L.clauses.invariant (following.ready A.before.before.before.requires A.follow_arguments.ensures) T.before.before.before.clauses-test.true in
     record { fits = omega (arith, n.stamps, n.stamps_fit) }
 
 further-left-requires : tie.Need-further-left-requires invariant-clauses decreases-clauses
 further-left-requires c κs =
-    let T = c.before.before.before.before.before in
+    let T = c.before.before.before.before in
     let L = T.before.before.before.before.before in
-    let A = L.before.before.before.before.before.before.before in
-    let left = T.before.before.before.if1.true in
-    let n = clauses.turning L.clauses.invariant (following.ready A.before.before.before.requires A.follow-arguments.ensures) left in
-    (left, omega (arith, n.large, n.number, n.link, T.trial.auto.0))
+    let A = L.before.before.before.before.before.before in
+    let left = T.before.before.before.clauses-test.true in
+    let n = clauses.turning L.clauses.invariant (following.ready A.before.before.before.requires A.follow_arguments.ensures) left in
+    (left, omega (arith, n.large, n.number, n.link, T.trial-t.auto.s))
 
 clauses-smaller : tie.Need-clauses-smaller invariant-clauses decreases-clauses
 clauses-smaller c =
     let T = c.before.before.before.before.before.before in
-    let L = T.before.before.before.before.before in
-    let A = L.before.before.before.before.before.before.before in
-    let n = clauses.turning L.clauses.invariant (following.ready A.before.before.before.requires A.follow-arguments.ensures) T.before.before.before.if1.true in
+    let L = T.before.before.before.before in
+    let A = L.before.before.before.before.before.before in
+    let n = clauses.turning L.clauses.invariant (following.ready A.before.before.before.requires A.follow_arguments.ensures) T.before.before.clauses-test.true in
     omega (arith, n.stamps)
 
 clauses-preserved : tie.Need-clauses-preserved invariant-clauses decreases-clauses
 clauses-preserved c =
-    let J = c.before.before in
+    let J = c.before in
     let T = J.before.before.before.before in
     let L = T.before.before.before.before.before in
     let A = L.before.before.before.before.before.before.before in
-    let S = A.before.before.before in
-    let left = T.before.before.before.if1.true in
-    let passed : clauses.Passed L.clauses.readers T.trial.result J.match2.readers =
+    let S = A.before.before in
+    let left = T.before.before.before.clauses-test.true in
+    let passed : clauses.Passed L.clauses.readers T.trial-t.result J.match-t-2.readers =
     ⊎_elim
     (λ w. inl (w.1.given.0.0, w.1.given.1, w.3))
-    (λ w. inr (clauses.neither T.trial.result J.before.match.keys2 w.0.keys2, w.1))
-    J.match2.branch in
+    (λ w. inr (clauses.neither T.trial-t.result J.before.in_default.in_default-own.keys2 w.0.keys2, w.1))
+    J.match-t-2.branch in
     λ text names j limit figures at g others trying stand new.
     let w = L.clauses.invariant text names j limit figures at g others trying stand new in
     clauses.turn-passed trying stand w left
-    (T.trial.ensures text names j limit figures at g others S.args.goal (clauses.turn-clause trying stand w left) w.waiting
+    (T.trial-t.ensures text names j limit figures at g others S.args.goal (clauses.turn-clause trying stand w left) w.waiting
     (clauses.walk-trying trying stand w) (clauses.walk-stand trying stand w) (clauses.turn-candidate trying stand w left) w.marks_now w.gathered)
-    c.further-left.ensures J.match2.readers passed
+    c.further-left.ensures J.match-t-2.readers passed
 
 shape_of-s-in-clauses : tie.Need-shape_of-s-in-clauses invariant-clauses decreases-clauses
 shape_of-s-in-clauses c =
     let T = c.before.before.before in
     let L = T.before.before.before.before.before in
-    let A = L.before.before.before.before.before.before.before in
-    let n = clauses.turning L.clauses.invariant (following.ready A.before.before.before.requires A.follow-arguments.ensures) T.before.before.before.clauses-test.true in
-    T.trial-t.auto.s ∙ n.size ∙ A.follow-arguments.auto.0
+    let A = L.before.before.before.before.before.before in
+    let n = clauses.turning L.clauses.invariant (following.ready A.before.before.before.requires A.follow_arguments.ensures) T.before.before.before.clauses-test.true in
+    T.trial-t.auto.s ∙ n.size ∙ A.follow_arguments.auto.s
 
 returns-in-clauses : tie.Need-returns-in-clauses invariant-clauses decreases-clauses
 returns-in-clauses c =
     let W = c in
     let T = W.before.before.before in
     let L = T.before.before.before.before.before in
-    let A = L.before.before.before.before.before.before.before in
+    let A = L.before.before.before.before.before.before in
     let S = A.before.before.before in
     let left = T.before.before.before.clauses-test.true in
-    let told = A.follow-arguments.ensures in
+    let told = A.follow_arguments.ensures in
     let first = S.args.first in
     λ text names j limit figures at g others before new_before.
     let trying = following.trying-then before told in
@@ -165,16 +165,16 @@ returns-in-clauses c =
 shape_of-s-then-readers-eq0 : tie.Need-shape_of-s-then-readers-eq0 invariant-clauses decreases-clauses
 shape_of-s-then-readers-eq0 c =
     let L = c.before.before.before in
-    let A = L.before.before.before.before.before.before.before in
-    let (text, names, j, limit, figures, at, g, others, trying, stand, new, fit) = following.ready A.before.before.before.requires A.follow-arguments.ensures in
-    (L.clauses.invariant text names j limit figures at g others trying stand new).only.size ∙ A.follow-arguments.auto.0
+    let A = L.before.before.before.before.before.before in
+    let (text, names, j, limit, figures, at, g, others, trying, stand, new, fit) = following.ready A.before.before.before.requires A.follow_arguments.ensures in
+    (L.clauses.invariant text names j limit figures at g others trying stand new).only.size ∙ A.follow_arguments.auto.s
 
 returns-then-readers-eq0 : tie.Need-returns-then-readers-eq0 invariant-clauses decreases-clauses
 returns-then-readers-eq0 c =
     let L = c.before.before.before in
-    let A = L.before.before.before.before.before.before.before in
+    let A = L.before.before.before.before.before.before in
     let S = A.before.before.before in
-    let told = A.follow-arguments.ensures in
+    let told = A.follow_arguments.ensures in
     let first = S.args.first in
     λ text names j limit figures at g others before new_before.
     let trying = following.trying-then before told in
@@ -187,16 +187,16 @@ returns-then-readers-eq0 c =
 shape_of-s : tie.Need-shape_of-s invariant-clauses decreases-clauses
 shape_of-s c =
     let L = c.before.before.before in
-    let A = L.before.before.before.before.before.before.before in
-    let (text, names, j, limit, figures, at, g, others, trying, stand, new, fit) = following.ready A.before.before.before.requires A.follow-arguments.ensures in
-    (L.clauses.invariant text names j limit figures at g others trying stand new).only.size ∙ A.follow-arguments.auto.0
+    let A = L.before.before.before.before.before.before in
+    let (text, names, j, limit, figures, at, g, others, trying, stand, new, fit) = following.ready A.before.before.before.requires A.follow_arguments.ensures in
+    (L.clauses.invariant text names j limit figures at g others trying stand new).only.size ∙ A.follow_arguments.auto.s
 
 returns : tie.Need-returns invariant-clauses decreases-clauses
 returns c =
     let L = c.before.before.before in
-    let A = L.before.before.before.before.before.before.before in
+    let A = L.before.before.before.before.before.before in
     let S = A.before.before.before in
-    let told = A.follow-arguments.ensures in
+    let told = A.follow_arguments.ensures in
     let first = S.args.first in
     λ text names j limit figures at g others before new_before.
     let trying = following.trying-then before told in

@@ -44,32 +44,32 @@ enum_known-n c = search rules
 asks-requires : tie.Need-asks-requires
 asks-requires c κs =
     let N = c in
-    let P = N.before.before.before.before in
+    let P = N.before.before.before in
     let B = P.before.before.before.before in
     let S = B.before.before.before in
     let (text, names, j, limit, figures, at, g, others, goal, k, t, f, m, new, met, fit) = S.requires in
-    let begun = B.begin.ensures.0 in
-    let told = trials.comparison t f m begun P.head.new.0 P.head.result (Noted N.n.given.0.0) P.head.ensures N.n.given.1 in
+    let begun = B.begin.ensures.only in
+    let told = trials.comparison t f m begun P.head.new.s P.head.result (Noted N.in-Noted.n) P.head.ensures N.in-Noted.is in
     (trials.large-noted t f m begun told, trials.few-noted t f m begun told)
 
 overflow_add-marks : tie.Need-overflow_add-marks
 overflow_add-marks c =
     let A = c.before.before in
     let N = A.before in
-    let S = N.before.before.before.before.before.before.before.before.before.before.before in
+    let S = N.before.before.before.before.before.before.before.before.before.before in
     let t = S.requires.10 in
-    record { fits = omega (arith, t.inside, t.links_are, S.well-formed) }
+    record { fits = omega (arith, t.inside, t.links_are, S.well_formed) }
 
 meet_all-requires : tie.Need-meet_all-requires
 meet_all-requires c κs =
     let A = c.before.before in
     let N = A.before in
-    let P = N.before.before.before.before in
+    let P = N.before.before.before in
     let B = P.before.before.before.before in
     let S = B.before.before.before in
     let (text, names, j, limit, figures, at, g, others, goal, k, t, f, m, new, met, fit) = S.requires in
-    let begun = B.begin.ensures.0 in
-    let told = trials.comparison t f m begun P.head.new.0 P.head.result (Noted N.n.given.0.0) P.head.ensures N.n.given.1 in
+    let begun = B.begin.ensures.only in
+    let told = trials.comparison t f m begun P.head.new.s P.head.result (Noted N.in-Noted.n) P.head.ensures N.in-Noted.is in
     answering.meets t f m begun met told
 
 shape_of-s-then-asks : tie.Need-shape_of-s-then-asks
@@ -81,12 +81,12 @@ returns-then-asks c =
     let E = M.before.before in
     let A = E.before in
     let N = A.before in
-    let P = N.before.before.before.before in
+    let P = N.before.before.before in
     let B = P.before.before.before.before in
     λ text names j limit figures at g others goal k earlier t f m new gathered.
-    let begun = B.begin.ensures.0 in
-    let told = trials.comparison t f m begun P.head.new.0 P.head.result (Noted N.n.given.0.0) P.head.ensures N.n.given.1 in
-    answering.some-wait t f m begun gathered.ok new N.n.given.0.0 told (trials.waiting t f m begun told A.asks.ensures E.if-asks.true)
+    let begun = B.begin.ensures.only in
+    let told = trials.comparison t f m begun P.head.new.s P.head.result (Noted N.in-Noted.n) P.head.ensures N.in-Noted.is in
+    answering.some-wait t f m begun gathered.ok new N.in-Noted.n told (trials.waiting t f m begun told A.asks.ensures E.if-asks.true)
     M.meet_all.result M.meet_all.ensures
 
 circle-requires : tie.Need-circle-requires
@@ -94,13 +94,13 @@ circle-requires c κs =
     let E = c.before in
     let A = E.before in
     let N = A.before in
-    let P = N.before.before.before.before in
+    let P = N.before.before.before in
     let B = P.before.before.before.before in
     let S = B.before.before.before in
     let (text, names, j, limit, figures, at, g, others, goal, k, t, f, m, new, met, fit) = S.requires in
-    let begun = B.begin.ensures.0 in
-    let cleared = trials.cleared-all t f m begun B.begin.ensures.1 in
-    let told = trials.comparison t f m begun P.head.new.0 P.head.result (Noted N.n.given.0.0) P.head.ensures N.n.given.1 in
+    let begun = B.begin.ensures.only in
+    let cleared = trials.cleared-all t f m begun B.begin.ensures.nothing in
+    let told = trials.comparison t f m begun P.head.new.s P.head.result (Noted N.in-Noted.n) P.head.ensures N.in-Noted.is in
     let quiet = trials.quiet t f m begun told A.asks.ensures E.if-asks.false in
     (trials.tried-as t f m begun new fit cleared told quiet, trials.tried t f m begun new fit cleared told quiet)
 
@@ -113,14 +113,14 @@ returns-then-circle c =
     let E = C.before.before in
     let A = E.before in
     let N = A.before in
-    let P = N.before.before.before.before in
+    let P = N.before.before.before in
     let B = P.before.before.before.before in
     let S = B.before.before.before in
     let fit = S.requires.15 in
     λ text names j limit figures at g others goal k earlier t f m new gathered.
-    let begun = B.begin.ensures.0 in
-    let cleared = trials.cleared-all t f m begun B.begin.ensures.1 in
-    let told = trials.comparison t f m begun P.head.new.0 P.head.result (Noted N.n.given.0.0) P.head.ensures N.n.given.1 in
+    let begun = B.begin.ensures.only in
+    let cleared = trials.cleared-all t f m begun B.begin.ensures.nothing in
+    let told = trials.comparison t f m begun P.head.new.s P.head.result (Noted N.in-Noted.n) P.head.ensures N.in-Noted.is in
     let quiet = trials.quiet t f m begun told A.asks.ensures E.if-asks.false in
     let tested = C.circle.ensures (trials.tried-as t f m begun new fit cleared told quiet) (trials.tried t f m begun new fit cleared told quiet) in
     answering.circle-fails t f m begun gathered.ok new fit cleared told quiet tested c.if-circle.true
@@ -129,7 +129,7 @@ overflow_add-stamp : tie.Need-overflow_add-stamp
 overflow_add-stamp c =
     let C = c.before.before.before.before in
     let N = C.before.before.before.before in
-    let S = N.before.before.before.before.before.before.before.before.before.before.before in
+    let S = N.before.before.before.before.before.before.before.before.before.before in
     let fit = S.requires.15 in
     record { fits = omega (arith, fit.1) }
 
@@ -140,13 +140,13 @@ guards-requires c κs =
     let E = C.before.before in
     let A = E.before in
     let N = A.before in
-    let P = N.before.before.before.before in
+    let P = N.before.before.before in
     let B = P.before.before.before.before in
     let S = B.before.before.before in
     let (text, names, j, limit, figures, at, g, others, goal, k, t, f, m, new, met, fit) = S.requires in
-    let begun = B.begin.ensures.0 in
-    let cleared = trials.cleared-all t f m begun B.begin.ensures.1 in
-    let told = trials.comparison t f m begun P.head.new.0 P.head.result (Noted N.n.given.0.0) P.head.ensures N.n.given.1 in
+    let begun = B.begin.ensures.only in
+    let cleared = trials.cleared-all t f m begun B.begin.ensures.nothing in
+    let told = trials.comparison t f m begun P.head.new.s P.head.result (Noted N.in-Noted.n) P.head.ensures N.in-Noted.is in
     let quiet = trials.quiet t f m begun told A.asks.ensures E.if-asks.false in
     let tested = C.circle.ensures (trials.tried-as t f m begun new fit cleared told quiet) (trials.tried t f m begun new fit cleared told quiet) in (
       setting figures at (unit_of j limit figures g),
@@ -180,14 +180,14 @@ returns-in-Succeeds c =
     let E = C.before.before in
     let A = E.before in
     let N = A.before in
-    let P = N.before.before.before.before in
+    let P = N.before.before.before in
     let B = P.before.before.before.before in
     let S = B.before.before.before in
     let fit = S.requires.15 in
     λ text names j limit figures at g others goal k earlier t f m new gathered.
-    let begun = B.begin.ensures.0 in
-    let cleared = trials.cleared-all t f m begun B.begin.ensures.1 in
-    let told = trials.comparison t f m begun P.head.new.0 P.head.result (Noted N.n.given.0.0) P.head.ensures N.n.given.1 in
+    let begun = B.begin.ensures.only in
+    let cleared = trials.cleared-all t f m begun B.begin.ensures.nothing in
+    let told = trials.comparison t f m begun P.head.new.s P.head.result (Noted N.in-Noted.n) P.head.ensures N.in-Noted.is in
     let quiet = trials.quiet t f m begun told A.asks.ensures E.if-asks.false in
     let tested = C.circle.ensures (trials.tried-as t f m begun new fit cleared told quiet) (trials.tried t f m begun new fit cleared told quiet) in
     let guarded = G.guards.ensures (setting figures at (unit_of j limit figures g)) (template S.args.k k) k (trials.given t f m begun new fit cleared told quiet)
@@ -206,14 +206,14 @@ returns-in-Waits c =
     let E = C.before.before in
     let A = E.before in
     let N = A.before in
-    let P = N.before.before.before.before in
+    let P = N.before.before.before in
     let B = P.before.before.before.before in
     let S = B.before.before.before in
     let fit = S.requires.15 in
     λ text names j limit figures at g others goal k earlier t f m new gathered.
-    let begun = B.begin.ensures.0 in
-    let cleared = trials.cleared-all t f m begun B.begin.ensures.1 in
-    let told = trials.comparison t f m begun P.head.new.0 P.head.result (Noted N.n.given.0.0) P.head.ensures N.n.given.1 in
+    let begun = B.begin.ensures.only in
+    let cleared = trials.cleared-all t f m begun B.begin.ensures.nothing in
+    let told = trials.comparison t f m begun P.head.new.s P.head.result (Noted N.in-Noted.n) P.head.ensures N.in-Noted.is in
     let quiet = trials.quiet t f m begun told A.asks.ensures E.if-asks.false in
     let tested = C.circle.ensures (trials.tried-as t f m begun new fit cleared told quiet) (trials.tried t f m begun new fit cleared told quiet) in
     let guarded = G.guards.ensures (setting figures at (unit_of j limit figures g)) (template S.args.k k) k (trials.given t f m begun new fit cleared told quiet)
@@ -231,14 +231,14 @@ returns-in-Fails-guards c =
     let E = C.before.before in
     let A = E.before in
     let N = A.before in
-    let P = N.before.before.before.before in
+    let P = N.before.before.before in
     let B = P.before.before.before.before in
     let S = B.before.before.before in
     let fit = S.requires.15 in
     λ text names j limit figures at g others goal k earlier t f m new gathered.
-    let begun = B.begin.ensures.0 in
-    let cleared = trials.cleared-all t f m begun B.begin.ensures.1 in
-    let told = trials.comparison t f m begun P.head.new.0 P.head.result (Noted N.n.given.0.0) P.head.ensures N.n.given.1 in
+    let begun = B.begin.ensures.only in
+    let cleared = trials.cleared-all t f m begun B.begin.ensures.nothing in
+    let told = trials.comparison t f m begun P.head.new.s P.head.result (Noted N.in-Noted.n) P.head.ensures N.in-Noted.is in
     let quiet = trials.quiet t f m begun told A.asks.ensures E.if-asks.false in
     let tested = C.circle.ensures (trials.tried-as t f m begun new fit cleared told quiet) (trials.tried t f m begun new fit cleared told quiet) in
     let guarded = G.guards.ensures (setting figures at (unit_of j limit figures g)) (template S.args.k k) k (trials.given t f m begun new fit cleared told quiet)
