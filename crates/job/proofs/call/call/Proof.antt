@@ -18,14 +18,14 @@ returns-then-not-within c =
     let a = c.before.before.before.before.before.args in
     let room = room_of a.pairs a.compounds a.goals in
     let w = c.before.within in
-    call_1 a.text.now a.budget room a.s.now a.buffer.now (sym w.ensures ∙ not-true w.result c.if-not-within.true)
+    call_1 a.text.now a.budget room a.s.now a.buffer.now (sym w.ensures ∙ c.if-not-within.true)
 
 need-words-requires : tie.Need-need-words-requires
 need-words-requires c κs =
     let a = c.before.before.before.before.before.args in
     let room = room_of a.pairs a.compounds a.goals in
     let w = c.before.within in
-    let h : in_range a.budget room ≡ true = sym w.ensures ∙ not-false w.result c.if-not-within.false in
+    let h : in_range a.budget room ≡ true = sym w.ensures ∙ c.if-not-within.false in
     let bounds = in_range_within a.budget a.pairs a.compounds a.goals h in
     record { pairs = bounds.pairs; compounds = bounds.compounds; goals = bounds.goals }
 
@@ -34,7 +34,7 @@ returns-then-s-words c =
     let a = c.before.before.before.before.before.before.before.args in
     let room = room_of a.pairs a.compounds a.goals in
     let w = c.before.before.before.within in
-    let h : in_range a.budget room ≡ true = sym w.ensures ∙ not-false w.result c.before.before.if-not-within.false in
+    let h : in_range a.budget room ≡ true = sym w.ensures ∙ c.before.before.if-not-within.false in
     call_2 a.text.now a.budget room a.s.now a.buffer.now h (omega (arith, c.before.need-words.ensures))
 
 returns-then-text-gt16384 : tie.Need-returns-then-text-gt16384
@@ -42,7 +42,7 @@ returns-then-text-gt16384 c =
     let a = c.before.before.before.before.before.before.before.before.args in
     let room = room_of a.pairs a.compounds a.goals in
     let w = c.before.before.before.before.within in
-    let h : in_range a.budget room ≡ true = sym w.ensures ∙ not-false w.result c.before.before.before.if-not-within.false in
+    let h : in_range a.budget room ≡ true = sym w.ensures ∙ c.before.before.before.if-not-within.false in
     call_3 a.text.now a.budget room a.s.now a.buffer.now h (omega (arith, c.before.before.need-words.ensures)) (omega arith)
 
 taken-requires : tie.Need-taken-requires
@@ -50,7 +50,7 @@ taken-requires c κs =
     let a = c.before.before.before.before.before.before.before.before.before.before.args in
     let room = room_of a.pairs a.compounds a.goals in
     let w = c.before.before.before.before.before.before.within in
-    let h : in_range a.budget room ≡ true = sym w.ensures ∙ not-false w.result c.before.before.before.before.before.if-not-within.false in
+    let h : in_range a.budget room ≡ true = sym w.ensures ∙ c.before.before.before.before.before.if-not-within.false in
     let bounds = in_range_within a.budget a.pairs a.compounds a.goals h in
     (record { pairs = bounds.pairs; compounds = bounds.compounds; goals = bounds.goals }, omega (arith, c.before.before.before.before.need-words.ensures), bounds.budget, omega arith)
 
@@ -65,7 +65,7 @@ returns c =
     let a = c.before.before.before.before.before.before.before.before.before.before.before.before.before.before.before.args in
     let room = room_of a.pairs a.compounds a.goals in
     let w = c.before.before.before.before.before.before.before.before.before.before.before.within in
-    let h : in_range a.budget room ≡ true = sym w.ensures ∙ not-false w.result c.before.before.before.before.before.before.before.before.before.before.if-not-within.false in
+    let h : in_range a.budget room ≡ true = sym w.ensures ∙ c.before.before.before.before.before.before.before.before.before.before.if-not-within.false in
     call_4 a.text.now a.budget room a.s.now a.buffer.now h (omega (arith, c.before.before.before.before.before.before.before.before.before.need-words.ensures)) (omega arith) c.before.before.before.before.taken.ensures
 
 pub call_spec : {M : Type 1} → statement M

@@ -165,7 +165,7 @@ returns c =
     (at_foreign.foreign.ensures w.rule.head w.rule.body.guards w.guards (counts_are a.rest.now a.s.now a.item.now a.in_head.now a.in-guards.now
     a.licensed.now a.k a.begins a.guards a.bar a.goals a.c w q.k_bound.0 j (take (length a.in_head.now - 32) (drop 32 a.in_head.now))
     (part_counts a.in_head.now)) j.was_read.guards_are.in_table) at_if1.if-foreign.false at_word.word.result at_word2.word-2.result c.word-3.result
-    (sym at_clause_rules.clause_rules.ensures ∙ not-false at_clause_rules.clause_rules.result at_if2.if-not-clause_rules.false) at_word.word.ensures at_word2.word-2.ensures
+    (sym at_clause_rules.clause_rules.ensures ∙ at_if2.if-not-clause_rules.false) at_word.word.ensures at_word2.word-2.ensures
     c.word-3.ensures
 
 pub judged_spec : {M : Type 1} → statement M

@@ -87,7 +87,7 @@ first_fault-fault-requires c κs =
     let f = e.before.before.before.before.before.before.before.before.before.before.first.ensures in
     let st = begin_stands a.text.now a.rest.now a.from a.names.now a.item.now a.known known b e.before.before.before.before.before.before.before.before.before.before.first.result (omega (arith, f.0, e.before.before.before.before.before.before.before.before.before.before.before.before.before.before.before.before.before.before.before.before.before.requires.begins_in_bounds.0)) f.1 f.2 f.3 in
     let got = rw e.before.before.in-Got.is at (e.before.before.before.before.before.before.before.before.before.goals.ensures known [] st) in
-    let told = query_broken a.text.now a.rest.now a.from a.names.now a.item.now a.known known b 0 a.k a.begins a.s.now a.heads.now x.1 e.before.before.before.before.before.before.before.before.before.before.before.before.before.before.if-k-ge8.false e.before.before.before.before.before.before.before.before.before.before.first.result f.0 f.3 e.before.before.before.before.before.before.before.before.before.goals.new.s e.before.before.before.before.before.before.before.before.before.goals.new.names e.before.before.before.before.before.before.before.before.before.goals.new.item e.before.before.in-Got.count e.before.before.in-Got.c got.0 got.1 got.2 got.3 (sym e.before.nothing_twice.ensures ∙ not-true _ e.if-not-nothing_twice.true) in
+    let told = query_broken a.text.now a.rest.now a.from a.names.now a.item.now a.known known b 0 a.k a.begins a.s.now a.heads.now x.1 e.before.before.before.before.before.before.before.before.before.before.before.before.before.before.if-k-ge8.false e.before.before.before.before.before.before.before.before.before.before.first.result f.0 f.3 e.before.before.before.before.before.before.before.before.before.goals.new.s e.before.before.before.before.before.before.before.before.before.goals.new.names e.before.before.before.before.before.before.before.before.before.goals.new.item e.before.before.in-Got.count e.before.before.in-Got.c got.0 got.1 got.2 got.3 (sym e.before.nothing_twice.ensures ∙ e.if-not-nothing_twice.true) in
     (x.0, (a.from, variables_over a.from got.1 [], none_free, none, told.0, told.2))
 
 shape_of-s-then-not-nothing_twice : tie.Need-shape_of-s-then-not-nothing_twice
@@ -108,7 +108,7 @@ returns-then-not-nothing_twice c =
     let f = e.before.before.before.before.before.before.before.before.before.before.first.ensures in
     let st = begin_stands a.text.now a.rest.now a.from a.names.now a.item.now a.known known b e.before.before.before.before.before.before.before.before.before.before.first.result (omega (arith, f.0, e.before.before.before.before.before.before.before.before.before.before.before.before.before.before.before.before.before.before.before.before.before.requires.begins_in_bounds.0)) f.1 f.2 f.3 in
     let got = rw e.before.before.in-Got.is at (e.before.before.before.before.before.before.before.before.before.goals.ensures known [] st) in
-    let told = query_broken a.text.now a.rest.now a.from a.names.now a.item.now a.known known b clauses a.k a.begins a.s.now a.heads.now x.1 e.before.before.before.before.before.before.before.before.before.before.before.before.before.before.if-k-ge8.false e.before.before.before.before.before.before.before.before.before.before.first.result f.0 f.3 e.before.before.before.before.before.before.before.before.before.goals.new.s e.before.before.before.before.before.before.before.before.before.goals.new.names e.before.before.before.before.before.before.before.before.before.goals.new.item e.before.before.in-Got.count e.before.before.in-Got.c got.0 got.1 got.2 got.3 (sym e.before.nothing_twice.ensures ∙ not-true _ e.if-not-nothing_twice.true) in
+    let told = query_broken a.text.now a.rest.now a.from a.names.now a.item.now a.known known b clauses a.k a.begins a.s.now a.heads.now x.1 e.before.before.before.before.before.before.before.before.before.before.before.before.before.before.if-k-ge8.false e.before.before.before.before.before.before.before.before.before.before.first.result f.0 f.3 e.before.before.before.before.before.before.before.before.before.goals.new.s e.before.before.before.before.before.before.before.before.before.goals.new.names e.before.before.before.before.before.before.before.before.before.goals.new.item e.before.before.in-Got.count e.before.before.in-Got.c got.0 got.1 got.2 got.3 (sym e.before.nothing_twice.ensures ∙ e.if-not-nothing_twice.true) in
     (told.0, told.1, c.first_fault-fault.ensures a.from (variables_over a.from got.1 []) none_free none told.0 told.2, omega (arith, x.0), got.3.only)
 
 offset_bounds-s-record : tie.Need-offset_bounds-s-record
@@ -184,7 +184,7 @@ returns-else-not-nothing_twice c =
     let f = c.before.before.before.before.before.before.before.before.before.before.before.before.before.before.before.before.first.ensures in
     let st = begin_stands a.text.now a.rest.now a.from a.names.now a.item.now a.known known b c.before.before.before.before.before.before.before.before.before.before.before.before.before.before.before.before.first.result (omega (arith, f.0, c.before.before.before.before.before.before.before.before.before.before.before.before.before.before.before.before.before.before.before.before.before.before.before.before.before.before.before.requires.begins_in_bounds.0)) f.1 f.2 f.3 in
     let got = rw c.before.before.before.before.before.before.before.before.in-Got.is at (c.before.before.before.before.before.before.before.before.before.before.before.before.before.before.before.goals.ensures known [] st) in
-    query_took a.text.now a.rest.now a.from a.names.now a.item.now a.known known b clauses a.k a.begins a.s.now a.heads.now x.1 c.before.before.before.before.before.before.before.before.before.before.before.before.before.before.before.before.before.before.before.before.if-k-ge8.false c.before.before.before.before.before.before.before.before.before.before.before.before.before.before.before.before.first.result f.0 f.3 c.before.before.before.before.before.before.before.before.before.before.before.before.before.before.before.goals.new.s c.before.before.before.before.before.before.before.before.before.before.before.before.before.before.before.goals.new.names c.before.before.before.before.before.before.before.before.before.before.before.before.before.before.before.goals.new.item c.before.before.before.before.before.before.before.before.in-Got.count c.before.before.before.before.before.before.before.before.in-Got.c got.0 got.1 got.2 got.3 c.before.before.keep_places.new.s c.before.before.before.before.before.word.result c.before.before.before.before.word-in-Got.result (sym c.before.before.before.before.before.before.before.nothing_twice.ensures ∙ not-false _ c.before.before.before.before.before.before.if-not-nothing_twice.false) c.before.before.before.before.before.word.ensures c.before.before.before.before.word-in-Got.ensures c.before.before.keep_places.ensures
+    query_took a.text.now a.rest.now a.from a.names.now a.item.now a.known known b clauses a.k a.begins a.s.now a.heads.now x.1 c.before.before.before.before.before.before.before.before.before.before.before.before.before.before.before.before.before.before.before.before.if-k-ge8.false c.before.before.before.before.before.before.before.before.before.before.before.before.before.before.before.before.first.result f.0 f.3 c.before.before.before.before.before.before.before.before.before.before.before.before.before.before.before.goals.new.s c.before.before.before.before.before.before.before.before.before.before.before.before.before.before.before.goals.new.names c.before.before.before.before.before.before.before.before.before.before.before.before.before.before.before.goals.new.item c.before.before.before.before.before.before.before.before.in-Got.count c.before.before.before.before.before.before.before.before.in-Got.c got.0 got.1 got.2 got.3 c.before.before.keep_places.new.s c.before.before.before.before.before.word.result c.before.before.before.before.word-in-Got.result (sym c.before.before.before.before.before.before.before.nothing_twice.ensures ∙ c.before.before.before.before.before.before.if-not-nothing_twice.false) c.before.before.before.before.before.word.ensures c.before.before.before.before.word-in-Got.ensures c.before.before.keep_places.ensures
 
 shape_of-s-in-Malformed : tie.Need-shape_of-s-in-Malformed
 shape_of-s-in-Malformed c = c.before.before.before.before.before.before.before.goals.auto.s

@@ -121,7 +121,7 @@ returns-then-not-set_goals c =
     let fresh = rw q.in_head_len.1 at at_copy_counts.copy_counts.ensures in
     let told = rw at_n.in-Stop.is at (at_elements.elements.ensures known vars (fresh_stands a.k q.k_bound.0 a.text.now a.rest.now a.from known vars a.c a.s.now
     a.names.now a.item.now a.in_head.now q.by_index st at_copy_counts.copy_counts.new.table at_copy_counts.copy_counts.auto.table fresh)) in
-    let set_told = rw (not-true at_set_goals.set_goals.result c.if-not-set_goals.true) at (at_set_goals.set_goals.ensures (item_places (names_over told.1 known) (clause_base a.k))
+    let set_told = rw (c.if-not-set_goals.true) at (at_set_goals.set_goals.ensures (item_places (names_over told.1 known) (clause_base a.k))
     told.0 (worded a.k q.k_bound.0 a.text.now a.rest.now a.from known vars a.c a.s.now a.names.now a.item.now a.in_head.now q.by_index st
     at_copy_counts.copy_counts.new.table at_copy_counts.copy_counts.auto.table fresh (replicate 8 0) at_elements.elements.new.s
     at_elements.elements.new.names at_elements.elements.new.item at_elements.elements.new.words at_n.in-Stop.n
@@ -292,7 +292,7 @@ returns-else-not-set_goals c =
     let fresh = rw q.in_head_len.1 at at_copy_counts.copy_counts.ensures in
     let told = rw at_n.in-Stop.is at (at_elements.elements.ensures known vars (fresh_stands a.k q.k_bound.0 a.text.now a.rest.now a.from known vars a.c a.s.now
     a.names.now a.item.now a.in_head.now q.by_index st at_copy_counts.copy_counts.new.table at_copy_counts.copy_counts.auto.table fresh)) in
-    let set_told = rw (not-false at_set_goals.set_goals.result at_if1.if-not-set_goals.false) at (at_set_goals.set_goals.ensures (item_places (names_over told.1 known) (clause_base a.k))
+    let set_told = rw (at_if1.if-not-set_goals.false) at (at_set_goals.set_goals.ensures (item_places (names_over told.1 known) (clause_base a.k))
     told.0 (worded a.k q.k_bound.0 a.text.now a.rest.now a.from known vars a.c a.s.now a.names.now a.item.now a.in_head.now q.by_index st
     at_copy_counts.copy_counts.new.table at_copy_counts.copy_counts.auto.table fresh (replicate 8 0) at_elements.elements.new.s
     at_elements.elements.new.names at_elements.elements.new.item at_elements.elements.new.words at_n.in-Stop.n

@@ -18,14 +18,14 @@ returns-then-not-resolve : tie.Need-returns-then-not-resolve
 returns-then-not-resolve c =
     λ known es listed.
     let resolve = c.before.before.before.resolve in
-    rw (not-true resolve.result c.if-not-resolve.true) at (resolve.ensures known es listed)
+    rw (c.if-not-resolve.true) at (resolve.ensures known es listed)
 
 licences-requires : tie.Need-licences-requires
 licences-requires c κs =
     let resolve = c.before.before.before.before.resolve in
     let start = c.before.before.before.before.before.before.before.before.before.before.before in
     let (known, es, listed) = start.requires.listed in
-    let found = rw (not-false resolve.result c.before.if-not-resolve.false) at (resolve.ensures known es listed) in
+    let found = rw (c.before.if-not-resolve.false) at (resolve.ensures known es listed) in
     ((start.requires.licensed_value.0, omega (arith, start.requires.licensed_value.1, resolve.auto.s)), (start.args.base, known, found.0, found.1.tests))
 
 shape_of-s : tie.Need-shape_of-s
@@ -40,7 +40,7 @@ returns c =
     let start = c.before.before.before.before.before.before.before.before.before.before.before.before.before.before in
     let a = start.args in
     λ known es listed.
-    let found = rw (not-false resolve.result c.before.before.before.before.if-not-resolve.false) at (resolve.ensures known es listed) in
+    let found = rw (c.before.before.before.before.if-not-resolve.false) at (resolve.ensures known es listed) in
     let got = found.1 in (
       found.0,
       got.guards_are,

@@ -31,7 +31,7 @@ returns-then-not-pair_rules c =
     let at = c.before.before.before in
     let a = at.before.before.before.before.args in
     sym (sym (each_pair a.item.now a.heads.now a.licensed.now a.pairs)
-    ∙ all_fails (pair_kept a.item.now a.heads.now a.licensed.now) a.pairs at.loop-n.n (omega arith) (sym c.before.pair_rules.ensures ∙ not-true _ c.if-not-pair_rules.true))
+    ∙ all_fails (pair_kept a.item.now a.heads.now a.licensed.now) a.pairs at.loop-n.n (omega arith) (sym c.before.pair_rules.ensures ∙ c.if-not-pair_rules.true))
 
 overflow_add-n : tie.Need-overflow_add-n invariant-loop-n decreases-loop-n
 overflow_add-n c = search rules
@@ -43,7 +43,7 @@ loop-n-preserved : tie.Need-loop-n-preserved invariant-loop-n decreases-loop-n
 loop-n-preserved c =
     let at = c.before.before.before in
     let a = at.before.before.before.before.args in (
-      all_next (pair_kept a.item.now a.heads.now a.licensed.now) at.loop-n.n at.loop-n.invariant.0 (sym c.before.pair_rules.ensures ∙ not-false _ c.if-not-pair_rules.false),
+      all_next (pair_kept a.item.now a.heads.now a.licensed.now) at.loop-n.n at.loop-n.invariant.0 (sym c.before.pair_rules.ensures ∙ c.if-not-pair_rules.false),
       omega arith,
     )
 

@@ -41,7 +41,7 @@ returns-then-not-digit c =
     let l = c.before.before.before.before in
     let rest = l.before.before.args.rest.now in
     let e = l.before.before.args.e in
-    let stop = digits_stop rest l.loop-i.i e (omega arith) (omega arith) (sym c.before.digit.ensures ∙ not-true _ c.if-not-digit.true) in
+    let stop = digits_stop rest l.loop-i.i e (omega arith) (omega arith) (sym c.before.digit.ensures ∙ c.if-not-digit.true) in
     rw (sym l.loop-i.invariant.4 ∙ stop)
 
 overflow_mul-v : tie.Need-overflow_mul-v invariant-loop-i decreases-loop-i
@@ -55,14 +55,14 @@ wide-requires c κs = search rules
 overflow_sub-v : tie.Need-overflow_sub-v invariant-loop-i decreases-loop-i
 overflow_sub-v c =
     let d = c.before in
-    let within = digit_bytes _ (sym d.before.digit.ensures ∙ not-false _ d.if-not-digit.false) in
+    let within = digit_bytes _ (sym d.before.digit.ensures ∙ d.if-not-digit.false) in
     omega (arith, within.0, c.wide.ensures)
 
 overflow_add-v : tie.Need-overflow_add-v invariant-loop-i decreases-loop-i
 overflow_add-v c =
     let d = c.before in
     let l = d.before.before.before.before in
-    let within = digit_bytes _ (sym d.before.digit.ensures ∙ not-false _ d.if-not-digit.false) in
+    let within = digit_bytes _ (sym d.before.digit.ensures ∙ d.if-not-digit.false) in
     record { fits = omega (arith, within.1, c.wide.ensures, l.loop-i.invariant.2, power_small (l.loop-i.i - l.before.before.args.a) (omega arith)) }
 
 overflow_add-i : tie.Need-overflow_add-i invariant-loop-i decreases-loop-i
@@ -80,7 +80,7 @@ loop-i-preserved c =
     let e = l.before.before.args.e in
     let i = l.loop-i.i in
     let v = l.loop-i.v in
-    let is_digit = sym d.before.digit.ensures ∙ not-false _ d.if-not-digit.false in
+    let is_digit = sym d.before.digit.ensures ∙ d.if-not-digit.false in
     let within = digit_bytes _ is_digit in
     let more : i < e = omega arith in
     let inside : e ≤ length rest = omega arith in

@@ -29,7 +29,7 @@ in_run-requires c κs = search rules
 returns-then-not-in_run : tie.Need-returns-then-not-in_run invariant-loop-i decreases-loop-i
 returns-then-not-in_run c =
     let l = c.before.before.before.before in
-    let stops = run_stops l.before.before.args.rest.now l.loop-i.i (omega arith) (sym c.before.in_run.ensures ∙ not-true _ c.if-not-in_run.true) in
+    let stops = run_stops l.before.before.args.rest.now l.loop-i.i (omega arith) (sym c.before.in_run.ensures ∙ c.if-not-in_run.true) in
     (sym stops ∙ l.loop-i.invariant.1, omega arith)
 
 overflow_add-i : tie.Need-overflow_add-i invariant-loop-i decreases-loop-i
@@ -41,7 +41,7 @@ loop-i-smaller c = search rules
 loop-i-preserved : tie.Need-loop-i-preserved invariant-loop-i decreases-loop-i
 loop-i-preserved c =
     let l = c.before.before.before.before in
-    let on = run_goes_on l.before.before.args.rest.now l.loop-i.i (omega arith) (sym c.before.in_run.ensures ∙ not-false _ c.if-not-in_run.false) in
+    let on = run_goes_on l.before.before.args.rest.now l.loop-i.i (omega arith) (sym c.before.in_run.ensures ∙ c.if-not-in_run.false) in
     (omega arith, sym on ∙ l.loop-i.invariant.1)
 
 returns : tie.Need-returns invariant-loop-i decreases-loop-i

@@ -38,7 +38,7 @@ returns-then-not-same c = record {
   behind = c.before.before.before.before.before.loop-k.invariant;
   differs = λ h.
       rw (c.before.before.before.argument-h.ensures, c.before.before.argument-a.ensures)
-      at (sym c.before.same.ensures ∙ not-true c.before.same.result c.if-not-same.true);
+      at (sym c.before.same.ensures ∙ c.if-not-same.true);
 }
 
 overflow_sub-k : tie.Need-overflow_sub-k invariant-loop-k decreases-loop-k
@@ -51,7 +51,7 @@ loop-k-preserved : tie.Need-loop-k-preserved invariant-loop-k decreases-loop-k
 loop-k-preserved c =
     let a = c.before.before.before.before.before.before.before.before.args in
     let k = c.before.before.before.before.before.loop-k.k in
-    let told = same_true _ _ (sym c.before.same.ensures ∙ not-false c.before.same.result c.if-not-same.false) in
+    let told = same_true _ _ (sym c.before.same.ensures ∙ c.if-not-same.false) in
     one_more_same a.s.now a.p a.q (tag_in (get_or a.s.now a.p 0)) k c.before.before.before.before.loop-k-test.true
     c.before.before.before.before.before.loop-k.invariant
     (rw (c.before.before.before.argument-h.ensures, c.before.before.argument-a.ensures) at told)
