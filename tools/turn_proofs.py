@@ -33,6 +33,8 @@ class Function:
         self.need_of = {}
         for i, (old, new) in enumerate(self.needs):
             self.need_of.setdefault(plain(old), i)
+        for i, (old, new) in enumerate(self.needs):
+            self.need_of.setdefault(plain(new), i)
         self.asked_at = [a[0] for a in of["asked_at"]]
         self.asked = of["asked"]
         self.pre = of["pre"]["fields"] if of["pre"] else None

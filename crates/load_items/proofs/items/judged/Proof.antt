@@ -15,11 +15,11 @@ use Rattle.load_items.proofs.items.judged.Tie as tie
 slice_bounds-counts-count : tie.Need-slice_bounds-counts-count
 slice_bounds-counts-count c = search rules
 
-slice-bounds-counts-start : tie.Need-slice-bounds-counts-start
-slice-bounds-counts-start c = search rules
+slice_bounds-counts-start : tie.Need-slice_bounds-counts-start
+slice_bounds-counts-start c = search rules
 
-slice-bounds-counts-end : tie.Need-slice-bounds-counts-end
-slice-bounds-counts-end c = search rules
+slice_bounds-counts-end : tie.Need-slice_bounds-counts-end
+slice_bounds-counts-end c = search rules
 
 foreign-requires : tie.Need-foreign-requires
 foreign-requires c κs = search rules

@@ -12,11 +12,11 @@ use Rattle.loader.proofs.load.item_at.Tie as tie
 slice_bounds-rest-count : tie.Need-slice_bounds-rest-count
 slice_bounds-rest-count c = search rules
 
-slice-bounds-rest-start : tie.Need-slice-bounds-rest-start
-slice-bounds-rest-start c = search rules
+slice_bounds-rest-start : tie.Need-slice_bounds-rest-start
+slice_bounds-rest-start c = search rules
 
-slice-bounds-rest-end : tie.Need-slice-bounds-rest-end
-slice-bounds-rest-end c = search rules
+slice_bounds-rest-end : tie.Need-slice_bounds-rest-end
+slice_bounds-rest-end c = search rules
 
 slice_bounds-next_item-end : tie.Need-slice_bounds-next_item-end
 slice_bounds-next_item-end c = search rules

@@ -28,12 +28,12 @@ slice_bounds-words-count : tie.Need-slice_bounds-words-count
 slice_bounds-words-count c = search rules
 
 -- src/put.rt:39:23
-slice-bounds-words-start : tie.Need-slice-bounds-words-start
-slice-bounds-words-start c = search rules
+slice_bounds-words-start : tie.Need-slice_bounds-words-start
+slice_bounds-words-start c = search rules
 
 -- src/put.rt:39:23
-slice-bounds-words-end : tie.Need-slice-bounds-words-end
-slice-bounds-words-end c = search rules
+slice_bounds-words-end : tie.Need-slice_bounds-words-end
+slice_bounds-words-end c = search rules
 
 -- src/put.rt:39:5
 words-requires : tie.Need-words-requires
