@@ -2,7 +2,6 @@
 -- invariant says in which two compounds it stands, what was noted so far and what is left of their arguments, and that their answer is the whole's.
 use Prim.Native.Nat.{ℕ, ◌+◌, ◌*◌, ◌-◌, ◌<◌}
 use mathlib.Core.Path.{◌≡◌, refl, ◌∙◌}
-use mathlib.Core.Logic.{⊎_elim}
 use native.Mathlib.Omega.{arith}
 use Rattle.meaning.specs.Terms.{Functor, Terms, count}
 use Rattle.meaning.specs.Compare.{followed}
@@ -82,8 +81,8 @@ invariant-places s₀ values links first second n p₀ q₀ k₀ given₀ i₀ s
 abbrev decreases-turn : places_lts.decreases-places
 decreases-turn s₀ values links first second n p₀ q₀ k₀ given₀ i₀ s p q k given i = 8 * (trial_region - p) + (k + 1 - i)
 
-pub +compounds-places-spec : {M : Type 1} → statement M
-+compounds-places-spec = close μ_compounds μ_places (λ t. compounds_lts.spec (
+pub +compounds_places_spec : {M : Type 1} → statement M
++compounds_places_spec = close μ_compounds μ_places (λ t. compounds_lts.spec (
   differ_reads.Asked,
   differ_reads.Learnt,
   places_below t,
@@ -93,39 +92,35 @@ pub +compounds-places-spec : {M : Type 1} → statement M
     compounds.Post
     -- compounds-differ-requires
     (λ c κs.
-    let start = c.before.before in
-    let a = start.args in
-    let pre = start.requires.1 in
+    let a = c.args in
+    let pre = c.requires.1 in
     compounds_cells a.links a.p a.q pre.10)
-    -- compounds-same-length
+    -- compounds-shape_of-s-then-differ
     (λ c.
     refl)
-    -- compounds-returns
+    -- compounds-returns-then-differ
     (λ c x y lo hi m g us l f ts k.
-    let start = c.before.before.before.before in
-    let a = start.args in
-    compounds_differ a.links a.p a.q k c.before.differ.result c.before.differ.ensures c.if1.true)
+    let a = c.args in
+    compounds_differ a.links a.p a.q k c.differ.result c.differ.ensures c.if-differ.true)
     -- compounds-places-requires
     (λ c κs.
-    let start = c.before.before.before.before.before in
-    let a = start.args in
-    let pre = start.requires.1 in
-    let differ_told = c.before.before.differ in
-    let D = compounds_deeper a.links a.p a.q pre.10 differ_told.result differ_told.ensures c.before.if1.false in (
-      fall (2 * (trial_region - a.p)) (2 * (trial_region - a.p) + 1) t start.requires.0 (omega arith),
+    let a = c.args in
+    let pre = c.requires.1 in
+    let differ_told = c.differ in
+    let D = compounds_deeper a.links a.p a.q pre.10 differ_told.result differ_told.ensures c.if-differ.false in (
+      fall (2 * (trial_region - a.p)) (2 * (trial_region - a.p) + 1) t c.requires.0 (omega arith),
       (pre.0, pre.1, D.m, D.g, D.us, pre.2 + 1, pre.3, D.l, D.f, D.ts, D.against),
     ))
-    -- compounds-same-length-2
+    -- compounds-shape_of-s
     (λ c.
-    c.before.before.places.auto.0)
-    -- compounds-returns-2
+    c.places.auto.s)
+    -- compounds-returns
     (λ c x y lo hi m g us l f ts k.
-    let start = c.before.before.before.before.before.before.before.before in
-    let a = start.args in
-    let differ_told = c.before.before.before.before.before.differ in
-    let told = c.before.before.places in
-    let D = compounds_deeper a.links a.p a.q k differ_told.result differ_told.ensures c.before.before.before.before.if1.false in
-    D.back told.new.0 told.result (told.ensures x y D.m D.g D.us (lo + 1) hi D.l D.f D.ts D.against)))
+    let a = c.args in
+    let differ_told = c.differ in
+    let told = c.places in
+    let D = compounds_deeper a.links a.p a.q k differ_told.result differ_told.ensures c.if-differ.false in
+    D.back told.new.s told.result (told.ensures x y D.m D.g D.us (lo + 1) hi D.l D.f D.ts D.against)))
     λ t. places_lts.spec (
       open_reads.Asked,
       open_reads.Learnt,
@@ -144,278 +139,224 @@ pub +compounds-places-spec : {M : Type 1} → statement M
     places.Post
     invariant-places
     decreases-turn
-    -- places-open-requires
+    -- places-open-k-requires
     (λ c κs.
-    let start = c.before.before in
-    let a = start.args in
-    let pre = start.requires.1 in
+    let a = c.args in
+    let pre = c.requires.1 in
     both_inside a.links pre.10)
-    -- places-places-holds
+    -- places-places-init
     (λ c x y m g us lo hi l f ts A.
-    let start = c.before.before.before in
-    let a = start.args in
-    begins a.links A c.«open».ensures.behind refl (omega arith) (λ s' r answers. answers))
-    -- places-argument-requires
+    let a = c.args in
+    begins a.links A c.open-k.ensures.behind refl (omega arith) (λ s' r answers. answers))
+    -- places-argument-h-requires
     (λ c κs.
-    let at = c.before.before in
-    let start = at.before.before.before.before in
-    let a = start.args in
-    let pre = start.requires.1 in
-    let G = at.places.invariant pre.0 pre.1 pre.2 pre.3 pre.4 pre.5 pre.6 pre.7 pre.8 pre.9 pre.10 in
-    head_word_inside a.links G c.before.places-test.false)
-    -- places-argument-requires-2
+    let a = c.args in
+    let pre = c.requires.1 in
+    let G = c.places.invariant pre.0 pre.1 pre.2 pre.3 pre.4 pre.5 pre.6 pre.7 pre.8 pre.9 pre.10 in
+    head_word_inside a.links G c.if-i-k.false)
+    -- places-argument-a-requires
     (λ c κs.
-    let at = c.before.before.before.before in
-    let start = at.before.before.before.before in
-    let a = start.args in
-    let pre = start.requires.1 in
-    let G = at.places.invariant pre.0 pre.1 pre.2 pre.3 pre.4 pre.5 pre.6 pre.7 pre.8 pre.9 pre.10 in
-    goal_word_inside a.links G c.before.before.before.places-test.false)
-    -- places-follow-requires
+    let a = c.args in
+    let pre = c.requires.1 in
+    let G = c.places.invariant pre.0 pre.1 pre.2 pre.3 pre.4 pre.5 pre.6 pre.7 pre.8 pre.9 pre.10 in
+    goal_word_inside a.links G c.if-i-k.false)
+    -- places-follow-w-requires
     (λ c κs.
-    let at = c.before.before.before.before.before.before in
-    let start = at.before.before.before.before in
-    let a = start.args in
-    let pre = start.requires.1 in
-    let G = at.places.invariant pre.0 pre.1 pre.2 pre.3 pre.4 pre.5 pre.6 pre.7 pre.8 pre.9 pre.10 in
-    let left = c.before.before.before.before.before.places-test.false in
-    (pre.0, (facing a.links G left).u, turn_reads a.links G left c.before.argument2.ensures))
+    let a = c.args in
+    let pre = c.requires.1 in
+    let G = c.places.invariant pre.0 pre.1 pre.2 pre.3 pre.4 pre.5 pre.6 pre.7 pre.8 pre.9 pre.10 in
+    let left = c.if-i-k.false in
+    (pre.0, (facing a.links G left).u, turn_reads a.links G left c.argument-a.ensures))
     -- places-table-requires
     (λ c κs.
-    let at = c.before.before.before.before.before.before.before.before in
-    let start = at.before.before.before.before in
-    let a = start.args in
-    let pre = start.requires.1 in
-    let G = at.places.invariant pre.0 pre.1 pre.2 pre.3 pre.4 pre.5 pre.6 pre.7 pre.8 pre.9 pre.10 in
-    let left = c.before.before.before.before.before.before.before.places-test.false in
-    let head = c.before.before.before.before.before.argument.ensures in
-    let goal = c.before.before.before.argument2.ensures in
-    let leads = c.before.follow.ensures in
+    let a = c.args in
+    let pre = c.requires.1 in
+    let G = c.places.invariant pre.0 pre.1 pre.2 pre.3 pre.4 pre.5 pre.6 pre.7 pre.8 pre.9 pre.10 in
+    let left = c.if-i-k.false in
+    let head = c.argument-h.ensures in
+    let goal = c.argument-a.ensures in
+    let leads = c.follow-w.ensures in
     let F = facing a.links G left in
-    table_asks at.places.s pre.0 pre.1 a.values a.links G.partly.low F.mid at.places.noted
-    c.before.before.before.before.before.argument.result c.before.follow.result F.t (followed a.links pre.0.values F.u)
+    table_asks c.places.s pre.0 pre.1 a.values a.links G.partly.low F.mid c.places.noted
+    c.argument-h.result c.follow-w.result F.t (followed a.links pre.0.values F.u)
     (turn_against a.links G left head goal leads))
-    -- places-enum-known-m
+    -- places-enum_known-m
     (λ c.
-    c.match.keys1)
-    -- places-enum-told
+    c.in-Noted-1.keys1)
+    -- places-enum_told-1
     (λ c.
-    c.match.keys2)
-    -- places-same-length
+    c.in-Fails-1.keys2)
+    -- places-shape_of-s-in-Fails
     (λ c.
-    let after = c.before.before.before.before in
-    let at = after.before.before.before.before.before.before.before.before.before in
-    let start = at.before.before.before.before in
-    let a = start.args in
-    let pre = start.requires.1 in
-    let G = at.places.invariant pre.0 pre.1 pre.2 pre.3 pre.4 pre.5 pre.6 pre.7 pre.8 pre.9 pre.10 in
-    after.table.auto.0 ∙ same_size a.links G)
-    -- places-returns
+    let a = c.args in
+    let pre = c.requires.1 in
+    let G = c.places.invariant pre.0 pre.1 pre.2 pre.3 pre.4 pre.5 pre.6 pre.7 pre.8 pre.9 pre.10 in
+    c.table.auto.s ∙ same_size a.links G)
+    -- places-returns-in-Fails
     (λ c x y m g us lo hi l f ts A.
-    let after = c.before.before.before.before in
-    let at = after.before.before.before.before.before.before.before.before.before in
-    let start = at.before.before.before.before in
-    let a = start.args in
-    let G = at.places.invariant x y m g us lo hi l f ts A in
-    let left = after.before.before.before.before.before.before.before.before.places-test.false in
-    let head = after.before.before.before.before.before.before.argument.ensures in
-    let goal = after.before.before.before.before.argument2.ensures in
-    let leads = after.before.before.follow.ensures in
-    let done = after.table.ensures in
-    turn_fails a.links G left head goal leads done c.enum_told.given.1)
-    -- places-enum-known-b
+    let a = c.args in
+    let G = c.places.invariant x y m g us lo hi l f ts A in
+    let left = c.if-i-k.false in
+    let head = c.argument-h.ensures in
+    let goal = c.argument-a.ensures in
+    let leads = c.follow-w.ensures in
+    let done = c.table.ensures in
+    turn_fails a.links G left head goal leads done c.in-Fails.is)
+    -- places-enum_known-b
     (λ c.
-    c.match.keys3)
+    c.in-Below-1.keys3)
     -- places-differ-requires
     (λ c κs.
-    let after = c.before.before.before.before.before.before.before in
-    let at = after.before.before.before.before.before.before.before.before.before in
-    let start = at.before.before.before.before in
-    let a = start.args in
-    let pre = start.requires.1 in
-    let G = at.places.invariant pre.0 pre.1 pre.2 pre.3 pre.4 pre.5 pre.6 pre.7 pre.8 pre.9 pre.10 in
-    let left = after.before.before.before.before.before.before.before.before.places-test.false in
-    let head = after.before.before.before.before.before.before.argument.ensures in
-    let goal = after.before.before.before.before.argument2.ensures in
-    let leads = after.before.before.follow.ensures in
-    let done = after.table.ensures in
-    let below = c.before.before.before.b.given.1 in
+    let a = c.args in
+    let pre = c.requires.1 in
+    let G = c.places.invariant pre.0 pre.1 pre.2 pre.3 pre.4 pre.5 pre.6 pre.7 pre.8 pre.9 pre.10 in
+    let left = c.if-i-k.false in
+    let head = c.argument-h.ensures in
+    let goal = c.argument-a.ensures in
+    let leads = c.follow-w.ensures in
+    let done = c.table.ensures in
+    let below = c.in-Below.is in
     turn_cells a.links G left head goal leads done below)
-    -- places-same-length-2
+    -- places-shape_of-s-then-differ
     (λ c.
-    let after = c.before.before.before.before.before.before.before.before.before in
-    let at = after.before.before.before.before.before.before.before.before.before in
-    let start = at.before.before.before.before in
-    let a = start.args in
-    let pre = start.requires.1 in
-    let G = at.places.invariant pre.0 pre.1 pre.2 pre.3 pre.4 pre.5 pre.6 pre.7 pre.8 pre.9 pre.10 in
-    after.table.auto.0 ∙ same_size a.links G)
-    -- places-returns-2
+    let a = c.args in
+    let pre = c.requires.1 in
+    let G = c.places.invariant pre.0 pre.1 pre.2 pre.3 pre.4 pre.5 pre.6 pre.7 pre.8 pre.9 pre.10 in
+    c.table.auto.s ∙ same_size a.links G)
+    -- places-returns-then-differ
     (λ c x y m g us lo hi l f ts A.
-    let after = c.before.before.before.before.before.before.before.before.before in
-    let at = after.before.before.before.before.before.before.before.before.before in
-    let start = at.before.before.before.before in
-    let a = start.args in
-    let G = at.places.invariant x y m g us lo hi l f ts A in
-    let left = after.before.before.before.before.before.before.before.before.places-test.false in
-    let head = after.before.before.before.before.before.before.argument.ensures in
-    let goal = after.before.before.before.before.argument2.ensures in
-    let leads = after.before.before.follow.ensures in
-    let done = after.table.ensures in
-    let below = c.before.before.before.before.before.b.given.1 in
-    turn_differs a.links G left head goal leads done below c.before.differ.ensures c.if2.true)
-    -- places-open-requires-2
+    let a = c.args in
+    let G = c.places.invariant x y m g us lo hi l f ts A in
+    let left = c.if-i-k.false in
+    let head = c.argument-h.ensures in
+    let goal = c.argument-a.ensures in
+    let leads = c.follow-w.ensures in
+    let done = c.table.ensures in
+    let below = c.in-Below.is in
+    turn_differs a.links G left head goal leads done below c.differ.ensures c.if-differ.true)
+    -- places-open-k-requires-then-i-k-2
     (λ c κs.
-    let after = c.before.before.before.before.before.before.before.before.before.before in
-    let at = after.before.before.before.before.before.before.before.before.before in
-    let start = at.before.before.before.before in
-    let a = start.args in
-    let pre = start.requires.1 in
-    let G = at.places.invariant pre.0 pre.1 pre.2 pre.3 pre.4 pre.5 pre.6 pre.7 pre.8 pre.9 pre.10 in
-    let left = after.before.before.before.before.before.before.before.before.places-test.false in
-    let head = after.before.before.before.before.before.before.argument.ensures in
-    let goal = after.before.before.before.before.argument2.ensures in
-    let leads = after.before.before.follow.ensures in
-    let done = after.table.ensures in
-    let below = c.before.before.before.before.before.before.b.given.1 in
-    turn_inside a.links G left head goal leads done below c.before.before.differ.ensures c.before.if2.false)
-    -- places-places-less
+    let a = c.args in
+    let pre = c.requires.1 in
+    let G = c.places.invariant pre.0 pre.1 pre.2 pre.3 pre.4 pre.5 pre.6 pre.7 pre.8 pre.9 pre.10 in
+    let left = c.if-i-k.false in
+    let head = c.argument-h.ensures in
+    let goal = c.argument-a.ensures in
+    let leads = c.follow-w.ensures in
+    let done = c.table.ensures in
+    let below = c.in-Below.is in
+    turn_inside a.links G left head goal leads done below c.differ.ensures c.if-differ.false)
+    -- places-places-smaller-then-i-k-2
     (λ c.
-    let after = c.before.before.before.before.before.before.before.before.before.before.before in
-    let at = after.before.before.before.before.before.before.before.before.before in
-    let start = at.before.before.before.before in
-    let a = start.args in
-    let pre = start.requires.1 in
-    let G = at.places.invariant pre.0 pre.1 pre.2 pre.3 pre.4 pre.5 pre.6 pre.7 pre.8 pre.9 pre.10 in
-    let left = after.before.before.before.before.before.before.before.before.places-test.false in
-    let head = after.before.before.before.before.before.before.argument.ensures in
-    let goal = after.before.before.before.before.argument2.ensures in
-    let leads = after.before.before.follow.ensures in
-    let done = after.table.ensures in
-    let below = c.before.before.before.before.before.before.before.b.given.1 in
-    let differs = c.before.before.before.differ.ensures in
-    let same = c.before.before.if2.false in
-    let last = c.before.before.before.before.before.if1.true in
-    let on = turn_on a.links G left head goal leads done below differs same last c.open2.ensures.behind in
+    let a = c.args in
+    let pre = c.requires.1 in
+    let G = c.places.invariant pre.0 pre.1 pre.2 pre.3 pre.4 pre.5 pre.6 pre.7 pre.8 pre.9 pre.10 in
+    let left = c.if-i-k.false in
+    let head = c.argument-h.ensures in
+    let goal = c.argument-a.ensures in
+    let leads = c.follow-w.ensures in
+    let done = c.table.ensures in
+    let below = c.in-Below.is in
+    let differs = c.differ.ensures in
+    let same = c.if-differ.false in
+    let last = c.if-i-k-2.true in
+    let on = turn_on a.links G left head goal leads done below differs same last c.open-k-then-i-k-2.ensures.behind in
     let later = turn_later a.links G left head goal leads done below in
     omega (arith, few_left a.links on, later.0, later.1, last))
-    -- places-places-again
+    -- places-places-preserved-then-i-k-2
     (λ c x y m g us lo hi l f ts A.
-    let after = c.before.before.before.before.before.before.before.before.before.before.before in
-    let at = after.before.before.before.before.before.before.before.before.before in
-    let start = at.before.before.before.before in
-    let a = start.args in
-    let G = at.places.invariant x y m g us lo hi l f ts A in
-    let left = after.before.before.before.before.before.before.before.before.places-test.false in
-    let head = after.before.before.before.before.before.before.argument.ensures in
-    let goal = after.before.before.before.before.argument2.ensures in
-    let leads = after.before.before.follow.ensures in
-    let done = after.table.ensures in
-    let below = c.before.before.before.before.before.before.before.b.given.1 in
-    let differs = c.before.before.before.differ.ensures in
-    let same = c.before.before.if2.false in
-    let last = c.before.before.before.before.before.if1.true in
-    turn_on a.links G left head goal leads done below differs same last c.open2.ensures.behind)
+    let a = c.args in
+    let G = c.places.invariant x y m g us lo hi l f ts A in
+    let left = c.if-i-k.false in
+    let head = c.argument-h.ensures in
+    let goal = c.argument-a.ensures in
+    let leads = c.follow-w.ensures in
+    let done = c.table.ensures in
+    let below = c.in-Below.is in
+    let differs = c.differ.ensures in
+    let same = c.if-differ.false in
+    let last = c.if-i-k-2.true in
+    turn_on a.links G left head goal leads done below differs same last c.open-k-then-i-k-2.ensures.behind)
     -- places-compounds-requires
     (λ c κs.
-    let after = c.before.before.before.before.before.before.before in
-    let at = after.before.before.before.before.before.before.before.before.before in
-    let start = at.before.before.before.before in
-    let a = start.args in
-    let pre = start.requires.1 in
-    let G = at.places.invariant pre.0 pre.1 pre.2 pre.3 pre.4 pre.5 pre.6 pre.7 pre.8 pre.9 pre.10 in
-    let left = after.before.before.before.before.before.before.before.before.places-test.false in
-    let head = after.before.before.before.before.before.before.argument.ensures in
-    let goal = after.before.before.before.before.argument2.ensures in
-    let leads = after.before.before.follow.ensures in
-    let done = after.table.ensures in
-    let below = c.before.before.before.b.given.1 in
+    let a = c.args in
+    let pre = c.requires.1 in
+    let G = c.places.invariant pre.0 pre.1 pre.2 pre.3 pre.4 pre.5 pre.6 pre.7 pre.8 pre.9 pre.10 in
+    let left = c.if-i-k.false in
+    let head = c.argument-h.ensures in
+    let goal = c.argument-a.ensures in
+    let leads = c.follow-w.ensures in
+    let done = c.table.ensures in
+    let below = c.in-Below.is in
     let F = facing a.links G left in
     let later = turn_later a.links G left head goal leads done below in
     let D = turn_compounds a.links G left head goal leads done below in (
-      fall (2 * (trial_region - c.before.before.before.b.given.0.0) + 1) (2 * (trial_region - a.first)) t start.requires.0
+      fall (2 * (trial_region - c.in-Below.b) + 1) (2 * (trial_region - a.first)) t c.requires.0
           (omega (arith, later.0, later.1, G.later)),
       (pre.0, pre.1, G.partly.low, F.mid, D.m, D.g, D.us, D.l, D.f, D.ts, D.against),
     ))
-    -- places-enum-known-m-2
+    -- places-enum_known-m-in-Noted-compounds
     (λ c.
-    c.match2.keys1)
-    -- places-enum-told-2
+    c.in-Noted-compounds-1.keys1)
+    -- places-enum_told-in-Fails-compounds
     (λ c.
-    c.match2.keys2)
-    -- places-same-length-3
+    c.in-Fails-compounds-1.keys2)
+    -- places-shape_of-s-in-Fails-compounds
     (λ c.
-    let after = c.before.before.before.before.before.before.before.before.before.before.before.before in
-    let at = after.before.before.before.before.before.before.before.before.before in
-    let start = at.before.before.before.before in
-    let a = start.args in
-    let pre = start.requires.1 in
-    let G = at.places.invariant pre.0 pre.1 pre.2 pre.3 pre.4 pre.5 pre.6 pre.7 pre.8 pre.9 pre.10 in
-    c.before.before.before.before.compounds.auto.0 ∙ after.table.auto.0 ∙ same_size a.links G)
-    -- places-returns-3
+    let a = c.args in
+    let pre = c.requires.1 in
+    let G = c.places.invariant pre.0 pre.1 pre.2 pre.3 pre.4 pre.5 pre.6 pre.7 pre.8 pre.9 pre.10 in
+    c.compounds.auto.s ∙ c.table.auto.s ∙ same_size a.links G)
+    -- places-returns-in-Fails-compounds
     (λ c x y m g us lo hi l f ts A.
-    let after = c.before.before.before.before.before.before.before.before.before.before.before.before in
-    let at = after.before.before.before.before.before.before.before.before.before in
-    let start = at.before.before.before.before in
-    let a = start.args in
-    let G = at.places.invariant x y m g us lo hi l f ts A in
-    let left = after.before.before.before.before.before.before.before.before.places-test.false in
-    let head = after.before.before.before.before.before.before.argument.ensures in
-    let goal = after.before.before.before.before.argument2.ensures in
-    let leads = after.before.before.follow.ensures in
-    let done = after.table.ensures in
-    let below = c.before.before.before.before.before.before.before.before.b.given.1 in
+    let a = c.args in
+    let G = c.places.invariant x y m g us lo hi l f ts A in
+    let left = c.if-i-k.false in
+    let head = c.argument-h.ensures in
+    let goal = c.argument-a.ensures in
+    let leads = c.follow-w.ensures in
+    let done = c.table.ensures in
+    let below = c.in-Below.is in
     let F = facing a.links G left in
     let D = turn_compounds a.links G left head goal leads done below in
-    let told = c.before.before.before.before.compounds.ensures x y G.partly.low F.mid
+    let told = c.compounds.ensures x y G.partly.low F.mid
     D.m D.g D.us D.l D.f D.ts D.against in
-    both_fail a.links G left head goal leads done below told c.enum-told2.given.1)
-    -- places-add-i
+    both_fail a.links G left head goal leads done below told c.in-Fails-compounds.is)
+    -- places-overflow_add-i
     (λ c.
-    let after = c.before.before.before in
-    let at = after.before.before.before.before.before.before.before.before.before in
-    let start = at.before.before.before.before in
-    let a = start.args in
-    let pre = start.requires.1 in
-    let G = at.places.invariant pre.0 pre.1 pre.2 pre.3 pre.4 pre.5 pre.6 pre.7 pre.8 pre.9 pre.10 in
-    omega (arith, few_left a.links G, after.before.before.before.before.before.before.before.before.places-test.false))
-    -- places-places-less-2
+    let a = c.args in
+    let pre = c.requires.1 in
+    let G = c.places.invariant pre.0 pre.1 pre.2 pre.3 pre.4 pre.5 pre.6 pre.7 pre.8 pre.9 pre.10 in
+    omega (arith, few_left a.links G, c.if-i-k.false))
+    -- places-places-smaller
     (λ c.
-    omega (arith, c.before.before.before.before.before.before.before.before.before.before.before.places-test.false))
-    -- places-places-again-2
+    omega (arith, c.if-i-k.false))
+    -- places-places-preserved
     (λ c x y m g us lo hi l f ts A.
-    let after = c.before.before.before in
-    let at = after.before.before.before.before.before.before.before.before.before in
-    let start = at.before.before.before.before in
-    let a = start.args in
-    let G = at.places.invariant x y m g us lo hi l f ts A in
-    let left = after.before.before.before.before.before.before.before.before.places-test.false in
-    let head = after.before.before.before.before.before.before.argument.ensures in
-    let goal = after.before.before.before.before.argument2.ensures in
-    let leads = after.before.before.follow.ensures in
-    let done = after.table.ensures in
+    let a = c.args in
+    let G = c.places.invariant x y m g us lo hi l f ts A in
+    let left = c.if-i-k.false in
+    let head = c.argument-h.ensures in
+    let goal = c.argument-a.ensures in
+    let leads = c.follow-w.ensures in
+    let done = c.table.ensures in
     let F = facing a.links G left in
-    ⊎_elim
-    (λ came. rw (came.3, came.4) (turn_noted a.links G left head goal leads done came.1.given.1))
-    (λ came.
-    let below = came.1.given.1 in
-    let D = turn_compounds a.links G left head goal leads done below in
-    let told = came.5.ensures x y G.partly.low F.mid
-    D.m D.g D.us D.l D.f D.ts D.against in
-    rw (came.11, came.12) (both_noted a.links G left head goal leads done below told came.9.given.1))
-    c.match.branch)
-    -- places-same-length-4
+    elim c.match-table.branch [
+      places_lts.in-Noted came ↦ rw (came.s-is, came.noted-is) (turn_noted a.links G left head goal leads done came.in-Noted.is)
+    | places_lts.in-Below+else-i-k-2+in-Noted-compounds came ↦
+        let below = came.in-Below.is in
+        let D = turn_compounds a.links G left head goal leads done below in
+        let told = came.compounds.ensures x y G.partly.low F.mid D.m D.g D.us D.l D.f D.ts D.against in
+        rw (came.s-is, came.noted-is) (both_noted a.links G left head goal leads done below told came.in-Noted-compounds.is)
+    ])
+    -- places-shape_of-s
     (λ c.
-    let at = c.before in
-    let start = at.before.before.before.before in
-    let a = start.args in
-    let pre = start.requires.1 in
-    let G = at.places.invariant pre.0 pre.1 pre.2 pre.3 pre.4 pre.5 pre.6 pre.7 pre.8 pre.9 pre.10 in
+    let a = c.args in
+    let pre = c.requires.1 in
+    let G = c.places.invariant pre.0 pre.1 pre.2 pre.3 pre.4 pre.5 pre.6 pre.7 pre.8 pre.9 pre.10 in
     same_size a.links G)
-    -- places-returns-4
+    -- places-returns
     (λ c x y m g us lo hi l f ts A.
-    let at = c.before in
-    let start = at.before.before.before.before in
-    let a = start.args in
-    let G = at.places.invariant x y m g us lo hi l f ts A in
-    ends a.links G c.places-test.true)
+    let a = c.args in
+    let G = c.places.invariant x y m g us lo hi l f ts A in
+    ends a.links G c.if-i-k.true)

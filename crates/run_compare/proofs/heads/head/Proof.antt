@@ -2,7 +2,6 @@
 -- stand followed.
 use Prim.Native.Nat.{ℕ, ◌+◌, ◌-◌}
 use mathlib.Core.Path.{◌∙◌}
-use mathlib.Core.Logic.{⊎_elim}
 use native.Mathlib.Omega.{arith}
 use Rattle.meaning.specs.Terms.{Functor, Terms}
 use Rattle.meaning.specs.Compare.{followed}
@@ -24,6 +23,7 @@ use Rattle.run_compare.proofs.Arguments.{
 }
 use Rattle.run_compare.proofs.Goals.{Behind, followed_inside, followed_read, followed_left}
 use Rattle.run_compare.proofs.heads.head.Statement.{statement}
+use Rattle.run_compare.proofs.heads.head.Lts as lts
 use Rattle.run_compare.proofs.heads.head.Tie as tie
 
 abbrev invariant-places : tie.invariant-places
@@ -36,129 +36,129 @@ decreases-places s₀ values links p k given₀ i₀ s given i = k + 1 - i
 
 count-k-requires : tie.Need-count-k-requires invariant-places decreases-places
 count-k-requires c κs =
-    let pre = c.before.requires in
-    let links = c.before.args.links in
+    let pre = c.requires in
+    let links = c.args.links in
     omega (arith, head_inside links pre.8.head)
 
 places-init : tie.Need-places-init invariant-places decreases-places
 places-init c x y m g us lo hi ts A =
-    let links = c.before.before.args.links in
+    let links = c.args.links in
     first_partly links A.head (Behind x links) ts A.goal A.counts c.count-k.result c.count-k.ensures
 
 argument-h-requires : tie.Need-argument-h-requires invariant-places decreases-places
 argument-h-requires c κs =
-    let pre = c.before.before.before.before.requires in
-    let links = c.before.before.before.before.args.links in
-    let P = c.before.places.invariant pre.0 pre.1 pre.2 pre.3 pre.4 pre.5 pre.6 pre.7 pre.8 in
+    let pre = c.requires in
+    let links = c.args.links in
+    let P = c.places.invariant pre.0 pre.1 pre.2 pre.3 pre.4 pre.5 pre.6 pre.7 pre.8 in
     head_argument_inside links pre.8.head P c.if-i-k.false
 
 word_at-w-requires : tie.Need-word_at-w-requires invariant-places decreases-places
 word_at-w-requires c κs =
-    let pre = c.before.before.before.before.before.requires in
-    let links = c.before.before.before.before.before.args.links in
-    let P = c.before.before.places.invariant pre.0 pre.1 pre.2 pre.3 pre.4 pre.5 pre.6 pre.7 pre.8 in
-    followed_inside links pre.8 P c.before.if-i-k.false
+    let pre = c.requires in
+    let links = c.args.links in
+    let P = c.places.invariant pre.0 pre.1 pre.2 pre.3 pre.4 pre.5 pre.6 pre.7 pre.8 in
+    followed_inside links pre.8 P c.if-i-k.false
 
 table-requires : tie.Need-table-requires invariant-places decreases-places
 table-requires c κs =
-    let start = c.before.before.before.before.before.before.before in
+    let start = c in
     let a = start.args in
-    let pre = c.before.before.before.before.before.before.before.requires in
-    let links = c.before.before.before.before.before.before.before.args.links in
-    let P = c.before.before.before.before.places.invariant pre.0 pre.1 pre.2 pre.3 pre.4 pre.5 pre.6 pre.7 pre.8 in
-    let F = next links pre.8.head P c.before.before.before.if-i-k.false in
-    let K = next_against links pre.8.head P F c.before.before.argument-h.ensures (followed_read links pre.8 P F c.before.word_at-w.ensures) in
-    table_asks c.before.before.before.before.places.s pre.0 pre.1 a.values links P.low F.mid c.before.before.before.before.places.noted c.before.before.argument-h.result c.before.word_at-w.result F.t (followed links pre.0.values F.u) K
+    let pre = c.requires in
+    let links = c.args.links in
+    let P = c.places.invariant pre.0 pre.1 pre.2 pre.3 pre.4 pre.5 pre.6 pre.7 pre.8 in
+    let F = next links pre.8.head P c.if-i-k.false in
+    let K = next_against links pre.8.head P F c.argument-h.ensures (followed_read links pre.8 P F c.word_at-w.ensures) in
+    table_asks c.places.s pre.0 pre.1 a.values links P.low F.mid c.places.noted c.argument-h.result c.word_at-w.result F.t (followed links pre.0.values F.u) K
 
 enum_known-m : tie.Need-enum_known-m invariant-places decreases-places
 enum_known-m c =
-    c.in-Noted.in-Noted-own.keys1
+    c.in-Noted-1.keys1
 
 enum_told-1 : tie.Need-enum_told-1 invariant-places decreases-places
 enum_told-1 c =
-    c.in-Fails.in-Fails-own.keys2
+    c.in-Fails-1.keys2
 
 shape_of-s-in-Fails : tie.Need-shape_of-s-in-Fails invariant-places decreases-places
 shape_of-s-in-Fails c =
-    let pre = c.before.before.before.before.before.before.before.before.before.before.before.requires in
-    let P = c.before.before.before.before.before.before.before.before.places.invariant pre.0 pre.1 pre.2 pre.3 pre.4 pre.5 pre.6 pre.7 pre.8 in
-    c.before.before.before.table.auto.s ∙ P.only.size
+    let pre = c.requires in
+    let P = c.places.invariant pre.0 pre.1 pre.2 pre.3 pre.4 pre.5 pre.6 pre.7 pre.8 in
+    c.table.auto.s ∙ P.only.size
 
 returns-in-Fails : tie.Need-returns-in-Fails invariant-places decreases-places
 returns-in-Fails c x y m g us lo hi ts A =
-    let links = c.before.before.before.before.before.before.before.before.before.before.before.args.links in
-    let P = c.before.before.before.before.before.before.before.before.places.invariant x y m g us lo hi ts A in
-    let F = next links A.head P c.before.before.before.before.before.before.before.if-i-k.false in
-    let K = next_against links A.head P F c.before.before.before.before.before.before.argument-h.ensures (followed_read links A P F c.before.before.before.before.before.word_at-w.ensures) in
-    fails_here links A.head P F (place_fails links K c.before.before.before.table.ensures c.in-Fails.is)
+    let links = c.args.links in
+    let P = c.places.invariant x y m g us lo hi ts A in
+    let F = next links A.head P c.if-i-k.false in
+    let K = next_against links A.head P F c.argument-h.ensures (followed_read links A P F c.word_at-w.ensures) in
+    fails_here links A.head P F (place_fails links K c.table.ensures c.in-Fails.is)
 
 enum_known-a : tie.Need-enum_known-a invariant-places decreases-places
 enum_known-a c =
-    c.in-Below.in-Below-own.keys3
+    c.in-Below-1.keys3
 
 differ-requires : tie.Need-differ-requires invariant-places decreases-places
 differ-requires c κs =
-    let pre = c.before.before.before.before.before.before.before.before.before.before.before.requires in
-    let links = c.before.before.before.before.before.before.before.before.before.before.before.args.links in
-    let P = c.before.before.before.before.before.before.before.before.places.invariant pre.0 pre.1 pre.2 pre.3 pre.4 pre.5 pre.6 pre.7 pre.8 in
-    let F = next links pre.8.head P c.before.before.before.before.before.before.before.if-i-k.false in
-    let K = next_against links pre.8.head P F c.before.before.before.before.before.before.argument-h.ensures (followed_read links pre.8 P F c.before.before.before.before.before.word_at-w.ensures) in
-    place_cells links K c.before.before.before.table.ensures c.in-Below.is
+    let pre = c.requires in
+    let links = c.args.links in
+    let P = c.places.invariant pre.0 pre.1 pre.2 pre.3 pre.4 pre.5 pre.6 pre.7 pre.8 in
+    let F = next links pre.8.head P c.if-i-k.false in
+    let K = next_against links pre.8.head P F c.argument-h.ensures (followed_read links pre.8 P F c.word_at-w.ensures) in
+    place_cells links K c.table.ensures c.in-Below.is
 
 shape_of-s-then-differ : tie.Need-shape_of-s-then-differ invariant-places decreases-places
 shape_of-s-then-differ c =
-    let pre = c.before.before.before.before.before.before.before.before.before.before.before.before.before.requires in
-    let P = c.before.before.before.before.before.before.before.before.before.before.places.invariant pre.0 pre.1 pre.2 pre.3 pre.4 pre.5 pre.6 pre.7 pre.8 in
-    c.before.before.before.before.before.table.auto.s ∙ P.only.size
+    let pre = c.requires in
+    let P = c.places.invariant pre.0 pre.1 pre.2 pre.3 pre.4 pre.5 pre.6 pre.7 pre.8 in
+    c.table.auto.s ∙ P.only.size
 
 returns-then-differ : tie.Need-returns-then-differ invariant-places decreases-places
 returns-then-differ c x y m g us lo hi ts A =
-    let links = c.before.before.before.before.before.before.before.before.before.before.before.before.before.args.links in
-    let P = c.before.before.before.before.before.before.before.before.before.before.places.invariant x y m g us lo hi ts A in
-    let F = next links A.head P c.before.before.before.before.before.before.before.before.before.if-i-k.false in
-    let K = next_against links A.head P F c.before.before.before.before.before.before.before.before.argument-h.ensures (followed_read links A P F c.before.before.before.before.before.before.before.word_at-w.ensures) in
-    fails_here links A.head P F (place_differs links K c.before.before.before.before.before.table.ensures c.before.before.in-Below.is c.before.differ.result c.before.differ.ensures c.if-differ.true)
+    let links = c.args.links in
+    let P = c.places.invariant x y m g us lo hi ts A in
+    let F = next links A.head P c.if-i-k.false in
+    let K = next_against links A.head P F c.argument-h.ensures (followed_read links A P F c.word_at-w.ensures) in
+    fails_here links A.head P F (place_differs links K c.table.ensures c.in-Below.is c.differ.result c.differ.ensures c.if-differ.true)
 
 places-requires : tie.Need-places-requires invariant-places decreases-places
 places-requires c κs =
-    let pre = c.before.before.before.before.before.before.before.before.before.before.before.before.before.before.requires in
-    let links = c.before.before.before.before.before.before.before.before.before.before.before.before.before.before.args.links in
-    let P = c.before.before.before.before.before.before.before.before.before.before.before.places.invariant pre.0 pre.1 pre.2 pre.3 pre.4 pre.5 pre.6 pre.7 pre.8 in
-    let F = next links pre.8.head P c.before.before.before.before.before.before.before.before.before.before.if-i-k.false in
-    let K = next_against links pre.8.head P F c.before.before.before.before.before.before.before.before.before.argument-h.ensures (followed_read links pre.8 P F c.before.before.before.before.before.before.before.before.word_at-w.ensures) in
-    let D = place_deeper links K c.before.before.before.before.before.before.table.ensures c.before.before.before.in-Below.is c.before.before.differ.result c.before.before.differ.ensures c.before.if-differ.false in
+    let pre = c.requires in
+    let links = c.args.links in
+    let P = c.places.invariant pre.0 pre.1 pre.2 pre.3 pre.4 pre.5 pre.6 pre.7 pre.8 in
+    let F = next links pre.8.head P c.if-i-k.false in
+    let K = next_against links pre.8.head P F c.argument-h.ensures (followed_read links pre.8 P F c.word_at-w.ensures) in
+    let D = place_deeper links K c.table.ensures c.in-Below.is c.differ.result c.differ.ensures c.if-differ.false in
     (pre.0, pre.1, D.m, D.g, D.us, P.low + 1, F.mid, D.l, D.f, D.ts, D.against)
 
 enum_known-m-in-Noted-places : tie.Need-enum_known-m-in-Noted-places invariant-places decreases-places
 enum_known-m-in-Noted-places c =
-    c.in-Noted-places.in-Noted-places-own.keys1
+    c.in-Noted-places-1.keys1
 
 enum_told-in-Fails-places : tie.Need-enum_told-in-Fails-places invariant-places decreases-places
 enum_told-in-Fails-places c =
-    c.in-Fails-places.in-Fails-places-own.keys2
+    c.in-Fails-places-1.keys2
 
 shape_of-s-in-Fails-places : tie.Need-shape_of-s-in-Fails-places invariant-places decreases-places
 shape_of-s-in-Fails-places c =
-    let pre = c.before.before.before.before.before.before.before.before.before.before.before.before.before.before.before.before.before.before.requires in
-    let P = c.before.before.before.before.before.before.before.before.before.before.before.before.before.before.before.places.invariant pre.0 pre.1 pre.2 pre.3 pre.4 pre.5 pre.6 pre.7 pre.8 in
-    c.before.before.before.places-in-Below.auto.s ∙ c.before.before.before.before.before.before.before.before.before.before.table.auto.s ∙ P.only.size
+    let pre = c.requires in
+    let P = c.places.invariant pre.0 pre.1 pre.2 pre.3 pre.4 pre.5 pre.6 pre.7 pre.8 in
+    c.places-in-Below.auto.s ∙ c.table.auto.s ∙ P.only.size
 
 returns-in-Fails-places : tie.Need-returns-in-Fails-places invariant-places decreases-places
 returns-in-Fails-places c x y m g us lo hi ts A =
-    let links = c.before.before.before.before.before.before.before.before.before.before.before.before.before.before.before.before.before.before.args.links in
-    let P = c.before.before.before.before.before.before.before.before.before.before.before.before.before.before.before.places.invariant x y m g us lo hi ts A in
-    let F = next links A.head P c.before.before.before.before.before.before.before.before.before.before.before.before.before.before.if-i-k.false in
-    let K = next_against links A.head P F c.before.before.before.before.before.before.before.before.before.before.before.before.before.argument-h.ensures (followed_read links A P F c.before.before.before.before.before.before.before.before.before.before.before.before.word_at-w.ensures) in
-    let D = place_deeper links K c.before.before.before.before.before.before.before.before.before.before.table.ensures c.before.before.before.before.before.before.before.in-Below.is c.before.before.before.before.before.before.differ.result c.before.before.before.before.before.before.differ.ensures c.before.before.before.before.before.if-differ.false in
-    let told = c.before.before.before.places-in-Below in
+    let links = c.args.links in
+    let P = c.places.invariant x y m g us lo hi ts A in
+    let F = next links A.head P c.if-i-k.false in
+    let K = next_against links A.head P F c.argument-h.ensures (followed_read links A P F c.word_at-w.ensures) in
+    let D = place_deeper links K c.table.ensures c.in-Below.is c.differ.result c.differ.ensures c.if-differ.false in
+    let told = c.places-in-Below in
     let below = D.back told.new.s told.result (told.ensures x y D.m D.g D.us (P.low + 1) F.mid D.l D.f D.ts D.against) in
     fails_here links A.head P F (rw c.in-Fails-places.is at below)
 
 overflow_add-i : tie.Need-overflow_add-i invariant-places decreases-places
 overflow_add-i c =
-    let pre = c.before.before.before.before.before.before.before.before.before.before.before.requires in
-    let links = c.before.before.before.before.before.before.before.before.before.before.before.args.links in
-    let P = c.before.before.before.before.before.before.before.before.places.invariant pre.0 pre.1 pre.2 pre.3 pre.4 pre.5 pre.6 pre.7 pre.8 in
+    let pre = c.requires in
+    let links = c.args.links in
+    let P = c.places.invariant pre.0 pre.1 pre.2 pre.3 pre.4 pre.5 pre.6 pre.7 pre.8 in
     omega (arith, count_small links pre.8.head P)
 
 places-smaller : tie.Need-places-smaller invariant-places decreases-places
@@ -167,32 +167,32 @@ places-smaller c =
 
 places-preserved : tie.Need-places-preserved invariant-places decreases-places
 places-preserved c x y m g us lo hi ts A =
-    let links = c.before.before.before.before.before.before.before.before.before.before.before.args.links in
-    let P = c.before.before.before.before.before.before.before.before.places.invariant x y m g us lo hi ts A in
-    let F = next links A.head P c.before.before.before.before.before.before.before.if-i-k.false in
-    let K = next_against links A.head P F c.before.before.before.before.before.before.argument-h.ensures (followed_read links A P F c.before.before.before.before.before.word_at-w.ensures) in
-    let table_told = c.before.before.before.table in
-    ⊎_elim
-    (λ k.
-    let told = place_noted links K table_told.ensures k.1.given.1 in
-    rw (k.3, k.4) (one_more links A.head P F told (followed_left links A P F told.only)))
-    (λ k.
-    let D = place_deeper links K table_told.ensures k.1.given.1 k.4.result k.4.ensures k.5.left in
-    let below = D.back k.7.last.0 k.7.result (k.7.ensures x y D.m D.g D.us (P.low + 1) F.mid D.l D.f D.ts D.against) in
-    let told = rw k.11.given.1 at below in
-    rw (k.13, k.14) (one_more links A.head P F told (followed_left links A P F told.only)))
-    c.match-table.branch
+    let links = c.args.links in
+    let P = c.places.invariant x y m g us lo hi ts A in
+    let F = next links A.head P c.if-i-k.false in
+    let K = next_against links A.head P F c.argument-h.ensures (followed_read links A P F c.word_at-w.ensures) in
+    let table_told = c.table in
+    elim c.match-table.branch [
+      lts.in-Noted k ↦
+        let told = place_noted links K table_told.ensures k.in-Noted.is in
+        rw (k.s-is, k.noted-is) (one_more links A.head P F told (followed_left links A P F told.only))
+    | lts.in-Below+else-differ+in-Noted-places k ↦
+        let D = place_deeper links K table_told.ensures k.in-Below.is k.differ.result k.differ.ensures k.if-differ.false in
+        let below = D.back k.places-in-Below.new.s k.places-in-Below.result (k.places-in-Below.ensures x y D.m D.g D.us (P.low + 1) F.mid D.l D.f D.ts D.against) in
+        let told = rw k.in-Noted-places.is at below in
+        rw (k.s-is, k.noted-is) (one_more links A.head P F told (followed_left links A P F told.only))
+    ]
 
 shape_of-s : tie.Need-shape_of-s invariant-places decreases-places
 shape_of-s c =
-    let pre = c.before.before.before.before.requires in
-    let P = c.before.places.invariant pre.0 pre.1 pre.2 pre.3 pre.4 pre.5 pre.6 pre.7 pre.8 in
+    let pre = c.requires in
+    let P = c.places.invariant pre.0 pre.1 pre.2 pre.3 pre.4 pre.5 pre.6 pre.7 pre.8 in
     P.only.size
 
 returns : tie.Need-returns invariant-places decreases-places
 returns c x y m g us lo hi ts A =
-    let links = c.before.before.before.before.args.links in
-    let P = c.before.places.invariant x y m g us lo hi ts A in
+    let links = c.args.links in
+    let P = c.places.invariant x y m g us lo hi ts A in
     all_agree links A.head P c.if-i-k.true
 
 pub head_spec : {M : Type 1} → statement M
