@@ -41,24 +41,24 @@ from_term_below t =
     and 1 from_term_kinds.ps (falls 1 from_term_kinds.ps ◌<◌ μ_from_term t) from_term.Pre
 
 -- Before the i-th argument of a compound.
-abbrev from_term_Inv_loop2 : from_term_lts.invariant-loop2
+abbrev from_term_Inv_loop2 : from_term_lts.invariant-loop-i
 from_term_Inv_loop2 s₀ values marks z stamp head w side state₀ t tag p k later₀ i₀ s state later i =
     calls.Walking s₀ values marks z stamp side t state₀ s p k i later state × (length s ≡ length s₀)
 
-abbrev from_term_μ_loop2 : from_term_lts.decreases-loop2
+abbrev from_term_μ_loop2 : from_term_lts.decreases-loop-i
 from_term_μ_loop2 s₀ values marks z stamp head w side state₀ t tag p k later₀ i₀ s state later i = k + 1 - i
 
 -- Before a turn.
-abbrev from_term_Inv_loop : from_term_lts.invariant-loop
+abbrev from_term_Inv_loop : from_term_lts.invariant-loop-s
 from_term_Inv_loop s₀ values marks z stamp head w side₀ state₀ t₀ s side state t =
     calls.Going s₀ values marks z stamp head w state₀ s side t state
     × (term_weight s marks (visited stamp) side t ≤ term_weight s₀ marks (visited stamp) head w) × (length s ≡ length s₀)
 
-abbrev from_term_μ_loop : from_term_lts.decreases-loop
+abbrev from_term_μ_loop : from_term_lts.decreases-loop-s
 from_term_μ_loop s₀ values marks z stamp head w side₀ state₀ t₀ s side state t = term_weight s marks (visited stamp) side t
 
-pub +from-term-spec : {M : Type 1} → statement M
-+from-term-spec = close μ_from_term λ t.
+pub +from_term_spec : {M : Type 1} → statement M
++from_term_spec = close μ_from_term λ t.
     from_term_lts.spec (
       begun_reads.Asked,
       begun_reads.Learnt,
@@ -86,410 +86,355 @@ pub +from-term-spec : {M : Type 1} → statement M
       given_term_reads.Learnt,
     )
     (from_term_at t) from_term.Post from_term_Inv_loop2 from_term_μ_loop2 from_term_Inv_loop from_term_μ_loop
-    -- begun-requires
+    -- begun-state-requires
     (λ c κs.
     search rules)
-    -- loop-holds
+    -- loop-s-init
     (λ c.
-    let S = c.before.before in let a = S.args in let s₀ = a.s.now in let vs = a.values in let ms = a.marks in let z = a.z in
-    let st = a.stamp in let o = c.begun.result in
+    let a = c.args in let s₀ = a.s.now in let vs = a.values in let ms = a.marks in let z = a.z in
+    let st = a.stamp in let o = c.begun-state.result in
     (calls.going_first s₀ vs ms z st a.head a.w o, omega arith, refl))
-    -- index-requires
+    -- index-p-requires
     (λ c κs.
     search rules)
-    -- count-requires
+    -- count-k-requires
     (λ c κs.
-    let If1 = c.before in let Index = If1.before in let Loop = Index.before in let Begun = Loop.before in let S = Begun.before.before in
-    let a = S.args in let s₀ = a.s.now in let vs = a.values in let ms = a.marks in let z = a.z in let st = a.stamp in let s = Loop.loop.s in
-    let b = Loop.loop.side in let u = Loop.loop.t in let n = Loop.loop.state in let o = Begun.begun.result in
-    let going = Loop.loop.invariant.0 in let asks = calls.going-asks s₀ vs ms z st a.head a.w o s b u n going Begun.begun.ensures S.requires.1 in
-    let p = Index.index.result in
-    calls.count_at s vs ms z st b u n p Index.index.ensures If1.if1.true asks)
-    -- loop2-holds
+    let a = c.args in let s₀ = a.s.now in let vs = a.values in let ms = a.marks in let z = a.z in let st = a.stamp in let s = c.loop-s.s in
+    let b = c.loop-s.side in let u = c.loop-s.t in let n = c.loop-s.state in let o = c.begun-state.result in
+    let going = c.loop-s.invariant.0 in let asks = calls.going_asks s₀ vs ms z st a.head a.w o s b u n going c.begun-state.ensures c.requires.1 in
+    let p = c.index-p.result in
+    calls.count_at s vs ms z st b u n p c.index-p.ensures c.if-tag-eq-COMPOUND.true asks)
+    -- loop-i-init
     (λ c.
-    let If1 = c.before.before in let Index = If1.before in let Loop = Index.before in let Begun = Loop.before in let S = Begun.before.before in
-    let a = S.args in let vs = a.values in let ms = a.marks in let z = a.z in let st = a.stamp in let s = Loop.loop.s in
-    let b = Loop.loop.side in let u = Loop.loop.t in let n = Loop.loop.state in let p = Index.index.result in
-    (calls.walking-first s vs ms z st b u n p Index.index.ensures If1.if1.true c.count.result c.count.ensures, refl))
-    -- argument-requires
+    let a = c.args in let vs = a.values in let ms = a.marks in let z = a.z in let st = a.stamp in let s = c.loop-s.s in
+    let b = c.loop-s.side in let u = c.loop-s.t in let n = c.loop-s.state in let p = c.index-p.result in
+    (calls.walking_first s vs ms z st b u n p c.index-p.ensures c.if-tag-eq-COMPOUND.true c.count-k.result c.count-k.ensures, refl))
+    -- argument-a-requires
     (λ c κs.
-    let Loop2Test = c.before in let Loop2 = Loop2Test.before in let Count = Loop2.before in let If1 = Count.before.before in
-    let Index = If1.before in let Loop = Index.before in let Begun = Loop.before in let S = Begun.before.before in let a = S.args in
-    let s₀ = a.s.now in let vs = a.values in let ms = a.marks in let z = a.z in let st = a.stamp in let s = Loop.loop.s in
-    let b = Loop.loop.side in let u = Loop.loop.t in let n = Loop.loop.state in let o = Begun.begun.result in
-    let going = Loop.loop.invariant.0 in let asks = calls.going-asks s₀ vs ms z st a.head a.w o s b u n going Begun.begun.ensures S.requires.1 in
-    let p = Index.index.result in let k = Count.count.result in let s₂ = Loop2.loop2.s in let i = Loop2.loop2.i in
-    let later = Loop2.loop2.later in let m = Loop2.loop2.state in let walking = Loop2.loop2.invariant.0 in
-    let low : i ≤ k = omega (arith, Loop2Test.loop2-test.true) in
-    calls.argument-at s vs ms z st b u n s₂ p k i later m walking low asks)
+    let a = c.args in
+    let s₀ = a.s.now in let vs = a.values in let ms = a.marks in let z = a.z in let st = a.stamp in let s = c.loop-s.s in
+    let b = c.loop-s.side in let u = c.loop-s.t in let n = c.loop-s.state in let o = c.begun-state.result in
+    let going = c.loop-s.invariant.0 in let asks = calls.going_asks s₀ vs ms z st a.head a.w o s b u n going c.begun-state.ensures c.requires.1 in
+    let p = c.index-p.result in let k = c.count-k.result in let s₂ = c.loop-i.s in let i = c.loop-i.i in
+    let later = c.loop-i.later in let m = c.loop-i.state in let walking = c.loop-i.invariant.0 in
+    let low : i ≤ k = omega (arith, c.loop-i-test.true) in
+    calls.argument_at s vs ms z st b u n s₂ p k i later m walking low asks)
     -- leads-requires
     (λ c κs.
     search rules)
-    -- from-term-requires
+    -- from_term-r-requires
     (λ c κs.
-    let Loop2Test = c.before.before.before.before.before.before in let Loop2 = Loop2Test.before in let Count = Loop2.before in
-    let If1 = Count.before.before in let Index = If1.before in let Loop = Index.before in let Begun = Loop.before in
-    let S = Begun.before.before in let a = S.args in let s₀ = a.s.now in let vs = a.values in let ms = a.marks in let z = a.z in
-    let st = a.stamp in let s = Loop.loop.s in let b = Loop.loop.side in let u = Loop.loop.t in let n = Loop.loop.state in
-    let o = Begun.begun.result in let going = Loop.loop.invariant.0 in
-    let asks = calls.going-asks s₀ vs ms z st a.head a.w o s b u n going Begun.begun.ensures S.requires.1 in let p = Index.index.result in
-    let k = Count.count.result in let s₂ = Loop2.loop2.s in let i = Loop2.loop2.i in let later = Loop2.loop2.later in
-    let m = Loop2.loop2.state in let walking = Loop2.loop2.invariant.0 in let f = visited st in (
-      lighter (term_weight s₂ ms f b later) (term_weight s ms f b u) (term_weight s₀ ms f a.head a.w) t S.requires.0 Loop.loop.invariant.1
-          (calls.later-lighter s vs ms z st b u n s₂ p k i later m walking asks),
-      calls.later-asks s vs ms z st b u n s₂ p k i later m walking asks,
+    let a = c.args in let s₀ = a.s.now in let vs = a.values in let ms = a.marks in let z = a.z in
+    let st = a.stamp in let s = c.loop-s.s in let b = c.loop-s.side in let u = c.loop-s.t in let n = c.loop-s.state in
+    let o = c.begun-state.result in let going = c.loop-s.invariant.0 in
+    let asks = calls.going_asks s₀ vs ms z st a.head a.w o s b u n going c.begun-state.ensures c.requires.1 in let p = c.index-p.result in
+    let k = c.count-k.result in let s₂ = c.loop-i.s in let i = c.loop-i.i in let later = c.loop-i.later in
+    let m = c.loop-i.state in let walking = c.loop-i.invariant.0 in let f = visited st in (
+      lighter (term_weight s₂ ms f b later) (term_weight s ms f b u) (term_weight s₀ ms f a.head a.w) t c.requires.0 c.loop-s.invariant.1
+          (calls.later_lighter s vs ms z st b u n s₂ p k i later m walking asks),
+      calls.later_asks s vs ms z st b u n s₂ p k i later m walking asks,
     ))
-    -- same-length
+    -- shape_of-s-then-r-eq-REACHED
     (λ c.
-    let FromTerm = c.before.before.before in let Loop2 = FromTerm.before.before.before.before.before.before.before.before in
-    let Loop = Loop2.before.before.before.before.before in
-    FromTerm.from-term.auto.0 ∙ Loop2.loop2.invariant.1 ∙ Loop.loop.invariant.2)
-    -- returns
+    c.from_term-r.auto.s ∙ c.loop-i.invariant.1 ∙ c.loop-s.invariant.2)
+    -- returns-then-r-eq-REACHED
     (λ c.
-    let FromTerm = c.before.before.before in let Loop2Test = FromTerm.before.before.before.before.before.before.before in
-    let Loop2 = Loop2Test.before in let Count = Loop2.before in let If1 = Count.before.before in let Index = If1.before in
-    let Loop = Index.before in let Begun = Loop.before in let S = Begun.before.before in let a = S.args in let s₀ = a.s.now in
-    let vs = a.values in let ms = a.marks in let z = a.z in let st = a.stamp in let s = Loop.loop.s in let b = Loop.loop.side in
-    let u = Loop.loop.t in let n = Loop.loop.state in let o = Begun.begun.result in let going = Loop.loop.invariant.0 in
-    let p = Index.index.result in let k = Count.count.result in let s₂ = Loop2.loop2.s in let i = Loop2.loop2.i in
-    let later = Loop2.loop2.later in let m = Loop2.loop2.state in let walking = Loop2.loop2.invariant.0 in
-    calls.going-tells s₀ vs ms z st a.head a.w o s b u n going Begun.begun.ensures FromTerm.from-term.new.0 2 true refl calls.reached_not_firm
-    (calls.later-found s vs ms z st b u n s₂ p k i later m walking FromTerm.from-term.new.0 (rw c.if4.true at FromTerm.from-term.ensures)))
-    -- joined-requires
+    let a = c.args in let s₀ = a.s.now in
+    let vs = a.values in let ms = a.marks in let z = a.z in let st = a.stamp in let s = c.loop-s.s in let b = c.loop-s.side in
+    let u = c.loop-s.t in let n = c.loop-s.state in let o = c.begun-state.result in let going = c.loop-s.invariant.0 in
+    let p = c.index-p.result in let k = c.count-k.result in let s₂ = c.loop-i.s in let i = c.loop-i.i in
+    let later = c.loop-i.later in let m = c.loop-i.state in let walking = c.loop-i.invariant.0 in
+    calls.going_tells s₀ vs ms z st a.head a.w o s b u n going c.begun-state.ensures c.from_term-r.new.s 2 true refl calls.reached_not_firm
+    (calls.later_found s vs ms z st b u n s₂ p k i later m walking c.from_term-r.new.s (rw c.if-r-eq-REACHED.true at c.from_term-r.ensures)))
+    -- joined-state-requires
     (λ c κs.
     search rules)
-    -- add_i
+    -- overflow_add-i
     (λ c.
-    let Loop2Test = c.before.before.before.before in let Loop2 = Loop2Test.before in let Count = Loop2.before in
-    let If1 = Count.before.before in let Index = If1.before in let Loop = Index.before in let Begun = Loop.before in
-    let S = Begun.before.before in let a = S.args in let s₀ = a.s.now in let vs = a.values in let ms = a.marks in let z = a.z in
-    let st = a.stamp in let s = Loop.loop.s in let b = Loop.loop.side in let u = Loop.loop.t in let n = Loop.loop.state in
-    let o = Begun.begun.result in let going = Loop.loop.invariant.0 in
-    let asks = calls.going-asks s₀ vs ms z st a.head a.w o s b u n going Begun.begun.ensures S.requires.1 in let p = Index.index.result in
-    let k = Count.count.result in let s₂ = Loop2.loop2.s in let i = Loop2.loop2.i in let later = Loop2.loop2.later in
-    let m = Loop2.loop2.state in let walking = Loop2.loop2.invariant.0 in
-    omega (arith, Loop2Test.loop2-test.true, calls.few-of s vs ms z st b u n s₂ p k i later m walking asks))
-    -- loop2-less
+    let a = c.args in let s₀ = a.s.now in let vs = a.values in let ms = a.marks in let z = a.z in
+    let st = a.stamp in let s = c.loop-s.s in let b = c.loop-s.side in let u = c.loop-s.t in let n = c.loop-s.state in
+    let o = c.begun-state.result in let going = c.loop-s.invariant.0 in
+    let asks = calls.going_asks s₀ vs ms z st a.head a.w o s b u n going c.begun-state.ensures c.requires.1 in let p = c.index-p.result in
+    let k = c.count-k.result in let s₂ = c.loop-i.s in let i = c.loop-i.i in let later = c.loop-i.later in
+    let m = c.loop-i.state in let walking = c.loop-i.invariant.0 in
+    omega (arith, c.loop-i-test.true, calls.few_of s vs ms z st b u n s₂ p k i later m walking asks))
+    -- loop-i-smaller
     (λ c.
-    let Loop2Test = c.before.before.before.before in
-    omega (arith, Loop2Test.loop2-test.true))
-    -- loop2-again
+    omega (arith, c.loop-i-test.true))
+    -- loop-i-preserved
     (λ c.
-    let Leads = c.before in let Argument = Leads.before in let Loop2Test = Argument.before.before in let Loop2 = Loop2Test.before in
-    let Count = Loop2.before in let If1 = Count.before.before in let Index = If1.before in let Loop = Index.before in let Begun = Loop.before in
-    let S = Begun.before.before in let a = S.args in let vs = a.values in let ms = a.marks in let z = a.z in let st = a.stamp in
-    let s = Loop.loop.s in let b = Loop.loop.side in let u = Loop.loop.t in let n = Loop.loop.state in let p = Index.index.result in
-    let k = Count.count.result in let s₂ = Loop2.loop2.s in let i = Loop2.loop2.i in let later = Loop2.loop2.later in
-    let m = Loop2.loop2.state in let walking = Loop2.loop2.invariant.0 in
-    let low : i ≤ k = omega (arith, Loop2Test.loop2-test.true) in
-    ⊎_elim
-    (λ (if2, if3, lent, found, s₃, known, if4, joined, scratch, state, put). rw (scratch, state, put) (
-      calls.walking-next s vs ms z st b u n s₂ p k i later m walking Argument.argument.result Argument.argument.ensures low
-          (rw if2.taken at Leads.leads.ensures) found.last.0 found.result joined.result found.ensures if4.left joined.ensures,
-      found.kept.0 ∙ Loop2.loop2.invariant.1,
-    ))
-    (⊎_elim
-    (λ (if2, if3, scratch, state, put). rw (scratch, state, put) (
-      calls.walking_on s vs ms z st b u n s₂ p k i later m walking Argument.argument.result Argument.argument.ensures low
-          (rw if2.taken at Leads.leads.ensures) if3.left,
-      Loop2.loop2.invariant.1,
-    ))
-    (λ (if2, scratch, state, put). rw (scratch, state, put) (
-      calls.walking-over s vs ms z st b u n s₂ p k i later m walking Argument.argument.result Argument.argument.ensures low
-          (rw if2.left at Leads.leads.ensures),
-      Loop2.loop2.invariant.1,
-    )))
-    c.if2.branch)
+    let a = c.args in let vs = a.values in let ms = a.marks in let z = a.z in let st = a.stamp in
+    let s = c.loop-s.s in let b = c.loop-s.side in let u = c.loop-s.t in let n = c.loop-s.state in let p = c.index-p.result in
+    let k = c.count-k.result in let s₂ = c.loop-i.s in let i = c.loop-i.i in let later = c.loop-i.later in
+    let m = c.loop-i.state in let walking = c.loop-i.invariant.0 in
+    let low : i ≤ k = omega (arith, c.loop-i-test.true) in
+    elim c.if-leads.branch [
+      from_term_lts.then-leads+then-later-ne0+else-r-eq-REACHED w ↦ rw (w.s-is, w.state-is, w.later-is) (
+        calls.walking_next s vs ms z st b u n s₂ p k i later m walking c.argument-a.result c.argument-a.ensures low
+            (rw w.if-leads.true at c.leads.ensures) w.from_term-r.new.s w.from_term-r.result w.joined-state.result w.from_term-r.ensures
+            w.if-r-eq-REACHED.false w.joined-state.ensures,
+        w.from_term-r.auto.s ∙ c.loop-i.invariant.1,
+      )
+    | from_term_lts.then-leads+else-later-ne0 w ↦ rw (w.s-is, w.state-is, w.later-is) (
+        calls.walking_on s vs ms z st b u n s₂ p k i later m walking c.argument-a.result c.argument-a.ensures low
+            (rw w.if-leads.true at c.leads.ensures) w.if-later-ne0.false,
+        c.loop-i.invariant.1,
+      )
+    | from_term_lts.else-leads w ↦ rw (w.s-is, w.state-is, w.later-is) (
+        calls.walking_over s vs ms z st b u n s₂ p k i later m walking c.argument-a.result c.argument-a.ensures low
+            (rw w.if-leads.false at c.leads.ensures),
+        c.loop-i.invariant.1,
+      )
+    ])
     -- ended-requires
     (λ c κs.
-    let If5 = c.before in let Loop2Test = If5.before in let Loop2 = Loop2Test.before in let Count = Loop2.before in
-    let If1 = Count.before.before in let Index = If1.before in let Loop = Index.before in let Begun = Loop.before in
-    let S = Begun.before.before in let a = S.args in let s₀ = a.s.now in let vs = a.values in let ms = a.marks in let z = a.z in
-    let st = a.stamp in let s = Loop.loop.s in let b = Loop.loop.side in let u = Loop.loop.t in let n = Loop.loop.state in
-    let o = Begun.begun.result in let going = Loop.loop.invariant.0 in
-    let asks = calls.going-asks s₀ vs ms z st a.head a.w o s b u n going Begun.begun.ensures S.requires.1 in let p = Index.index.result in
-    let k = Count.count.result in let s₂ = Loop2.loop2.s in let i = Loop2.loop2.i in let later = Loop2.loop2.later in
-    let m = Loop2.loop2.state in let walking = Loop2.loop2.invariant.0 in
-    let done : k < i = omega (arith, Loop2Test.loop2-test.false) in
+    let a = c.args in let s₀ = a.s.now in let vs = a.values in let ms = a.marks in let z = a.z in
+    let st = a.stamp in let s = c.loop-s.s in let b = c.loop-s.side in let u = c.loop-s.t in let n = c.loop-s.state in
+    let o = c.begun-state.result in let going = c.loop-s.invariant.0 in
+    let asks = calls.going_asks s₀ vs ms z st a.head a.w o s b u n going c.begun-state.ensures c.requires.1 in let p = c.index-p.result in
+    let k = c.count-k.result in let s₂ = c.loop-i.s in let i = c.loop-i.i in let later = c.loop-i.later in
+    let m = c.loop-i.state in let walking = c.loop-i.invariant.0 in
+    let done : k < i = omega (arith, c.loop-i-test.false) in
     let ends = calls.going_on s₀ vs ms z st a.head a.w o s b u n going s₂ b u m
-    (calls.idle-going s vs ms z st b u n s₂ p k i later m walking done If5.if5.true asks) in
-    calls.ended-asks s₀ vs ms z st a.head a.w o s₂ b u m ends Begun.begun.ensures
-    (calls.idle-is-firm s vs ms z st b u n s₂ p k i later m walking done If5.if5.true asks) S.requires.1)
-    -- same_length_2
+    (calls.idle_going s vs ms z st b u n s₂ p k i later m walking done c.if-later-eq0.true asks) in
+    calls.ended_asks s₀ vs ms z st a.head a.w o s₂ b u m ends c.begun-state.ensures
+    (calls.idle_is_firm s vs ms z st b u n s₂ p k i later m walking done c.if-later-eq0.true asks) c.requires.1)
+    -- shape_of-s-then-later-eq0
     (λ c.
-    let Ended = c.before.before in let Loop2 = Ended.before.before.before.before in let Loop = Loop2.before.before.before.before.before in
-    Ended.ended.auto.0 ∙ Loop2.loop2.invariant.1 ∙ Loop.loop.invariant.2)
-    -- returns_2
+    c.ended.auto.s ∙ c.loop-i.invariant.1 ∙ c.loop-s.invariant.2)
+    -- returns-then-later-eq0
     (λ c.
-    let Ended = c.before.before in let If5 = Ended.before.before in let Loop2Test = If5.before in let Loop2 = Loop2Test.before in
-    let Count = Loop2.before in let If1 = Count.before.before in let Index = If1.before in let Loop = Index.before in let Begun = Loop.before in
-    let S = Begun.before.before in let a = S.args in let s₀ = a.s.now in let vs = a.values in let ms = a.marks in let z = a.z in
-    let st = a.stamp in let s = Loop.loop.s in let b = Loop.loop.side in let u = Loop.loop.t in let n = Loop.loop.state in
-    let o = Begun.begun.result in let going = Loop.loop.invariant.0 in
-    let asks = calls.going-asks s₀ vs ms z st a.head a.w o s b u n going Begun.begun.ensures S.requires.1 in let p = Index.index.result in
-    let k = Count.count.result in let s₂ = Loop2.loop2.s in let i = Loop2.loop2.i in let later = Loop2.loop2.later in
-    let m = Loop2.loop2.state in let walking = Loop2.loop2.invariant.0 in
-    let done : k < i = omega (arith, Loop2Test.loop2-test.false) in
+    let a = c.args in let s₀ = a.s.now in let vs = a.values in let ms = a.marks in let z = a.z in
+    let st = a.stamp in let s = c.loop-s.s in let b = c.loop-s.side in let u = c.loop-s.t in let n = c.loop-s.state in
+    let o = c.begun-state.result in let going = c.loop-s.invariant.0 in
+    let asks = calls.going_asks s₀ vs ms z st a.head a.w o s b u n going c.begun-state.ensures c.requires.1 in let p = c.index-p.result in
+    let k = c.count-k.result in let s₂ = c.loop-i.s in let i = c.loop-i.i in let later = c.loop-i.later in
+    let m = c.loop-i.state in let walking = c.loop-i.invariant.0 in
+    let done : k < i = omega (arith, c.loop-i-test.false) in
     let ends = calls.going_on s₀ vs ms z st a.head a.w o s b u n going s₂ b u m
-    (calls.idle-going s vs ms z st b u n s₂ p k i later m walking done If5.if5.true asks) in
-    calls.ended-tells s₀ vs ms z st a.head a.w o s₂ b u m ends Begun.begun.ensures
-    (calls.idle-is-firm s vs ms z st b u n s₂ p k i later m walking done If5.if5.true asks)
-    (calls.idle-finds s vs ms z st b u n s₂ p k i later m walking done If5.if5.true asks)
-    Ended.ended.new.0 Ended.ended.result Ended.ended.ensures.0 Ended.ended.ensures.1)
-    -- loop-less
+    (calls.idle_going s vs ms z st b u n s₂ p k i later m walking done c.if-later-eq0.true asks) in
+    calls.ended_tells s₀ vs ms z st a.head a.w o s₂ b u m ends c.begun-state.ensures
+    (calls.idle_is_firm s vs ms z st b u n s₂ p k i later m walking done c.if-later-eq0.true asks)
+    (calls.idle_finds s vs ms z st b u n s₂ p k i later m walking done c.if-later-eq0.true asks)
+    c.ended.new.s c.ended.result c.ended.ensures.0 c.ended.ensures.1)
+    -- loop-s-smaller-then-tag-eq-COMPOUND
     (λ c.
-    let Loop2Test = c.before in let Loop2 = Loop2Test.before in let Count = Loop2.before in let If1 = Count.before.before in
-    let Index = If1.before in let Loop = Index.before in let Begun = Loop.before in let S = Begun.before.before in let a = S.args in
-    let s₀ = a.s.now in let vs = a.values in let ms = a.marks in let z = a.z in let st = a.stamp in let s = Loop.loop.s in
-    let b = Loop.loop.side in let u = Loop.loop.t in let n = Loop.loop.state in let o = Begun.begun.result in
-    let going = Loop.loop.invariant.0 in let asks = calls.going-asks s₀ vs ms z st a.head a.w o s b u n going Begun.begun.ensures S.requires.1 in
-    let p = Index.index.result in let k = Count.count.result in let s₂ = Loop2.loop2.s in let i = Loop2.loop2.i in
-    let later = Loop2.loop2.later in let m = Loop2.loop2.state in let walking = Loop2.loop2.invariant.0 in
-    calls.later-lighter s vs ms z st b u n s₂ p k i later m walking asks)
-    -- loop-again
+    let a = c.args in
+    let s₀ = a.s.now in let vs = a.values in let ms = a.marks in let z = a.z in let st = a.stamp in let s = c.loop-s.s in
+    let b = c.loop-s.side in let u = c.loop-s.t in let n = c.loop-s.state in let o = c.begun-state.result in
+    let going = c.loop-s.invariant.0 in let asks = calls.going_asks s₀ vs ms z st a.head a.w o s b u n going c.begun-state.ensures c.requires.1 in
+    let p = c.index-p.result in let k = c.count-k.result in let s₂ = c.loop-i.s in let i = c.loop-i.i in
+    let later = c.loop-i.later in let m = c.loop-i.state in let walking = c.loop-i.invariant.0 in
+    calls.later_lighter s vs ms z st b u n s₂ p k i later m walking asks)
+    -- loop-s-preserved-then-tag-eq-COMPOUND
     (λ c.
-    let Loop2Test = c.before in let Loop2 = Loop2Test.before in let Count = Loop2.before in let If1 = Count.before.before in
-    let Index = If1.before in let Loop = Index.before in let Begun = Loop.before in let S = Begun.before.before in let a = S.args in
-    let s₀ = a.s.now in let vs = a.values in let ms = a.marks in let z = a.z in let st = a.stamp in let s = Loop.loop.s in
-    let b = Loop.loop.side in let u = Loop.loop.t in let n = Loop.loop.state in let o = Begun.begun.result in
-    let going = Loop.loop.invariant.0 in let asks = calls.going-asks s₀ vs ms z st a.head a.w o s b u n going Begun.begun.ensures S.requires.1 in
-    let p = Index.index.result in let k = Count.count.result in let s₂ = Loop2.loop2.s in let i = Loop2.loop2.i in
-    let later = Loop2.loop2.later in let m = Loop2.loop2.state in let walking = Loop2.loop2.invariant.0 in let f = visited st in (
+    let a = c.args in
+    let s₀ = a.s.now in let vs = a.values in let ms = a.marks in let z = a.z in let st = a.stamp in let s = c.loop-s.s in
+    let b = c.loop-s.side in let u = c.loop-s.t in let n = c.loop-s.state in let o = c.begun-state.result in
+    let going = c.loop-s.invariant.0 in let asks = calls.going_asks s₀ vs ms z st a.head a.w o s b u n going c.begun-state.ensures c.requires.1 in
+    let p = c.index-p.result in let k = c.count-k.result in let s₂ = c.loop-i.s in let i = c.loop-i.i in
+    let later = c.loop-i.later in let m = c.loop-i.state in let walking = c.loop-i.invariant.0 in let f = visited st in (
       calls.going_on s₀ vs ms z st a.head a.w o s b u n going s₂ b later m
-          (calls.later-going s vs ms z st b u n s₂ p k i later m walking (omega (arith, Loop2Test.loop2-test.false))),
-      no_heavier (term_weight s₂ ms f b later) (term_weight s ms f b u) (term_weight s₀ ms f a.head a.w) Loop.loop.invariant.1
-          (calls.later-lighter s vs ms z st b u n s₂ p k i later m walking asks),
-      Loop2.loop2.invariant.1 ∙ Loop.loop.invariant.2,
+          (calls.later_going s vs ms z st b u n s₂ p k i later m walking (omega (arith, c.loop-i-test.false))),
+      no_heavier (term_weight s₂ ms f b later) (term_weight s ms f b u) (term_weight s₀ ms f a.head a.w) c.loop-s.invariant.1
+          (calls.later_lighter s vs ms z st b u n s₂ p k i later m walking asks),
+      c.loop-i.invariant.1 ∙ c.loop-s.invariant.2,
     ))
-    -- same_length_3
+    -- shape_of-s-then-tag-eq0
     (λ c.
-    let Loop = c.before.before.before in
-    Loop.loop.invariant.2)
-    -- returns_3
+    c.loop-s.invariant.2)
+    -- returns-then-tag-eq0
     (λ c.
-    let If1 = c.before in let Loop = If1.before.before in let Begun = Loop.before in let S = Begun.before.before in let a = S.args in
-    let s₀ = a.s.now in let vs = a.values in let ms = a.marks in let z = a.z in let st = a.stamp in let s = Loop.loop.s in
-    let b = Loop.loop.side in let u = Loop.loop.t in let n = Loop.loop.state in let o = Begun.begun.result in
-    let going = Loop.loop.invariant.0 in
-    calls.going-tells s₀ vs ms z st a.head a.w o s b u n going Begun.begun.ensures s 1 false refl calls.open_not_firm (calls.nothing-finds s vs ms z st b u n
-    (If1.if1.false, inl c.if6.true)))
-    -- ended-requires-2
+    let a = c.args in
+    let s₀ = a.s.now in let vs = a.values in let ms = a.marks in let z = a.z in let st = a.stamp in let s = c.loop-s.s in
+    let b = c.loop-s.side in let u = c.loop-s.t in let n = c.loop-s.state in let o = c.begun-state.result in
+    let going = c.loop-s.invariant.0 in
+    calls.going_tells s₀ vs ms z st a.head a.w o s b u n going c.begun-state.ensures s 1 false refl calls.open_not_firm (calls.nothing_finds s vs ms z st b u n
+    (c.if-tag-eq-COMPOUND.false, inl c.if-tag-eq0.true)))
+    -- ended-requires-then-tag-gt-READER
     (λ c κs.
-    let If7 = c.before in let If6 = If7.before in let If1 = If6.before in let Loop = If1.before.before in let Begun = Loop.before in
-    let S = Begun.before.before in let a = S.args in let s₀ = a.s.now in let vs = a.values in let ms = a.marks in let z = a.z in
-    let st = a.stamp in let s = Loop.loop.s in let b = Loop.loop.side in let u = Loop.loop.t in let n = Loop.loop.state in
-    let o = Begun.begun.result in let going = Loop.loop.invariant.0 in
-    calls.ended-asks s₀ vs ms z st a.head a.w o s b u n going Begun.begun.ensures (calls.nothing-is-firm s vs ms z st b u n (If1.if1.false, inr If7.if7.true)
-    If6.if6.false) S.requires.1)
-    -- same_length_4
+    let a = c.args in let s₀ = a.s.now in let vs = a.values in let ms = a.marks in let z = a.z in
+    let st = a.stamp in let s = c.loop-s.s in let b = c.loop-s.side in let u = c.loop-s.t in let n = c.loop-s.state in
+    let o = c.begun-state.result in let going = c.loop-s.invariant.0 in
+    calls.ended_asks s₀ vs ms z st a.head a.w o s b u n going c.begun-state.ensures (calls.nothing_is_firm s vs ms z st b u n (c.if-tag-eq-COMPOUND.false, inr c.if-tag-gt-READER.true)
+    c.if-tag-eq0.false) c.requires.1)
+    -- shape_of-s-then-tag-gt-READER
     (λ c.
-    let Ended2 = c.before.before in let Loop = Ended2.before.before.before.before.before.before in
-    Ended2.ended2.auto.0 ∙ Loop.loop.invariant.2)
-    -- returns_4
+    c.ended-then-tag-gt-READER.auto.s ∙ c.loop-s.invariant.2)
+    -- returns-then-tag-gt-READER
     (λ c.
-    let Ended2 = c.before.before in let If7 = Ended2.before.before in let If6 = If7.before in let If1 = If6.before in
-    let Loop = If1.before.before in let Begun = Loop.before in let S = Begun.before.before in let a = S.args in let s₀ = a.s.now in
-    let vs = a.values in let ms = a.marks in let z = a.z in let st = a.stamp in let s = Loop.loop.s in let b = Loop.loop.side in
-    let u = Loop.loop.t in let n = Loop.loop.state in let o = Begun.begun.result in let going = Loop.loop.invariant.0 in
-    calls.ended-tells s₀ vs ms z st a.head a.w o s b u n going Begun.begun.ensures (calls.nothing-is-firm s vs ms z st b u n (If1.if1.false, inr If7.if7.true)
-    If6.if6.false) (calls.nothing-finds s vs ms z st b u n (If1.if1.false, inr If7.if7.true))
-    Ended2.ended2.new.0 Ended2.ended2.result Ended2.ended2.ensures.0 Ended2.ended2.ensures.1)
-    -- word-at-requires
+    let a = c.args in let s₀ = a.s.now in
+    let vs = a.values in let ms = a.marks in let z = a.z in let st = a.stamp in let s = c.loop-s.s in let b = c.loop-s.side in
+    let u = c.loop-s.t in let n = c.loop-s.state in let o = c.begun-state.result in let going = c.loop-s.invariant.0 in
+    calls.ended_tells s₀ vs ms z st a.head a.w o s b u n going c.begun-state.ensures (calls.nothing_is_firm s vs ms z st b u n (c.if-tag-eq-COMPOUND.false, inr c.if-tag-gt-READER.true)
+    c.if-tag-eq0.false) (calls.nothing_finds s vs ms z st b u n (c.if-tag-eq-COMPOUND.false, inr c.if-tag-gt-READER.true))
+    c.ended-then-tag-gt-READER.new.s c.ended-then-tag-gt-READER.result c.ended-then-tag-gt-READER.ensures.0 c.ended-then-tag-gt-READER.ensures.1)
+    -- word_at-t-requires
     (λ c κs.
-    let If8 = c.before in let If7 = If8.before in let If6 = If7.before in let If1 = If6.before in let Index = If1.before in
-    let Loop = Index.before in let Begun = Loop.before in let S = Begun.before.before in let a = S.args in let s₀ = a.s.now in
-    let vs = a.values in let ms = a.marks in let z = a.z in let st = a.stamp in let s = Loop.loop.s in let b = Loop.loop.side in
-    let u = Loop.loop.t in let n = Loop.loop.state in let o = Begun.begun.result in let going = Loop.loop.invariant.0 in
-    let asks = calls.going-asks s₀ vs ms z st a.head a.w o s b u n going Begun.begun.ensures S.requires.1 in let p = Index.index.result in
-    let true_asks : calls.TermAsks s vs ms z st true u = rw If8.if8.true at asks in
-    calls.given-at s vs ms z st u p Index.index.ensures If1.if1.false If6.if6.false If7.if7.false true_asks)
-    -- loop-less-2
+    let a = c.args in let s₀ = a.s.now in
+    let vs = a.values in let ms = a.marks in let z = a.z in let st = a.stamp in let s = c.loop-s.s in let b = c.loop-s.side in
+    let u = c.loop-s.t in let n = c.loop-s.state in let o = c.begun-state.result in let going = c.loop-s.invariant.0 in
+    let asks = calls.going_asks s₀ vs ms z st a.head a.w o s b u n going c.begun-state.ensures c.requires.1 in let p = c.index-p.result in
+    let true_asks : calls.TermAsks s vs ms z st true u = rw c.if-side.true at asks in
+    calls.given_at s vs ms z st u p c.index-p.ensures c.if-tag-eq-COMPOUND.false c.if-tag-eq0.false c.if-tag-gt-READER.false true_asks)
+    -- loop-s-smaller-then-side
     (λ c.
-    let If8 = c.before.before in let If7 = If8.before in let If6 = If7.before in let If1 = If6.before in let Index = If1.before in
-    let Loop = Index.before in let Begun = Loop.before in let S = Begun.before.before in let a = S.args in let s₀ = a.s.now in
-    let vs = a.values in let ms = a.marks in let z = a.z in let st = a.stamp in let s = Loop.loop.s in let b = Loop.loop.side in
-    let u = Loop.loop.t in let n = Loop.loop.state in let o = Begun.begun.result in let going = Loop.loop.invariant.0 in
-    let asks = calls.going-asks s₀ vs ms z st a.head a.w o s b u n going Begun.begun.ensures S.requires.1 in let p = Index.index.result in
-    let true_asks : calls.TermAsks s vs ms z st true u = rw If8.if8.true at asks in
-    rw If8.if8.true (calls.given-lighter s vs ms z st u p Index.index.ensures If1.if1.false If6.if6.false If7.if7.false true_asks c.word_at.result))
-    -- loop-again-2
+    let a = c.args in let s₀ = a.s.now in
+    let vs = a.values in let ms = a.marks in let z = a.z in let st = a.stamp in let s = c.loop-s.s in let b = c.loop-s.side in
+    let u = c.loop-s.t in let n = c.loop-s.state in let o = c.begun-state.result in let going = c.loop-s.invariant.0 in
+    let asks = calls.going_asks s₀ vs ms z st a.head a.w o s b u n going c.begun-state.ensures c.requires.1 in let p = c.index-p.result in
+    let true_asks : calls.TermAsks s vs ms z st true u = rw c.if-side.true at asks in
+    rw c.if-side.true (calls.given_lighter s vs ms z st u p c.index-p.ensures c.if-tag-eq-COMPOUND.false c.if-tag-eq0.false c.if-tag-gt-READER.false true_asks c.word_at-t.result))
+    -- loop-s-preserved-then-side
     (λ c.
-    let If8 = c.before.before in let If7 = If8.before in let If6 = If7.before in let If1 = If6.before in let Index = If1.before in
-    let Loop = Index.before in let Begun = Loop.before in let S = Begun.before.before in let a = S.args in let s₀ = a.s.now in
-    let vs = a.values in let ms = a.marks in let z = a.z in let st = a.stamp in let s = Loop.loop.s in let b = Loop.loop.side in
-    let u = Loop.loop.t in let n = Loop.loop.state in let o = Begun.begun.result in let going = Loop.loop.invariant.0 in
-    let asks = calls.going-asks s₀ vs ms z st a.head a.w o s b u n going Begun.begun.ensures S.requires.1 in let p = Index.index.result in let f = visited st in
-    let true_asks : calls.TermAsks s vs ms z st true u = rw If8.if8.true at asks in
-    let true_going : calls.Going s₀ vs ms z st a.head a.w o s true u n = rw If8.if8.true at going in
-    let light : term_weight s ms f true u ≤ term_weight s₀ ms f a.head a.w = rw If8.if8.true at Loop.loop.invariant.1 in (
-      calls.going_on s₀ vs ms z st a.head a.w o s true u n true_going s false c.word_at.result n (calls.given-going s vs ms z st u p Index.index.ensures If1.if1.false
-          If6.if6.false If7.if7.false c.word_at.result n c.word_at.ensures),
-      no_heavier (term_weight s ms f false c.word_at.result) (term_weight s ms f true u) (term_weight s₀ ms f a.head a.w) light (calls.given-lighter s vs ms z st u p
-          Index.index.ensures If1.if1.false If6.if6.false If7.if7.false true_asks c.word_at.result),
-      Loop.loop.invariant.2,
+    let a = c.args in let s₀ = a.s.now in
+    let vs = a.values in let ms = a.marks in let z = a.z in let st = a.stamp in let s = c.loop-s.s in let b = c.loop-s.side in
+    let u = c.loop-s.t in let n = c.loop-s.state in let o = c.begun-state.result in let going = c.loop-s.invariant.0 in
+    let asks = calls.going_asks s₀ vs ms z st a.head a.w o s b u n going c.begun-state.ensures c.requires.1 in let p = c.index-p.result in let f = visited st in
+    let true_asks : calls.TermAsks s vs ms z st true u = rw c.if-side.true at asks in
+    let true_going : calls.Going s₀ vs ms z st a.head a.w o s true u n = rw c.if-side.true at going in
+    let light : term_weight s ms f true u ≤ term_weight s₀ ms f a.head a.w = rw c.if-side.true at c.loop-s.invariant.1 in (
+      calls.going_on s₀ vs ms z st a.head a.w o s true u n true_going s false c.word_at-t.result n (calls.given_going s vs ms z st u p c.index-p.ensures c.if-tag-eq-COMPOUND.false
+          c.if-tag-eq0.false c.if-tag-gt-READER.false c.word_at-t.result n c.word_at-t.ensures),
+      no_heavier (term_weight s ms f false c.word_at-t.result) (term_weight s ms f true u) (term_weight s₀ ms f a.head a.w) light (calls.given_lighter s vs ms z st u p
+          c.index-p.ensures c.if-tag-eq-COMPOUND.false c.if-tag-eq0.false c.if-tag-gt-READER.false true_asks c.word_at-t.result),
+      c.loop-s.invariant.2,
     ))
-    -- same_length_5
+    -- shape_of-s-then-p-z
     (λ c.
-    let Loop = c.before.before.before.before.before.before in
-    Loop.loop.invariant.2)
-    -- returns_5
+    c.loop-s.invariant.2)
+    -- returns-then-p-z
     (λ c.
-    let If8 = c.before in let If7 = If8.before in let If6 = If7.before in let If1 = If6.before in let Index = If1.before in
-    let Loop = Index.before in let Begun = Loop.before in let S = Begun.before.before in let a = S.args in let s₀ = a.s.now in
-    let vs = a.values in let ms = a.marks in let z = a.z in let st = a.stamp in let s = Loop.loop.s in let u = Loop.loop.t in
-    let n = Loop.loop.state in let o = Begun.begun.result in let going = Loop.loop.invariant.0 in let p = Index.index.result in
-    let false_going : calls.Going s₀ vs ms z st a.head a.w o s false u n = rw If8.if8.false at going in
-    calls.going-tells s₀ vs ms z st a.head a.w o s false u n false_going Begun.begun.ensures s 2 true refl calls.reached_not_firm (calls.goal-finds s vs ms z st u p
-    Index.index.ensures If1.if1.false If6.if6.false If7.if7.false c.if9.true))
-    -- word-at-requires-2
+    let a = c.args in let s₀ = a.s.now in
+    let vs = a.values in let ms = a.marks in let z = a.z in let st = a.stamp in let s = c.loop-s.s in let u = c.loop-s.t in
+    let n = c.loop-s.state in let o = c.begun-state.result in let going = c.loop-s.invariant.0 in let p = c.index-p.result in
+    let false_going : calls.Going s₀ vs ms z st a.head a.w o s false u n = rw c.if-side.false at going in
+    calls.going_tells s₀ vs ms z st a.head a.w o s false u n false_going c.begun-state.ensures s 2 true refl calls.reached_not_firm (calls.goal_finds s vs ms z st u p
+    c.index-p.ensures c.if-tag-eq-COMPOUND.false c.if-tag-eq0.false c.if-tag-gt-READER.false c.if-p-z.true))
+    -- word_at-m-requires
     (λ c κs.
-    let If8 = c.before.before in let If7 = If8.before in let If6 = If7.before in let If1 = If6.before in let Index = If1.before in
-    let Loop = Index.before in let Begun = Loop.before in let S = Begun.before.before in let a = S.args in let s₀ = a.s.now in
-    let vs = a.values in let ms = a.marks in let z = a.z in let st = a.stamp in let s = Loop.loop.s in let b = Loop.loop.side in
-    let u = Loop.loop.t in let n = Loop.loop.state in let o = Begun.begun.result in let going = Loop.loop.invariant.0 in
-    let asks = calls.going-asks s₀ vs ms z st a.head a.w o s b u n going Begun.begun.ensures S.requires.1 in let p = Index.index.result in
-    let false_asks : calls.TermAsks s vs ms z st false u = rw If8.if8.false at asks in
-    calls.mark-at s vs ms z st u p Index.index.ensures If1.if1.false If6.if6.false If7.if7.false false_asks)
-    -- ended-requires-3
+    let a = c.args in let s₀ = a.s.now in
+    let vs = a.values in let ms = a.marks in let z = a.z in let st = a.stamp in let s = c.loop-s.s in let b = c.loop-s.side in
+    let u = c.loop-s.t in let n = c.loop-s.state in let o = c.begun-state.result in let going = c.loop-s.invariant.0 in
+    let asks = calls.going_asks s₀ vs ms z st a.head a.w o s b u n going c.begun-state.ensures c.requires.1 in let p = c.index-p.result in
+    let false_asks : calls.TermAsks s vs ms z st false u = rw c.if-side.false at asks in
+    calls.mark_at s vs ms z st u p c.index-p.ensures c.if-tag-eq-COMPOUND.false c.if-tag-eq0.false c.if-tag-gt-READER.false false_asks)
+    -- ended-requires-then-m-eq-GROUND
     (λ c κs.
-    let If10 = c.before in let WordAt2 = If10.before in let If8 = WordAt2.before.before.before in let If7 = If8.before in let If6 = If7.before in
-    let If1 = If6.before in let Index = If1.before in let Loop = Index.before in let Begun = Loop.before in let S = Begun.before.before in
-    let a = S.args in let s₀ = a.s.now in let vs = a.values in let ms = a.marks in let z = a.z in let st = a.stamp in let s = Loop.loop.s in
-    let u = Loop.loop.t in let n = Loop.loop.state in let o = Begun.begun.result in let going = Loop.loop.invariant.0 in
-    let p = Index.index.result in let false_going : calls.Going s₀ vs ms z st a.head a.w o s false u n = rw If8.if8.false at going in
-    calls.ended-asks s₀ vs ms z st a.head a.w o s false u n false_going Begun.begun.ensures (calls.ground-is-firm s vs ms z st u p Index.index.ensures If1.if1.false
-    If6.if6.false If7.if7.false (sym WordAt2.word-at2.ensures ∙ If10.if10.true)) S.requires.1)
-    -- same_length_6
+    let a = c.args in let s₀ = a.s.now in let vs = a.values in let ms = a.marks in let z = a.z in let st = a.stamp in let s = c.loop-s.s in
+    let u = c.loop-s.t in let n = c.loop-s.state in let o = c.begun-state.result in let going = c.loop-s.invariant.0 in
+    let p = c.index-p.result in let false_going : calls.Going s₀ vs ms z st a.head a.w o s false u n = rw c.if-side.false at going in
+    calls.ended_asks s₀ vs ms z st a.head a.w o s false u n false_going c.begun-state.ensures (calls.ground_is_firm s vs ms z st u p c.index-p.ensures c.if-tag-eq-COMPOUND.false
+    c.if-tag-eq0.false c.if-tag-gt-READER.false (sym c.word_at-m.ensures ∙ c.if-m-eq-GROUND.true)) c.requires.1)
+    -- shape_of-s-then-m-eq-GROUND
     (λ c.
-    let Ended3 = c.before.before in let Loop = Ended3.before.before.before.before.before.before.before.before.before.before.before in
-    Ended3.ended3.auto.0 ∙ Loop.loop.invariant.2)
-    -- returns_6
+    c.ended-then-m-eq-GROUND.auto.s ∙ c.loop-s.invariant.2)
+    -- returns-then-m-eq-GROUND
     (λ c.
-    let Ended3 = c.before.before in let If10 = Ended3.before.before in let WordAt2 = If10.before in let If9 = WordAt2.before.before in
-    let If8 = If9.before in let If7 = If8.before in let If6 = If7.before in let If1 = If6.before in let Index = If1.before in
-    let Loop = Index.before in let Begun = Loop.before in let S = Begun.before.before in let a = S.args in let s₀ = a.s.now in
-    let vs = a.values in let ms = a.marks in let z = a.z in let st = a.stamp in let s = Loop.loop.s in let u = Loop.loop.t in
-    let n = Loop.loop.state in let o = Begun.begun.result in let going = Loop.loop.invariant.0 in let p = Index.index.result in
-    let false_going : calls.Going s₀ vs ms z st a.head a.w o s false u n = rw If8.if8.false at going in
-    calls.ended-tells s₀ vs ms z st a.head a.w o s false u n false_going Begun.begun.ensures (calls.ground-is-firm s vs ms z st u p Index.index.ensures If1.if1.false
-    If6.if6.false If7.if7.false (sym WordAt2.word-at2.ensures ∙ If10.if10.true)) (calls.ground-finds s vs ms z st u p Index.index.ensures If1.if1.false If6.if6.false
-    If7.if7.false If9.if9.false (sym WordAt2.word-at2.ensures ∙ If10.if10.true))
-    Ended3.ended3.new.0 Ended3.ended3.result Ended3.ended3.ensures.0 Ended3.ended3.ensures.1)
-    -- same_length_7
+    let a = c.args in let s₀ = a.s.now in
+    let vs = a.values in let ms = a.marks in let z = a.z in let st = a.stamp in let s = c.loop-s.s in let u = c.loop-s.t in
+    let n = c.loop-s.state in let o = c.begun-state.result in let going = c.loop-s.invariant.0 in let p = c.index-p.result in
+    let false_going : calls.Going s₀ vs ms z st a.head a.w o s false u n = rw c.if-side.false at going in
+    calls.ended_tells s₀ vs ms z st a.head a.w o s false u n false_going c.begun-state.ensures (calls.ground_is_firm s vs ms z st u p c.index-p.ensures c.if-tag-eq-COMPOUND.false
+    c.if-tag-eq0.false c.if-tag-gt-READER.false (sym c.word_at-m.ensures ∙ c.if-m-eq-GROUND.true)) (calls.ground_finds s vs ms z st u p c.index-p.ensures c.if-tag-eq-COMPOUND.false c.if-tag-eq0.false
+    c.if-tag-gt-READER.false c.if-p-z.false (sym c.word_at-m.ensures ∙ c.if-m-eq-GROUND.true))
+    c.ended-then-m-eq-GROUND.new.s c.ended-then-m-eq-GROUND.result c.ended-then-m-eq-GROUND.ensures.0 c.ended-then-m-eq-GROUND.ensures.1)
+    -- shape_of-s-then-m-stamp
     (λ c.
-    let Loop = c.before.before.before.before.before.before.before.before.before.before in
-    Loop.loop.invariant.2)
-    -- returns_7
+    c.loop-s.invariant.2)
+    -- returns-then-m-stamp
     (λ c.
-    let WordAt2 = c.before.before in let If9 = WordAt2.before.before in let If8 = If9.before in let If7 = If8.before in let If6 = If7.before in
-    let If1 = If6.before in let Index = If1.before in let Loop = Index.before in let Begun = Loop.before in let S = Begun.before.before in
-    let a = S.args in let s₀ = a.s.now in let vs = a.values in let ms = a.marks in let z = a.z in let st = a.stamp in let s = Loop.loop.s in
-    let u = Loop.loop.t in let n = Loop.loop.state in let o = Begun.begun.result in let going = Loop.loop.invariant.0 in
-    let p = Index.index.result in let false_going : calls.Going s₀ vs ms z st a.head a.w o s false u n = rw If8.if8.false at going in
-    calls.going-tells s₀ vs ms z st a.head a.w o s false u n false_going Begun.begun.ensures s 1 false refl calls.open_not_firm (calls.stamp-finds s vs ms z st u p
-    Index.index.ensures If1.if1.false If6.if6.false If7.if7.false If9.if9.false (ap (λ k. stamp_in k) (sym WordAt2.word-at2.ensures) ∙ c.if11.true)))
-    -- visit-requires
+    let a = c.args in let s₀ = a.s.now in let vs = a.values in let ms = a.marks in let z = a.z in let st = a.stamp in let s = c.loop-s.s in
+    let u = c.loop-s.t in let n = c.loop-s.state in let o = c.begun-state.result in let going = c.loop-s.invariant.0 in
+    let p = c.index-p.result in let false_going : calls.Going s₀ vs ms z st a.head a.w o s false u n = rw c.if-side.false at going in
+    calls.going_tells s₀ vs ms z st a.head a.w o s false u n false_going c.begun-state.ensures s 1 false refl calls.open_not_firm (calls.stamp_finds s vs ms z st u p
+    c.index-p.ensures c.if-tag-eq-COMPOUND.false c.if-tag-eq0.false c.if-tag-gt-READER.false c.if-p-z.false (ap (λ k. stamp_in k) (sym c.word_at-m.ensures) ∙ c.if-m-stamp.true)))
+    -- visit-t-requires
     (λ c κs.
-    let If11 = c.before in let If10 = If11.before in let WordAt2 = If10.before in
-    let If9 = WordAt2.before.before in let If8 = If9.before in let If7 = If8.before in let If6 = If7.before in let If1 = If6.before in
-    let Index = If1.before in let Loop = Index.before in let Begun = Loop.before in let S = Begun.before.before in let a = S.args in
-    let s₀ = a.s.now in let vs = a.values in let ms = a.marks in let z = a.z in let st = a.stamp in let s = Loop.loop.s in let b = Loop.loop.side in
-    let u = Loop.loop.t in let n = Loop.loop.state in let o = Begun.begun.result in let going = Loop.loop.invariant.0 in let p = Index.index.result in
-    let keeps = calls.going-keeps s₀ vs ms z st a.head a.w o s b u n going Begun.begun.ensures S.requires.1 in
-    let false_keeps : calls.StateAsks s vs ms z st false u n = rw If8.if8.false at keeps in
-    calls.visit-asks s vs ms z st u p Index.index.ensures If1.if1.false If6.if6.false If7.if7.false
-    WordAt2.word-at2.result n WordAt2.word-at2.ensures If9.if9.false If10.if10.false If11.if11.false false_keeps)
-    -- since-requires
+    let a = c.args in
+    let s₀ = a.s.now in let vs = a.values in let ms = a.marks in let z = a.z in let st = a.stamp in let s = c.loop-s.s in let b = c.loop-s.side in
+    let u = c.loop-s.t in let n = c.loop-s.state in let o = c.begun-state.result in let going = c.loop-s.invariant.0 in let p = c.index-p.result in
+    let keeps = calls.going_keeps s₀ vs ms z st a.head a.w o s b u n going c.begun-state.ensures c.requires.1 in
+    let false_keeps : calls.StateAsks s vs ms z st false u n = rw c.if-side.false at keeps in
+    calls.visit_asks s vs ms z st u p c.index-p.ensures c.if-tag-eq-COMPOUND.false c.if-tag-eq0.false c.if-tag-gt-READER.false
+    c.word_at-m.result n c.word_at-m.ensures c.if-p-z.false c.if-m-eq-GROUND.false c.if-m-stamp.false false_keeps)
+    -- since-state-requires
     (λ c κs.
-    let WordAt2 = c.before.before.before.before.before.before in
-    let If9 = WordAt2.before.before in let If8 = If9.before in let If7 = If8.before in let If6 = If7.before in let If1 = If6.before in
-    let Index = If1.before in let Loop = Index.before in let Begun = Loop.before in let S = Begun.before.before in let a = S.args in
-    let s₀ = a.s.now in let vs = a.values in let ms = a.marks in let z = a.z in let st = a.stamp in let s = Loop.loop.s in let b = Loop.loop.side in
-    let u = Loop.loop.t in let n = Loop.loop.state in let o = Begun.begun.result in let going = Loop.loop.invariant.0 in let p = Index.index.result in
-    let asks = calls.going-asks s₀ vs ms z st a.head a.w o s b u n going Begun.begun.ensures S.requires.1 in
-    let false_asks : calls.TermAsks s vs ms z st false u = rw If8.if8.false at asks in
-    omega (arith, calls.mark-at s vs ms z st u p Index.index.ensures If1.if1.false If6.if6.false If7.if7.false false_asks, Loop.loop.invariant.2, S.well-formed.0.1))
-    -- index-requires-2
+    let a = c.args in
+    let s₀ = a.s.now in let vs = a.values in let ms = a.marks in let z = a.z in let st = a.stamp in let s = c.loop-s.s in let b = c.loop-s.side in
+    let u = c.loop-s.t in let n = c.loop-s.state in let o = c.begun-state.result in let going = c.loop-s.invariant.0 in let p = c.index-p.result in
+    let asks = calls.going_asks s₀ vs ms z st a.head a.w o s b u n going c.begun-state.ensures c.requires.1 in
+    let false_asks : calls.TermAsks s vs ms z st false u = rw c.if-side.false at asks in
+    omega (arith, calls.mark_at s vs ms z st u p c.index-p.ensures c.if-tag-eq-COMPOUND.false c.if-tag-eq0.false c.if-tag-gt-READER.false false_asks, c.loop-s.invariant.2, c.well_formed.0.1))
+    -- index-i-requires
     (λ c κs.
     search rules)
-    -- given-term-requires
+    -- given_term-t-requires
     (λ c κs.
-    let Index2 = c.before in let If12 = Index2.before in let Visit = If12.before.before.before.before in
-    let If11 = Visit.before.before in let If10 = If11.before in let WordAt2 = If10.before in
-    let If9 = WordAt2.before.before in let If8 = If9.before in let If7 = If8.before in let If6 = If7.before in let If1 = If6.before in
-    let Index = If1.before in let Loop = Index.before in let Begun = Loop.before in let S = Begun.before.before in let a = S.args in
-    let s₀ = a.s.now in let vs = a.values in let ms = a.marks in let z = a.z in let st = a.stamp in let s = Loop.loop.s in let b = Loop.loop.side in
-    let u = Loop.loop.t in let n = Loop.loop.state in let o = Begun.begun.result in let going = Loop.loop.invariant.0 in let p = Index.index.result in
-    let keeps = calls.going-keeps s₀ vs ms z st a.head a.w o s b u n going Begun.begun.ensures S.requires.1 in
-    let false_keeps : calls.StateAsks s vs ms z st false u n = rw If8.if8.false at keeps in
-    calls.head_at s vs ms z st u p Index.index.ensures If1.if1.false If6.if6.false If7.if7.false
-    WordAt2.word-at2.result n WordAt2.word-at2.ensures If9.if9.false If10.if10.false If11.if11.false Visit.visit.new.0 Visit.visit.result Visit.visit.ensures
-    Index2.index2.result Index2.index2.ensures If12.if12.true false_keeps)
-    -- loop-less-3
+    let a = c.args in
+    let s₀ = a.s.now in let vs = a.values in let ms = a.marks in let z = a.z in let st = a.stamp in let s = c.loop-s.s in let b = c.loop-s.side in
+    let u = c.loop-s.t in let n = c.loop-s.state in let o = c.begun-state.result in let going = c.loop-s.invariant.0 in let p = c.index-p.result in
+    let keeps = calls.going_keeps s₀ vs ms z st a.head a.w o s b u n going c.begun-state.ensures c.requires.1 in
+    let false_keeps : calls.StateAsks s vs ms z st false u n = rw c.if-side.false at keeps in
+    calls.head_at s vs ms z st u p c.index-p.ensures c.if-tag-eq-COMPOUND.false c.if-tag-eq0.false c.if-tag-gt-READER.false
+    c.word_at-m.result n c.word_at-m.ensures c.if-p-z.false c.if-m-eq-GROUND.false c.if-m-stamp.false c.visit-t.new.s c.visit-t.result c.visit-t.ensures
+    c.index-i.result c.index-i.ensures c.if-kind-eq-PROBE.true false_keeps)
+    -- loop-s-smaller-then-kind-eq-PROBE
     (λ c.
-    let Visit = c.before.before.before.before.before.before.before in let If11 = Visit.before.before in let If10 = If11.before in let WordAt2 = If10.before in
-    let If9 = WordAt2.before.before in let If8 = If9.before in let If7 = If8.before in let If6 = If7.before in let If1 = If6.before in
-    let Index = If1.before in let Loop = Index.before in let Begun = Loop.before in let S = Begun.before.before in let a = S.args in
-    let s₀ = a.s.now in let vs = a.values in let ms = a.marks in let z = a.z in let st = a.stamp in let s = Loop.loop.s in let b = Loop.loop.side in
-    let u = Loop.loop.t in let n = Loop.loop.state in let o = Begun.begun.result in let going = Loop.loop.invariant.0 in let p = Index.index.result in
-    let keeps = calls.going-keeps s₀ vs ms z st a.head a.w o s b u n going Begun.begun.ensures S.requires.1 in
-    let false_keeps : calls.StateAsks s vs ms z st false u n = rw If8.if8.false at keeps in
-    rw If8.if8.false (calls.visit-lighter s vs ms z st u p Index.index.ensures If1.if1.false If6.if6.false If7.if7.false
-    WordAt2.word-at2.result n WordAt2.word-at2.ensures If9.if9.false If10.if10.false If11.if11.false Visit.visit.new.0 Visit.visit.result
-    Visit.visit.ensures false_keeps true c.given-term.result))
-    -- loop-again-3
+    let a = c.args in
+    let s₀ = a.s.now in let vs = a.values in let ms = a.marks in let z = a.z in let st = a.stamp in let s = c.loop-s.s in let b = c.loop-s.side in
+    let u = c.loop-s.t in let n = c.loop-s.state in let o = c.begun-state.result in let going = c.loop-s.invariant.0 in let p = c.index-p.result in
+    let keeps = calls.going_keeps s₀ vs ms z st a.head a.w o s b u n going c.begun-state.ensures c.requires.1 in
+    let false_keeps : calls.StateAsks s vs ms z st false u n = rw c.if-side.false at keeps in
+    rw c.if-side.false (calls.visit_lighter s vs ms z st u p c.index-p.ensures c.if-tag-eq-COMPOUND.false c.if-tag-eq0.false c.if-tag-gt-READER.false
+    c.word_at-m.result n c.word_at-m.ensures c.if-p-z.false c.if-m-eq-GROUND.false c.if-m-stamp.false c.visit-t.new.s c.visit-t.result
+    c.visit-t.ensures false_keeps true c.given_term-t.result))
+    -- loop-s-preserved-then-kind-eq-PROBE
     (λ c.
-    let Index2 = c.before.before in let If12 = Index2.before in let Visit = If12.before.before.before.before in
-    let If11 = Visit.before.before in let If10 = If11.before in let WordAt2 = If10.before in
-    let If9 = WordAt2.before.before in let If8 = If9.before in let If7 = If8.before in let If6 = If7.before in let If1 = If6.before in
-    let Index = If1.before in let Loop = Index.before in let Begun = Loop.before in let S = Begun.before.before in let a = S.args in
-    let s₀ = a.s.now in let vs = a.values in let ms = a.marks in let z = a.z in let st = a.stamp in let s = Loop.loop.s in let b = Loop.loop.side in
-    let u = Loop.loop.t in let n = Loop.loop.state in let o = Begun.begun.result in let going = Loop.loop.invariant.0 in let p = Index.index.result in
-    let keeps = calls.going-keeps s₀ vs ms z st a.head a.w o s b u n going Begun.begun.ensures S.requires.1 in
-    let false_keeps : calls.StateAsks s vs ms z st false u n = rw If8.if8.false at keeps in
-    let false_going : calls.Going s₀ vs ms z st a.head a.w o s false u n = rw If8.if8.false at going in let s₁ = Visit.visit.new.0 in let f = visited st in
-    let light : term_weight s ms f false u ≤ term_weight s₀ ms f a.head a.w = rw If8.if8.false at Loop.loop.invariant.1 in (
-      calls.going_on s₀ vs ms z st a.head a.w o s false u n false_going s₁ true c.given-term.result 1
-          (calls.head-going s vs ms z st u p Index.index.ensures If1.if1.false If6.if6.false If7.if7.false
-          WordAt2.word-at2.result n WordAt2.word-at2.ensures If9.if9.false If10.if10.false If11.if11.false Visit.visit.new.0 Visit.visit.result Visit.visit.ensures
-          Index2.index2.result Index2.index2.ensures If12.if12.true c.given-term.result c.given-term.ensures),
-      no_heavier (term_weight s₁ ms f true c.given-term.result) (term_weight s ms f false u) (term_weight s₀ ms f a.head a.w) light
-          (calls.visit-lighter s vs ms z st u p Index.index.ensures If1.if1.false If6.if6.false If7.if7.false
-          WordAt2.word-at2.result n WordAt2.word-at2.ensures If9.if9.false If10.if10.false If11.if11.false Visit.visit.new.0 Visit.visit.result
-          Visit.visit.ensures false_keeps true c.given-term.result),
-      Visit.visit.auto.0 ∙ Loop.loop.invariant.2,
+    let a = c.args in
+    let s₀ = a.s.now in let vs = a.values in let ms = a.marks in let z = a.z in let st = a.stamp in let s = c.loop-s.s in let b = c.loop-s.side in
+    let u = c.loop-s.t in let n = c.loop-s.state in let o = c.begun-state.result in let going = c.loop-s.invariant.0 in let p = c.index-p.result in
+    let keeps = calls.going_keeps s₀ vs ms z st a.head a.w o s b u n going c.begun-state.ensures c.requires.1 in
+    let false_keeps : calls.StateAsks s vs ms z st false u n = rw c.if-side.false at keeps in
+    let false_going : calls.Going s₀ vs ms z st a.head a.w o s false u n = rw c.if-side.false at going in let s₁ = c.visit-t.new.s in let f = visited st in
+    let light : term_weight s ms f false u ≤ term_weight s₀ ms f a.head a.w = rw c.if-side.false at c.loop-s.invariant.1 in (
+      calls.going_on s₀ vs ms z st a.head a.w o s false u n false_going s₁ true c.given_term-t.result 1
+          (calls.head_going s vs ms z st u p c.index-p.ensures c.if-tag-eq-COMPOUND.false c.if-tag-eq0.false c.if-tag-gt-READER.false
+          c.word_at-m.result n c.word_at-m.ensures c.if-p-z.false c.if-m-eq-GROUND.false c.if-m-stamp.false c.visit-t.new.s c.visit-t.result c.visit-t.ensures
+          c.index-i.result c.index-i.ensures c.if-kind-eq-PROBE.true c.given_term-t.result c.given_term-t.ensures),
+      no_heavier (term_weight s₁ ms f true c.given_term-t.result) (term_weight s ms f false u) (term_weight s₀ ms f a.head a.w) light
+          (calls.visit_lighter s vs ms z st u p c.index-p.ensures c.if-tag-eq-COMPOUND.false c.if-tag-eq0.false c.if-tag-gt-READER.false
+          c.word_at-m.result n c.word_at-m.ensures c.if-p-z.false c.if-m-eq-GROUND.false c.if-m-stamp.false c.visit-t.new.s c.visit-t.result
+          c.visit-t.ensures false_keeps true c.given_term-t.result),
+      c.visit-t.auto.s ∙ c.loop-s.invariant.2,
     ))
-    -- loop-less-4
+    -- loop-s-smaller
     (λ c.
-    let Visit = c.before.before.before.before in let If11 = Visit.before.before in let If10 = If11.before in let WordAt2 = If10.before in
-    let If9 = WordAt2.before.before in let If8 = If9.before in let If7 = If8.before in let If6 = If7.before in let If1 = If6.before in
-    let Index = If1.before in let Loop = Index.before in let Begun = Loop.before in let S = Begun.before.before in let a = S.args in
-    let s₀ = a.s.now in let vs = a.values in let ms = a.marks in let z = a.z in let st = a.stamp in let s = Loop.loop.s in let b = Loop.loop.side in
-    let u = Loop.loop.t in let n = Loop.loop.state in let o = Begun.begun.result in let going = Loop.loop.invariant.0 in let p = Index.index.result in
-    let keeps = calls.going-keeps s₀ vs ms z st a.head a.w o s b u n going Begun.begun.ensures S.requires.1 in
-    let false_keeps : calls.StateAsks s vs ms z st false u n = rw If8.if8.false at keeps in
-    rw If8.if8.false (calls.visit-lighter s vs ms z st u p Index.index.ensures If1.if1.false If6.if6.false If7.if7.false
-    WordAt2.word-at2.result n WordAt2.word-at2.ensures If9.if9.false If10.if10.false If11.if11.false Visit.visit.new.0 Visit.visit.result
-    Visit.visit.ensures false_keeps false Visit.visit.result))
-    -- loop-again-4
+    let a = c.args in
+    let s₀ = a.s.now in let vs = a.values in let ms = a.marks in let z = a.z in let st = a.stamp in let s = c.loop-s.s in let b = c.loop-s.side in
+    let u = c.loop-s.t in let n = c.loop-s.state in let o = c.begun-state.result in let going = c.loop-s.invariant.0 in let p = c.index-p.result in
+    let keeps = calls.going_keeps s₀ vs ms z st a.head a.w o s b u n going c.begun-state.ensures c.requires.1 in
+    let false_keeps : calls.StateAsks s vs ms z st false u n = rw c.if-side.false at keeps in
+    rw c.if-side.false (calls.visit_lighter s vs ms z st u p c.index-p.ensures c.if-tag-eq-COMPOUND.false c.if-tag-eq0.false c.if-tag-gt-READER.false
+    c.word_at-m.result n c.word_at-m.ensures c.if-p-z.false c.if-m-eq-GROUND.false c.if-m-stamp.false c.visit-t.new.s c.visit-t.result
+    c.visit-t.ensures false_keeps false c.visit-t.result))
+    -- loop-s-preserved
     (λ c.
-    let Since = c.before in let Visit = Since.before.before.before in let If11 = Visit.before.before in let If10 = If11.before in let WordAt2 = If10.before in
-    let If9 = WordAt2.before.before in let If8 = If9.before in let If7 = If8.before in let If6 = If7.before in let If1 = If6.before in
-    let Index = If1.before in let Loop = Index.before in let Begun = Loop.before in let S = Begun.before.before in let a = S.args in
-    let s₀ = a.s.now in let vs = a.values in let ms = a.marks in let z = a.z in let st = a.stamp in let s = Loop.loop.s in let b = Loop.loop.side in
-    let u = Loop.loop.t in let n = Loop.loop.state in let o = Begun.begun.result in let going = Loop.loop.invariant.0 in let p = Index.index.result in
-    let keeps = calls.going-keeps s₀ vs ms z st a.head a.w o s b u n going Begun.begun.ensures S.requires.1 in
-    let false_keeps : calls.StateAsks s vs ms z st false u n = rw If8.if8.false at keeps in
-    let false_going : calls.Going s₀ vs ms z st a.head a.w o s false u n = rw If8.if8.false at going in let s₁ = Visit.visit.new.0 in let f = visited st in
-    let light : term_weight s ms f false u ≤ term_weight s₀ ms f a.head a.w = rw If8.if8.false at Loop.loop.invariant.1 in
-    rw If8.if8.false (
-      calls.going_on s₀ vs ms z st a.head a.w o s false u n false_going s₁ false Visit.visit.result Since.since.result
-          (calls.unit-going s vs ms z st u p Index.index.ensures If1.if1.false If6.if6.false If7.if7.false
-          WordAt2.word-at2.result n WordAt2.word-at2.ensures If9.if9.false If10.if10.false If11.if11.false Visit.visit.new.0 Visit.visit.result Visit.visit.ensures
-          c.if12.false Since.since.result Since.since.ensures),
-      no_heavier (term_weight s₁ ms f false Visit.visit.result) (term_weight s ms f false u) (term_weight s₀ ms f a.head a.w) light
-          (calls.visit-lighter s vs ms z st u p Index.index.ensures If1.if1.false If6.if6.false If7.if7.false
-          WordAt2.word-at2.result n WordAt2.word-at2.ensures If9.if9.false If10.if10.false If11.if11.false Visit.visit.new.0 Visit.visit.result
-          Visit.visit.ensures false_keeps false Visit.visit.result),
-      Visit.visit.auto.0 ∙ Loop.loop.invariant.2,
+    let a = c.args in
+    let s₀ = a.s.now in let vs = a.values in let ms = a.marks in let z = a.z in let st = a.stamp in let s = c.loop-s.s in let b = c.loop-s.side in
+    let u = c.loop-s.t in let n = c.loop-s.state in let o = c.begun-state.result in let going = c.loop-s.invariant.0 in let p = c.index-p.result in
+    let keeps = calls.going_keeps s₀ vs ms z st a.head a.w o s b u n going c.begun-state.ensures c.requires.1 in
+    let false_keeps : calls.StateAsks s vs ms z st false u n = rw c.if-side.false at keeps in
+    let false_going : calls.Going s₀ vs ms z st a.head a.w o s false u n = rw c.if-side.false at going in let s₁ = c.visit-t.new.s in let f = visited st in
+    let light : term_weight s ms f false u ≤ term_weight s₀ ms f a.head a.w = rw c.if-side.false at c.loop-s.invariant.1 in
+    rw c.if-side.false (
+      calls.going_on s₀ vs ms z st a.head a.w o s false u n false_going s₁ false c.visit-t.result c.since-state.result
+          (calls.unit_going s vs ms z st u p c.index-p.ensures c.if-tag-eq-COMPOUND.false c.if-tag-eq0.false c.if-tag-gt-READER.false
+          c.word_at-m.result n c.word_at-m.ensures c.if-p-z.false c.if-m-eq-GROUND.false c.if-m-stamp.false c.visit-t.new.s c.visit-t.result c.visit-t.ensures
+          c.if-kind-eq-PROBE.false c.since-state.result c.since-state.ensures),
+      no_heavier (term_weight s₁ ms f false c.visit-t.result) (term_weight s ms f false u) (term_weight s₀ ms f a.head a.w) light
+          (calls.visit_lighter s vs ms z st u p c.index-p.ensures c.if-tag-eq-COMPOUND.false c.if-tag-eq0.false c.if-tag-gt-READER.false
+          c.word_at-m.result n c.word_at-m.ensures c.if-p-z.false c.if-m-eq-GROUND.false c.if-m-stamp.false c.visit-t.new.s c.visit-t.result
+          c.visit-t.ensures false_keeps false c.visit-t.result),
+      c.visit-t.auto.s ∙ c.loop-s.invariant.2,
     ))

@@ -49,7 +49,7 @@ overflow_add-stamp c =
     omega (
       arith,
       c.word.ensures,
-      starts.stamp-fits a.s.now a.values a.marks a.n a.stamp L.loop-i.s L.loop-i.i L.loop-i.invariant.0
+      starts.stamp_fits a.s.now a.values a.marks a.n a.stamp L.loop-i.s L.loop-i.i L.loop-i.invariant.0
           c.before.before.before.before.loop-i-test.true S.requires,
     )
 
@@ -60,7 +60,7 @@ from_term-r-requires c κs =
     let L = E.before.before in
     let S = L.before.before in
     let a = S.args in
-    starts.entry-call a.s.now a.values a.marks a.n a.stamp L.loop-i.s L.loop-i.i L.loop-i.invariant.0
+    starts.entry_call a.s.now a.values a.marks a.n a.stamp L.loop-i.s L.loop-i.i L.loop-i.invariant.0
     E.before.loop-i-test.true E.entry_pair-z.result c.word.result G.given_term-h.result
     E.entry_pair-z.ensures c.word.ensures G.given_term-h.ensures S.requires
 
@@ -78,7 +78,7 @@ returns-then-r-eq-REACHED c =
     let E = G.before in
     let L = E.before.before in
     let a = L.before.before.args in
-    starts.entry-tells a.s.now a.values a.marks a.n a.stamp L.loop-i.s L.loop-i.i L.loop-i.invariant.0
+    starts.entry_tells a.s.now a.values a.marks a.n a.stamp L.loop-i.s L.loop-i.i L.loop-i.invariant.0
     E.before.loop-i-test.true E.entry_pair-z.result W.word.result G.given_term-h.result
     E.entry_pair-z.ensures W.word.ensures G.given_term-h.ensures
     F.from_term-r.new.s F.from_term-r.result F.from_term-r.ensures c.if-r-eq-REACHED.true
@@ -97,7 +97,7 @@ loop-i-preserved c =
     let E = G.before in
     let L = E.before.before in
     let a = L.before.before.args in (
-      starts.passing-next a.s.now a.values a.marks a.n a.stamp L.loop-i.s L.loop-i.i L.loop-i.invariant.0
+      starts.passing_next a.s.now a.values a.marks a.n a.stamp L.loop-i.s L.loop-i.i L.loop-i.invariant.0
           E.before.loop-i-test.true E.entry_pair-z.result W.word.result G.given_term-h.result
           E.entry_pair-z.ensures W.word.ensures G.given_term-h.ensures
           F.from_term-r.new.s F.from_term-r.result F.from_term-r.ensures c.if-r-eq-REACHED.false,
@@ -112,7 +112,7 @@ returns : tie.Need-returns invariant-loop-i decreases-loop-i
 returns c =
     let L = c.before in
     let a = L.before.before.args in
-    λ y s₀ tried held. starts.passed-all s₀ a.s.now y a.values a.marks a.n a.stamp tried held L.loop-i.s L.loop-i.i
+    λ y s₀ tried held. starts.passed_all s₀ a.s.now y a.values a.marks a.n a.stamp tried held L.loop-i.s L.loop-i.i
     (L.loop-i.invariant.0 y s₀ tried held) c.loop-i-test.false L.loop-i.invariant.1
 
 pub from_entries_spec : {M : Type 1} → statement M
