@@ -88,7 +88,7 @@ pub +from-unit-spec : {M : Type 1} → statement M
     let If1 = c.before in let Index = If1.before in let Loop = Index.before in let S = Loop.before.before in let a = S.args in
     let s₀ = a.s.now in let vs = a.values in let ms = a.marks in let ls = a.links in let st = a.stamp in let s = Loop.loop.s in
     let u = Loop.loop.t in let f = Loop.loop.found in let going = Loop.loop.invariant.0 in
-    let asks = calls.going-asks vs ms ls st s₀ a.w a.state s u f going S.requires.1 in let p = Index.index.result in
+    let asks = calls.going_asks vs ms ls st s₀ a.w a.state s u f going S.requires.1 in let p = Index.index.result in
     let at = Index.index.ensures in
     calls.count_at vs ms ls st s u f If1.if1.true p at asks)
     -- loop2-holds
@@ -96,29 +96,29 @@ pub +from-unit-spec : {M : Type 1} → statement M
     let If1 = c.before.before in let Index = If1.before in let Loop = Index.before in let S = Loop.before.before in let a = S.args in
     let vs = a.values in let ms = a.marks in let ls = a.links in let st = a.stamp in let s = Loop.loop.s in let u = Loop.loop.t in
     let f = Loop.loop.found in let p = Index.index.result in let at = Index.index.ensures in let k = c.count.result in
-    (calls.walking-first vs ms ls st s u f If1.if1.true p at k c.count.ensures, refl))
+    (calls.walking_first vs ms ls st s u f If1.if1.true p at k c.count.ensures, refl))
     -- argument-requires
     (λ c κs.
     let Loop2Test = c.before in let Loop2 = Loop2Test.before in let Count = Loop2.before in let Index = Count.before.before.before in
     let Loop = Index.before in let S = Loop.before.before in let a = S.args in let s₀ = a.s.now in let vs = a.values in let ms = a.marks in
     let ls = a.links in let st = a.stamp in let s = Loop.loop.s in let u = Loop.loop.t in let f = Loop.loop.found in
-    let going = Loop.loop.invariant.0 in let asks = calls.going-asks vs ms ls st s₀ a.w a.state s u f going S.requires.1 in
+    let going = Loop.loop.invariant.0 in let asks = calls.going_asks vs ms ls st s₀ a.w a.state s u f going S.requires.1 in
     let p = Index.index.result in let k = Count.count.result in let s₂ = Loop2.loop2.s in let i = Loop2.loop2.i in
     let m = Loop2.loop2.found in let walking = Loop2.loop2.invariant.0 in let low : i ≤ k = omega (arith, Loop2Test.loop2-test.true) in
-    calls.argument-at vs ms ls st s u f s₂ p k i m walking low asks)
+    calls.argument_at vs ms ls st s u f s₂ p k i m walking low asks)
     -- from-unit-requires
     (λ c κs.
     let Argument = c.before in let Loop2Test = Argument.before.before in let Loop2 = Loop2Test.before in let Count = Loop2.before in
     let Index = Count.before.before.before in let Loop = Index.before in let S = Loop.before.before in let a = S.args in let s₀ = a.s.now in
     let vs = a.values in let ms = a.marks in let ls = a.links in let st = a.stamp in let s = Loop.loop.s in let u = Loop.loop.t in
     let f = Loop.loop.found in let going = Loop.loop.invariant.0 in
-    let asks = calls.going-asks vs ms ls st s₀ a.w a.state s u f going S.requires.1 in let p = Index.index.result in
+    let asks = calls.going_asks vs ms ls st s₀ a.w a.state s u f going S.requires.1 in let p = Index.index.result in
     let k = Count.count.result in let s₂ = Loop2.loop2.s in let i = Loop2.loop2.i in let m = Loop2.loop2.found in
     let walking = Loop2.loop2.invariant.0 in let low : i ≤ k = omega (arith, Loop2Test.loop2-test.true) in let b = Argument.argument.result in
     let reads = Argument.argument.ensures in let g = was_entered st in (
       lighter (weight g s₂ ms ls b) (weight g s ms ls u) (weight g s₀ ms ls a.w) t S.requires.0 Loop.loop.invariant.1
-          (calls.argument-lighter vs ms ls st s u f s₂ p k i m walking low b reads asks),
-      calls.argument-asks vs ms ls st s u f s₂ p k i m walking low b reads asks,
+          (calls.argument_lighter vs ms ls st s u f s₂ p k i m walking low b reads asks),
+      calls.argument_asks vs ms ls st s u f s₂ p k i m walking low b reads asks,
     ))
     -- settle-requires
     (λ c κs.
@@ -126,12 +126,12 @@ pub +from-unit-spec : {M : Type 1} → statement M
     let Loop2 = Loop2Test.before in let Count = Loop2.before in let Index = Count.before.before.before in let Loop = Index.before in
     let S = Loop.before.before in let a = S.args in let s₀ = a.s.now in let vs = a.values in let ms = a.marks in let ls = a.links in
     let st = a.stamp in let s = Loop.loop.s in let u = Loop.loop.t in let f = Loop.loop.found in let going = Loop.loop.invariant.0 in
-    let asks = calls.going-asks vs ms ls st s₀ a.w a.state s u f going S.requires.1 in let p = Index.index.result in
+    let asks = calls.going_asks vs ms ls st s₀ a.w a.state s u f going S.requires.1 in let p = Index.index.result in
     let k = Count.count.result in let s₂ = Loop2.loop2.s in let i = Loop2.loop2.i in let m = Loop2.loop2.found in
     let walking = Loop2.loop2.invariant.0 in let low : i ≤ k = omega (arith, Loop2Test.loop2-test.true) in let b = Argument.argument.result in
     let reads = Argument.argument.ensures in let s₃ = FromUnit.from-unit.new.0 in let r = FromUnit.from-unit.result in
     let tell = FromUnit.from-unit.ensures in
-    calls.settle-asks vs ms ls st s u f s₂ p k i m walking low b reads s₃ r tell asks)
+    calls.settle_asks vs ms ls st s u f s₂ p k i m walking low b reads s₃ r tell asks)
     -- ended-requires
     (λ c κs.
     search rules)
@@ -151,18 +151,18 @@ pub +from-unit-spec : {M : Type 1} → statement M
     let walking = Loop2.loop2.invariant.0 in let low : i ≤ k = omega (arith, Loop2Test.loop2-test.true) in let b = Argument.argument.result in
     let reads = Argument.argument.ensures in let s₃ = FromUnit.from-unit.new.0 in let r = FromUnit.from-unit.result in
     let tell = FromUnit.from-unit.ensures in let s₄ = Settle.settle.new.0 in
-    calls.going-tells vs ms ls st s₀ a.w a.state s u f going s₄ r
-    (calls.walking-ended vs ms ls st s u f s₂ p k i m walking low b reads s₃ r tell s₄ Settle.settle.ensures (eqb-true (r % 4) 3 (sym Ended.ended.ensures ∙ c.if2.true))))
+    calls.going_tells vs ms ls st s₀ a.w a.state s u f going s₄ r
+    (calls.walking_ended vs ms ls st s u f s₂ p k i m walking low b reads s₃ r tell s₄ Settle.settle.ensures (eqb-true (r % 4) 3 (sym Ended.ended.ensures ∙ c.if2.true))))
     -- add_i
     (λ c.
     let Loop2Test = c.before.before.before.before.before.before.before.before.before.before.before.before in
     let Loop2 = Loop2Test.before in let Count = Loop2.before in let Index = Count.before.before.before in let Loop = Index.before in
     let S = Loop.before.before in let a = S.args in let s₀ = a.s.now in let vs = a.values in let ms = a.marks in let ls = a.links in
     let st = a.stamp in let s = Loop.loop.s in let u = Loop.loop.t in let f = Loop.loop.found in let going = Loop.loop.invariant.0 in
-    let asks = calls.going-asks vs ms ls st s₀ a.w a.state s u f going S.requires.1 in let p = Index.index.result in
+    let asks = calls.going_asks vs ms ls st s₀ a.w a.state s u f going S.requires.1 in let p = Index.index.result in
     let k = Count.count.result in let s₂ = Loop2.loop2.s in let i = Loop2.loop2.i in let m = Loop2.loop2.found in
     let walking = Loop2.loop2.invariant.0 in
-    omega (arith, Loop2Test.loop2-test.true, calls.few-of vs ms ls st s u f s₂ p k i m walking asks))
+    omega (arith, Loop2Test.loop2-test.true, calls.few_of vs ms ls st s u f s₂ p k i m walking asks))
     -- loop2-less
     (λ c.
     let Loop2Test = c.before.before.before.before.before.before.before.before.before.before.before.before in
@@ -178,7 +178,7 @@ pub +from-unit-spec : {M : Type 1} → statement M
     let low : i ≤ k = omega (arith, Loop2Test.loop2-test.true) in let b = Argument.argument.result in let reads = Argument.argument.ensures in
     let s₃ = FromUnit.from-unit.new.0 in let r = FromUnit.from-unit.result in let tell = FromUnit.from-unit.ensures in
     let s₄ = Settle.settle.new.0 in (
-      calls.walking-next vs ms ls st s u f s₂ p k i m walking low b reads s₃ r tell s₄ Settle.settle.ensures (not_three r (sym Ended.ended.ensures ∙ c.if2.false)),
+      calls.walking_next vs ms ls st s u f s₂ p k i m walking low b reads s₃ r tell s₄ Settle.settle.ensures (not_three r (sym Ended.ended.ensures ∙ c.if2.false)),
       Settle.settle.auto.0 ∙ FromUnit.from-unit.auto.0 ∙ Loop2.loop2.invariant.1,
     ))
     -- same_length_2
@@ -192,40 +192,40 @@ pub +from-unit-spec : {M : Type 1} → statement M
     let st = a.stamp in let s = Loop.loop.s in let u = Loop.loop.t in let f = Loop.loop.found in let going = Loop.loop.invariant.0 in
     let p = Index.index.result in let k = Count.count.result in let s₂ = Loop2.loop2.s in let i = Loop2.loop2.i in
     let m = Loop2.loop2.found in let walking = Loop2.loop2.invariant.0 in
-    calls.going-tells vs ms ls st s₀ a.w a.state s u f going s₂ m (calls.none-tells vs ms ls st s u f s₂ p k i m walking c.if3.true))
+    calls.going_tells vs ms ls st s₀ a.w a.state s u f going s₂ m (calls.none_tells vs ms ls st s u f s₂ p k i m walking c.if3.true))
     -- argument-requires-2
     (λ c κs.
     let If3 = c.before in let Loop2 = If3.before.before in let Count = Loop2.before in let Index = Count.before.before.before in
     let Loop = Index.before in let S = Loop.before.before in let a = S.args in let s₀ = a.s.now in let vs = a.values in let ms = a.marks in
     let ls = a.links in let st = a.stamp in let s = Loop.loop.s in let u = Loop.loop.t in let f = Loop.loop.found in
-    let going = Loop.loop.invariant.0 in let asks = calls.going-asks vs ms ls st s₀ a.w a.state s u f going S.requires.1 in
+    let going = Loop.loop.invariant.0 in let asks = calls.going_asks vs ms ls st s₀ a.w a.state s u f going S.requires.1 in
     let p = Index.index.result in let k = Count.count.result in let s₂ = Loop2.loop2.s in let i = Loop2.loop2.i in
     let m = Loop2.loop2.found in let walking = Loop2.loop2.invariant.0 in let low2 : i ≤ k = omega (arith, If3.if3.false) in
-    calls.argument-at vs ms ls st s u f s₂ p k i m walking low2 asks)
+    calls.argument_at vs ms ls st s u f s₂ p k i m walking low2 asks)
     -- loop-less
     (λ c.
     let If3 = c.before.before in let Loop2 = If3.before.before in let Count = Loop2.before in let Index = Count.before.before.before in
     let Loop = Index.before in let S = Loop.before.before in let a = S.args in let s₀ = a.s.now in let vs = a.values in let ms = a.marks in
     let ls = a.links in let st = a.stamp in let s = Loop.loop.s in let u = Loop.loop.t in let f = Loop.loop.found in
-    let going = Loop.loop.invariant.0 in let asks = calls.going-asks vs ms ls st s₀ a.w a.state s u f going S.requires.1 in
+    let going = Loop.loop.invariant.0 in let asks = calls.going_asks vs ms ls st s₀ a.w a.state s u f going S.requires.1 in
     let p = Index.index.result in let k = Count.count.result in let s₂ = Loop2.loop2.s in let i = Loop2.loop2.i in
     let m = Loop2.loop2.found in let walking = Loop2.loop2.invariant.0 in let low2 : i ≤ k = omega (arith, If3.if3.false) in
     let b2 = c.argument2.result in let reads2 = c.argument2.ensures in
-    calls.argument-lighter vs ms ls st s u f s₂ p k i m walking low2 b2 reads2 asks)
+    calls.argument_lighter vs ms ls st s u f s₂ p k i m walking low2 b2 reads2 asks)
     -- loop-again
     (λ c.
     let If3 = c.before.before in let Loop2Test = If3.before in let Loop2 = Loop2Test.before in let Count = Loop2.before in
     let Index = Count.before.before.before in let Loop = Index.before in let S = Loop.before.before in let a = S.args in let s₀ = a.s.now in
     let vs = a.values in let ms = a.marks in let ls = a.links in let st = a.stamp in let s = Loop.loop.s in let u = Loop.loop.t in
     let f = Loop.loop.found in let going = Loop.loop.invariant.0 in
-    let asks = calls.going-asks vs ms ls st s₀ a.w a.state s u f going S.requires.1 in let p = Index.index.result in
+    let asks = calls.going_asks vs ms ls st s₀ a.w a.state s u f going S.requires.1 in let p = Index.index.result in
     let k = Count.count.result in let s₂ = Loop2.loop2.s in let i = Loop2.loop2.i in let m = Loop2.loop2.found in
     let walking = Loop2.loop2.invariant.0 in let low2 : i ≤ k = omega (arith, If3.if3.false) in let b2 = c.argument2.result in
     let reads2 = c.argument2.ensures in let g = was_entered st in (
       calls.going_on vs ms ls st s₀ a.w a.state s u f going s₂ b2 m
-          (calls.last-going vs ms ls st s u f s₂ p k i m walking low2 b2 reads2 (λ l. omega (arith, Loop2Test.loop2-test.false))),
+          (calls.last_going vs ms ls st s u f s₂ p k i m walking low2 b2 reads2 (λ l. omega (arith, Loop2Test.loop2-test.false))),
       no_heavier (weight g s₂ ms ls b2) (weight g s ms ls u) (weight g s₀ ms ls a.w) Loop.loop.invariant.1
-          (calls.argument-lighter vs ms ls st s u f s₂ p k i m walking low2 b2 reads2 asks),
+          (calls.argument_lighter vs ms ls st s u f s₂ p k i m walking low2 b2 reads2 asks),
       Loop2.loop2.invariant.1 ∙ Loop.loop.invariant.2,
     ))
     -- same_length_3
@@ -237,23 +237,23 @@ pub +from-unit-spec : {M : Type 1} → statement M
     let If1 = c.before in let Loop = If1.before.before in let S = Loop.before.before in let a = S.args in let s₀ = a.s.now in
     let vs = a.values in let ms = a.marks in let ls = a.links in let st = a.stamp in let s = Loop.loop.s in let u = Loop.loop.t in
     let f = Loop.loop.found in let going = Loop.loop.invariant.0 in
-    calls.going-tells vs ms ls st s₀ a.w a.state s u f going s f (calls.constant-tells vs ms ls st s u f If1.if1.false c.if4.true))
+    calls.going_tells vs ms ls st s₀ a.w a.state s u f going s f (calls.constant_tells vs ms ls st s u f If1.if1.false c.if4.true))
     -- word-at-requires
     (λ c κs.
     let If4 = c.before in let If1 = If4.before in let Index = If1.before in let Loop = Index.before in let S = Loop.before.before in
     let a = S.args in let s₀ = a.s.now in let vs = a.values in let ms = a.marks in let ls = a.links in let st = a.stamp in
     let s = Loop.loop.s in let u = Loop.loop.t in let f = Loop.loop.found in let going = Loop.loop.invariant.0 in
-    let asks = calls.going-asks vs ms ls st s₀ a.w a.state s u f going S.requires.1 in let p = Index.index.result in
+    let asks = calls.going_asks vs ms ls st s₀ a.w a.state s u f going S.requires.1 in let p = Index.index.result in
     let at = Index.index.ensures in
-    calls.value-at vs ms ls st s u f If1.if1.false If4.if4.false p at asks)
+    calls.value_at vs ms ls st s u f If1.if1.false If4.if4.false p at asks)
     -- at-unassigned-requires
     (λ c κs.
     let If5 = c.before in let WordAt = If5.before in let If4 = WordAt.before.before in let If1 = If4.before in let Index = If1.before in
     let Loop = Index.before in let S = Loop.before.before in let a = S.args in let s₀ = a.s.now in let vs = a.values in let ms = a.marks in
     let ls = a.links in let st = a.stamp in let s = Loop.loop.s in let u = Loop.loop.t in let f = Loop.loop.found in
-    let going = Loop.loop.invariant.0 in let asks = calls.going-asks vs ms ls st s₀ a.w a.state s u f going S.requires.1 in
+    let going = Loop.loop.invariant.0 in let asks = calls.going_asks vs ms ls st s₀ a.w a.state s u f going S.requires.1 in
     let p = Index.index.result in let at = Index.index.ensures in let v = WordAt.word_at.result in let read = WordAt.word_at.ensures in
-    calls.unassigned-asks vs ms ls st s u f If1.if1.false If4.if4.false p at v read If5.if5.true asks)
+    calls.unassigned_asks vs ms ls st s u f If1.if1.false If4.if4.false p at v read If5.if5.true asks)
     -- same_length_4
     (λ c.
     let AtUnassigned = c.before.before in let Loop = AtUnassigned.before.before.before.before.before.before.before.before in
@@ -265,39 +265,39 @@ pub +from-unit-spec : {M : Type 1} → statement M
     let s₀ = a.s.now in let vs = a.values in let ms = a.marks in let ls = a.links in let st = a.stamp in let s = Loop.loop.s in
     let u = Loop.loop.t in let f = Loop.loop.found in let going = Loop.loop.invariant.0 in let p = Index.index.result in
     let at = Index.index.ensures in let v = WordAt.word_at.result in let read = WordAt.word_at.ensures in
-    calls.going-tells vs ms ls st s₀ a.w a.state s u f going AtUnassigned.at-unassigned.new.0 AtUnassigned.at-unassigned.result
-    (calls.unassigned-tells vs ms ls st s u f If1.if1.false If4.if4.false p at v read If5.if5.true AtUnassigned.at-unassigned.new.0 AtUnassigned.at-unassigned.result
+    calls.going_tells vs ms ls st s₀ a.w a.state s u f going AtUnassigned.at-unassigned.new.0 AtUnassigned.at-unassigned.result
+    (calls.unassigned_tells vs ms ls st s u f If1.if1.false If4.if4.false p at v read If5.if5.true AtUnassigned.at-unassigned.new.0 AtUnassigned.at-unassigned.result
     AtUnassigned.at-unassigned.ensures))
     -- enters-requires
     (λ c κs.
     let If4 = c.before.before.before.before in let If1 = If4.before in let Index = If1.before in let Loop = Index.before in
     let S = Loop.before.before in let a = S.args in let s₀ = a.s.now in let vs = a.values in let ms = a.marks in let ls = a.links in
     let st = a.stamp in let s = Loop.loop.s in let u = Loop.loop.t in let f = Loop.loop.found in let going = Loop.loop.invariant.0 in
-    let asks = calls.going-asks vs ms ls st s₀ a.w a.state s u f going S.requires.1 in let p = Index.index.result in
+    let asks = calls.going_asks vs ms ls st s₀ a.w a.state s u f going S.requires.1 in let p = Index.index.result in
     let at = Index.index.ensures in
-    calls.mark-at vs ms ls st s u f If1.if1.false If4.if4.false p at asks)
+    calls.mark_at vs ms ls st s u f If1.if1.false If4.if4.false p at asks)
     -- loop-less-2
     (λ c.
     let Enters = c.before.before.before in let If5 = Enters.before.before in let WordAt = If5.before in let If4 = WordAt.before.before in
     let If1 = If4.before in let Index = If1.before in let Loop = Index.before in let S = Loop.before.before in let a = S.args in
     let s₀ = a.s.now in let vs = a.values in let ms = a.marks in let ls = a.links in let st = a.stamp in let s = Loop.loop.s in
     let u = Loop.loop.t in let f = Loop.loop.found in let going = Loop.loop.invariant.0 in
-    let asks = calls.going-asks vs ms ls st s₀ a.w a.state s u f going S.requires.1 in let p = Index.index.result in
+    let asks = calls.going_asks vs ms ls st s₀ a.w a.state s u f going S.requires.1 in let p = Index.index.result in
     let at = Index.index.ensures in let v = WordAt.word_at.result in let read = WordAt.word_at.ensures in let s₅ = Enters.enters.new.0 in
-    calls.new-lighter vs ms ls st s u f If1.if1.false If4.if4.false p at v read If5.if5.false s₅ (rw c.if6.true at Enters.enters.ensures) asks)
+    calls.new_lighter vs ms ls st s u f If1.if1.false If4.if4.false p at v read If5.if5.false s₅ (rw c.if6.true at Enters.enters.ensures) asks)
     -- loop-again-2
     (λ c.
     let Enters = c.before.before.before in let If5 = Enters.before.before in let WordAt = If5.before in let If4 = WordAt.before.before in
     let If1 = If4.before in let Index = If1.before in let Loop = Index.before in let S = Loop.before.before in let a = S.args in
     let s₀ = a.s.now in let vs = a.values in let ms = a.marks in let ls = a.links in let st = a.stamp in let s = Loop.loop.s in
     let u = Loop.loop.t in let f = Loop.loop.found in let going = Loop.loop.invariant.0 in
-    let asks = calls.going-asks vs ms ls st s₀ a.w a.state s u f going S.requires.1 in let p = Index.index.result in
+    let asks = calls.going_asks vs ms ls st s₀ a.w a.state s u f going S.requires.1 in let p = Index.index.result in
     let at = Index.index.ensures in let v = WordAt.word_at.result in let read = WordAt.word_at.ensures in let s₅ = Enters.enters.new.0 in
     let g = was_entered st in (
       calls.going_on vs ms ls st s₀ a.w a.state s u f going s₅ v f
-          (calls.new-going vs ms ls st s u f If1.if1.false If4.if4.false p at v read If5.if5.false s₅ (rw c.if6.true at Enters.enters.ensures)),
+          (calls.new_going vs ms ls st s u f If1.if1.false If4.if4.false p at v read If5.if5.false s₅ (rw c.if6.true at Enters.enters.ensures)),
       no_heavier (weight g s₅ ms ls v) (weight g s ms ls u) (weight g s₀ ms ls a.w) Loop.loop.invariant.1
-          (calls.new-lighter vs ms ls st s u f If1.if1.false If4.if4.false p at v read If5.if5.false s₅ (rw c.if6.true at Enters.enters.ensures) asks),
+          (calls.new_lighter vs ms ls st s u f If1.if1.false If4.if4.false p at v read If5.if5.false s₅ (rw c.if6.true at Enters.enters.ensures) asks),
       Enters.enters.auto.0 ∙ Loop.loop.invariant.2,
     ))
     -- same_length_5
@@ -311,5 +311,5 @@ pub +from-unit-spec : {M : Type 1} → statement M
     let s₀ = a.s.now in let vs = a.values in let ms = a.marks in let ls = a.links in let st = a.stamp in let s = Loop.loop.s in
     let u = Loop.loop.t in let f = Loop.loop.found in let going = Loop.loop.invariant.0 in let p = Index.index.result in
     let at = Index.index.ensures in let v = WordAt.word_at.result in let read = WordAt.word_at.ensures in let s₅ = Enters.enters.new.0 in
-    calls.going-tells vs ms ls st s₀ a.w a.state s u f going s₅ f
+    calls.going_tells vs ms ls st s₀ a.w a.state s u f going s₅ f
     (calls.known_tells vs ms ls st s u f If1.if1.false If4.if4.false p at v read s₅ (rw c.if6.false at Enters.enters.ensures)))

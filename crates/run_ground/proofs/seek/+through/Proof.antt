@@ -60,7 +60,7 @@ pub +through-spec : {M : Type 1} → statement M
     (λ c.
     let S = c.before in let a = S.args in let s₀ = a.s.now in let vs = a.values in let ms = a.marks in let ls = a.links in let st = a.stamp in
     let q = a.q in let k = a.k in
-    (calls.passing-first vs ms ls st s₀ q k a.state, refl))
+    (calls.passing_first vs ms ls st s₀ q k a.state, refl))
     -- argument-requires
     (λ c κs.
     let LoopTest = c.before in let Loop = LoopTest.before in let S = Loop.before.before in let a = S.args in let s₀ = a.s.now in
@@ -78,7 +78,7 @@ pub +through-spec : {M : Type 1} → statement M
     let ls = a.links in let st = a.stamp in let q = a.q in let k = a.k in let s = Loop.loop.s in let i = Loop.loop.i in
     let f = Loop.loop.found in let passing = Loop.loop.invariant.0 in let low : i ≤ k = omega (arith, LoopTest.loop-test.true) in
     let b = Argument.argument.result in let reads = Argument.argument.ensures in let p = Index.index.result in let at = Index.index.ensures in
-    calls.inner-at vs ms ls st s₀ q k a.state s i f passing low b reads If1.if1.taken p at S.requires.1)
+    calls.inner_at vs ms ls st s₀ q k a.state s i f passing low b reads If1.if1.taken p at S.requires.1)
     -- through-requires
     (λ c κs.
     let Count = c.before in let Index = Count.before.before in let If1 = Index.before in let Argument = If1.before in
@@ -88,8 +88,8 @@ pub +through-spec : {M : Type 1} → statement M
     let low : i ≤ k = omega (arith, LoopTest.loop-test.true) in let b = Argument.argument.result in let reads = Argument.argument.ensures in
     let p = Index.index.result in let at = Index.index.ensures in let n = Count.count.result in (
       lighter (calls.args_weight s p n) (calls.args_weight s₀ q k) (calls.args_weight s₀ q k) t S.requires.0 (omega arith)
-          (calls.inner-lighter vs ms ls st s₀ q k a.state s i f passing low b reads If1.if1.taken p at n Count.count.ensures S.requires.1),
-      calls.inner-asks vs ms ls st s₀ q k a.state s i f passing low b reads If1.if1.taken p at n Count.count.ensures S.requires.1,
+          (calls.inner_lighter vs ms ls st s₀ q k a.state s i f passing low b reads If1.if1.taken p at n Count.count.ensures S.requires.1),
+      calls.inner_asks vs ms ls st s₀ q k a.state s i f passing low b reads If1.if1.taken p at n Count.count.ensures S.requires.1,
     ))
     -- from-leaf-requires
     (λ c κs.
@@ -98,7 +98,7 @@ pub +through-spec : {M : Type 1} → statement M
     let st = a.stamp in let q = a.q in let k = a.k in let s = Loop.loop.s in let i = Loop.loop.i in let f = Loop.loop.found in
     let passing = Loop.loop.invariant.0 in let low : i ≤ k = omega (arith, LoopTest.loop-test.true) in let b = Argument.argument.result in
     let reads = Argument.argument.ensures in
-    calls.leaf-asks vs ms ls st s₀ q k a.state s i f passing low b reads If1.if1.left S.requires.1)
+    calls.leaf_asks vs ms ls st s₀ q k a.state s i f passing low b reads If1.if1.left S.requires.1)
     -- ended-requires
     (λ c κs.
     search rules)
@@ -112,13 +112,13 @@ pub +through-spec : {M : Type 1} → statement M
     let done : calls.NextTells vs ms ls st s₀ q k a.state s i f passing low b reads s₂ r × (length s₂ ≡ length s) =
     ⊎_elim
     (λ (if1, index, counting, counted, lending, walked, lent, known, scratch, told). rw (scratch, told) (
-      calls.inner-tells vs ms ls st s₀ q k a.state s i f passing low b reads if1.taken index.result index.ensures counted.result
+      calls.inner_tells vs ms ls st s₀ q k a.state s i f passing low b reads if1.taken index.result index.ensures counted.result
           counted.ensures walked.last.0 walked.result
           walked.ensures,
       walked.kept.0,
     ))
     (λ (if1, lending, walked, lent, known, scratch, told). rw (scratch, told) (
-      calls.leaf-tells vs ms ls st s₀ q k a.state s i f passing low b reads if1.left walked.last.0 walked.result walked.ensures,
+      calls.leaf_tells vs ms ls st s₀ q k a.state s i f passing low b reads if1.left walked.last.0 walked.result walked.ensures,
       walked.kept.0,
     ))
     If1.if1.branch in
@@ -133,22 +133,22 @@ pub +through-spec : {M : Type 1} → statement M
     let done : calls.NextTells vs ms ls st s₀ q k a.state s i f passing low b reads s₂ r × (length s₂ ≡ length s) =
     ⊎_elim
     (λ (if1, index, counting, counted, lending, walked, lent, known, scratch, told). rw (scratch, told) (
-      calls.inner-tells vs ms ls st s₀ q k a.state s i f passing low b reads if1.taken index.result index.ensures counted.result
+      calls.inner_tells vs ms ls st s₀ q k a.state s i f passing low b reads if1.taken index.result index.ensures counted.result
           counted.ensures walked.last.0 walked.result
           walked.ensures,
       walked.kept.0,
     ))
     (λ (if1, lending, walked, lent, known, scratch, told). rw (scratch, told) (
-      calls.leaf-tells vs ms ls st s₀ q k a.state s i f passing low b reads if1.left walked.last.0 walked.result walked.ensures,
+      calls.leaf_tells vs ms ls st s₀ q k a.state s i f passing low b reads if1.left walked.last.0 walked.result walked.ensures,
       walked.kept.0,
     ))
     If1.if1.branch in
-    calls.passing-ended vs ms ls st s₀ q k a.state s i f passing low b reads s₂ r done.0 (eqb-true (r % 4) 3 (sym Ended.ended.ensures ∙ c.if2.true)))
+    calls.passing_ended vs ms ls st s₀ q k a.state s i f passing low b reads s₂ r done.0 (eqb-true (r % 4) 3 (sym Ended.ended.ensures ∙ c.if2.true)))
     -- add_i
     (λ c.
     let LoopTest = c.before.before.before.before.before in let S = LoopTest.before.before.before in let a = S.args in let s₀ = a.s.now in
     let vs = a.values in let ms = a.marks in let ls = a.links in let st = a.stamp in let q = a.q in let k = a.k in
-    omega (arith, LoopTest.loop-test.true, calls.args-few vs ms ls st s₀ q k a.state S.requires.1))
+    omega (arith, LoopTest.loop-test.true, calls.args_few vs ms ls st s₀ q k a.state S.requires.1))
     -- loop-less
     (λ c.
     let LoopTest = c.before.before.before.before.before in
@@ -163,17 +163,17 @@ pub +through-spec : {M : Type 1} → statement M
     let done : calls.NextTells vs ms ls st s₀ q k a.state s i f passing low b reads s₂ r × (length s₂ ≡ length s) =
     ⊎_elim
     (λ (if1, index, counting, counted, lending, walked, lent, known, scratch, told). rw (scratch, told) (
-      calls.inner-tells vs ms ls st s₀ q k a.state s i f passing low b reads if1.taken index.result index.ensures counted.result
+      calls.inner_tells vs ms ls st s₀ q k a.state s i f passing low b reads if1.taken index.result index.ensures counted.result
           counted.ensures walked.last.0 walked.result
           walked.ensures,
       walked.kept.0,
     ))
     (λ (if1, lending, walked, lent, known, scratch, told). rw (scratch, told) (
-      calls.leaf-tells vs ms ls st s₀ q k a.state s i f passing low b reads if1.left walked.last.0 walked.result walked.ensures,
+      calls.leaf_tells vs ms ls st s₀ q k a.state s i f passing low b reads if1.left walked.last.0 walked.result walked.ensures,
       walked.kept.0,
     ))
     If1.if1.branch in (
-      calls.passing-next vs ms ls st s₀ q k a.state s i f passing low b reads s₂ r done.0 (not_three r (sym Ended.ended.ensures ∙ c.if2.false)),
+      calls.passing_next vs ms ls st s₀ q k a.state s i f passing low b reads s₂ r done.0 (not_three r (sym Ended.ended.ensures ∙ c.if2.false)),
       done.1 ∙ Loop.loop.invariant.1,
     ))
     -- same_length_2
@@ -185,4 +185,4 @@ pub +through-spec : {M : Type 1} → statement M
     let Loop = c.before in let S = Loop.before.before in let a = S.args in let s₀ = a.s.now in let vs = a.values in let ms = a.marks in
     let ls = a.links in let st = a.stamp in let q = a.q in let k = a.k in let s = Loop.loop.s in let i = Loop.loop.i in
     let f = Loop.loop.found in let passing = Loop.loop.invariant.0 in
-    calls.passing-last vs ms ls st s₀ q k a.state s i f passing (omega (arith, c.loop-test.false)))
+    calls.passing_last vs ms ls st s₀ q k a.state s i f passing (omega (arith, c.loop-test.false)))

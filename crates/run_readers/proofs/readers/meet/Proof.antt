@@ -1,13 +1,13 @@
 -- `run_readers::readers::meet` meets its contract: at the pair's rank stands the pair, and it is in the list; or it is new, and is stored with its rank.
 -- The two ways to the store are one lemma on what stands at the rank.
 use mathlib.Core.Path.{sym, ap, ◌∙◌}
-use mathlib.Core.Logic.{⊎_elim}
 use Prim.Native.Nat.{◌+◌}
 use lib.ListN.{get_or}
 use native.Mathlib.Omega.{arith}
 use borrow.Author.Rules.{rules}
 use Rattle.run_readers.proofs.Ranks.{met_already, met_stored, not_at_rank}
 use Rattle.run_readers.proofs.readers.meet.Statement.{statement}
+use Rattle.run_readers.proofs.readers.meet.Lts as lts
 use Rattle.run_readers.proofs.readers.meet.Tie as tie
 
 overflow_add-readers : tie.Need-overflow_add-readers
@@ -30,10 +30,10 @@ shape_of-s-then-index-p c = search rules
 
 returns-then-index-p : tie.Need-returns-then-index-p
 returns-then-index-p c =
-    let S = c.before.before.before.before.before.before.before in
+    let S = c in
     met_already S.args.s.now S.args.readers S.args.pairs S.args.n S.requires.0 S.args.p
-    c.before.before.before.before.index-rank.result c.before.before.before.if-rank-n.true
-    (sym c.before.before.word_at-then-rank-n.ensures ∙ sym c.before.index.ensures ∙ c.if-index-p.true)
+    c.index-rank.result c.if-rank-n.true
+    (sym c.word_at-then-rank-n.ensures ∙ sym c.index.ensures ∙ c.if-index-p.true)
 
 word-requires : tie.Need-word-requires
 word-requires c κs = search rules
@@ -58,17 +58,18 @@ shape_of-s c = search rules
 
 returns : tie.Need-returns
 returns c =
-    let m = c.before.before.before.before.before.before.before.before.before.before in
-    let S = m.before.before.before.before in
-    let rank = m.before.index-rank.ensures ∙ m.before.before.word_at.ensures in
+    let m = c in
+    let S = m in
+    let rank = m.index-rank.ensures ∙ m.word_at.ensures in
     let new =
     not_at_rank S.args.s.now S.args.readers S.args.pairs S.args.n S.args.p S.requires.0 (λ h e.
-    ⊎_elim
-    (λ w. w.4.left (w.3.ensures ∙ w.2.ensures ∙ ap (λ k. get_or S.args.s.now (S.args.readers + k) 0) rank ∙ e))
-    (λ w. omega (arith, rank, w.left))
-    m.if-rank-n.branch)
+    elim m.if-rank-n.branch [
+      lts.then-rank-n+else-index-p w ↦
+        w.if-index-p.false (w.index.ensures ∙ w.word_at-then-rank-n.ensures ∙ ap (λ k. get_or S.args.s.now (S.args.readers + k) 0) rank ∙ e)
+    | lts.else-rank-n w ↦ omega (arith, rank, w.if-rank-n.false)
+    ])
     in
-    rw (c.before.before.set_at-2.ensures, c.before.before.before.word-2.ensures, c.before.before.before.before.before.before.before.set_at.ensures, c.before.before.before.before.before.before.before.before.word.ensures)
+    rw (c.set_at-2.ensures, c.word-2.ensures, c.set_at.ensures, c.word.ensures)
     (met_stored S.args.s.now S.args.readers S.args.pairs S.args.n S.requires.0 S.args.p S.requires.1 new)
 
 pub meet_spec : {M : Type 1} → statement M
