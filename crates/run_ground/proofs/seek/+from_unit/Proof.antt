@@ -37,24 +37,24 @@ from_unit_below t =
     and 1 from_unit_kinds.ps (falls 1 from_unit_kinds.ps ◌<◌ μ_from_unit t) from_unit.Pre
 
 -- Before the i-th argument of a compound.
-abbrev from_unit_Inv_loop2 : from_unit_lts.invariant-loop2
+abbrev from_unit_Inv_loop2 : from_unit_lts.invariant-loop-i
 from_unit_Inv_loop2 s₀ values marks links stamp w state found₀ t tag p k i₀ s found i =
     calls.Walking values marks links stamp s₀ t found₀ s p k i found × (length s ≡ length s₀)
 
-abbrev from_unit_μ_loop2 : from_unit_lts.decreases-loop2
+abbrev from_unit_μ_loop2 : from_unit_lts.decreases-loop-i
 from_unit_μ_loop2 s₀ values marks links stamp w state found₀ t tag p k i₀ s found i = k - i
 
 -- Before a turn.
-abbrev from_unit_Inv_loop : from_unit_lts.invariant-loop
+abbrev from_unit_Inv_loop : from_unit_lts.invariant-loop-s
 from_unit_Inv_loop s₀ values marks links stamp w state found₀ t₀ s found t =
     calls.Going values marks links stamp s₀ w state s t found
     × (weight (was_entered stamp) s marks links t ≤ weight (was_entered stamp) s₀ marks links w) × (length s ≡ length s₀)
 
-abbrev from_unit_μ_loop : from_unit_lts.decreases-loop
+abbrev from_unit_μ_loop : from_unit_lts.decreases-loop-s
 from_unit_μ_loop s₀ values marks links stamp w state found₀ t₀ s found t = weight (was_entered stamp) s marks links t
 
-pub +from-unit-spec : {M : Type 1} → statement M
-+from-unit-spec = close μ_from_unit λ t.
+pub +from_unit_spec : {M : Type 1} → statement M
++from_unit_spec = close μ_from_unit λ t.
     from_unit_lts.spec (
       index_Reads.Asked,
       index_Reads.Learnt,
@@ -76,240 +76,210 @@ pub +from-unit-spec : {M : Type 1} → statement M
       enters_reads.Learnt,
     )
     (from_unit_at t) from_unit.Post from_unit_Inv_loop2 from_unit_μ_loop2 from_unit_Inv_loop from_unit_μ_loop
-    -- loop-holds
+    -- loop-s-init
     (λ c.
-    let S = c.before in let a = S.args in let s₀ = a.s.now in let vs = a.values in let ms = a.marks in let ls = a.links in let st = a.stamp in
+    let a = c.args in let s₀ = a.s.now in let vs = a.values in let ms = a.marks in let ls = a.links in let st = a.stamp in
     (calls.going_first vs ms ls st s₀ a.w a.state, omega arith, refl))
-    -- index-requires
+    -- index-p-requires
     (λ c κs.
     search rules)
-    -- count-requires
+    -- count-k-requires
     (λ c κs.
-    let If1 = c.before in let Index = If1.before in let Loop = Index.before in let S = Loop.before.before in let a = S.args in
-    let s₀ = a.s.now in let vs = a.values in let ms = a.marks in let ls = a.links in let st = a.stamp in let s = Loop.loop.s in
-    let u = Loop.loop.t in let f = Loop.loop.found in let going = Loop.loop.invariant.0 in
-    let asks = calls.going_asks vs ms ls st s₀ a.w a.state s u f going S.requires.1 in let p = Index.index.result in
-    let at = Index.index.ensures in
-    calls.count_at vs ms ls st s u f If1.if1.true p at asks)
-    -- loop2-holds
+    let a = c.args in
+    let s₀ = a.s.now in let vs = a.values in let ms = a.marks in let ls = a.links in let st = a.stamp in let s = c.loop-s.s in
+    let u = c.loop-s.t in let f = c.loop-s.found in let going = c.loop-s.invariant.0 in
+    let asks = calls.going_asks vs ms ls st s₀ a.w a.state s u f going c.requires.1 in let p = c.index-p.result in
+    let at = c.index-p.ensures in
+    calls.count_at vs ms ls st s u f c.if-tag-eq-COMPOUND.true p at asks)
+    -- loop-i-init
     (λ c.
-    let If1 = c.before.before in let Index = If1.before in let Loop = Index.before in let S = Loop.before.before in let a = S.args in
-    let vs = a.values in let ms = a.marks in let ls = a.links in let st = a.stamp in let s = Loop.loop.s in let u = Loop.loop.t in
-    let f = Loop.loop.found in let p = Index.index.result in let at = Index.index.ensures in let k = c.count.result in
-    (calls.walking_first vs ms ls st s u f If1.if1.true p at k c.count.ensures, refl))
-    -- argument-requires
+    let a = c.args in
+    let vs = a.values in let ms = a.marks in let ls = a.links in let st = a.stamp in let s = c.loop-s.s in let u = c.loop-s.t in
+    let f = c.loop-s.found in let p = c.index-p.result in let at = c.index-p.ensures in let k = c.count-k.result in
+    (calls.walking_first vs ms ls st s u f c.if-tag-eq-COMPOUND.true p at k c.count-k.ensures, refl))
+    -- argument-a-requires
     (λ c κs.
-    let Loop2Test = c.before in let Loop2 = Loop2Test.before in let Count = Loop2.before in let Index = Count.before.before.before in
-    let Loop = Index.before in let S = Loop.before.before in let a = S.args in let s₀ = a.s.now in let vs = a.values in let ms = a.marks in
-    let ls = a.links in let st = a.stamp in let s = Loop.loop.s in let u = Loop.loop.t in let f = Loop.loop.found in
-    let going = Loop.loop.invariant.0 in let asks = calls.going_asks vs ms ls st s₀ a.w a.state s u f going S.requires.1 in
-    let p = Index.index.result in let k = Count.count.result in let s₂ = Loop2.loop2.s in let i = Loop2.loop2.i in
-    let m = Loop2.loop2.found in let walking = Loop2.loop2.invariant.0 in let low : i ≤ k = omega (arith, Loop2Test.loop2-test.true) in
+    let a = c.args in let s₀ = a.s.now in let vs = a.values in let ms = a.marks in
+    let ls = a.links in let st = a.stamp in let s = c.loop-s.s in let u = c.loop-s.t in let f = c.loop-s.found in
+    let going = c.loop-s.invariant.0 in let asks = calls.going_asks vs ms ls st s₀ a.w a.state s u f going c.requires.1 in
+    let p = c.index-p.result in let k = c.count-k.result in let s₂ = c.loop-i.s in let i = c.loop-i.i in
+    let m = c.loop-i.found in let walking = c.loop-i.invariant.0 in let low : i ≤ k = omega (arith, c.loop-i-test.true) in
     calls.argument_at vs ms ls st s u f s₂ p k i m walking low asks)
-    -- from-unit-requires
+    -- from_unit-found-requires
     (λ c κs.
-    let Argument = c.before in let Loop2Test = Argument.before.before in let Loop2 = Loop2Test.before in let Count = Loop2.before in
-    let Index = Count.before.before.before in let Loop = Index.before in let S = Loop.before.before in let a = S.args in let s₀ = a.s.now in
-    let vs = a.values in let ms = a.marks in let ls = a.links in let st = a.stamp in let s = Loop.loop.s in let u = Loop.loop.t in
-    let f = Loop.loop.found in let going = Loop.loop.invariant.0 in
-    let asks = calls.going_asks vs ms ls st s₀ a.w a.state s u f going S.requires.1 in let p = Index.index.result in
-    let k = Count.count.result in let s₂ = Loop2.loop2.s in let i = Loop2.loop2.i in let m = Loop2.loop2.found in
-    let walking = Loop2.loop2.invariant.0 in let low : i ≤ k = omega (arith, Loop2Test.loop2-test.true) in let b = Argument.argument.result in
-    let reads = Argument.argument.ensures in let g = was_entered st in (
-      lighter (weight g s₂ ms ls b) (weight g s ms ls u) (weight g s₀ ms ls a.w) t S.requires.0 Loop.loop.invariant.1
+    let a = c.args in let s₀ = a.s.now in
+    let vs = a.values in let ms = a.marks in let ls = a.links in let st = a.stamp in let s = c.loop-s.s in let u = c.loop-s.t in
+    let f = c.loop-s.found in let going = c.loop-s.invariant.0 in
+    let asks = calls.going_asks vs ms ls st s₀ a.w a.state s u f going c.requires.1 in let p = c.index-p.result in
+    let k = c.count-k.result in let s₂ = c.loop-i.s in let i = c.loop-i.i in let m = c.loop-i.found in
+    let walking = c.loop-i.invariant.0 in let low : i ≤ k = omega (arith, c.loop-i-test.true) in let b = c.argument-a.result in
+    let reads = c.argument-a.ensures in let g = was_entered st in (
+      lighter (weight g s₂ ms ls b) (weight g s ms ls u) (weight g s₀ ms ls a.w) t c.requires.0 c.loop-s.invariant.1
           (calls.argument_lighter vs ms ls st s u f s₂ p k i m walking low b reads asks),
       calls.argument_asks vs ms ls st s u f s₂ p k i m walking low b reads asks,
     ))
     -- settle-requires
     (λ c κs.
-    let FromUnit = c.before.before.before in let Argument = FromUnit.before.before in let Loop2Test = Argument.before.before in
-    let Loop2 = Loop2Test.before in let Count = Loop2.before in let Index = Count.before.before.before in let Loop = Index.before in
-    let S = Loop.before.before in let a = S.args in let s₀ = a.s.now in let vs = a.values in let ms = a.marks in let ls = a.links in
-    let st = a.stamp in let s = Loop.loop.s in let u = Loop.loop.t in let f = Loop.loop.found in let going = Loop.loop.invariant.0 in
-    let asks = calls.going_asks vs ms ls st s₀ a.w a.state s u f going S.requires.1 in let p = Index.index.result in
-    let k = Count.count.result in let s₂ = Loop2.loop2.s in let i = Loop2.loop2.i in let m = Loop2.loop2.found in
-    let walking = Loop2.loop2.invariant.0 in let low : i ≤ k = omega (arith, Loop2Test.loop2-test.true) in let b = Argument.argument.result in
-    let reads = Argument.argument.ensures in let s₃ = FromUnit.from-unit.new.0 in let r = FromUnit.from-unit.result in
-    let tell = FromUnit.from-unit.ensures in
+    let a = c.args in let s₀ = a.s.now in let vs = a.values in let ms = a.marks in let ls = a.links in
+    let st = a.stamp in let s = c.loop-s.s in let u = c.loop-s.t in let f = c.loop-s.found in let going = c.loop-s.invariant.0 in
+    let asks = calls.going_asks vs ms ls st s₀ a.w a.state s u f going c.requires.1 in let p = c.index-p.result in
+    let k = c.count-k.result in let s₂ = c.loop-i.s in let i = c.loop-i.i in let m = c.loop-i.found in
+    let walking = c.loop-i.invariant.0 in let low : i ≤ k = omega (arith, c.loop-i-test.true) in let b = c.argument-a.result in
+    let reads = c.argument-a.ensures in let s₃ = c.from_unit-found.new.s in let r = c.from_unit-found.result in
+    let tell = c.from_unit-found.ensures in
     calls.settle_asks vs ms ls st s u f s₂ p k i m walking low b reads s₃ r tell asks)
     -- ended-requires
     (λ c κs.
     search rules)
-    -- same-length
+    -- shape_of-s-then-ended
     (λ c.
-    let Settle = c.before.before.before.before in let FromUnit = Settle.before.before.before.before in
-    let Loop2 = FromUnit.before.before.before.before.before in let Loop = Loop2.before.before.before.before.before in
-    Settle.settle.auto.0 ∙ FromUnit.from-unit.auto.0 ∙ Loop2.loop2.invariant.1 ∙ Loop.loop.invariant.2)
-    -- returns
+    c.settle.auto.s ∙ c.from_unit-found.auto.s ∙ c.loop-i.invariant.1 ∙ c.loop-s.invariant.2)
+    -- returns-then-ended
     (λ c.
-    let Ended = c.before in let Settle = Ended.before.before.before in let FromUnit = Settle.before.before.before.before in
-    let Argument = FromUnit.before.before in let Loop2Test = Argument.before.before in let Loop2 = Loop2Test.before in
-    let Count = Loop2.before in let Index = Count.before.before.before in let Loop = Index.before in let S = Loop.before.before in
-    let a = S.args in let s₀ = a.s.now in let vs = a.values in let ms = a.marks in let ls = a.links in let st = a.stamp in
-    let s = Loop.loop.s in let u = Loop.loop.t in let f = Loop.loop.found in let going = Loop.loop.invariant.0 in let p = Index.index.result in
-    let k = Count.count.result in let s₂ = Loop2.loop2.s in let i = Loop2.loop2.i in let m = Loop2.loop2.found in
-    let walking = Loop2.loop2.invariant.0 in let low : i ≤ k = omega (arith, Loop2Test.loop2-test.true) in let b = Argument.argument.result in
-    let reads = Argument.argument.ensures in let s₃ = FromUnit.from-unit.new.0 in let r = FromUnit.from-unit.result in
-    let tell = FromUnit.from-unit.ensures in let s₄ = Settle.settle.new.0 in
+    let a = c.args in let s₀ = a.s.now in let vs = a.values in let ms = a.marks in let ls = a.links in let st = a.stamp in
+    let s = c.loop-s.s in let u = c.loop-s.t in let f = c.loop-s.found in let going = c.loop-s.invariant.0 in let p = c.index-p.result in
+    let k = c.count-k.result in let s₂ = c.loop-i.s in let i = c.loop-i.i in let m = c.loop-i.found in
+    let walking = c.loop-i.invariant.0 in let low : i ≤ k = omega (arith, c.loop-i-test.true) in let b = c.argument-a.result in
+    let reads = c.argument-a.ensures in let s₃ = c.from_unit-found.new.s in let r = c.from_unit-found.result in
+    let tell = c.from_unit-found.ensures in let s₄ = c.settle.new.s in
     calls.going_tells vs ms ls st s₀ a.w a.state s u f going s₄ r
-    (calls.walking_ended vs ms ls st s u f s₂ p k i m walking low b reads s₃ r tell s₄ Settle.settle.ensures (eqb-true (r % 4) 3 (sym Ended.ended.ensures ∙ c.if2.true))))
-    -- add_i
+    (calls.walking_ended vs ms ls st s u f s₂ p k i m walking low b reads s₃ r tell s₄ c.settle.ensures (eqb-true (r % 4) 3 (sym c.ended.ensures ∙ c.if-ended.true))))
+    -- overflow_add-i
     (λ c.
-    let Loop2Test = c.before.before.before.before.before.before.before.before.before.before.before.before in
-    let Loop2 = Loop2Test.before in let Count = Loop2.before in let Index = Count.before.before.before in let Loop = Index.before in
-    let S = Loop.before.before in let a = S.args in let s₀ = a.s.now in let vs = a.values in let ms = a.marks in let ls = a.links in
-    let st = a.stamp in let s = Loop.loop.s in let u = Loop.loop.t in let f = Loop.loop.found in let going = Loop.loop.invariant.0 in
-    let asks = calls.going_asks vs ms ls st s₀ a.w a.state s u f going S.requires.1 in let p = Index.index.result in
-    let k = Count.count.result in let s₂ = Loop2.loop2.s in let i = Loop2.loop2.i in let m = Loop2.loop2.found in
-    let walking = Loop2.loop2.invariant.0 in
-    omega (arith, Loop2Test.loop2-test.true, calls.few_of vs ms ls st s u f s₂ p k i m walking asks))
-    -- loop2-less
+    let a = c.args in let s₀ = a.s.now in let vs = a.values in let ms = a.marks in let ls = a.links in
+    let st = a.stamp in let s = c.loop-s.s in let u = c.loop-s.t in let f = c.loop-s.found in let going = c.loop-s.invariant.0 in
+    let asks = calls.going_asks vs ms ls st s₀ a.w a.state s u f going c.requires.1 in let p = c.index-p.result in
+    let k = c.count-k.result in let s₂ = c.loop-i.s in let i = c.loop-i.i in let m = c.loop-i.found in
+    let walking = c.loop-i.invariant.0 in
+    omega (arith, c.loop-i-test.true, calls.few_of vs ms ls st s u f s₂ p k i m walking asks))
+    -- loop-i-smaller
     (λ c.
-    let Loop2Test = c.before.before.before.before.before.before.before.before.before.before.before.before in
-    omega (arith, Loop2Test.loop2-test.true))
-    -- loop2-again
+    omega (arith, c.loop-i-test.true))
+    -- loop-i-preserved
     (λ c.
-    let Ended = c.before in let Settle = Ended.before.before.before in let FromUnit = Settle.before.before.before.before in
-    let Argument = FromUnit.before.before in let Loop2Test = Argument.before.before in let Loop2 = Loop2Test.before in
-    let Count = Loop2.before in let Index = Count.before.before.before in let Loop = Index.before in let S = Loop.before.before in
-    let a = S.args in let vs = a.values in let ms = a.marks in let ls = a.links in let st = a.stamp in let s = Loop.loop.s in
-    let u = Loop.loop.t in let f = Loop.loop.found in let p = Index.index.result in let k = Count.count.result in let s₂ = Loop2.loop2.s in
-    let i = Loop2.loop2.i in let m = Loop2.loop2.found in let walking = Loop2.loop2.invariant.0 in
-    let low : i ≤ k = omega (arith, Loop2Test.loop2-test.true) in let b = Argument.argument.result in let reads = Argument.argument.ensures in
-    let s₃ = FromUnit.from-unit.new.0 in let r = FromUnit.from-unit.result in let tell = FromUnit.from-unit.ensures in
-    let s₄ = Settle.settle.new.0 in (
-      calls.walking_next vs ms ls st s u f s₂ p k i m walking low b reads s₃ r tell s₄ Settle.settle.ensures (not_three r (sym Ended.ended.ensures ∙ c.if2.false)),
-      Settle.settle.auto.0 ∙ FromUnit.from-unit.auto.0 ∙ Loop2.loop2.invariant.1,
+    let a = c.args in let vs = a.values in let ms = a.marks in let ls = a.links in let st = a.stamp in let s = c.loop-s.s in
+    let u = c.loop-s.t in let f = c.loop-s.found in let p = c.index-p.result in let k = c.count-k.result in let s₂ = c.loop-i.s in
+    let i = c.loop-i.i in let m = c.loop-i.found in let walking = c.loop-i.invariant.0 in
+    let low : i ≤ k = omega (arith, c.loop-i-test.true) in let b = c.argument-a.result in let reads = c.argument-a.ensures in
+    let s₃ = c.from_unit-found.new.s in let r = c.from_unit-found.result in let tell = c.from_unit-found.ensures in
+    let s₄ = c.settle.new.s in (
+      calls.walking_next vs ms ls st s u f s₂ p k i m walking low b reads s₃ r tell s₄ c.settle.ensures (not_three r (sym c.ended.ensures ∙ c.if-ended.false)),
+      c.settle.auto.s ∙ c.from_unit-found.auto.s ∙ c.loop-i.invariant.1,
     ))
-    -- same_length_2
+    -- shape_of-s-then-k-i
     (λ c.
-    let Loop2 = c.before.before in let Loop = Loop2.before.before.before.before.before in
-    Loop2.loop2.invariant.1 ∙ Loop.loop.invariant.2)
-    -- returns_2
+    c.loop-i.invariant.1 ∙ c.loop-s.invariant.2)
+    -- returns-then-k-i
     (λ c.
-    let Loop2 = c.before.before in let Count = Loop2.before in let Index = Count.before.before.before in let Loop = Index.before in
-    let S = Loop.before.before in let a = S.args in let s₀ = a.s.now in let vs = a.values in let ms = a.marks in let ls = a.links in
-    let st = a.stamp in let s = Loop.loop.s in let u = Loop.loop.t in let f = Loop.loop.found in let going = Loop.loop.invariant.0 in
-    let p = Index.index.result in let k = Count.count.result in let s₂ = Loop2.loop2.s in let i = Loop2.loop2.i in
-    let m = Loop2.loop2.found in let walking = Loop2.loop2.invariant.0 in
-    calls.going_tells vs ms ls st s₀ a.w a.state s u f going s₂ m (calls.none_tells vs ms ls st s u f s₂ p k i m walking c.if3.true))
-    -- argument-requires-2
+    let a = c.args in let s₀ = a.s.now in let vs = a.values in let ms = a.marks in let ls = a.links in
+    let st = a.stamp in let s = c.loop-s.s in let u = c.loop-s.t in let f = c.loop-s.found in let going = c.loop-s.invariant.0 in
+    let p = c.index-p.result in let k = c.count-k.result in let s₂ = c.loop-i.s in let i = c.loop-i.i in
+    let m = c.loop-i.found in let walking = c.loop-i.invariant.0 in
+    calls.going_tells vs ms ls st s₀ a.w a.state s u f going s₂ m (calls.none_tells vs ms ls st s u f s₂ p k i m walking c.if-k-i.true))
+    -- argument-t-requires
     (λ c κs.
-    let If3 = c.before in let Loop2 = If3.before.before in let Count = Loop2.before in let Index = Count.before.before.before in
-    let Loop = Index.before in let S = Loop.before.before in let a = S.args in let s₀ = a.s.now in let vs = a.values in let ms = a.marks in
-    let ls = a.links in let st = a.stamp in let s = Loop.loop.s in let u = Loop.loop.t in let f = Loop.loop.found in
-    let going = Loop.loop.invariant.0 in let asks = calls.going_asks vs ms ls st s₀ a.w a.state s u f going S.requires.1 in
-    let p = Index.index.result in let k = Count.count.result in let s₂ = Loop2.loop2.s in let i = Loop2.loop2.i in
-    let m = Loop2.loop2.found in let walking = Loop2.loop2.invariant.0 in let low2 : i ≤ k = omega (arith, If3.if3.false) in
+    let a = c.args in let s₀ = a.s.now in let vs = a.values in let ms = a.marks in
+    let ls = a.links in let st = a.stamp in let s = c.loop-s.s in let u = c.loop-s.t in let f = c.loop-s.found in
+    let going = c.loop-s.invariant.0 in let asks = calls.going_asks vs ms ls st s₀ a.w a.state s u f going c.requires.1 in
+    let p = c.index-p.result in let k = c.count-k.result in let s₂ = c.loop-i.s in let i = c.loop-i.i in
+    let m = c.loop-i.found in let walking = c.loop-i.invariant.0 in let low2 : i ≤ k = omega (arith, c.if-k-i.false) in
     calls.argument_at vs ms ls st s u f s₂ p k i m walking low2 asks)
-    -- loop-less
+    -- loop-s-smaller-then-tag-eq-COMPOUND
     (λ c.
-    let If3 = c.before.before in let Loop2 = If3.before.before in let Count = Loop2.before in let Index = Count.before.before.before in
-    let Loop = Index.before in let S = Loop.before.before in let a = S.args in let s₀ = a.s.now in let vs = a.values in let ms = a.marks in
-    let ls = a.links in let st = a.stamp in let s = Loop.loop.s in let u = Loop.loop.t in let f = Loop.loop.found in
-    let going = Loop.loop.invariant.0 in let asks = calls.going_asks vs ms ls st s₀ a.w a.state s u f going S.requires.1 in
-    let p = Index.index.result in let k = Count.count.result in let s₂ = Loop2.loop2.s in let i = Loop2.loop2.i in
-    let m = Loop2.loop2.found in let walking = Loop2.loop2.invariant.0 in let low2 : i ≤ k = omega (arith, If3.if3.false) in
-    let b2 = c.argument2.result in let reads2 = c.argument2.ensures in
+    let a = c.args in let s₀ = a.s.now in let vs = a.values in let ms = a.marks in
+    let ls = a.links in let st = a.stamp in let s = c.loop-s.s in let u = c.loop-s.t in let f = c.loop-s.found in
+    let going = c.loop-s.invariant.0 in let asks = calls.going_asks vs ms ls st s₀ a.w a.state s u f going c.requires.1 in
+    let p = c.index-p.result in let k = c.count-k.result in let s₂ = c.loop-i.s in let i = c.loop-i.i in
+    let m = c.loop-i.found in let walking = c.loop-i.invariant.0 in let low2 : i ≤ k = omega (arith, c.if-k-i.false) in
+    let b2 = c.argument-t.result in let reads2 = c.argument-t.ensures in
     calls.argument_lighter vs ms ls st s u f s₂ p k i m walking low2 b2 reads2 asks)
-    -- loop-again
+    -- loop-s-preserved-then-tag-eq-COMPOUND
     (λ c.
-    let If3 = c.before.before in let Loop2Test = If3.before in let Loop2 = Loop2Test.before in let Count = Loop2.before in
-    let Index = Count.before.before.before in let Loop = Index.before in let S = Loop.before.before in let a = S.args in let s₀ = a.s.now in
-    let vs = a.values in let ms = a.marks in let ls = a.links in let st = a.stamp in let s = Loop.loop.s in let u = Loop.loop.t in
-    let f = Loop.loop.found in let going = Loop.loop.invariant.0 in
-    let asks = calls.going_asks vs ms ls st s₀ a.w a.state s u f going S.requires.1 in let p = Index.index.result in
-    let k = Count.count.result in let s₂ = Loop2.loop2.s in let i = Loop2.loop2.i in let m = Loop2.loop2.found in
-    let walking = Loop2.loop2.invariant.0 in let low2 : i ≤ k = omega (arith, If3.if3.false) in let b2 = c.argument2.result in
-    let reads2 = c.argument2.ensures in let g = was_entered st in (
+    let a = c.args in let s₀ = a.s.now in
+    let vs = a.values in let ms = a.marks in let ls = a.links in let st = a.stamp in let s = c.loop-s.s in let u = c.loop-s.t in
+    let f = c.loop-s.found in let going = c.loop-s.invariant.0 in
+    let asks = calls.going_asks vs ms ls st s₀ a.w a.state s u f going c.requires.1 in let p = c.index-p.result in
+    let k = c.count-k.result in let s₂ = c.loop-i.s in let i = c.loop-i.i in let m = c.loop-i.found in
+    let walking = c.loop-i.invariant.0 in let low2 : i ≤ k = omega (arith, c.if-k-i.false) in let b2 = c.argument-t.result in
+    let reads2 = c.argument-t.ensures in let g = was_entered st in (
       calls.going_on vs ms ls st s₀ a.w a.state s u f going s₂ b2 m
-          (calls.last_going vs ms ls st s u f s₂ p k i m walking low2 b2 reads2 (λ l. omega (arith, Loop2Test.loop2-test.false))),
-      no_heavier (weight g s₂ ms ls b2) (weight g s ms ls u) (weight g s₀ ms ls a.w) Loop.loop.invariant.1
+          (calls.last_going vs ms ls st s u f s₂ p k i m walking low2 b2 reads2 (λ l. omega (arith, c.loop-i-test.false))),
+      no_heavier (weight g s₂ ms ls b2) (weight g s ms ls u) (weight g s₀ ms ls a.w) c.loop-s.invariant.1
           (calls.argument_lighter vs ms ls st s u f s₂ p k i m walking low2 b2 reads2 asks),
-      Loop2.loop2.invariant.1 ∙ Loop.loop.invariant.2,
+      c.loop-i.invariant.1 ∙ c.loop-s.invariant.2,
     ))
-    -- same_length_3
+    -- shape_of-s-then-tag-gt-READER
     (λ c.
-    let Loop = c.before.before.before in
-    Loop.loop.invariant.2)
-    -- returns_3
+    c.loop-s.invariant.2)
+    -- returns-then-tag-gt-READER
     (λ c.
-    let If1 = c.before in let Loop = If1.before.before in let S = Loop.before.before in let a = S.args in let s₀ = a.s.now in
-    let vs = a.values in let ms = a.marks in let ls = a.links in let st = a.stamp in let s = Loop.loop.s in let u = Loop.loop.t in
-    let f = Loop.loop.found in let going = Loop.loop.invariant.0 in
-    calls.going_tells vs ms ls st s₀ a.w a.state s u f going s f (calls.constant_tells vs ms ls st s u f If1.if1.false c.if4.true))
-    -- word-at-requires
+    let a = c.args in let s₀ = a.s.now in
+    let vs = a.values in let ms = a.marks in let ls = a.links in let st = a.stamp in let s = c.loop-s.s in let u = c.loop-s.t in
+    let f = c.loop-s.found in let going = c.loop-s.invariant.0 in
+    calls.going_tells vs ms ls st s₀ a.w a.state s u f going s f (calls.constant_tells vs ms ls st s u f c.if-tag-eq-COMPOUND.false c.if-tag-gt-READER.true))
+    -- word_at-v-requires
     (λ c κs.
-    let If4 = c.before in let If1 = If4.before in let Index = If1.before in let Loop = Index.before in let S = Loop.before.before in
-    let a = S.args in let s₀ = a.s.now in let vs = a.values in let ms = a.marks in let ls = a.links in let st = a.stamp in
-    let s = Loop.loop.s in let u = Loop.loop.t in let f = Loop.loop.found in let going = Loop.loop.invariant.0 in
-    let asks = calls.going_asks vs ms ls st s₀ a.w a.state s u f going S.requires.1 in let p = Index.index.result in
-    let at = Index.index.ensures in
-    calls.value_at vs ms ls st s u f If1.if1.false If4.if4.false p at asks)
-    -- at-unassigned-requires
+    let a = c.args in let s₀ = a.s.now in let vs = a.values in let ms = a.marks in let ls = a.links in let st = a.stamp in
+    let s = c.loop-s.s in let u = c.loop-s.t in let f = c.loop-s.found in let going = c.loop-s.invariant.0 in
+    let asks = calls.going_asks vs ms ls st s₀ a.w a.state s u f going c.requires.1 in let p = c.index-p.result in
+    let at = c.index-p.ensures in
+    calls.value_at vs ms ls st s u f c.if-tag-eq-COMPOUND.false c.if-tag-gt-READER.false p at asks)
+    -- at_unassigned-requires
     (λ c κs.
-    let If5 = c.before in let WordAt = If5.before in let If4 = WordAt.before.before in let If1 = If4.before in let Index = If1.before in
-    let Loop = Index.before in let S = Loop.before.before in let a = S.args in let s₀ = a.s.now in let vs = a.values in let ms = a.marks in
-    let ls = a.links in let st = a.stamp in let s = Loop.loop.s in let u = Loop.loop.t in let f = Loop.loop.found in
-    let going = Loop.loop.invariant.0 in let asks = calls.going_asks vs ms ls st s₀ a.w a.state s u f going S.requires.1 in
-    let p = Index.index.result in let at = Index.index.ensures in let v = WordAt.word_at.result in let read = WordAt.word_at.ensures in
-    calls.unassigned_asks vs ms ls st s u f If1.if1.false If4.if4.false p at v read If5.if5.true asks)
-    -- same_length_4
+    let a = c.args in let s₀ = a.s.now in let vs = a.values in let ms = a.marks in
+    let ls = a.links in let st = a.stamp in let s = c.loop-s.s in let u = c.loop-s.t in let f = c.loop-s.found in
+    let going = c.loop-s.invariant.0 in let asks = calls.going_asks vs ms ls st s₀ a.w a.state s u f going c.requires.1 in
+    let p = c.index-p.result in let at = c.index-p.ensures in let v = c.word_at-v.result in let read = c.word_at-v.ensures in
+    calls.unassigned_asks vs ms ls st s u f c.if-tag-eq-COMPOUND.false c.if-tag-gt-READER.false p at v read c.if-v-eq0.true asks)
+    -- shape_of-s-then-v-eq0
     (λ c.
-    let AtUnassigned = c.before.before in let Loop = AtUnassigned.before.before.before.before.before.before.before.before in
-    AtUnassigned.at-unassigned.auto.0 ∙ Loop.loop.invariant.2)
-    -- returns_4
+    c.at_unassigned.auto.s ∙ c.loop-s.invariant.2)
+    -- returns-then-v-eq0
     (λ c.
-    let AtUnassigned = c.before.before in let If5 = AtUnassigned.before.before in let WordAt = If5.before in let If4 = WordAt.before.before in
-    let If1 = If4.before in let Index = If1.before in let Loop = Index.before in let S = Loop.before.before in let a = S.args in
-    let s₀ = a.s.now in let vs = a.values in let ms = a.marks in let ls = a.links in let st = a.stamp in let s = Loop.loop.s in
-    let u = Loop.loop.t in let f = Loop.loop.found in let going = Loop.loop.invariant.0 in let p = Index.index.result in
-    let at = Index.index.ensures in let v = WordAt.word_at.result in let read = WordAt.word_at.ensures in
-    calls.going_tells vs ms ls st s₀ a.w a.state s u f going AtUnassigned.at-unassigned.new.0 AtUnassigned.at-unassigned.result
-    (calls.unassigned_tells vs ms ls st s u f If1.if1.false If4.if4.false p at v read If5.if5.true AtUnassigned.at-unassigned.new.0 AtUnassigned.at-unassigned.result
-    AtUnassigned.at-unassigned.ensures))
+    let a = c.args in
+    let s₀ = a.s.now in let vs = a.values in let ms = a.marks in let ls = a.links in let st = a.stamp in let s = c.loop-s.s in
+    let u = c.loop-s.t in let f = c.loop-s.found in let going = c.loop-s.invariant.0 in let p = c.index-p.result in
+    let at = c.index-p.ensures in let v = c.word_at-v.result in let read = c.word_at-v.ensures in
+    calls.going_tells vs ms ls st s₀ a.w a.state s u f going c.at_unassigned.new.s c.at_unassigned.result
+    (calls.unassigned_tells vs ms ls st s u f c.if-tag-eq-COMPOUND.false c.if-tag-gt-READER.false p at v read c.if-v-eq0.true c.at_unassigned.new.s c.at_unassigned.result
+    c.at_unassigned.ensures))
     -- enters-requires
     (λ c κs.
-    let If4 = c.before.before.before.before in let If1 = If4.before in let Index = If1.before in let Loop = Index.before in
-    let S = Loop.before.before in let a = S.args in let s₀ = a.s.now in let vs = a.values in let ms = a.marks in let ls = a.links in
-    let st = a.stamp in let s = Loop.loop.s in let u = Loop.loop.t in let f = Loop.loop.found in let going = Loop.loop.invariant.0 in
-    let asks = calls.going_asks vs ms ls st s₀ a.w a.state s u f going S.requires.1 in let p = Index.index.result in
-    let at = Index.index.ensures in
-    calls.mark_at vs ms ls st s u f If1.if1.false If4.if4.false p at asks)
-    -- loop-less-2
+    let a = c.args in let s₀ = a.s.now in let vs = a.values in let ms = a.marks in let ls = a.links in
+    let st = a.stamp in let s = c.loop-s.s in let u = c.loop-s.t in let f = c.loop-s.found in let going = c.loop-s.invariant.0 in
+    let asks = calls.going_asks vs ms ls st s₀ a.w a.state s u f going c.requires.1 in let p = c.index-p.result in
+    let at = c.index-p.ensures in
+    calls.mark_at vs ms ls st s u f c.if-tag-eq-COMPOUND.false c.if-tag-gt-READER.false p at asks)
+    -- loop-s-smaller
     (λ c.
-    let Enters = c.before.before.before in let If5 = Enters.before.before in let WordAt = If5.before in let If4 = WordAt.before.before in
-    let If1 = If4.before in let Index = If1.before in let Loop = Index.before in let S = Loop.before.before in let a = S.args in
-    let s₀ = a.s.now in let vs = a.values in let ms = a.marks in let ls = a.links in let st = a.stamp in let s = Loop.loop.s in
-    let u = Loop.loop.t in let f = Loop.loop.found in let going = Loop.loop.invariant.0 in
-    let asks = calls.going_asks vs ms ls st s₀ a.w a.state s u f going S.requires.1 in let p = Index.index.result in
-    let at = Index.index.ensures in let v = WordAt.word_at.result in let read = WordAt.word_at.ensures in let s₅ = Enters.enters.new.0 in
-    calls.new_lighter vs ms ls st s u f If1.if1.false If4.if4.false p at v read If5.if5.false s₅ (rw c.if6.true at Enters.enters.ensures) asks)
-    -- loop-again-2
+    let a = c.args in
+    let s₀ = a.s.now in let vs = a.values in let ms = a.marks in let ls = a.links in let st = a.stamp in let s = c.loop-s.s in
+    let u = c.loop-s.t in let f = c.loop-s.found in let going = c.loop-s.invariant.0 in
+    let asks = calls.going_asks vs ms ls st s₀ a.w a.state s u f going c.requires.1 in let p = c.index-p.result in
+    let at = c.index-p.ensures in let v = c.word_at-v.result in let read = c.word_at-v.ensures in let s₅ = c.enters.new.s in
+    calls.new_lighter vs ms ls st s u f c.if-tag-eq-COMPOUND.false c.if-tag-gt-READER.false p at v read c.if-v-eq0.false s₅ (rw c.if-enters.true at c.enters.ensures) asks)
+    -- loop-s-preserved
     (λ c.
-    let Enters = c.before.before.before in let If5 = Enters.before.before in let WordAt = If5.before in let If4 = WordAt.before.before in
-    let If1 = If4.before in let Index = If1.before in let Loop = Index.before in let S = Loop.before.before in let a = S.args in
-    let s₀ = a.s.now in let vs = a.values in let ms = a.marks in let ls = a.links in let st = a.stamp in let s = Loop.loop.s in
-    let u = Loop.loop.t in let f = Loop.loop.found in let going = Loop.loop.invariant.0 in
-    let asks = calls.going_asks vs ms ls st s₀ a.w a.state s u f going S.requires.1 in let p = Index.index.result in
-    let at = Index.index.ensures in let v = WordAt.word_at.result in let read = WordAt.word_at.ensures in let s₅ = Enters.enters.new.0 in
+    let a = c.args in
+    let s₀ = a.s.now in let vs = a.values in let ms = a.marks in let ls = a.links in let st = a.stamp in let s = c.loop-s.s in
+    let u = c.loop-s.t in let f = c.loop-s.found in let going = c.loop-s.invariant.0 in
+    let asks = calls.going_asks vs ms ls st s₀ a.w a.state s u f going c.requires.1 in let p = c.index-p.result in
+    let at = c.index-p.ensures in let v = c.word_at-v.result in let read = c.word_at-v.ensures in let s₅ = c.enters.new.s in
     let g = was_entered st in (
       calls.going_on vs ms ls st s₀ a.w a.state s u f going s₅ v f
-          (calls.new_going vs ms ls st s u f If1.if1.false If4.if4.false p at v read If5.if5.false s₅ (rw c.if6.true at Enters.enters.ensures)),
-      no_heavier (weight g s₅ ms ls v) (weight g s ms ls u) (weight g s₀ ms ls a.w) Loop.loop.invariant.1
-          (calls.new_lighter vs ms ls st s u f If1.if1.false If4.if4.false p at v read If5.if5.false s₅ (rw c.if6.true at Enters.enters.ensures) asks),
-      Enters.enters.auto.0 ∙ Loop.loop.invariant.2,
+          (calls.new_going vs ms ls st s u f c.if-tag-eq-COMPOUND.false c.if-tag-gt-READER.false p at v read c.if-v-eq0.false s₅ (rw c.if-enters.true at c.enters.ensures)),
+      no_heavier (weight g s₅ ms ls v) (weight g s ms ls u) (weight g s₀ ms ls a.w) c.loop-s.invariant.1
+          (calls.new_lighter vs ms ls st s u f c.if-tag-eq-COMPOUND.false c.if-tag-gt-READER.false p at v read c.if-v-eq0.false s₅ (rw c.if-enters.true at c.enters.ensures) asks),
+      c.enters.auto.s ∙ c.loop-s.invariant.2,
     ))
-    -- same_length_5
+    -- shape_of-s-in-loop-s
     (λ c.
-    let Enters = c.before.before.before in let Loop = Enters.before.before.before.before.before.before.before.before in
-    Enters.enters.auto.0 ∙ Loop.loop.invariant.2)
-    -- returns_5
+    c.enters.auto.s ∙ c.loop-s.invariant.2)
+    -- returns-in-loop-s
     (λ c.
-    let Enters = c.before.before.before in let WordAt = Enters.before.before.before in let If4 = WordAt.before.before in
-    let If1 = If4.before in let Index = If1.before in let Loop = Index.before in let S = Loop.before.before in let a = S.args in
-    let s₀ = a.s.now in let vs = a.values in let ms = a.marks in let ls = a.links in let st = a.stamp in let s = Loop.loop.s in
-    let u = Loop.loop.t in let f = Loop.loop.found in let going = Loop.loop.invariant.0 in let p = Index.index.result in
-    let at = Index.index.ensures in let v = WordAt.word_at.result in let read = WordAt.word_at.ensures in let s₅ = Enters.enters.new.0 in
+    let a = c.args in
+    let s₀ = a.s.now in let vs = a.values in let ms = a.marks in let ls = a.links in let st = a.stamp in let s = c.loop-s.s in
+    let u = c.loop-s.t in let f = c.loop-s.found in let going = c.loop-s.invariant.0 in let p = c.index-p.result in
+    let at = c.index-p.ensures in let v = c.word_at-v.result in let read = c.word_at-v.ensures in let s₅ = c.enters.new.s in
     calls.going_tells vs ms ls st s₀ a.w a.state s u f going s₅ f
-    (calls.known_tells vs ms ls st s u f If1.if1.false If4.if4.false p at v read s₅ (rw c.if6.false at Enters.enters.ensures)))
+    (calls.known_tells vs ms ls st s u f c.if-tag-eq-COMPOUND.false c.if-tag-gt-READER.false p at v read s₅ (rw c.if-enters.false at c.enters.ensures)))

@@ -1,7 +1,6 @@
 -- The walk through the arguments of a compound of the clause meets its contract: those before the i-th were walked, and what is left is less deep.
 use Prim.Native.Nat.{ℕ, ◌+◌, ◌-◌, ◌%◌, ◌≤◌, ◌<◌}
 use mathlib.Core.Path.{◌≡◌, refl, sym, ◌∙◌}
-use mathlib.Core.Logic.{⊎_elim}
 use native.Mathlib.Omega.{arith}
 use lib.ListN.{length}
 use borrow.Author.Rules.{rules}
@@ -32,15 +31,15 @@ abbrev through_below : ℕ → In 1 through_kinds.ps
 through_below t = and 1 through_kinds.ps (falls 1 through_kinds.ps ◌<◌ μ_through t) through.Pre
 
 -- Before the i-th argument.
-abbrev through_Inv_loop : through_lts.invariant-loop
+abbrev through_Inv_loop : through_lts.invariant-loop-i
 through_Inv_loop s₀ values marks links stamp q k state found₀ i₀ s found i =
     calls.Passing values marks links stamp s₀ q k state s i found × (length s ≡ length s₀)
 
-abbrev through_μ_loop : through_lts.decreases-loop
+abbrev through_μ_loop : through_lts.decreases-loop-i
 through_μ_loop s₀ values marks links stamp q k state found₀ i₀ s found i = k + 1 - i
 
-pub +through-spec : {M : Type 1} → statement M
-+through-spec = close μ_through λ t.
+pub +through_spec : {M : Type 1} → statement M
++through_spec = close μ_through λ t.
     through_lts.spec (
       argument_reads.Asked,
       argument_reads.Learnt,
@@ -56,133 +55,125 @@ pub +through-spec : {M : Type 1} → statement M
       ended_reads.Learnt,
     )
     (through_at t) through.Post through_Inv_loop through_μ_loop
-    -- loop-holds
+    -- loop-i-init
     (λ c.
-    let S = c.before in let a = S.args in let s₀ = a.s.now in let vs = a.values in let ms = a.marks in let ls = a.links in let st = a.stamp in
+    let a = c.args in let s₀ = a.s.now in let vs = a.values in let ms = a.marks in let ls = a.links in let st = a.stamp in
     let q = a.q in let k = a.k in
     (calls.passing_first vs ms ls st s₀ q k a.state, refl))
-    -- argument-requires
+    -- argument-a-requires
     (λ c κs.
-    let LoopTest = c.before in let Loop = LoopTest.before in let S = Loop.before.before in let a = S.args in let s₀ = a.s.now in
-    let vs = a.values in let ms = a.marks in let ls = a.links in let st = a.stamp in let q = a.q in let k = a.k in let s = Loop.loop.s in
-    let i = Loop.loop.i in let f = Loop.loop.found in let passing = Loop.loop.invariant.0 in
-    let low : i ≤ k = omega (arith, LoopTest.loop-test.true) in
-    calls.args_at vs ms ls st s₀ q k a.state s i f passing low S.requires.1)
-    -- index-requires
+    let a = c.args in let s₀ = a.s.now in
+    let vs = a.values in let ms = a.marks in let ls = a.links in let st = a.stamp in let q = a.q in let k = a.k in let s = c.loop-i.s in
+    let i = c.loop-i.i in let f = c.loop-i.found in let passing = c.loop-i.invariant.0 in
+    let low : i ≤ k = omega (arith, c.loop-i-test.true) in
+    calls.args_at vs ms ls st s₀ q k a.state s i f passing low c.requires.1)
+    -- index-p-requires
     (λ c κs.
     search rules)
-    -- count-requires
+    -- count-n-requires
     (λ c κs.
-    let Index = c.before in let If1 = Index.before in let Argument = If1.before in let LoopTest = Argument.before.before in
-    let Loop = LoopTest.before in let S = Loop.before.before in let a = S.args in let s₀ = a.s.now in let vs = a.values in let ms = a.marks in
-    let ls = a.links in let st = a.stamp in let q = a.q in let k = a.k in let s = Loop.loop.s in let i = Loop.loop.i in
-    let f = Loop.loop.found in let passing = Loop.loop.invariant.0 in let low : i ≤ k = omega (arith, LoopTest.loop-test.true) in
-    let b = Argument.argument.result in let reads = Argument.argument.ensures in let p = Index.index.result in let at = Index.index.ensures in
-    calls.inner_at vs ms ls st s₀ q k a.state s i f passing low b reads If1.if1.taken p at S.requires.1)
-    -- through-requires
+    let a = c.args in let s₀ = a.s.now in let vs = a.values in let ms = a.marks in
+    let ls = a.links in let st = a.stamp in let q = a.q in let k = a.k in let s = c.loop-i.s in let i = c.loop-i.i in
+    let f = c.loop-i.found in let passing = c.loop-i.invariant.0 in let low : i ≤ k = omega (arith, c.loop-i-test.true) in
+    let b = c.argument-a.result in let reads = c.argument-a.ensures in let p = c.index-p.result in let at = c.index-p.ensures in
+    calls.inner_at vs ms ls st s₀ q k a.state s i f passing low b reads c.if-a-eq-COMPOUND.true p at c.requires.1)
+    -- through-found-requires
     (λ c κs.
-    let Count = c.before in let Index = Count.before.before in let If1 = Index.before in let Argument = If1.before in
-    let LoopTest = Argument.before.before in let Loop = LoopTest.before in let S = Loop.before.before in let a = S.args in let s₀ = a.s.now in
-    let vs = a.values in let ms = a.marks in let ls = a.links in let st = a.stamp in let q = a.q in let k = a.k in let s = Loop.loop.s in
-    let i = Loop.loop.i in let f = Loop.loop.found in let passing = Loop.loop.invariant.0 in
-    let low : i ≤ k = omega (arith, LoopTest.loop-test.true) in let b = Argument.argument.result in let reads = Argument.argument.ensures in
-    let p = Index.index.result in let at = Index.index.ensures in let n = Count.count.result in (
-      lighter (calls.args_weight s p n) (calls.args_weight s₀ q k) (calls.args_weight s₀ q k) t S.requires.0 (omega arith)
-          (calls.inner_lighter vs ms ls st s₀ q k a.state s i f passing low b reads If1.if1.taken p at n Count.count.ensures S.requires.1),
-      calls.inner_asks vs ms ls st s₀ q k a.state s i f passing low b reads If1.if1.taken p at n Count.count.ensures S.requires.1,
+    let a = c.args in let s₀ = a.s.now in
+    let vs = a.values in let ms = a.marks in let ls = a.links in let st = a.stamp in let q = a.q in let k = a.k in let s = c.loop-i.s in
+    let i = c.loop-i.i in let f = c.loop-i.found in let passing = c.loop-i.invariant.0 in
+    let low : i ≤ k = omega (arith, c.loop-i-test.true) in let b = c.argument-a.result in let reads = c.argument-a.ensures in
+    let p = c.index-p.result in let at = c.index-p.ensures in let n = c.count-n.result in (
+      lighter (calls.args_weight s p n) (calls.args_weight s₀ q k) (calls.args_weight s₀ q k) t c.requires.0 (omega arith)
+          (calls.inner_lighter vs ms ls st s₀ q k a.state s i f passing low b reads c.if-a-eq-COMPOUND.true p at n c.count-n.ensures c.requires.1),
+      calls.inner_asks vs ms ls st s₀ q k a.state s i f passing low b reads c.if-a-eq-COMPOUND.true p at n c.count-n.ensures c.requires.1,
     ))
-    -- from-leaf-requires
+    -- from_leaf-found-requires
     (λ c κs.
-    let If1 = c.before in let Argument = If1.before in let LoopTest = Argument.before.before in let Loop = LoopTest.before in
-    let S = Loop.before.before in let a = S.args in let s₀ = a.s.now in let vs = a.values in let ms = a.marks in let ls = a.links in
-    let st = a.stamp in let q = a.q in let k = a.k in let s = Loop.loop.s in let i = Loop.loop.i in let f = Loop.loop.found in
-    let passing = Loop.loop.invariant.0 in let low : i ≤ k = omega (arith, LoopTest.loop-test.true) in let b = Argument.argument.result in
-    let reads = Argument.argument.ensures in
-    calls.leaf_asks vs ms ls st s₀ q k a.state s i f passing low b reads If1.if1.left S.requires.1)
+    let a = c.args in let s₀ = a.s.now in let vs = a.values in let ms = a.marks in let ls = a.links in
+    let st = a.stamp in let q = a.q in let k = a.k in let s = c.loop-i.s in let i = c.loop-i.i in let f = c.loop-i.found in
+    let passing = c.loop-i.invariant.0 in let low : i ≤ k = omega (arith, c.loop-i-test.true) in let b = c.argument-a.result in
+    let reads = c.argument-a.ensures in
+    calls.leaf_asks vs ms ls st s₀ q k a.state s i f passing low b reads c.if-a-eq-COMPOUND.false c.requires.1)
     -- ended-requires
     (λ c κs.
     search rules)
-    -- same-length
+    -- shape_of-s-then-ended
     (λ c.
-    let If1 = c.before.before in let Argument = If1.before in let LoopTest = Argument.before.before in let Loop = LoopTest.before in
-    let S = Loop.before.before in let a = S.args in let s₀ = a.s.now in let vs = a.values in let ms = a.marks in let ls = a.links in
-    let st = a.stamp in let q = a.q in let k = a.k in let s = Loop.loop.s in let i = Loop.loop.i in let f = Loop.loop.found in
-    let passing = Loop.loop.invariant.0 in let low : i ≤ k = omega (arith, LoopTest.loop-test.true) in let b = Argument.argument.result in
-    let reads = Argument.argument.ensures in let s₂ = If1.if1.s in let r = If1.if1.found in
+    let a = c.args in let s₀ = a.s.now in let vs = a.values in let ms = a.marks in let ls = a.links in
+    let st = a.stamp in let q = a.q in let k = a.k in let s = c.loop-i.s in let i = c.loop-i.i in let f = c.loop-i.found in
+    let passing = c.loop-i.invariant.0 in let low : i ≤ k = omega (arith, c.loop-i-test.true) in let b = c.argument-a.result in
+    let reads = c.argument-a.ensures in let s₂ = c.if-a-eq-COMPOUND.s in let r = c.if-a-eq-COMPOUND.found in
     let done : calls.NextTells vs ms ls st s₀ q k a.state s i f passing low b reads s₂ r × (length s₂ ≡ length s) =
-    ⊎_elim
-    (λ (if1, index, counting, counted, lending, walked, lent, known, scratch, told). rw (scratch, told) (
-      calls.inner_tells vs ms ls st s₀ q k a.state s i f passing low b reads if1.taken index.result index.ensures counted.result
-          counted.ensures walked.last.0 walked.result
-          walked.ensures,
-      walked.kept.0,
+    elim c.if-a-eq-COMPOUND.branch [
+      through_lts.then-a-eq-COMPOUND w ↦ rw (w.s-is, w.found-is) (
+        calls.inner_tells vs ms ls st s₀ q k a.state s i f passing low b reads w.if-a-eq-COMPOUND.true w.index-p.result w.index-p.ensures
+            w.count-n.result w.count-n.ensures w.through-found.new.s w.through-found.result w.through-found.ensures,
+        w.through-found.auto.s,
+      )
+    | through_lts.else-a-eq-COMPOUND w ↦ rw (w.s-is, w.found-is) (
+        calls.leaf_tells vs ms ls st s₀ q k a.state s i f passing low b reads w.if-a-eq-COMPOUND.false w.from_leaf-found.new.s
+            w.from_leaf-found.result w.from_leaf-found.ensures,
+        w.from_leaf-found.auto.s,
+      )
+    ] in
+    done.1 ∙ c.loop-i.invariant.1)
+    -- returns-then-ended
+    (λ c.
+    let a = c.args in let s₀ = a.s.now in let vs = a.values in let ms = a.marks in
+    let ls = a.links in let st = a.stamp in let q = a.q in let k = a.k in let s = c.loop-i.s in let i = c.loop-i.i in
+    let f = c.loop-i.found in let passing = c.loop-i.invariant.0 in let low : i ≤ k = omega (arith, c.loop-i-test.true) in
+    let b = c.argument-a.result in let reads = c.argument-a.ensures in let s₂ = c.if-a-eq-COMPOUND.s in let r = c.if-a-eq-COMPOUND.found in
+    let done : calls.NextTells vs ms ls st s₀ q k a.state s i f passing low b reads s₂ r × (length s₂ ≡ length s) =
+    elim c.if-a-eq-COMPOUND.branch [
+      through_lts.then-a-eq-COMPOUND w ↦ rw (w.s-is, w.found-is) (
+        calls.inner_tells vs ms ls st s₀ q k a.state s i f passing low b reads w.if-a-eq-COMPOUND.true w.index-p.result w.index-p.ensures
+            w.count-n.result w.count-n.ensures w.through-found.new.s w.through-found.result w.through-found.ensures,
+        w.through-found.auto.s,
+      )
+    | through_lts.else-a-eq-COMPOUND w ↦ rw (w.s-is, w.found-is) (
+        calls.leaf_tells vs ms ls st s₀ q k a.state s i f passing low b reads w.if-a-eq-COMPOUND.false w.from_leaf-found.new.s
+            w.from_leaf-found.result w.from_leaf-found.ensures,
+        w.from_leaf-found.auto.s,
+      )
+    ] in
+    calls.passing_ended vs ms ls st s₀ q k a.state s i f passing low b reads s₂ r done.0 (eqb-true (r % 4) 3 (sym c.ended.ensures ∙ c.if-ended.true)))
+    -- overflow_add-i
+    (λ c.
+    let a = c.args in let s₀ = a.s.now in
+    let vs = a.values in let ms = a.marks in let ls = a.links in let st = a.stamp in let q = a.q in let k = a.k in
+    omega (arith, c.loop-i-test.true, calls.args_few vs ms ls st s₀ q k a.state c.requires.1))
+    -- loop-i-smaller
+    (λ c.
+    omega (arith, c.loop-i-test.true))
+    -- loop-i-preserved
+    (λ c.
+    let a = c.args in let s₀ = a.s.now in let vs = a.values in let ms = a.marks in
+    let ls = a.links in let st = a.stamp in let q = a.q in let k = a.k in let s = c.loop-i.s in let i = c.loop-i.i in
+    let f = c.loop-i.found in let passing = c.loop-i.invariant.0 in let low : i ≤ k = omega (arith, c.loop-i-test.true) in
+    let b = c.argument-a.result in let reads = c.argument-a.ensures in let s₂ = c.if-a-eq-COMPOUND.s in let r = c.if-a-eq-COMPOUND.found in
+    let done : calls.NextTells vs ms ls st s₀ q k a.state s i f passing low b reads s₂ r × (length s₂ ≡ length s) =
+    elim c.if-a-eq-COMPOUND.branch [
+      through_lts.then-a-eq-COMPOUND w ↦ rw (w.s-is, w.found-is) (
+        calls.inner_tells vs ms ls st s₀ q k a.state s i f passing low b reads w.if-a-eq-COMPOUND.true w.index-p.result w.index-p.ensures
+            w.count-n.result w.count-n.ensures w.through-found.new.s w.through-found.result w.through-found.ensures,
+        w.through-found.auto.s,
+      )
+    | through_lts.else-a-eq-COMPOUND w ↦ rw (w.s-is, w.found-is) (
+        calls.leaf_tells vs ms ls st s₀ q k a.state s i f passing low b reads w.if-a-eq-COMPOUND.false w.from_leaf-found.new.s
+            w.from_leaf-found.result w.from_leaf-found.ensures,
+        w.from_leaf-found.auto.s,
+      )
+    ] in (
+      calls.passing_next vs ms ls st s₀ q k a.state s i f passing low b reads s₂ r done.0 (not_three r (sym c.ended.ensures ∙ c.if-ended.false)),
+      done.1 ∙ c.loop-i.invariant.1,
     ))
-    (λ (if1, lending, walked, lent, known, scratch, told). rw (scratch, told) (
-      calls.leaf_tells vs ms ls st s₀ q k a.state s i f passing low b reads if1.left walked.last.0 walked.result walked.ensures,
-      walked.kept.0,
-    ))
-    If1.if1.branch in
-    done.1 ∙ Loop.loop.invariant.1)
+    -- shape_of-s
+    (λ c.
+    c.loop-i.invariant.1)
     -- returns
     (λ c.
-    let Ended = c.before in let If1 = Ended.before in let Argument = If1.before in let LoopTest = Argument.before.before in
-    let Loop = LoopTest.before in let S = Loop.before.before in let a = S.args in let s₀ = a.s.now in let vs = a.values in let ms = a.marks in
-    let ls = a.links in let st = a.stamp in let q = a.q in let k = a.k in let s = Loop.loop.s in let i = Loop.loop.i in
-    let f = Loop.loop.found in let passing = Loop.loop.invariant.0 in let low : i ≤ k = omega (arith, LoopTest.loop-test.true) in
-    let b = Argument.argument.result in let reads = Argument.argument.ensures in let s₂ = If1.if1.s in let r = If1.if1.found in
-    let done : calls.NextTells vs ms ls st s₀ q k a.state s i f passing low b reads s₂ r × (length s₂ ≡ length s) =
-    ⊎_elim
-    (λ (if1, index, counting, counted, lending, walked, lent, known, scratch, told). rw (scratch, told) (
-      calls.inner_tells vs ms ls st s₀ q k a.state s i f passing low b reads if1.taken index.result index.ensures counted.result
-          counted.ensures walked.last.0 walked.result
-          walked.ensures,
-      walked.kept.0,
-    ))
-    (λ (if1, lending, walked, lent, known, scratch, told). rw (scratch, told) (
-      calls.leaf_tells vs ms ls st s₀ q k a.state s i f passing low b reads if1.left walked.last.0 walked.result walked.ensures,
-      walked.kept.0,
-    ))
-    If1.if1.branch in
-    calls.passing_ended vs ms ls st s₀ q k a.state s i f passing low b reads s₂ r done.0 (eqb-true (r % 4) 3 (sym Ended.ended.ensures ∙ c.if2.true)))
-    -- add_i
-    (λ c.
-    let LoopTest = c.before.before.before.before.before in let S = LoopTest.before.before.before in let a = S.args in let s₀ = a.s.now in
-    let vs = a.values in let ms = a.marks in let ls = a.links in let st = a.stamp in let q = a.q in let k = a.k in
-    omega (arith, LoopTest.loop-test.true, calls.args_few vs ms ls st s₀ q k a.state S.requires.1))
-    -- loop-less
-    (λ c.
-    let LoopTest = c.before.before.before.before.before in
-    omega (arith, LoopTest.loop-test.true))
-    -- loop-again
-    (λ c.
-    let Ended = c.before in let If1 = Ended.before in let Argument = If1.before in let LoopTest = Argument.before.before in
-    let Loop = LoopTest.before in let S = Loop.before.before in let a = S.args in let s₀ = a.s.now in let vs = a.values in let ms = a.marks in
-    let ls = a.links in let st = a.stamp in let q = a.q in let k = a.k in let s = Loop.loop.s in let i = Loop.loop.i in
-    let f = Loop.loop.found in let passing = Loop.loop.invariant.0 in let low : i ≤ k = omega (arith, LoopTest.loop-test.true) in
-    let b = Argument.argument.result in let reads = Argument.argument.ensures in let s₂ = If1.if1.s in let r = If1.if1.found in
-    let done : calls.NextTells vs ms ls st s₀ q k a.state s i f passing low b reads s₂ r × (length s₂ ≡ length s) =
-    ⊎_elim
-    (λ (if1, index, counting, counted, lending, walked, lent, known, scratch, told). rw (scratch, told) (
-      calls.inner_tells vs ms ls st s₀ q k a.state s i f passing low b reads if1.taken index.result index.ensures counted.result
-          counted.ensures walked.last.0 walked.result
-          walked.ensures,
-      walked.kept.0,
-    ))
-    (λ (if1, lending, walked, lent, known, scratch, told). rw (scratch, told) (
-      calls.leaf_tells vs ms ls st s₀ q k a.state s i f passing low b reads if1.left walked.last.0 walked.result walked.ensures,
-      walked.kept.0,
-    ))
-    If1.if1.branch in (
-      calls.passing_next vs ms ls st s₀ q k a.state s i f passing low b reads s₂ r done.0 (not_three r (sym Ended.ended.ensures ∙ c.if2.false)),
-      done.1 ∙ Loop.loop.invariant.1,
-    ))
-    -- same_length_2
-    (λ c.
-    let Loop = c.before in
-    Loop.loop.invariant.1)
-    -- returns_2
-    (λ c.
-    let Loop = c.before in let S = Loop.before.before in let a = S.args in let s₀ = a.s.now in let vs = a.values in let ms = a.marks in
-    let ls = a.links in let st = a.stamp in let q = a.q in let k = a.k in let s = Loop.loop.s in let i = Loop.loop.i in
-    let f = Loop.loop.found in let passing = Loop.loop.invariant.0 in
-    calls.passing_last vs ms ls st s₀ q k a.state s i f passing (omega (arith, c.loop-test.false)))
+    let a = c.args in let s₀ = a.s.now in let vs = a.values in let ms = a.marks in
+    let ls = a.links in let st = a.stamp in let q = a.q in let k = a.k in let s = c.loop-i.s in let i = c.loop-i.i in
+    let f = c.loop-i.found in let passing = c.loop-i.invariant.0 in
+    calls.passing_last vs ms ls st s₀ q k a.state s i f passing (omega (arith, c.loop-i-test.false)))
