@@ -1,5 +1,6 @@
 -- The comparison meets its contract: turn by turn it goes on from two terms to others, as Calls has it, and no deeper than it was told.
-use mathlib.Core.Path.{◌≡◌, refl, ◌∙◌}
+use mathlib.Core.Bool.{not}
+use mathlib.Core.Path.{◌≡◌, refl, ap, ◌∙◌}
 use Prim.Native.Nat.{◌+◌, ◌-◌, ◌≤◌}
 use native.Mathlib.Omega.{arith}
 use lib.ListN.{length}
@@ -68,24 +69,24 @@ none : (k : ℕ) → k ≤ 0 → k ≡ 0
 none k h = omega arith
 
 -- Before an argument.
-abbrev same_Inv_loop2 : same_lts.invariant-loop2
+abbrev same_Inv_loop2 : same_lts.invariant-loop-k
 same_Inv_loop2 s₀ values lists links first depth left right taken₀ a b deep c d e f p₀ q₀ k₀ s taken p q k =
     (length s ≡ length s₀) × calls.Walks s₀ s values lists links taken₀ e f taken p q k × (0 < k)
     × ((p + k < 4294967296) × (q + k < 4294967296))
 
-abbrev same_μ_loop2 : same_lts.decreases-loop2
+abbrev same_μ_loop2 : same_lts.decreases-loop-k
 same_μ_loop2 s₀ values lists links first depth left right taken₀ a b deep c d e f p₀ q₀ k₀ s taken p q k = k
 
 -- Before a turn.
-abbrev same_Inv_loop : same_lts.invariant-loop
+abbrev same_Inv_loop : same_lts.invariant-loop-deep
 same_Inv_loop s₀ values lists links first depth left right taken₀ a₀ b₀ deep₀ s taken a b deep =
     (length s ≡ length s₀) × calls.Goes s₀ s values lists links first depth left right taken a b deep × (deep ≤ depth)
 
-abbrev same_μ_loop : same_lts.decreases-loop
+abbrev same_μ_loop : same_lts.decreases-loop-deep
 same_μ_loop s₀ values lists links first depth left right taken₀ a₀ b₀ deep₀ s taken a b deep = deep
 
-pub +same-spec : {M : Type 1} → statement M
-+same-spec = close μ_same λ t.
+pub +same_spec : {M : Type 1} → statement M
++same_spec = close μ_same λ t.
     same_lts.spec (
       root_reads.Asked,
       root_reads.Learnt,
@@ -106,353 +107,288 @@ pub +same-spec : {M : Type 1} → statement M
       same_below t,
       same.Post,
     ) (same_at t) same.Post same_Inv_loop2 same_μ_loop2 same_Inv_loop same_μ_loop
-    -- loop-holds
+    -- loop-deep-init
     (λ c.
-    let S = c.before in let A = S.args in let s₀ = A.s.now in let vs = A.values in let ls = A.lists in let ks = A.links in let n₀ = A.first in
+    let A = c.args in let s₀ = A.s.now in let vs = A.values in let ls = A.lists in let ks = A.links in let n₀ = A.first in
     let dp = A.depth in let x = A.left in let y = A.right in
     (refl, calls.goes_first s₀ vs ls ks n₀ dp x y, omega arith))
-    -- sub-deep
+    -- overflow_sub-deep
     (λ c.
-    let LoopTest = c in
-    omega (arith, LoopTest.loop-test.true))
-    -- root-requires
+    omega (arith, c.loop-deep-test.true))
+    -- root-c-requires
     (λ c κs.
-    let Loop = c.before.before in let S = Loop.before.before in let A = S.args in let s₀ = A.s.now in let vs = A.values in let ls = A.lists in
-    let ks = A.links in let n₀ = A.first in let dp = A.depth in let x = A.left in let y = A.right in let s = Loop.loop.s in
-    let n = Loop.loop.taken in let a = Loop.loop.a in let b = Loop.loop.b in let h = Loop.loop.deep in let goes = Loop.loop.invariant.1 in
-    let (z, v, u, w, m, o) = calls.at-hand s₀ vs ls ks n₀ dp x y s n a b h goes S.requires.1 in
+    let A = c.args in let s₀ = A.s.now in let vs = A.values in let ls = A.lists in
+    let ks = A.links in let n₀ = A.first in let dp = A.depth in let x = A.left in let y = A.right in let s = c.loop-deep.s in
+    let n = c.loop-deep.taken in let a = c.loop-deep.a in let b = c.loop-deep.b in let h = c.loop-deep.deep in let goes = c.loop-deep.invariant.1 in
+    let (z, v, u, w, m, o) = calls.at_hand s₀ vs ls ks n₀ dp x y s n a b h goes c.requires.1 in
     (z, vs, v, w, m))
-    -- root-requires-2
+    -- root-d-requires
     (λ c κs.
-    let Loop = c.before.before.before.before in let S = Loop.before.before in let A = S.args in let s₀ = A.s.now in let vs = A.values in
-    let ls = A.lists in let ks = A.links in let n₀ = A.first in let dp = A.depth in let x = A.left in let y = A.right in let s = Loop.loop.s in
-    let n = Loop.loop.taken in let a = Loop.loop.a in let b = Loop.loop.b in let h = Loop.loop.deep in let goes = Loop.loop.invariant.1 in
-    let (z, v, u, w, m, o) = calls.at-hand s₀ vs ls ks n₀ dp x y s n a b h goes S.requires.1 in
+    let A = c.args in let s₀ = A.s.now in let vs = A.values in
+    let ls = A.lists in let ks = A.links in let n₀ = A.first in let dp = A.depth in let x = A.left in let y = A.right in let s = c.loop-deep.s in
+    let n = c.loop-deep.taken in let a = c.loop-deep.a in let b = c.loop-deep.b in let h = c.loop-deep.deep in let goes = c.loop-deep.invariant.1 in
+    let (z, v, u, w, m, o) = calls.at_hand s₀ vs ls ks n₀ dp x y s n a b h goes c.requires.1 in
     (z, vs, u, w, o))
     -- alike-requires
     (λ c κs.
     search rules)
-    -- same-length
+    -- shape_of-s-then-alike
     (λ c.
-    let Loop = c.before.before.before.before.before.before.before in
-    Loop.loop.invariant.0)
-    -- returns
+    c.loop-deep.invariant.0)
+    -- returns-then-alike
     (λ c.
-    let If1 = c in let Same = If1.before in let Root2 = Same.before in let Root = Root2.before.before in let Loop = Root.before.before.before in
-    let S = Loop.before.before in let A = S.args in let s₀ = A.s.now in let vs = A.values in let ls = A.lists in let ks = A.links in
-    let n₀ = A.first in let dp = A.depth in let x = A.left in let y = A.right in let s = Loop.loop.s in let n = Loop.loop.taken in
-    let a = Loop.loop.a in let b = Loop.loop.b in let h = Loop.loop.deep in let goes = Loop.loop.invariant.1 in
-    calls.ends-root s₀ vs ls ks n₀ dp x y s n a b h goes Root.root.result Root2.root2.result Same.alike.result Root.root.ensures
-    Root2.root2.ensures Same.alike.ensures If1.if1.true)
-    -- opened-requires
+    let A = c.args in let s₀ = A.s.now in let vs = A.values in let ls = A.lists in let ks = A.links in
+    let n₀ = A.first in let dp = A.depth in let x = A.left in let y = A.right in let s = c.loop-deep.s in let n = c.loop-deep.taken in
+    let a = c.loop-deep.a in let b = c.loop-deep.b in let h = c.loop-deep.deep in let goes = c.loop-deep.invariant.1 in
+    calls.ends_root s₀ vs ls ks n₀ dp x y s n a b h goes c.root-c.result c.root-d.result c.alike.result c.root-c.ensures
+    c.root-d.ensures c.alike.ensures c.if-alike.true)
+    -- opened-e-requires
     (λ c κs.
-    let Root = c.before.before.before.before.before in let Loop = Root.before.before.before in let S = Loop.before.before in let A = S.args in
+    let A = c.args in
     let s₀ = A.s.now in let vs = A.values in let ls = A.lists in let ks = A.links in let n₀ = A.first in let dp = A.depth in let x = A.left in
-    let y = A.right in let s = Loop.loop.s in let n = Loop.loop.taken in let a = Loop.loop.a in let b = Loop.loop.b in
-    let h = Loop.loop.deep in let goes = Loop.loop.invariant.1 in
-    let (z, v, u, w, m, o) = calls.at-hand s₀ vs ls ks n₀ dp x y s n a b h goes S.requires.1 in let L = Root.root.ensures z vs v w m in
+    let y = A.right in let s = c.loop-deep.s in let n = c.loop-deep.taken in let a = c.loop-deep.a in let b = c.loop-deep.b in
+    let h = c.loop-deep.deep in let goes = c.loop-deep.invariant.1 in
+    let (z, v, u, w, m, o) = calls.at_hand s₀ vs ls ks n₀ dp x y s n a b h goes c.requires.1 in let L = c.root-c.ensures z vs v w m in
     (z, L.meaning, w, L.means))
-    -- opened-requires-2
+    -- opened-f-requires
     (λ c κs.
-    let Root2 = c.before.before.before.before.before in let Loop = Root2.before.before.before.before.before in let S = Loop.before.before in
-    let A = S.args in let s₀ = A.s.now in let vs = A.values in let ls = A.lists in let ks = A.links in let n₀ = A.first in let dp = A.depth in
-    let x = A.left in let y = A.right in let s = Loop.loop.s in let n = Loop.loop.taken in let a = Loop.loop.a in let b = Loop.loop.b in
-    let h = Loop.loop.deep in let goes = Loop.loop.invariant.1 in
-    let (z, v, u, w, m, o) = calls.at-hand s₀ vs ls ks n₀ dp x y s n a b h goes S.requires.1 in let R = Root2.root2.ensures z vs u w o in
+    let A = c.args in let s₀ = A.s.now in let vs = A.values in let ls = A.lists in let ks = A.links in let n₀ = A.first in let dp = A.depth in
+    let x = A.left in let y = A.right in let s = c.loop-deep.s in let n = c.loop-deep.taken in let a = c.loop-deep.a in let b = c.loop-deep.b in
+    let h = c.loop-deep.deep in let goes = c.loop-deep.invariant.1 in
+    let (z, v, u, w, m, o) = calls.at_hand s₀ vs ls ks n₀ dp x y s n a b h goes c.requires.1 in let R = c.root-d.ensures z vs u w o in
     (z, R.meaning, w, R.means))
-    -- join-requires
+    -- join-taken-requires
     (λ c κs.
-    let Root2 = c.before.before.before.before.before.before.before in let Root = Root2.before.before in
-    let Loop = Root.before.before.before in let S = Loop.before.before in let A = S.args in let s₀ = A.s.now in let vs = A.values in
-    let ls = A.lists in let ks = A.links in let n₀ = A.first in let dp = A.depth in let x = A.left in let y = A.right in let s = Loop.loop.s in
-    let n = Loop.loop.taken in let a = Loop.loop.a in let b = Loop.loop.b in let h = Loop.loop.deep in let goes = Loop.loop.invariant.1 in
-    let (z, v, u, w, m, o) = calls.at-hand s₀ vs ls ks n₀ dp x y s n a b h goes S.requires.1 in let L = Root.root.ensures z vs v w m in
-    let R = Root2.root2.ensures z vs u w o in
+    let A = c.args in let s₀ = A.s.now in let vs = A.values in
+    let ls = A.lists in let ks = A.links in let n₀ = A.first in let dp = A.depth in let x = A.left in let y = A.right in let s = c.loop-deep.s in
+    let n = c.loop-deep.taken in let a = c.loop-deep.a in let b = c.loop-deep.b in let h = c.loop-deep.deep in let goes = c.loop-deep.invariant.1 in
+    let (z, v, u, w, m, o) = calls.at_hand s₀ vs ls ks n₀ dp x y s n a b h goes c.requires.1 in let L = c.root-c.ensures z vs v w m in
+    let R = c.root-d.ensures z vs u w o in
     (z, vs, L.meaning, R.meaning, w, L.means, R.means))
-    -- same_length_2
+    -- shape_of-s-then-e-f
     (λ c.
-    let Join = c.before.before.before in
-    let Loop = Join.before.before.before.before.before.before.before.before.before.before.before.before.before in
-    Join.join.auto.0 ∙ Loop.loop.invariant.0)
-    -- returns_2
+    c.join-taken.auto.s ∙ c.loop-deep.invariant.0)
+    -- returns-then-e-f
     (λ c.
-    let If2 = c in let Join = If2.before.before.before in let Opened2 = Join.before.before in let Opened = Opened2.before.before in
-    let Root2 = Opened.before.before.before.before in let Root = Root2.before.before in let Loop = Root.before.before.before in
-    let S = Loop.before.before in let A = S.args in let s₀ = A.s.now in let vs = A.values in let ls = A.lists in let ks = A.links in
-    let n₀ = A.first in let dp = A.depth in let x = A.left in let y = A.right in let s = Loop.loop.s in let n = Loop.loop.taken in
-    let a = Loop.loop.a in let b = Loop.loop.b in let h = Loop.loop.deep in let goes = Loop.loop.invariant.1 in let s₁ = Join.join.new.0 in
-    let n₁ = Join.join.result in let e = Opened.opened.result in let f = Opened2.opened2.result in
-    let opens = calls.opens_of s s₁ vs ls ks n n₁ a b Root.root.result Root2.root2.result e f Root.root.ensures Root2.root2.ensures
-    Opened.opened.ensures Opened2.opened2.ensures Join.join.ensures in
-    calls.ends_same s₀ vs ls ks n₀ dp x y s n a b h goes s₁ n₁ e f opens If2.if2.true)
+    let A = c.args in let s₀ = A.s.now in let vs = A.values in let ls = A.lists in let ks = A.links in
+    let n₀ = A.first in let dp = A.depth in let x = A.left in let y = A.right in let s = c.loop-deep.s in let n = c.loop-deep.taken in
+    let a = c.loop-deep.a in let b = c.loop-deep.b in let h = c.loop-deep.deep in let goes = c.loop-deep.invariant.1 in let s₁ = c.join-taken.new.s in
+    let n₁ = c.join-taken.result in let e = c.opened-e.result in let f = c.opened-f.result in
+    let opens = calls.opens_of s s₁ vs ls ks n n₁ a b c.root-c.result c.root-d.result e f c.root-c.ensures c.root-d.ensures
+    c.opened-e.ensures c.opened-f.ensures c.join-taken.ensures in
+    calls.ends_same s₀ vs ls ks n₀ dp x y s n a b h goes s₁ n₁ e f opens c.if-e-f.true)
     -- matches-requires
     (λ c κs.
-    let Join = c.before.before.before.before in let Opened2 = Join.before.before in let Opened = Opened2.before.before in
-    let Root2 = Opened.before.before.before.before in let Root = Root2.before.before in let Loop = Root.before.before.before in
-    let S = Loop.before.before in let A = S.args in let s₀ = A.s.now in let vs = A.values in let ls = A.lists in let ks = A.links in
-    let n₀ = A.first in let dp = A.depth in let x = A.left in let y = A.right in let s = Loop.loop.s in let n = Loop.loop.taken in
-    let a = Loop.loop.a in let b = Loop.loop.b in let h = Loop.loop.deep in let goes = Loop.loop.invariant.1 in let s₁ = Join.join.new.0 in
-    let n₁ = Join.join.result in let e = Opened.opened.result in let f = Opened2.opened2.result in
-    let opens = calls.opens_of s s₁ vs ls ks n n₁ a b Root.root.result Root2.root2.result e f Root.root.ensures Root2.root2.ensures
-    Opened.opened.ensures Opened2.opened2.ensures Join.join.ensures in
-    calls.matches-asks s₀ vs ls ks n₀ dp x y s n a b h goes s₁ n₁ e f opens S.requires.1)
-    -- same_length_3
+    let A = c.args in let s₀ = A.s.now in let vs = A.values in let ls = A.lists in let ks = A.links in
+    let n₀ = A.first in let dp = A.depth in let x = A.left in let y = A.right in let s = c.loop-deep.s in let n = c.loop-deep.taken in
+    let a = c.loop-deep.a in let b = c.loop-deep.b in let h = c.loop-deep.deep in let goes = c.loop-deep.invariant.1 in let s₁ = c.join-taken.new.s in
+    let n₁ = c.join-taken.result in let e = c.opened-e.result in let f = c.opened-f.result in
+    let opens = calls.opens_of s s₁ vs ls ks n n₁ a b c.root-c.result c.root-d.result e f c.root-c.ensures c.root-d.ensures
+    c.opened-e.ensures c.opened-f.ensures c.join-taken.ensures in
+    calls.matches_asks s₀ vs ls ks n₀ dp x y s n a b h goes s₁ n₁ e f opens c.requires.1)
+    -- shape_of-s-then-not-matches
     (λ c.
-    let Join = c.before.before.before.before.before.before in
-    let Loop = Join.before.before.before.before.before.before.before.before.before.before.before.before.before in
-    Join.join.auto.0 ∙ Loop.loop.invariant.0)
-    -- returns_3
+    c.join-taken.auto.s ∙ c.loop-deep.invariant.0)
+    -- returns-then-not-matches
     (λ c.
-    let If3 = c in let Matches = If3.before in let If2 = Matches.before.before in let Join = If2.before.before.before in
-    let Opened2 = Join.before.before in let Opened = Opened2.before.before in let Root2 = Opened.before.before.before.before in
-    let Root = Root2.before.before in let Loop = Root.before.before.before in let S = Loop.before.before in let A = S.args in
+    let A = c.args in
     let s₀ = A.s.now in let vs = A.values in let ls = A.lists in let ks = A.links in let n₀ = A.first in let dp = A.depth in let x = A.left in
-    let y = A.right in let s = Loop.loop.s in let n = Loop.loop.taken in let a = Loop.loop.a in let b = Loop.loop.b in
-    let h = Loop.loop.deep in let goes = Loop.loop.invariant.1 in let s₁ = Join.join.new.0 in let n₁ = Join.join.result in
-    let e = Opened.opened.result in let f = Opened2.opened2.result in
-    let opens = calls.opens_of s s₁ vs ls ks n n₁ a b Root.root.result Root2.root2.result e f Root.root.ensures Root2.root2.ensures
-    Opened.opened.ensures Opened2.opened2.ensures Join.join.ensures in
-    calls.ends-differ s₀ vs ls ks n₀ dp x y s n a b h goes s₁ n₁ e f opens Matches.matches.result Matches.matches.ensures If3.if3.true If2.if2.false)
-    -- index-requires
+    let y = A.right in let s = c.loop-deep.s in let n = c.loop-deep.taken in let a = c.loop-deep.a in let b = c.loop-deep.b in
+    let h = c.loop-deep.deep in let goes = c.loop-deep.invariant.1 in let s₁ = c.join-taken.new.s in let n₁ = c.join-taken.result in
+    let e = c.opened-e.result in let f = c.opened-f.result in
+    let opens = calls.opens_of s s₁ vs ls ks n n₁ a b c.root-c.result c.root-d.result e f c.root-c.ensures c.root-d.ensures
+    c.opened-e.ensures c.opened-f.ensures c.join-taken.ensures in
+    calls.ends_differ s₀ vs ls ks n₀ dp x y s n a b h goes s₁ n₁ e f opens c.matches.result c.matches.ensures (ap not c.if-not-matches.true) c.if-e-f.false)
+    -- index-p-requires
     (λ c κs.
     search rules)
-    -- index-requires-2
+    -- index-q-requires
     (λ c κs.
     search rules)
-    -- count-requires
+    -- count-k-requires
     (λ c κs.
-    let Index = c.before.before in let If3 = Index.before in let Matches = If3.before in let Join = Matches.before.before.before.before.before in
-    let Opened2 = Join.before.before in let Opened = Opened2.before.before in let Root2 = Opened.before.before.before.before in
-    let Root = Root2.before.before in let Loop = Root.before.before.before in let S = Loop.before.before in let A = S.args in
+    let A = c.args in
     let s₀ = A.s.now in let vs = A.values in let ls = A.lists in let ks = A.links in let n₀ = A.first in let dp = A.depth in let x = A.left in
-    let y = A.right in let s = Loop.loop.s in let n = Loop.loop.taken in let a = Loop.loop.a in let b = Loop.loop.b in
-    let h = Loop.loop.deep in let goes = Loop.loop.invariant.1 in let s₁ = Join.join.new.0 in let n₁ = Join.join.result in
-    let e = Opened.opened.result in let f = Opened2.opened2.result in
-    let opens = calls.opens_of s s₁ vs ls ks n n₁ a b Root.root.result Root2.root2.result e f Root.root.ensures Root2.root2.ensures
-    Opened.opened.ensures Opened2.opened2.ensures Join.join.ensures in
-    let is = Matches.matches.result in let match = Matches.matches.ensures in let yes = If3.if3.false in
-    calls.count-asks s₀ vs ls ks n₀ dp x y s n a b h goes s₁ n₁ e f opens is match yes S.requires.1 Index.index.result Index.index.ensures)
-    -- same_length_4
+    let y = A.right in let s = c.loop-deep.s in let n = c.loop-deep.taken in let a = c.loop-deep.a in let b = c.loop-deep.b in
+    let h = c.loop-deep.deep in let goes = c.loop-deep.invariant.1 in let s₁ = c.join-taken.new.s in let n₁ = c.join-taken.result in
+    let e = c.opened-e.result in let f = c.opened-f.result in
+    let opens = calls.opens_of s s₁ vs ls ks n n₁ a b c.root-c.result c.root-d.result e f c.root-c.ensures c.root-d.ensures
+    c.opened-e.ensures c.opened-f.ensures c.join-taken.ensures in
+    let is = c.matches.result in let match = c.matches.ensures in let yes = ap not c.if-not-matches.false in
+    calls.count_asks s₀ vs ls ks n₀ dp x y s n a b h goes s₁ n₁ e f opens is match yes c.requires.1 c.index-p.result c.index-p.ensures)
+    -- shape_of-s-then-k-eq0
     (λ c.
-    let Join = c.before.before.before.before.before.before.before.before.before.before.before in
-    let Loop = Join.before.before.before.before.before.before.before.before.before.before.before.before.before in
-    Join.join.auto.0 ∙ Loop.loop.invariant.0)
-    -- returns_4
+    c.join-taken.auto.s ∙ c.loop-deep.invariant.0)
+    -- returns-then-k-eq0
     (λ c.
-    let If4 = c in let Count = If4.before in let Index = Count.before.before.before in let If3 = Index.before in let Matches = If3.before in
-    let Join = Matches.before.before.before.before.before in let Opened2 = Join.before.before in let Opened = Opened2.before.before in
-    let Root2 = Opened.before.before.before.before in let Root = Root2.before.before in let Loop = Root.before.before.before in
-    let S = Loop.before.before in let A = S.args in let s₀ = A.s.now in let vs = A.values in let ls = A.lists in let ks = A.links in
-    let n₀ = A.first in let dp = A.depth in let x = A.left in let y = A.right in let s = Loop.loop.s in let n = Loop.loop.taken in
-    let a = Loop.loop.a in let b = Loop.loop.b in let h = Loop.loop.deep in let goes = Loop.loop.invariant.1 in let s₁ = Join.join.new.0 in
-    let n₁ = Join.join.result in let e = Opened.opened.result in let f = Opened2.opened2.result in
-    let opens = calls.opens_of s s₁ vs ls ks n n₁ a b Root.root.result Root2.root2.result e f Root.root.ensures Root2.root2.ensures
-    Opened.opened.ensures Opened2.opened2.ensures Join.join.ensures in
-    let is = Matches.matches.result in let match = Matches.matches.ensures in let yes = If3.if3.false in
-    calls.ends-none s₀ vs ls ks n₀ dp x y s n a b h goes s₁ n₁ e f opens is match yes Index.index.result Count.count.result Index.index.ensures Count.count.ensures If4.if4.true)
-    -- loop2-holds
+    let A = c.args in let s₀ = A.s.now in let vs = A.values in let ls = A.lists in let ks = A.links in
+    let n₀ = A.first in let dp = A.depth in let x = A.left in let y = A.right in let s = c.loop-deep.s in let n = c.loop-deep.taken in
+    let a = c.loop-deep.a in let b = c.loop-deep.b in let h = c.loop-deep.deep in let goes = c.loop-deep.invariant.1 in let s₁ = c.join-taken.new.s in
+    let n₁ = c.join-taken.result in let e = c.opened-e.result in let f = c.opened-f.result in
+    let opens = calls.opens_of s s₁ vs ls ks n n₁ a b c.root-c.result c.root-d.result e f c.root-c.ensures c.root-d.ensures
+    c.opened-e.ensures c.opened-f.ensures c.join-taken.ensures in
+    let is = c.matches.result in let match = c.matches.ensures in let yes = ap not c.if-not-matches.false in
+    calls.ends_none s₀ vs ls ks n₀ dp x y s n a b h goes s₁ n₁ e f opens is match yes c.index-p.result c.count-k.result c.index-p.ensures c.count-k.ensures c.if-k-eq0.true)
+    -- loop-k-init
     (λ c.
-    let If4 = c in let Count = If4.before in let Index2 = Count.before.before in let Index = Index2.before in let If3 = Index.before in
-    let Matches = If3.before in let Join = Matches.before.before.before.before.before in let Opened2 = Join.before.before in
-    let Opened = Opened2.before.before in let Root2 = Opened.before.before.before.before in let Root = Root2.before.before in
-    let Loop = Root.before.before.before in let S = Loop.before.before in let A = S.args in let s₀ = A.s.now in let vs = A.values in
-    let ls = A.lists in let ks = A.links in let n₀ = A.first in let dp = A.depth in let x = A.left in let y = A.right in let s = Loop.loop.s in
-    let n = Loop.loop.taken in let a = Loop.loop.a in let b = Loop.loop.b in let h = Loop.loop.deep in let goes = Loop.loop.invariant.1 in
-    let s₁ = Join.join.new.0 in let n₁ = Join.join.result in let e = Opened.opened.result in let f = Opened2.opened2.result in
-    let opens = calls.opens_of s s₁ vs ls ks n n₁ a b Root.root.result Root2.root2.result e f Root.root.ensures Root2.root2.ensures
-    Opened.opened.ensures Opened2.opened2.ensures Join.join.ensures in
-    let is = Matches.matches.result in let match = Matches.matches.ensures in let yes = If3.if3.false in (
+    let A = c.args in let s₀ = A.s.now in let vs = A.values in
+    let ls = A.lists in let ks = A.links in let n₀ = A.first in let dp = A.depth in let x = A.left in let y = A.right in let s = c.loop-deep.s in
+    let n = c.loop-deep.taken in let a = c.loop-deep.a in let b = c.loop-deep.b in let h = c.loop-deep.deep in let goes = c.loop-deep.invariant.1 in
+    let s₁ = c.join-taken.new.s in let n₁ = c.join-taken.result in let e = c.opened-e.result in let f = c.opened-f.result in
+    let opens = calls.opens_of s s₁ vs ls ks n n₁ a b c.root-c.result c.root-d.result e f c.root-c.ensures c.root-d.ensures
+    c.opened-e.ensures c.opened-f.ensures c.join-taken.ensures in
+    let is = c.matches.result in let match = c.matches.ensures in let yes = ap not c.if-not-matches.false in (
       refl,
-      calls.walks_first s₁ vs ls ks n₁ e f Index.index.result Index2.index2.result Count.count.result Index.index.ensures
-          Index2.index2.ensures Count.count.ensures,
-      above Count.count.result If4.if4.false,
-      calls.place-fits s₀ vs ls ks n₀ dp x y s n a b h goes s₁
-          n₁ e f opens is match yes S.requires.1 Index.index.result Index2.index2.result Count.count.result Index.index.ensures
-          Index2.index2.ensures Count.count.ensures,
+      calls.walks_first s₁ vs ls ks n₁ e f c.index-p.result c.index-q.result c.count-k.result c.index-p.ensures
+          c.index-q.ensures c.count-k.ensures,
+      above c.count-k.result c.if-k-eq0.false,
+      calls.place_fits s₀ vs ls ks n₀ dp x y s n a b h goes s₁
+          n₁ e f opens is match yes c.requires.1 c.index-p.result c.index-q.result c.count-k.result c.index-p.ensures
+          c.index-q.ensures c.count-k.ensures,
     ))
-    -- add-p
+    -- overflow_add-p
     (λ c.
-    let Loop2Test = c in let Loop2 = Loop2Test.before in
-    fits_next Loop2.loop2.p Loop2.loop2.k Loop2.loop2.invariant.2 Loop2.loop2.invariant.3.0)
-    -- add_q
+    fits_next c.loop-k.p c.loop-k.k c.loop-k.invariant.2 c.loop-k.invariant.3.0)
+    -- overflow_add-q
     (λ c.
-    let Loop2Test = c in let Loop2 = Loop2Test.before in
-    fits_next Loop2.loop2.q Loop2.loop2.k Loop2.loop2.invariant.2 Loop2.loop2.invariant.3.1)
-    -- sub_k
+    fits_next c.loop-k.q c.loop-k.k c.loop-k.invariant.2 c.loop-k.invariant.3.1)
+    -- overflow_sub-k
     (λ c.
-    let Loop2Test = c in
-    omega (arith, Loop2Test.loop2-test.true))
-    -- part-requires
+    omega (arith, c.loop-k-test.true))
+    -- part-t-requires
     (λ c κs.
-    let Loop2 = c.before.before in let If3 = Loop2.before.before.before.before.before.before in let Matches = If3.before in
-    let Join = Matches.before.before.before.before.before in let Opened2 = Join.before.before in let Opened = Opened2.before.before in
-    let Root2 = Opened.before.before.before.before in let Root = Root2.before.before in let Loop = Root.before.before.before in
-    let S = Loop.before.before in let A = S.args in let s₀ = A.s.now in let vs = A.values in let ls = A.lists in let ks = A.links in
-    let n₀ = A.first in let dp = A.depth in let x = A.left in let y = A.right in let s = Loop.loop.s in let n = Loop.loop.taken in
-    let a = Loop.loop.a in let b = Loop.loop.b in let h = Loop.loop.deep in let goes = Loop.loop.invariant.1 in let s₁ = Join.join.new.0 in
-    let n₁ = Join.join.result in let e = Opened.opened.result in let f = Opened2.opened2.result in
-    let opens = calls.opens_of s s₁ vs ls ks n n₁ a b Root.root.result Root2.root2.result e f Root.root.ensures Root2.root2.ensures
-    Opened.opened.ensures Opened2.opened2.ensures Join.join.ensures in
-    let is = Matches.matches.result in let match = Matches.matches.ensures in let yes = If3.if3.false in let s₂ = Loop2.loop2.s in
-    let n₂ = Loop2.loop2.taken in let p = Loop2.loop2.p in let q = Loop2.loop2.q in let k = Loop2.loop2.k in let walks = Loop2.loop2.invariant.1 in
-    let some = Loop2.loop2.invariant.2 in
-    (calls.part-asks s₀ vs ls ks n₀ dp x y s n a b h goes s₁ n₁ e f opens is match yes s₂ n₂ p q k walks some S.requires.1).0)
-    -- part-requires-2
+    let A = c.args in let s₀ = A.s.now in let vs = A.values in let ls = A.lists in let ks = A.links in
+    let n₀ = A.first in let dp = A.depth in let x = A.left in let y = A.right in let s = c.loop-deep.s in let n = c.loop-deep.taken in
+    let a = c.loop-deep.a in let b = c.loop-deep.b in let h = c.loop-deep.deep in let goes = c.loop-deep.invariant.1 in let s₁ = c.join-taken.new.s in
+    let n₁ = c.join-taken.result in let e = c.opened-e.result in let f = c.opened-f.result in
+    let opens = calls.opens_of s s₁ vs ls ks n n₁ a b c.root-c.result c.root-d.result e f c.root-c.ensures c.root-d.ensures
+    c.opened-e.ensures c.opened-f.ensures c.join-taken.ensures in
+    let is = c.matches.result in let match = c.matches.ensures in let yes = ap not c.if-not-matches.false in let s₂ = c.loop-k.s in
+    let n₂ = c.loop-k.taken in let p = c.loop-k.p in let q = c.loop-k.q in let k = c.loop-k.k in let walks = c.loop-k.invariant.1 in
+    let some = c.loop-k.invariant.2 in
+    (calls.part_asks s₀ vs ls ks n₀ dp x y s n a b h goes s₁ n₁ e f opens is match yes s₂ n₂ p q k walks some c.requires.1).0)
+    -- part-u-requires
     (λ c κs.
-    let Loop2 = c.before.before.before.before in let If3 = Loop2.before.before.before.before.before.before in let Matches = If3.before in
-    let Join = Matches.before.before.before.before.before in let Opened2 = Join.before.before in let Opened = Opened2.before.before in
-    let Root2 = Opened.before.before.before.before in let Root = Root2.before.before in let Loop = Root.before.before.before in
-    let S = Loop.before.before in let A = S.args in let s₀ = A.s.now in let vs = A.values in let ls = A.lists in let ks = A.links in
-    let n₀ = A.first in let dp = A.depth in let x = A.left in let y = A.right in let s = Loop.loop.s in let n = Loop.loop.taken in
-    let a = Loop.loop.a in let b = Loop.loop.b in let h = Loop.loop.deep in let goes = Loop.loop.invariant.1 in let s₁ = Join.join.new.0 in
-    let n₁ = Join.join.result in let e = Opened.opened.result in let f = Opened2.opened2.result in
-    let opens = calls.opens_of s s₁ vs ls ks n n₁ a b Root.root.result Root2.root2.result e f Root.root.ensures Root2.root2.ensures
-    Opened.opened.ensures Opened2.opened2.ensures Join.join.ensures in
-    let is = Matches.matches.result in let match = Matches.matches.ensures in let yes = If3.if3.false in let s₂ = Loop2.loop2.s in
-    let n₂ = Loop2.loop2.taken in let p = Loop2.loop2.p in let q = Loop2.loop2.q in let k = Loop2.loop2.k in let walks = Loop2.loop2.invariant.1 in
-    let some = Loop2.loop2.invariant.2 in
-    (calls.part-asks s₀ vs ls ks n₀ dp x y s n a b h goes s₁ n₁ e f opens is match yes s₂ n₂ p q k walks some S.requires.1).1)
-    -- same-requires
+    let A = c.args in let s₀ = A.s.now in let vs = A.values in let ls = A.lists in let ks = A.links in
+    let n₀ = A.first in let dp = A.depth in let x = A.left in let y = A.right in let s = c.loop-deep.s in let n = c.loop-deep.taken in
+    let a = c.loop-deep.a in let b = c.loop-deep.b in let h = c.loop-deep.deep in let goes = c.loop-deep.invariant.1 in let s₁ = c.join-taken.new.s in
+    let n₁ = c.join-taken.result in let e = c.opened-e.result in let f = c.opened-f.result in
+    let opens = calls.opens_of s s₁ vs ls ks n n₁ a b c.root-c.result c.root-d.result e f c.root-c.ensures c.root-d.ensures
+    c.opened-e.ensures c.opened-f.ensures c.join-taken.ensures in
+    let is = c.matches.result in let match = c.matches.ensures in let yes = ap not c.if-not-matches.false in let s₂ = c.loop-k.s in
+    let n₂ = c.loop-k.taken in let p = c.loop-k.p in let q = c.loop-k.q in let k = c.loop-k.k in let walks = c.loop-k.invariant.1 in
+    let some = c.loop-k.invariant.2 in
+    (calls.part_asks s₀ vs ls ks n₀ dp x y s n a b h goes s₁ n₁ e f opens is match yes s₂ n₂ p q k walks some c.requires.1).1)
+    -- same-r-requires
     (λ c κs.
-    let Part2 = c.before in let Part = Part2.before.before in let Loop2 = Part.before.before.before in
-    let If3 = Loop2.before.before.before.before.before.before in let Matches = If3.before in
-    let Join = Matches.before.before.before.before.before in let Opened2 = Join.before.before in let Opened = Opened2.before.before in
-    let Root2 = Opened.before.before.before.before in let Root = Root2.before.before in let LoopTest = Root.before.before in
-    let Loop = LoopTest.before in let S = Loop.before.before in let A = S.args in let s₀ = A.s.now in let vs = A.values in let ls = A.lists in
-    let ks = A.links in let n₀ = A.first in let dp = A.depth in let x = A.left in let y = A.right in let s = Loop.loop.s in
-    let n = Loop.loop.taken in let a = Loop.loop.a in let b = Loop.loop.b in let h = Loop.loop.deep in let goes = Loop.loop.invariant.1 in
-    let s₁ = Join.join.new.0 in let n₁ = Join.join.result in let e = Opened.opened.result in let f = Opened2.opened2.result in
-    let opens = calls.opens_of s s₁ vs ls ks n n₁ a b Root.root.result Root2.root2.result e f Root.root.ensures Root2.root2.ensures
-    Opened.opened.ensures Opened2.opened2.ensures Join.join.ensures in
-    let is = Matches.matches.result in let match = Matches.matches.ensures in let yes = If3.if3.false in let s₂ = Loop2.loop2.s in
-    let n₂ = Loop2.loop2.taken in let p = Loop2.loop2.p in let q = Loop2.loop2.q in let k = Loop2.loop2.k in let walks = Loop2.loop2.invariant.1 in
-    let some = Loop2.loop2.invariant.2 in (
-      less dp h t S.requires.0 LoopTest.loop-test.true Loop.loop.invariant.2,
-      calls.same-asks s₀ vs ls ks n₀ dp x y s n a b h goes s₁ n₁ e f opens is match
-          yes s₂ n₂ p q k walks some Part.part.result Part2.part2.result Part.part.ensures Part2.part2.ensures S.requires.1,
+    let A = c.args in let s₀ = A.s.now in let vs = A.values in let ls = A.lists in
+    let ks = A.links in let n₀ = A.first in let dp = A.depth in let x = A.left in let y = A.right in let s = c.loop-deep.s in
+    let n = c.loop-deep.taken in let a = c.loop-deep.a in let b = c.loop-deep.b in let h = c.loop-deep.deep in let goes = c.loop-deep.invariant.1 in
+    let s₁ = c.join-taken.new.s in let n₁ = c.join-taken.result in let e = c.opened-e.result in let f = c.opened-f.result in
+    let opens = calls.opens_of s s₁ vs ls ks n n₁ a b c.root-c.result c.root-d.result e f c.root-c.ensures c.root-d.ensures
+    c.opened-e.ensures c.opened-f.ensures c.join-taken.ensures in
+    let is = c.matches.result in let match = c.matches.ensures in let yes = ap not c.if-not-matches.false in let s₂ = c.loop-k.s in
+    let n₂ = c.loop-k.taken in let p = c.loop-k.p in let q = c.loop-k.q in let k = c.loop-k.k in let walks = c.loop-k.invariant.1 in
+    let some = c.loop-k.invariant.2 in (
+      less dp h t c.requires.0 c.loop-deep-test.true c.loop-deep.invariant.2,
+      calls.same_asks s₀ vs ls ks n₀ dp x y s n a b h goes s₁ n₁ e f opens is match
+          yes s₂ n₂ p q k walks some c.part-t.result c.part-u.result c.part-t.ensures c.part-u.ensures c.requires.1,
     ))
-    -- same_length_5
+    -- shape_of-s-then-r-eq-UNEQUAL
     (λ c.
-    let Again = c.before.before.before in let Loop2 = Again.before.before.before.before.before.before.before in
-    let Join = Loop2.before.before.before.before.before.before.before.before.before.before.before.before in
-    let Loop = Join.before.before.before.before.before.before.before.before.before.before.before.before.before in
-    Again.same.auto.0 ∙ Loop2.loop2.invariant.0 ∙ Join.join.auto.0 ∙ Loop.loop.invariant.0)
-    -- returns_5
+    c.same-r.auto.s ∙ c.loop-k.invariant.0 ∙ c.join-taken.auto.s ∙ c.loop-deep.invariant.0)
+    -- returns-then-r-eq-UNEQUAL
     (λ c.
-    let If5 = c in let Again = If5.before.before.before in let Part2 = Again.before.before in let Part = Part2.before.before in
-    let Loop2 = Part.before.before.before in let If3 = Loop2.before.before.before.before.before.before in let Matches = If3.before in
-    let Join = Matches.before.before.before.before.before in let Opened2 = Join.before.before in let Opened = Opened2.before.before in
-    let Root2 = Opened.before.before.before.before in let Root = Root2.before.before in let LoopTest = Root.before.before in
-    let Loop = LoopTest.before in let S = Loop.before.before in let A = S.args in let s₀ = A.s.now in let vs = A.values in let ls = A.lists in
-    let ks = A.links in let n₀ = A.first in let dp = A.depth in let x = A.left in let y = A.right in let s = Loop.loop.s in
-    let n = Loop.loop.taken in let a = Loop.loop.a in let b = Loop.loop.b in let h = Loop.loop.deep in let goes = Loop.loop.invariant.1 in
-    let s₁ = Join.join.new.0 in let n₁ = Join.join.result in let e = Opened.opened.result in let f = Opened2.opened2.result in
-    let opens = calls.opens_of s s₁ vs ls ks n n₁ a b Root.root.result Root2.root2.result e f Root.root.ensures Root2.root2.ensures
-    Opened.opened.ensures Opened2.opened2.ensures Join.join.ensures in
-    let is = Matches.matches.result in let match = Matches.matches.ensures in let yes = If3.if3.false in let s₂ = Loop2.loop2.s in
-    let n₂ = Loop2.loop2.taken in let p = Loop2.loop2.p in let q = Loop2.loop2.q in let k = Loop2.loop2.k in let walks = Loop2.loop2.invariant.1 in
-    let some = Loop2.loop2.invariant.2 in
-    calls.ends-within s₀ vs ls ks n₀ dp x y s n a b h goes s₁ n₁ e f opens is match yes s₂ n₂ p q k walks some Part.part.result Part2.part2.result
-    Part.part.ensures Part2.part2.ensures Again.same.new.0 (h - 1) Again.same.result Again.same.ensures If5.if5.true
-    (one_more h LoopTest.loop-test.true))
-    -- loop2-less
+    let A = c.args in let s₀ = A.s.now in let vs = A.values in let ls = A.lists in
+    let ks = A.links in let n₀ = A.first in let dp = A.depth in let x = A.left in let y = A.right in let s = c.loop-deep.s in
+    let n = c.loop-deep.taken in let a = c.loop-deep.a in let b = c.loop-deep.b in let h = c.loop-deep.deep in let goes = c.loop-deep.invariant.1 in
+    let s₁ = c.join-taken.new.s in let n₁ = c.join-taken.result in let e = c.opened-e.result in let f = c.opened-f.result in
+    let opens = calls.opens_of s s₁ vs ls ks n n₁ a b c.root-c.result c.root-d.result e f c.root-c.ensures c.root-d.ensures
+    c.opened-e.ensures c.opened-f.ensures c.join-taken.ensures in
+    let is = c.matches.result in let match = c.matches.ensures in let yes = ap not c.if-not-matches.false in let s₂ = c.loop-k.s in
+    let n₂ = c.loop-k.taken in let p = c.loop-k.p in let q = c.loop-k.q in let k = c.loop-k.k in let walks = c.loop-k.invariant.1 in
+    let some = c.loop-k.invariant.2 in
+    calls.ends_within s₀ vs ls ks n₀ dp x y s n a b h goes s₁ n₁ e f opens is match yes s₂ n₂ p q k walks some c.part-t.result c.part-u.result
+    c.part-t.ensures c.part-u.ensures c.same-r.new.s (h - 1) c.same-r.result c.same-r.ensures c.if-r-eq-UNEQUAL.true
+    (one_more h c.loop-deep-test.true))
+    -- loop-k-smaller
     (λ c.
-    let Loop2Test = c.before.before.before.before.before.before.before.before.before in let Loop2 = Loop2Test.before in
-    fewer Loop2.loop2.k Loop2Test.loop2-test.true)
-    -- loop2-again
+    fewer c.loop-k.k c.loop-k-test.true)
+    -- loop-k-preserved
     (λ c.
-    let If5 = c in let Again = If5.before.before.before in let Part2 = Again.before.before in let Part = Part2.before.before in
-    let Loop2Test = Part.before.before in let Loop2 = Loop2Test.before in let If3 = Loop2.before.before.before.before.before.before in
-    let Matches = If3.before in let Join = Matches.before.before.before.before.before in let Opened2 = Join.before.before in
-    let Opened = Opened2.before.before in let Root2 = Opened.before.before.before.before in let Root = Root2.before.before in
-    let LoopTest = Root.before.before in let Loop = LoopTest.before in let S = Loop.before.before in let A = S.args in let s₀ = A.s.now in
+    let A = c.args in let s₀ = A.s.now in
     let vs = A.values in let ls = A.lists in let ks = A.links in let n₀ = A.first in let dp = A.depth in let x = A.left in let y = A.right in
-    let s = Loop.loop.s in let n = Loop.loop.taken in let a = Loop.loop.a in let b = Loop.loop.b in let h = Loop.loop.deep in
-    let goes = Loop.loop.invariant.1 in let s₁ = Join.join.new.0 in let n₁ = Join.join.result in let e = Opened.opened.result in
-    let f = Opened2.opened2.result in
-    let opens = calls.opens_of s s₁ vs ls ks n n₁ a b Root.root.result Root2.root2.result e f Root.root.ensures Root2.root2.ensures
-    Opened.opened.ensures Opened2.opened2.ensures Join.join.ensures in
-    let is = Matches.matches.result in let match = Matches.matches.ensures in let yes = If3.if3.false in let s₂ = Loop2.loop2.s in
-    let n₂ = Loop2.loop2.taken in let p = Loop2.loop2.p in let q = Loop2.loop2.q in let k = Loop2.loop2.k in let walks = Loop2.loop2.invariant.1 in
-    let some = Loop2.loop2.invariant.2 in (
-      Again.same.auto.0 ∙ Loop2.loop2.invariant.0,
-      calls.walks-on s₀ vs ls ks n₀ dp x y s n a b h goes s₁ n₁ e f opens is match yes s₂ n₂ p q k walks some
-          Part.part.result Part2.part2.result Part.part.ensures Part2.part2.ensures Again.same.new.0 (h - 1) Again.same.result
-          Again.same.ensures If5.if5.false (k - 1) (one_more k some),
-      left_over k Loop2Test.loop2-test.true,
-      (same_sum p k some Loop2.loop2.invariant.3.0, same_sum q k some Loop2.loop2.invariant.3.1),
+    let s = c.loop-deep.s in let n = c.loop-deep.taken in let a = c.loop-deep.a in let b = c.loop-deep.b in let h = c.loop-deep.deep in
+    let goes = c.loop-deep.invariant.1 in let s₁ = c.join-taken.new.s in let n₁ = c.join-taken.result in let e = c.opened-e.result in
+    let f = c.opened-f.result in
+    let opens = calls.opens_of s s₁ vs ls ks n n₁ a b c.root-c.result c.root-d.result e f c.root-c.ensures c.root-d.ensures
+    c.opened-e.ensures c.opened-f.ensures c.join-taken.ensures in
+    let is = c.matches.result in let match = c.matches.ensures in let yes = ap not c.if-not-matches.false in let s₂ = c.loop-k.s in
+    let n₂ = c.loop-k.taken in let p = c.loop-k.p in let q = c.loop-k.q in let k = c.loop-k.k in let walks = c.loop-k.invariant.1 in
+    let some = c.loop-k.invariant.2 in (
+      c.same-r.auto.s ∙ c.loop-k.invariant.0,
+      calls.walks_on s₀ vs ls ks n₀ dp x y s n a b h goes s₁ n₁ e f opens is match yes s₂ n₂ p q k walks some
+          c.part-t.result c.part-u.result c.part-t.ensures c.part-u.ensures c.same-r.new.s (h - 1) c.same-r.result
+          c.same-r.ensures c.if-r-eq-UNEQUAL.false (k - 1) (one_more k some),
+      left_over k c.loop-k-test.true,
+      (same_sum p k some c.loop-k.invariant.3.0, same_sum q k some c.loop-k.invariant.3.1),
     ))
-    -- add-part
+    -- overflow_add-p-in-loop-deep
     (λ c.
-    let Loop2 = c.before.before in
-    fits_next Loop2.loop2.p Loop2.loop2.k Loop2.loop2.invariant.2 Loop2.loop2.invariant.3.0)
-    -- part-requires-3
+    fits_next c.loop-k.p c.loop-k.k c.loop-k.invariant.2 c.loop-k.invariant.3.0)
+    -- part-a-requires
     (λ c κs.
-    let Loop2 = c.before.before in let If3 = Loop2.before.before.before.before.before.before in let Matches = If3.before in
-    let Join = Matches.before.before.before.before.before in let Opened2 = Join.before.before in let Opened = Opened2.before.before in
-    let Root2 = Opened.before.before.before.before in let Root = Root2.before.before in let Loop = Root.before.before.before in
-    let S = Loop.before.before in let A = S.args in let s₀ = A.s.now in let vs = A.values in let ls = A.lists in let ks = A.links in
-    let n₀ = A.first in let dp = A.depth in let x = A.left in let y = A.right in let s = Loop.loop.s in let n = Loop.loop.taken in
-    let a = Loop.loop.a in let b = Loop.loop.b in let h = Loop.loop.deep in let goes = Loop.loop.invariant.1 in let s₁ = Join.join.new.0 in
-    let n₁ = Join.join.result in let e = Opened.opened.result in let f = Opened2.opened2.result in
-    let opens = calls.opens_of s s₁ vs ls ks n n₁ a b Root.root.result Root2.root2.result e f Root.root.ensures Root2.root2.ensures
-    Opened.opened.ensures Opened2.opened2.ensures Join.join.ensures in
-    let is = Matches.matches.result in let match = Matches.matches.ensures in let yes = If3.if3.false in let s₂ = Loop2.loop2.s in
-    let n₂ = Loop2.loop2.taken in let p = Loop2.loop2.p in let q = Loop2.loop2.q in let k = Loop2.loop2.k in let walks = Loop2.loop2.invariant.1 in
-    let some = Loop2.loop2.invariant.2 in
-    (calls.part-asks s₀ vs ls ks n₀ dp x y s n a b h goes s₁ n₁ e f opens is match yes s₂ n₂ p q k walks some S.requires.1).0)
-    -- add-part-2
+    let A = c.args in let s₀ = A.s.now in let vs = A.values in let ls = A.lists in let ks = A.links in
+    let n₀ = A.first in let dp = A.depth in let x = A.left in let y = A.right in let s = c.loop-deep.s in let n = c.loop-deep.taken in
+    let a = c.loop-deep.a in let b = c.loop-deep.b in let h = c.loop-deep.deep in let goes = c.loop-deep.invariant.1 in let s₁ = c.join-taken.new.s in
+    let n₁ = c.join-taken.result in let e = c.opened-e.result in let f = c.opened-f.result in
+    let opens = calls.opens_of s s₁ vs ls ks n n₁ a b c.root-c.result c.root-d.result e f c.root-c.ensures c.root-d.ensures
+    c.opened-e.ensures c.opened-f.ensures c.join-taken.ensures in
+    let is = c.matches.result in let match = c.matches.ensures in let yes = ap not c.if-not-matches.false in let s₂ = c.loop-k.s in
+    let n₂ = c.loop-k.taken in let p = c.loop-k.p in let q = c.loop-k.q in let k = c.loop-k.k in let walks = c.loop-k.invariant.1 in
+    let some = c.loop-k.invariant.2 in
+    (calls.part_asks s₀ vs ls ks n₀ dp x y s n a b h goes s₁ n₁ e f opens is match yes s₂ n₂ p q k walks some c.requires.1).0)
+    -- overflow_add-q-in-loop-deep
     (λ c.
-    let Loop2 = c.before.before.before.before in
-    fits_next Loop2.loop2.q Loop2.loop2.k Loop2.loop2.invariant.2 Loop2.loop2.invariant.3.1)
-    -- part-requires-4
+    fits_next c.loop-k.q c.loop-k.k c.loop-k.invariant.2 c.loop-k.invariant.3.1)
+    -- part-b-requires
     (λ c κs.
-    let Loop2 = c.before.before.before.before in let If3 = Loop2.before.before.before.before.before.before in let Matches = If3.before in
-    let Join = Matches.before.before.before.before.before in let Opened2 = Join.before.before in let Opened = Opened2.before.before in
-    let Root2 = Opened.before.before.before.before in let Root = Root2.before.before in let Loop = Root.before.before.before in
-    let S = Loop.before.before in let A = S.args in let s₀ = A.s.now in let vs = A.values in let ls = A.lists in let ks = A.links in
-    let n₀ = A.first in let dp = A.depth in let x = A.left in let y = A.right in let s = Loop.loop.s in let n = Loop.loop.taken in
-    let a = Loop.loop.a in let b = Loop.loop.b in let h = Loop.loop.deep in let goes = Loop.loop.invariant.1 in let s₁ = Join.join.new.0 in
-    let n₁ = Join.join.result in let e = Opened.opened.result in let f = Opened2.opened2.result in
-    let opens = calls.opens_of s s₁ vs ls ks n n₁ a b Root.root.result Root2.root2.result e f Root.root.ensures Root2.root2.ensures
-    Opened.opened.ensures Opened2.opened2.ensures Join.join.ensures in
-    let is = Matches.matches.result in let match = Matches.matches.ensures in let yes = If3.if3.false in let s₂ = Loop2.loop2.s in
-    let n₂ = Loop2.loop2.taken in let p = Loop2.loop2.p in let q = Loop2.loop2.q in let k = Loop2.loop2.k in let walks = Loop2.loop2.invariant.1 in
-    let some = Loop2.loop2.invariant.2 in
-    (calls.part-asks s₀ vs ls ks n₀ dp x y s n a b h goes s₁ n₁ e f opens is match yes s₂ n₂ p q k walks some S.requires.1).1)
-    -- loop-less
+    let A = c.args in let s₀ = A.s.now in let vs = A.values in let ls = A.lists in let ks = A.links in
+    let n₀ = A.first in let dp = A.depth in let x = A.left in let y = A.right in let s = c.loop-deep.s in let n = c.loop-deep.taken in
+    let a = c.loop-deep.a in let b = c.loop-deep.b in let h = c.loop-deep.deep in let goes = c.loop-deep.invariant.1 in let s₁ = c.join-taken.new.s in
+    let n₁ = c.join-taken.result in let e = c.opened-e.result in let f = c.opened-f.result in
+    let opens = calls.opens_of s s₁ vs ls ks n n₁ a b c.root-c.result c.root-d.result e f c.root-c.ensures c.root-d.ensures
+    c.opened-e.ensures c.opened-f.ensures c.join-taken.ensures in
+    let is = c.matches.result in let match = c.matches.ensures in let yes = ap not c.if-not-matches.false in let s₂ = c.loop-k.s in
+    let n₂ = c.loop-k.taken in let p = c.loop-k.p in let q = c.loop-k.q in let k = c.loop-k.k in let walks = c.loop-k.invariant.1 in
+    let some = c.loop-k.invariant.2 in
+    (calls.part_asks s₀ vs ls ks n₀ dp x y s n a b h goes s₁ n₁ e f opens is match yes s₂ n₂ p q k walks some c.requires.1).1)
+    -- loop-deep-smaller
     (λ c.
-    let LoopTest = c.before.before.before.before.before.before.before.before.before.before.before.before.before.before.before.before.before.before.before.before.before.before.before.before.before.before.before.before.before in
-    let Loop = LoopTest.before in
-    lower Loop.loop.deep LoopTest.loop-test.taken)
-    -- loop-again
+    lower c.loop-deep.deep c.loop-deep-test.true)
+    -- loop-deep-preserved
     (λ c.
-    let Part4 = c in let Part3 = Part4.before.before in let Loop2Test = Part3.before.before in let Loop2 = Loop2Test.before in
-    let If3 = Loop2.before.before.before.before.before.before in let Matches = If3.before in
-    let Join = Matches.before.before.before.before.before in let Opened2 = Join.before.before in let Opened = Opened2.before.before in
-    let Root2 = Opened.before.before.before.before in let Root = Root2.before.before in let LoopTest = Root.before.before in
-    let Loop = LoopTest.before in let S = Loop.before.before in let A = S.args in let s₀ = A.s.now in let vs = A.values in let ls = A.lists in
-    let ks = A.links in let n₀ = A.first in let dp = A.depth in let x = A.left in let y = A.right in let s = Loop.loop.s in
-    let n = Loop.loop.taken in let a = Loop.loop.a in let b = Loop.loop.b in let h = Loop.loop.deep in let goes = Loop.loop.invariant.1 in
-    let s₁ = Join.join.new.0 in let n₁ = Join.join.result in let e = Opened.opened.result in let f = Opened2.opened2.result in
-    let opens = calls.opens_of s s₁ vs ls ks n n₁ a b Root.root.result Root2.root2.result e f Root.root.ensures Root2.root2.ensures
-    Opened.opened.ensures Opened2.opened2.ensures Join.join.ensures in
-    let is = Matches.matches.result in let match = Matches.matches.ensures in let yes = If3.if3.false in let s₂ = Loop2.loop2.s in
-    let n₂ = Loop2.loop2.taken in let p = Loop2.loop2.p in let q = Loop2.loop2.q in let k = Loop2.loop2.k in let walks = Loop2.loop2.invariant.1 in
-    let some = Loop2.loop2.invariant.2 in (
-      Loop2.loop2.invariant.0 ∙ Join.join.auto.0 ∙ Loop.loop.invariant.0,
+    let A = c.args in let s₀ = A.s.now in let vs = A.values in let ls = A.lists in
+    let ks = A.links in let n₀ = A.first in let dp = A.depth in let x = A.left in let y = A.right in let s = c.loop-deep.s in
+    let n = c.loop-deep.taken in let a = c.loop-deep.a in let b = c.loop-deep.b in let h = c.loop-deep.deep in let goes = c.loop-deep.invariant.1 in
+    let s₁ = c.join-taken.new.s in let n₁ = c.join-taken.result in let e = c.opened-e.result in let f = c.opened-f.result in
+    let opens = calls.opens_of s s₁ vs ls ks n n₁ a b c.root-c.result c.root-d.result e f c.root-c.ensures c.root-d.ensures
+    c.opened-e.ensures c.opened-f.ensures c.join-taken.ensures in
+    let is = c.matches.result in let match = c.matches.ensures in let yes = ap not c.if-not-matches.false in let s₂ = c.loop-k.s in
+    let n₂ = c.loop-k.taken in let p = c.loop-k.p in let q = c.loop-k.q in let k = c.loop-k.k in let walks = c.loop-k.invariant.1 in
+    let some = c.loop-k.invariant.2 in (
+      c.loop-k.invariant.0 ∙ c.join-taken.auto.s ∙ c.loop-deep.invariant.0,
       calls.goes_on s₀ vs ls ks n₀ dp x y s n a b h goes s₁ n₁ e f opens is match yes s₂ n₂ p q
-          k walks some Part3.part3.result Part4.part4.result Part3.part3.ensures Part4.part4.ensures (last_one k some Loop2Test.loop2-test.false)
-          (h - 1) (one_more h LoopTest.loop-test.true),
-      no_more h dp Loop.loop.invariant.2,
+          k walks some c.part-a.result c.part-b.result c.part-a.ensures c.part-b.ensures (last_one k some c.loop-k-test.false)
+          (h - 1) (one_more h c.loop-deep-test.true),
+      no_more h dp c.loop-deep.invariant.2,
     ))
-    -- same_length_6
+    -- shape_of-s
     (λ c.
-    let Loop = c.before in
-    Loop.loop.invariant.0)
-    -- returns_6
+    c.loop-deep.invariant.0)
+    -- returns
     (λ c.
-    let LoopTest = c in let Loop = LoopTest.before in let S = Loop.before.before in let A = S.args in let s₀ = A.s.now in let vs = A.values in
-    let ls = A.lists in let ks = A.links in let n₀ = A.first in let dp = A.depth in let x = A.left in let y = A.right in let s = Loop.loop.s in
-    let n = Loop.loop.taken in let a = Loop.loop.a in let b = Loop.loop.b in let h = Loop.loop.deep in let goes = Loop.loop.invariant.1 in
-    calls.ends-deep s₀ vs ls ks n₀ dp x y s n a b h goes (none h LoopTest.loop-test.false))
+    let A = c.args in let s₀ = A.s.now in let vs = A.values in
+    let ls = A.lists in let ks = A.links in let n₀ = A.first in let dp = A.depth in let x = A.left in let y = A.right in let s = c.loop-deep.s in
+    let n = c.loop-deep.taken in let a = c.loop-deep.a in let b = c.loop-deep.b in let h = c.loop-deep.deep in let goes = c.loop-deep.invariant.1 in
+    calls.ends_deep s₀ vs ls ks n₀ dp x y s n a b h goes (none h c.loop-deep-test.false))

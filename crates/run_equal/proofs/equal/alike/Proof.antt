@@ -1,4 +1,6 @@
 -- `run_equal::equal::alike` meets its contract.
+use mathlib.Core.Bool.{not}
+use mathlib.Core.Path.{ap}
 use mathlib.Core.Logic.{inl, inr}
 use Rattle.run_equal.proofs.Words.{is_variable}
 use borrow.Author.Rules.{rules}
@@ -22,12 +24,12 @@ returns-then-not-is_variable-2 c = search rules
 
 returns-then-c-d-2 : tie.Need-returns-then-c-d-2
 returns-then-c-d-2 c =
-    let Second = c.before.before in
-    let First = Second.before.before in
-    let S = First.before.before in
+    let Second = c in
+    let First = Second in
+    let S = First in
     inr (
-      is_variable S.args.c First.is_variable.result First.is_variable.ensures Second.before.if-not-is_variable.false,
-      is_variable S.args.d Second.is_variable-2.result Second.is_variable-2.ensures c.before.if-not-is_variable-2.false,
+      is_variable S.args.c First.is_variable.result First.is_variable.ensures (ap not Second.if-not-is_variable.false),
+      is_variable S.args.d Second.is_variable-2.result Second.is_variable-2.ensures (ap not c.if-not-is_variable-2.false),
       c.if-c-d-2.true,
     )
 

@@ -1,12 +1,12 @@
 -- `run_equal::equal::put` meets its contract: the link is stored over the pair's own or behind all, or there is none.
 use Prim.Native.Nat.{◌+◌, ◌%◌}
 use mathlib.Core.Path.{ap, ◌∙◌}
-use mathlib.Core.Logic.{⊎_elim}
 use native.Mathlib.Omega.{arith}
 use lib.ListN.{get_or}
 use Rattle.run_equal.proofs.Puts.{put_none, put_over, put_new}
 use borrow.Author.Rules.{rules}
 use Rattle.run_equal.proofs.equal.put.Statement.{statement}
+use Rattle.run_equal.proofs.equal.put.Lts as lts
 use Rattle.run_equal.proofs.equal.put.Tie as tie
 
 word-requires : tie.Need-word-requires
@@ -41,14 +41,14 @@ shape_of-s-then-old-ge-PLACES c = search rules
 
 returns-then-old-ge-PLACES : tie.Need-returns-then-old-ge-PLACES
 returns-then-old-ge-PLACES c =
-    let SetAt = c.before.before in
-    let If3 = SetAt.before.before in
-    let If2 = If3.before in
-    let Old = If2.before.before in
-    let If1 = Old.before in
-    let Index = If1.before in
-    let Word = Index.before.before in
-    let S = Word.before.before in
+    let SetAt = c in
+    let If3 = SetAt in
+    let If2 = If3 in
+    let Old = If2 in
+    let If1 = Old in
+    let Index = If1 in
+    let Word = Index in
+    let S = Word in
     let a = S.args in
     λ met r k.
     rw (SetAt.set_at.ensures, Word.word.ensures)
@@ -60,7 +60,7 @@ shape_of-s-else-old-ge-PLACES c = search rules
 
 returns-else-old-ge-PLACES : tie.Need-returns-else-old-ge-PLACES
 returns-else-old-ge-PLACES c =
-    let S = c.before.before.before.before.before.before.before.before.before in
+    let S = c in
     let a = S.args in
     λ met r k. put_none a.s.now a.lists a.links a.taken met a.p a.w r k
 
@@ -69,7 +69,7 @@ shape_of-s-then-taken-links c = search rules
 
 returns-then-taken-links : tie.Need-returns-then-taken-links
 returns-then-taken-links c =
-    let S = c.before.before.before.before.before.before in
+    let S = c in
     let a = S.args in
     λ met r k. put_none a.s.now a.lists a.links a.taken met a.p a.w r k
 
@@ -93,24 +93,24 @@ shape_of-s c = search rules
 
 returns : tie.Need-returns
 returns c =
-    let Set3 = c.before.before in
-    let Word2 = Set3.before in
-    let Set2 = Word2.before.before.before.before in
-    let If4 = Set2.before.before in
-    let If1 = If4.before in
-    let Index = If1.before in
-    let Word = Index.before.before in
-    let S = Word.before.before in
+    let Set3 = c in
+    let Word2 = Set3 in
+    let Set2 = Word2 in
+    let If4 = Set2 in
+    let If1 = If4 in
+    let Index = If1 in
+    let Word = Index in
+    let S = Word in
     let a = S.args in
-    let rank = Index.index-rank.ensures ∙ Index.before.word_at.ensures in
+    let rank = Index.index-rank.ensures ∙ Index.word_at.ensures in
     λ met r k.
     rw (Set3.set_at-3.ensures, Word2.word-2.ensures, Set2.set_at-2.ensures, Word.word.ensures)
     (put_new a.s.now a.lists a.links a.taken met a.p a.w r k If4.if-taken-links.false (λ h e.
-    ⊎_elim
-    (λ q.
-    q.4.left (q.3.ensures ∙ ap (λ k. k % 65536) q.2.ensures ∙ ap (λ k. get_or a.s.now (a.lists + k) 0 % 65536) rank ∙ e))
-    (λ q. omega (arith, rank, q.left))
-    If1.if-rank-taken.branch))
+    elim If1.if-rank-taken.branch [
+      lts.then-rank-taken+else-index-p q ↦ q.if-index-p.false
+        (q.index.ensures ∙ ap (λ k. k % 65536) q.word_at-old.ensures ∙ ap (λ k. get_or a.s.now (a.lists + k) 0 % 65536) rank ∙ e)
+    | lts.else-rank-taken q ↦ omega (arith, rank, q.if-rank-taken.false)
+    ]))
 
 pub put_spec : {M : Type 1} → statement M
 put_spec =
