@@ -95,8 +95,8 @@ module _ {s s₁ : List ℕ} {text : Bytes} {names : List Bytes} {j : Job} {limi
       let small : (i : ℕ) → i < n → get_or s₂ (gift_term i) 0 ≡ 0 → get_or s₂ (gift_pair i) 0 < figures.pairs = λ i h z.
       mapped_below (length x.values) figures.pairs (λ p. at.pair p) t.unit.held.place (asks_in (trials.notes t f m begun told))
       (asks_below (trials.notes t f m begun told) s₁ x (template k c) 1 (trials.to t f m begun) told.told.1.held)
-      (subst (λ l. In (get_or s₂ (gift_pair i) 0) l) (trials.asked-noted t f m begun told) (asked_at s₂ n i h z)) in
-      rw t.links_are ((compared_set (Noted n) told).ok, omega (arith, behind), trials.few-noted t f m begun told, small)
+      (subst (λ l. In (get_or s₂ (gift_pair i) 0) l) (trials.asked_noted t f m begun told) (asked_at s₂ n i h z)) in
+      rw t.links_are ((compared_set (Noted n) told).ok, omega (arith, behind), trials.few_noted t f m begun told, small)
 
   -- What `guards` asks, where the circle test finds none.
   module _ {s₂ s₃ : List ℕ} {n stamp : ℕ} {found : Bool} (new : MarksBelow s marks figures.pairs stamp) (fit : (1 < stamp) × (stamp + 256 < 1099511627776))
@@ -104,11 +104,11 @@ module _ {s s₁ : List ℕ} {text : Bytes} {names : List Bytes} {j : Job} {limi
       (told : trials.Comparison t f m begun s₂ (Noted n)) (none_asked : asks_in told.told.1.notes ≡ [])
       (answer : Tested s₂ s₃ (trials.tried-as t f m begun new fit cleared told none_asked) marks n stamp found) where
     now : Trying s₃ text names j limit figures at g others values marks links goal
-    now = trials.tested-trying t f m begun new fit cleared told none_asked answer
+    now = trials.tested_trying t f m begun new fit cleared told none_asked answer
 
     tested_set : Joined s s₃ (marks + figures.pairs) figures.pairs readers [] readers
     tested_set =
-        set_stays behind (trial_only_wider compounds_region (omega arith) (trials.whole-frame t f m begun new fit cleared told none_asked answer)) met
+        set_stays behind (trial_only_wider compounds_region (omega arith) (trials.whole_frame t f m begun new fit cleared told none_asked answer)) met
 
     asking : Asking s₃ (setting figures at (unit_of j limit figures g)) (template k c) (trials.given t f m begun new fit cleared told none_asked) values marks links
     asking = record {
@@ -132,14 +132,14 @@ module _ {s s₁ : List ℕ} {text : Bytes} {names : List Bytes} {j : Job} {limi
         values marks links readers (stamp + 192)
     guarding = record {
       asking = asking;
-      at = clause_held now (trials.tested-candidate t f m begun new fit cleared told none_asked answer);
+      at = clause_held now (trials.tested_candidate t f m begun new fit cleared told none_asked answer);
       pairs_are = refl;
       compounds_are = refl;
       fit = guards_fit t m;
       readers = subst (λ l. Readers s₃ (marks + l) l readers) (sym t.links_are) tested_set.ok;
       few_links = t.few_links;
       near = t.near;
-      stamps = trials.marks-after t f m begun new fit cleared told none_asked answer;
+      stamps = trials.marks_after t f m begun new fit cleared told none_asked answer;
       above = omega (arith, fit.0);
       below = omega (arith, fit.1);
     }
@@ -148,11 +148,11 @@ module _ {s s₁ : List ℕ} {text : Bytes} {names : List Bytes} {j : Job} {limi
     pub circle_fails : {earlier : List ℕ} → found ≡ true → TrialIs s s₃ j limit figures at g marks readers stamp k c earlier FailsAll
     unfolding if◌then◌else◌ guarded
     circle_fails {earlier} e = record {
-      only = trial_only_more (3 * figures.pairs) (omega arith) (trials.whole-frame t f m begun new fit cleared told none_asked answer);
-      marks_now = λ a l h. omega (arith, trials.marks-after t f m begun new fit cleared told none_asked answer a l h);
-      told = (rw e at (trials.tested-is t f m begun new fit cleared told none_asked answer earlier), tested_set);
+      only = trial_only_more (3 * figures.pairs) (omega arith) (trials.whole_frame t f m begun new fit cleared told none_asked answer);
+      marks_now = λ a l h. omega (arith, trials.marks_after t f m begun new fit cleared told none_asked answer a l h);
+      told = (rw e at (trials.tested_is t f m begun new fit cleared told none_asked answer earlier), tested_set);
       grounds = new_marks_of at (unit_of j limit figures g).values marks figures.pairs s s₃
-          (trials.grounds-after t f m begun new fit cleared told none_asked answer);
+          (trials.grounds_after t f m begun new fit cleared told none_asked answer);
     }
 
     -- "After the circle test, each guard in order."
@@ -164,7 +164,7 @@ module _ {s s₁ : List ℕ} {text : Bytes} {names : List Bytes} {j : Job} {limi
 
       frame : TrialOnly woken_part marks (3 * figures.pairs) s s₄
       frame =
-          trial_only_then (trial_only_more (3 * figures.pairs) (omega arith) (trials.whole-frame t f m begun new fit cleared told none_asked answer))
+          trial_only_then (trial_only_more (3 * figures.pairs) (omega arith) (trials.whole_frame t f m begun new fit cleared told none_asked answer))
           (trial_only_marks woken_part changed)
 
       marks_then : MarksBelow s₄ marks figures.pairs (stamp + 256)
@@ -174,14 +174,14 @@ module _ {s s₁ : List ℕ} {text : Bytes} {names : List Bytes} {j : Job} {limi
       grounds_then =
           new_marks_then at (unit_of j limit figures g).values marks figures.pairs s s₃ s₄
           (new_marks_of at (unit_of j limit figures g).values marks figures.pairs s s₃
-          (trials.grounds-after t f m begun new fit cleared told none_asked answer))
+          (trials.grounds_after t f m begun new fit cleared told none_asked answer))
           asked.grounds
 
       by_guards : trial earlier c (unit_of j limit figures g) g.goal
           ≡ in_order earlier (trials.given t f m begun new fit cleared told none_asked) (unit_of j limit figures g).values
           (length (unit_of j limit figures g).values) c.guards
       unfolding if◌then◌else◌ guarded next_pair
-      by_guards = rw no_circle at (trials.tested-is t f m begun new fit cleared told none_asked answer earlier)
+      by_guards = rw no_circle at (trials.tested_is t f m begun new fit cleared told none_asked answer earlier)
 
       joined : (ps : List ℕ) (l : ℕ) → Joined s₃ s₄ (marks + links) links readers ps l
           → Joined s s₄ (marks + figures.pairs) figures.pairs readers ps l
@@ -220,8 +220,8 @@ module _ {s s₁ : List ℕ} {text : Bytes} {names : List Bytes} {j : Job} {limi
   module _ {s₂ : List ℕ} {stamp : ℕ} (new : MarksBelow s marks figures.pairs stamp) where
     grounds_still : (r : CompareResult) → trials.Comparison t f m begun s₂ r → NewGrounds at (unit_of j limit figures g).values marks s s₂
     grounds_still r told =
-        new_then at (unit_of j limit figures g).values marks s s₁ s₂ (trials.begun-grounds t f m begun)
-        (grounds_stay at (unit_of j limit figures g).values marks (trials.marks-high t f m begun) told.only)
+        new_then at (unit_of j limit figures g).values marks s s₁ s₂ (trials.begun_grounds t f m begun)
+        (grounds_stay at (unit_of j limit figures g).values marks (trials.marks_high t f m begun) told.only)
 
     marks_still : (r : CompareResult) → trials.Comparison t f m begun s₂ r → MarksBelow s₂ marks figures.pairs (stamp + 256)
     marks_still r told a l h =
@@ -252,7 +252,7 @@ module _ {s s₁ : List ℕ} {text : Bytes} {names : List Bytes} {j : Job} {limi
             joined_then (compared_set (Noted n) told)
                 (record {
                   ok = more.ok;
-                  list = more.list ∙ ap (all_met (listed s₂ (marks + figures.pairs) readers)) (trials.asked-noted t f m begun told);
+                  list = more.list ∙ ap (all_met (listed s₂ (marks + figures.pairs) readers)) (trials.asked_noted t f m begun told);
                 }),
           );
           grounds =

@@ -38,7 +38,7 @@ module _ (c : tie.After-arguments-n) where
 
 seek-requires : tie.Need-seek-requires
 seek-requires c κs =
-    let p = (start c.before).pre in
+    let p = (start c.before).requires in
     (p.0, p.1, p.2, p.3.number, p.3.arguments, looks c.before p.0 p.1 p.2 p.3 p.4 p.5)
 
 enum_told-1 : tie.Need-enum_told-1
@@ -48,7 +48,7 @@ equal-requires : tie.Need-equal-requires
 equal-requires c κs =
     let E = c.before in
     let S = E.before.before.before in
-    let p = (start S.before.before).pre in
+    let p = (start S.before.before).requires in
     let sees = S.seek.ensures p.0 p.1 p.2 p.3.number p.3.arguments (looks S.before.before p.0 p.1 p.2 p.3 p.4 p.5) in (
       p.0,
       p.1,

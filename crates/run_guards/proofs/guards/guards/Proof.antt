@@ -44,7 +44,7 @@ module _ (S : tie.Start invariant-loop-i decreases-loop-i) where
       )
 
 word_at-requires : tie.Need-word_at-requires invariant-loop-i decreases-loop-i
-word_at-requires c κs = inside c.before.before 12 (omega arith)
+word_at-requires c κs = inside c.before 12 (omega arith)
 
 index-n-requires : tie.Need-index-n-requires invariant-loop-i decreases-loop-i
 index-n-requires c κs = search rules
@@ -64,7 +64,7 @@ loop-i-init c =
 -- In the loop.
 module _ (T : tie.In-loop-i invariant-loop-i decreases-loop-i) where
   abbrev start : tie.Start invariant-loop-i decreases-loop-i
-  start = T.before.before.before.before.before.before
+  start = T.before.before.before.before.before
 
   abbrev Asks : Setting → Template → Clause → List Assignment → Type 0
   Asks x y cl given =
@@ -73,37 +73,36 @@ module _ (T : tie.In-loop-i invariant-loop-i decreases-loop-i) where
   few : T.before.loop-i.i < 8
   few =
       let a = start.args in
-      let p = start.pre in
+      let p = start.requires in
       let E = some_earlier a.met in
-      let G = T.before.loop-i.inv.1 p.0 p.1 p.2 p.3 E.0 p.4 p.5 E.1 in
-      omega (arith, T.loop-i-test.taken, G.0, few_guards a.s.now p.0 p.1 p.2 p.3 E.0 a.values a.marks a.links a.met a.stamp p.4)
+      let G = T.before.loop-i.invariant.1 p.0 p.1 p.2 p.3 E.0 p.4 p.5 E.1 in
+      omega (arith, T.loop-i-test.true, G.0, few_guards a.s.now p.0 p.1 p.2 p.3 E.0 a.values a.marks a.links a.met a.stamp p.4)
 
   size : length T.before.loop-i.s ≡ length start.args.s.now
   size =
-      let p = start.pre in
+      let p = start.requires in
       let E = some_earlier start.args.met in
-      (T.before.loop-i.inv.1 p.0 p.1 p.2 p.3 E.0 p.4 p.5 E.1).1.only.size
+      (T.before.loop-i.invariant.1 p.0 p.1 p.2 p.3 E.0 p.4 p.5 E.1).1.only.size
 
 overflow_add-i : tie.Need-overflow_add-i invariant-loop-i decreases-loop-i
-overflow_add-i c = omega (arith, few c.before)
+overflow_add-i c = omega (arith, few c)
 
 word_at-w-requires : tie.Need-word_at-w-requires invariant-loop-i decreases-loop-i
 word_at-w-requires c κs =
-    let T = c.before in
-    omega (arith, inside (start T) (16 + T.loop-i.i) (omega (arith, few T)), size T)
+    omega (arith, inside (start c) (16 + c.loop-i.i) (omega (arith, few c)), size c)
 
 word-requires : tie.Need-word-requires invariant-loop-i decreases-loop-i
 word-requires c κs = search rules
 
 overflow_add-stamp : tie.Need-overflow_add-stamp invariant-loop-i decreases-loop-i
 overflow_add-stamp c =
-    let T = c.before.before.before.before in
+    let T = c.before.before.before in
     omega (arith, few T, c.word.ensures, (start T).requires.4.below)
 
 -- The guard that is asked.
 module _ (W : tie.After-word invariant-loop-i decreases-loop-i) (x : Setting) (y : Template) (cl : Clause) (given : List Assignment) (earlier : List ℕ)
-    (G : Asks W.before.before.before.before x y cl given) (e : (start W.before.before.before.before).args.k ≡ y.number)
-    (E : Earlier earlier (start W.before.before.before.before).args.met) where
+    (G : Asks W.before.before.before x y cl given) (e : (start W.before.before.before).args.k ≡ y.number)
+    (E : Earlier earlier (start W.before.before.before).args.met) where
   asked : let T = W.before.before.before in
       let a = (start T).args in
       Next a.s.now x y cl given earlier a.values a.marks a.links a.met a.stamp G T.before.loop-i.s T.before.loop-i.i
@@ -119,22 +118,22 @@ module _ (W : tie.After-word invariant-loop-i decreases-loop-i) (x : Setting) (y
 
 ask-requires : tie.Need-ask-requires invariant-loop-i decreases-loop-i
 ask-requires c κs =
-    let S = start c.before.before.before.before in
-    let p = S.pre in
+    let S = start c.before.before.before in
+    let p = S.requires in
     let E = some_earlier S.args.met in
     let N = asked c p.0 p.1 p.2 p.3 E.0 p.4 p.5 E.1 in
     (p.0, p.1, p.3, N.guard, at_stamp S.args.stamp c.word.ensures N.at, N.row)
 
 enum_told-1 : tie.Need-enum_told-1 invariant-loop-i decreases-loop-i
-enum_told-1 c = c.in-Succeeds.in-Succeeds-own.keys1
+enum_told-1 c = c.in-Succeeds-1.keys1
 
 enum_known-m : tie.Need-enum_known-m invariant-loop-i decreases-loop-i
-enum_known-m c = c.in-Waits.in-Waits-own.keys2
+enum_known-m c = c.in-Waits-1.keys2
 
 shape_of-s-in-Waits : tie.Need-shape_of-s-in-Waits invariant-loop-i decreases-loop-i
 shape_of-s-in-Waits c =
     let A = c.before.before.before in
-    A.ask.auto.s ∙ size A.before.before.before.before.before
+    A.ask.auto.s ∙ size A.before.before.before.before
 
 returns-in-Waits : tie.Need-returns-in-Waits invariant-loop-i decreases-loop-i
 returns-in-Waits c x y cl given earlier G e E =
@@ -151,12 +150,12 @@ returns-in-Waits c x y cl given earlier G e E =
     c.in-Waits.m c.in-Waits.is
 
 enum_told-in-Fails : tie.Need-enum_told-in-Fails invariant-loop-i decreases-loop-i
-enum_told-in-Fails c = c.in-Fails.in-Fails-own.keys3
+enum_told-in-Fails c = c.in-Fails-1.keys3
 
 shape_of-s-in-Fails : tie.Need-shape_of-s-in-Fails invariant-loop-i decreases-loop-i
 shape_of-s-in-Fails c =
     let A = c.before.before.before in
-    A.ask.auto.s ∙ size A.before.before.before.before.before
+    A.ask.auto.s ∙ size A.before.before.before.before
 
 returns-in-Fails : tie.Need-returns-in-Fails invariant-loop-i decreases-loop-i
 returns-in-Fails c x y cl given earlier G e E =
@@ -173,7 +172,7 @@ returns-in-Fails c x y cl given earlier G e E =
     c.in-Fails.is
 
 overflow_add-i-in-loop-i : tie.Need-overflow_add-i-in-loop-i invariant-loop-i decreases-loop-i
-overflow_add-i-in-loop-i c = omega (arith, few c.before.before.before.before.before.before.before.before)
+overflow_add-i-in-loop-i c = omega (arith, few c.before.before.before.before.before.before.before)
 
 loop-i-smaller : tie.Need-loop-i-smaller invariant-loop-i decreases-loop-i
 loop-i-smaller c = omega arith

@@ -38,7 +38,7 @@ module _ (c : tie.After-arguments-n) where
 
 seek-requires : tie.Need-seek-requires
 seek-requires c κs =
-    let p = (start c.before).pre in
+    let p = (start c.before).requires in
     (p.0, p.1, p.2, p.3.number, p.3.arguments, looks c.before p.0 p.1 p.2 p.3 p.4 p.5)
 
 enum_told-1 : tie.Need-enum_told-1

@@ -29,7 +29,7 @@ read-w-requires c κs =
 -- The argument and what its word shows.
 module _ (c : tie.After-read-w) where
   abbrev start : tie.Start
-  start = c.before.before.before.before
+  start = c.before.before.before
 
   abbrev At : Setting → Template → List Assignment → ℕ → Guard → Type 0
   At x y given stamp g =

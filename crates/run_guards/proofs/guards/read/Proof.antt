@@ -43,7 +43,7 @@ returns-then-v-eq0 c x y given marks t A =
 follow-requires : tie.Need-follow-requires
 follow-requires c κs =
     let S = start c.before in
-    let p = S.pre in (
+    let p = S.requires in (
       p.0,
       gift S.args.s.now p.0 p.1 p.2 S.args.values p.3 S.args.links p.4 S.args.w p.5 (low c.before),
       gift_reads S.args.s.now p.0 p.1 p.2 S.args.values p.3 S.args.links p.4 S.args.w p.5 (low c.before)

@@ -23,26 +23,26 @@ decreases-clauses s₀ values marks links goal first readers₀ stamp₀ left₀
 follow_arguments-requires : tie.Need-follow_arguments-requires invariant-clauses decreases-clauses
 follow_arguments-requires c κs =
     let (text, names, j, limit, figures, at, g, others, trying, new, fit) = c.before.before.requires in
-    (setting figures at (unit_of j limit figures g), g.goal.number, named g.goal.name, g.goal.arguments, following.goal-follows trying)
+    (setting figures at (unit_of j limit figures g), g.goal.number, named g.goal.name, g.goal.arguments, following.goal_follows trying)
 
 word_at-requires : tie.Need-word_at-requires invariant-clauses decreases-clauses
 word_at-requires c κs =
     let A = c.before.before in
     let trying = (following.ready A.before.before.before.requires A.follow_arguments.ensures).8 in
-    omega (arith, idle.goal-inside trying)
+    omega (arith, idle.goal_inside trying)
 
 first_clause-requires : tie.Need-first_clause-requires invariant-clauses decreases-clauses
 first_clause-requires c κs =
     let A = c.before.before.before in
     let trying = (following.ready A.before.before.before.requires A.follow_arguments.ensures).8 in
-    (idle.goal-inside trying, idle.procedure-inside trying)
+    (idle.goal_inside trying, idle.procedure_inside trying)
 
 to_try-left-requires : tie.Need-to_try-left-requires invariant-clauses decreases-clauses
 to_try-left-requires c κs =
     let W = c.before in
     let A = W.before.before.before in
     let (text, names, j, limit, figures, at, g, others, trying, stand, new, fit) = following.ready A.before.before.before.requires A.follow_arguments.ensures in
-    (names, j, g.goal, idle.goal-sought trying stand W.word_at.ensures c.first_clause.ensures)
+    (names, j, g.goal, idle.goal_sought trying stand W.word_at.ensures c.first_clause.ensures)
 
 clauses-init : tie.Need-clauses-init invariant-clauses decreases-clauses
 clauses-init c =
@@ -51,7 +51,7 @@ clauses-init c =
     let a = W.before.before.before.before.before.before.args in
     λ text names j limit figures at g others trying stand new.
     clauses.walk_first trying a.first c.to_try-left.result new W.word_at.ensures
-    (c.to_try-left.ensures names j g.goal (idle.goal-sought trying stand W.word_at.ensures C.first_clause.ensures))
+    (c.to_try-left.ensures names j g.goal (idle.goal_sought trying stand W.word_at.ensures C.first_clause.ensures))
 
 overflow_sub-k : tie.Need-overflow_sub-k invariant-clauses decreases-clauses
 overflow_sub-k c = let left = c.before.clauses-test.true in omega arith
@@ -74,12 +74,12 @@ trial-t-requires c κs =
       others,
       S.args.goal,
       clauses.turn-clause trying stand w left,
-      clauses.walk-trying trying stand w,
-      clauses.walk-stand trying stand w,
-      clauses.turn-candidate trying stand w left,
+      clauses.walk_trying trying stand w,
+      clauses.walk_stand trying stand w,
+      clauses.turn_candidate trying stand w left,
       w.marks_now,
       w.gathered.ok,
-      (omega (arith, w.stamp_from, fit.0), omega (arith, clauses.turn-stamp trying stand w left, fit.1)),
+      (omega (arith, w.stamp_from, fit.0), omega (arith, clauses.turn_stamp trying stand w left, fit.1)),
     )
 
 enum_known-t : tie.Need-enum_known-t invariant-clauses decreases-clauses
@@ -128,9 +128,9 @@ clauses-preserved c =
     J.match-t-2.branch in
     λ text names j limit figures at g others trying stand new.
     let w = L.clauses.invariant text names j limit figures at g others trying stand new in
-    clauses.turn-passed trying stand w left
+    clauses.turn_passed trying stand w left
     (T.trial-t.ensures text names j limit figures at g others S.args.goal (clauses.turn-clause trying stand w left) w.waiting
-    (clauses.walk-trying trying stand w) (clauses.walk-stand trying stand w) (clauses.turn-candidate trying stand w left) w.marks_now w.gathered)
+    (clauses.walk_trying trying stand w) (clauses.walk_stand trying stand w) (clauses.turn_candidate trying stand w left) w.marks_now w.gathered)
     c.further-left.ensures J.match-t-2.readers passed
 
 shape_of-s-in-clauses : tie.Need-shape_of-s-in-clauses invariant-clauses decreases-clauses
@@ -152,14 +152,14 @@ returns-in-clauses c =
     let told = A.follow_arguments.ensures in
     let first = S.args.first in
     λ text names j limit figures at g others before new_before.
-    let trying = following.trying-then before told in
-    let stand = following.arguments-stand before told in
+    let trying = following.trying_then before told in
+    let stand = following.arguments_stand before told in
     let new = following.marks_then before told first new_before in
     let w = L.clauses.invariant text names j limit figures at g others trying stand new in
-    following.choice-then before told
-    (clauses.turn-succeeds trying stand w left
+    following.choice_then before told
+    (clauses.turn_succeeds trying stand w left
     (T.trial-t.ensures text names j limit figures at g others S.args.goal (clauses.turn-clause trying stand w left) w.waiting
-    (clauses.walk-trying trying stand w) (clauses.walk-stand trying stand w) (clauses.turn-candidate trying stand w left) w.marks_now w.gathered)
+    (clauses.walk_trying trying stand w) (clauses.walk_stand trying stand w) (clauses.turn_candidate trying stand w left) w.marks_now w.gathered)
     W.in-Succeeds.n W.in-Succeeds.is)
 
 shape_of-s-then-readers-eq0 : tie.Need-shape_of-s-then-readers-eq0 invariant-clauses decreases-clauses
@@ -177,12 +177,12 @@ returns-then-readers-eq0 c =
     let told = A.follow_arguments.ensures in
     let first = S.args.first in
     λ text names j limit figures at g others before new_before.
-    let trying = following.trying-then before told in
-    let stand = following.arguments-stand before told in
+    let trying = following.trying_then before told in
+    let stand = following.arguments_stand before told in
     let new = following.marks_then before told first new_before in
     let w = L.clauses.invariant text names j limit figures at g others trying stand new in
-    following.choice-then before told
-    (clauses.all-fail trying stand w c.before.clauses-test.false c.if-readers-eq0.true)
+    following.choice_then before told
+    (clauses.all_fail trying stand w c.before.clauses-test.false c.if-readers-eq0.true)
 
 shape_of-s : tie.Need-shape_of-s invariant-clauses decreases-clauses
 shape_of-s c =
@@ -199,12 +199,12 @@ returns c =
     let told = A.follow_arguments.ensures in
     let first = S.args.first in
     λ text names j limit figures at g others before new_before.
-    let trying = following.trying-then before told in
-    let stand = following.arguments-stand before told in
+    let trying = following.trying_then before told in
+    let stand = following.arguments_stand before told in
     let new = following.marks_then before told first new_before in
     let w = L.clauses.invariant text names j limit figures at g others trying stand new in
-    following.choice-then before told
-    (clauses.some-wait trying stand w c.before.clauses-test.false c.if-readers-eq0.false)
+    following.choice_then before told
+    (clauses.some_wait trying stand w c.before.clauses-test.false c.if-readers-eq0.false)
 
 pub choice_spec : {M : Type 1} → statement M
 choice_spec =

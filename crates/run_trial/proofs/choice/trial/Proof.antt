@@ -50,7 +50,7 @@ asks-requires c κs =
     let (text, names, j, limit, figures, at, g, others, goal, k, t, f, m, new, met, fit) = S.requires in
     let begun = B.begin.ensures.only in
     let told = trials.comparison t f m begun P.head.new.s P.head.result (Noted N.in-Noted.n) P.head.ensures N.in-Noted.is in
-    (trials.large-noted t f m begun told, trials.few-noted t f m begun told)
+    (trials.large_noted t f m begun told, trials.few_noted t f m begun told)
 
 overflow_add-marks : tie.Need-overflow_add-marks
 overflow_add-marks c =
@@ -86,7 +86,7 @@ returns-then-asks c =
     λ text names j limit figures at g others goal k earlier t f m new gathered.
     let begun = B.begin.ensures.only in
     let told = trials.comparison t f m begun P.head.new.s P.head.result (Noted N.in-Noted.n) P.head.ensures N.in-Noted.is in
-    answering.some-wait t f m begun gathered.ok new N.in-Noted.n told (trials.waiting t f m begun told A.asks.ensures E.if-asks.true)
+    answering.some_wait t f m begun gathered.ok new N.in-Noted.n told (trials.waiting t f m begun told A.asks.ensures E.if-asks.true)
     M.meet_all.result M.meet_all.ensures
 
 circle-requires : tie.Need-circle-requires
@@ -99,7 +99,7 @@ circle-requires c κs =
     let S = B.before.before.before in
     let (text, names, j, limit, figures, at, g, others, goal, k, t, f, m, new, met, fit) = S.requires in
     let begun = B.begin.ensures.only in
-    let cleared = trials.cleared-all t f m begun B.begin.ensures.nothing in
+    let cleared = trials.cleared_all t f m begun B.begin.ensures.nothing in
     let told = trials.comparison t f m begun P.head.new.s P.head.result (Noted N.in-Noted.n) P.head.ensures N.in-Noted.is in
     let quiet = trials.quiet t f m begun told A.asks.ensures E.if-asks.false in
     (trials.tried-as t f m begun new fit cleared told quiet, trials.tried t f m begun new fit cleared told quiet)
@@ -119,11 +119,11 @@ returns-then-circle c =
     let fit = S.requires.15 in
     λ text names j limit figures at g others goal k earlier t f m new gathered.
     let begun = B.begin.ensures.only in
-    let cleared = trials.cleared-all t f m begun B.begin.ensures.nothing in
+    let cleared = trials.cleared_all t f m begun B.begin.ensures.nothing in
     let told = trials.comparison t f m begun P.head.new.s P.head.result (Noted N.in-Noted.n) P.head.ensures N.in-Noted.is in
     let quiet = trials.quiet t f m begun told A.asks.ensures E.if-asks.false in
     let tested = C.circle.ensures (trials.tried-as t f m begun new fit cleared told quiet) (trials.tried t f m begun new fit cleared told quiet) in
-    answering.circle-fails t f m begun gathered.ok new fit cleared told quiet tested c.if-circle.true
+    answering.circle_fails t f m begun gathered.ok new fit cleared told quiet tested c.if-circle.true
 
 overflow_add-stamp : tie.Need-overflow_add-stamp
 overflow_add-stamp c =
@@ -145,7 +145,7 @@ guards-requires c κs =
     let S = B.before.before.before in
     let (text, names, j, limit, figures, at, g, others, goal, k, t, f, m, new, met, fit) = S.requires in
     let begun = B.begin.ensures.only in
-    let cleared = trials.cleared-all t f m begun B.begin.ensures.nothing in
+    let cleared = trials.cleared_all t f m begun B.begin.ensures.nothing in
     let told = trials.comparison t f m begun P.head.new.s P.head.result (Noted N.in-Noted.n) P.head.ensures N.in-Noted.is in
     let quiet = trials.quiet t f m begun told A.asks.ensures E.if-asks.false in
     let tested = C.circle.ensures (trials.tried-as t f m begun new fit cleared told quiet) (trials.tried t f m begun new fit cleared told quiet) in (
@@ -186,13 +186,13 @@ returns-in-Succeeds c =
     let fit = S.requires.15 in
     λ text names j limit figures at g others goal k earlier t f m new gathered.
     let begun = B.begin.ensures.only in
-    let cleared = trials.cleared-all t f m begun B.begin.ensures.nothing in
+    let cleared = trials.cleared_all t f m begun B.begin.ensures.nothing in
     let told = trials.comparison t f m begun P.head.new.s P.head.result (Noted N.in-Noted.n) P.head.ensures N.in-Noted.is in
     let quiet = trials.quiet t f m begun told A.asks.ensures E.if-asks.false in
     let tested = C.circle.ensures (trials.tried-as t f m begun new fit cleared told quiet) (trials.tried t f m begun new fit cleared told quiet) in
     let guarded = G.guards.ensures (setting figures at (unit_of j limit figures g)) (template S.args.k k) k (trials.given t f m begun new fit cleared told quiet)
     earlier (answering.guarding t f m begun gathered.ok new fit cleared told quiet tested) refl (answering.gathered_earlier gathered) in
-    answering.guards-succeed t f m begun gathered.ok new fit cleared told quiet tested I.if-circle.false guarded c.in-Succeeds.is
+    answering.guards_succeed t f m begun gathered.ok new fit cleared told quiet tested I.if-circle.false guarded c.in-Succeeds.is
 
 shape_of-s-in-Waits : tie.Need-shape_of-s-in-Waits
 shape_of-s-in-Waits c = search rules
@@ -212,13 +212,13 @@ returns-in-Waits c =
     let fit = S.requires.15 in
     λ text names j limit figures at g others goal k earlier t f m new gathered.
     let begun = B.begin.ensures.only in
-    let cleared = trials.cleared-all t f m begun B.begin.ensures.nothing in
+    let cleared = trials.cleared_all t f m begun B.begin.ensures.nothing in
     let told = trials.comparison t f m begun P.head.new.s P.head.result (Noted N.in-Noted.n) P.head.ensures N.in-Noted.is in
     let quiet = trials.quiet t f m begun told A.asks.ensures E.if-asks.false in
     let tested = C.circle.ensures (trials.tried-as t f m begun new fit cleared told quiet) (trials.tried t f m begun new fit cleared told quiet) in
     let guarded = G.guards.ensures (setting figures at (unit_of j limit figures g)) (template S.args.k k) k (trials.given t f m begun new fit cleared told quiet)
     earlier (answering.guarding t f m begun gathered.ok new fit cleared told quiet tested) refl (answering.gathered_earlier gathered) in
-    answering.guards-wait t f m begun gathered.ok new fit cleared told quiet tested I.if-circle.false guarded W.in-Waits.m W.in-Waits.is
+    answering.guards_wait t f m begun gathered.ok new fit cleared told quiet tested I.if-circle.false guarded W.in-Waits.m W.in-Waits.is
 
 shape_of-s-in-Fails-guards : tie.Need-shape_of-s-in-Fails-guards
 shape_of-s-in-Fails-guards c = search rules
@@ -237,13 +237,13 @@ returns-in-Fails-guards c =
     let fit = S.requires.15 in
     λ text names j limit figures at g others goal k earlier t f m new gathered.
     let begun = B.begin.ensures.only in
-    let cleared = trials.cleared-all t f m begun B.begin.ensures.nothing in
+    let cleared = trials.cleared_all t f m begun B.begin.ensures.nothing in
     let told = trials.comparison t f m begun P.head.new.s P.head.result (Noted N.in-Noted.n) P.head.ensures N.in-Noted.is in
     let quiet = trials.quiet t f m begun told A.asks.ensures E.if-asks.false in
     let tested = C.circle.ensures (trials.tried-as t f m begun new fit cleared told quiet) (trials.tried t f m begun new fit cleared told quiet) in
     let guarded = G.guards.ensures (setting figures at (unit_of j limit figures g)) (template S.args.k k) k (trials.given t f m begun new fit cleared told quiet)
     earlier (answering.guarding t f m begun gathered.ok new fit cleared told quiet tested) refl (answering.gathered_earlier gathered) in
-    answering.guards-fail t f m begun gathered.ok new fit cleared told quiet tested I.if-circle.false guarded c.in-Fails-guards.is
+    answering.guards_fail t f m begun gathered.ok new fit cleared told quiet tested I.if-circle.false guarded c.in-Fails-guards.is
 
 shape_of-s-in-Fails : tie.Need-shape_of-s-in-Fails
 shape_of-s-in-Fails c = search rules
@@ -253,7 +253,7 @@ returns-in-Fails c =
     let P = c.before.before.before in
     let begun = P.before.before.before.before.begin.ensures.only in
     λ text names j limit figures at g others goal k earlier t f m new gathered.
-    answering.place-fails t f m begun gathered.ok new
+    answering.place_fails t f m begun gathered.ok new
     (trials.comparison t f m begun P.head.new.s P.head.result Fails P.head.ensures c.in-Fails.is)
 
 pub trial_spec : {M : Type 1} → statement M
