@@ -102,7 +102,7 @@ module _ {s s₁ : List ℕ} {text : Bytes} {names : List Bytes} {j : Job} {limi
   module _ {s₂ s₃ : List ℕ} {n stamp : ℕ} {found : Bool} (new : MarksBelow s marks figures.pairs stamp) (fit : (1 < stamp) × (stamp + 256 < 1099511627776))
       (cleared : (a : ℕ) → a < c.pairs → get_or s₁ (trial_region + a) 0 ≡ 0)
       (told : trials.Comparison t f m begun s₂ (Noted n)) (none_asked : asks_in told.told.1.notes ≡ [])
-      (answer : Tested s₂ s₃ (trials.tried-as t f m begun new fit cleared told none_asked) marks n stamp found) where
+      (answer : Tested s₂ s₃ (trials.tried_as t f m begun new fit cleared told none_asked) marks n stamp found) where
     now : Trying s₃ text names j limit figures at g others values marks links goal
     now = trials.tested_trying t f m begun new fit cleared told none_asked answer
 

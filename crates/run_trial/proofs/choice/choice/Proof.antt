@@ -1,7 +1,7 @@
 -- `run_trial::choice::choice` meets its contract: the clauses that are left to try are tried in order, and the readers that they wait on are gathered.
 use Prim.Native.Nat.{◌+◌, ◌-◌}
 use mathlib.Core.Path.{◌∙◌}
-use mathlib.Core.Logic.{inl, inr, ⊎_elim}
+use mathlib.Core.Logic.{inl, inr}
 use native.Mathlib.Omega.{arith}
 use borrow.Author.Rules.{rules}
 use Rattle.meaning.specs.Terms.{named}
@@ -11,6 +11,7 @@ use Rattle.run_trial.proofs.Following as following
 use Rattle.run_trial.proofs.Idle as idle
 use Rattle.run_trial.proofs.Clauses as clauses
 use Rattle.run_trial.proofs.choice.choice.Statement.{statement}
+use Rattle.run_trial.proofs.choice.choice.Lts as lts
 use Rattle.run_trial.proofs.choice.choice.Tie as tie
 
 abbrev invariant-clauses : tie.invariant-clauses
@@ -73,7 +74,7 @@ trial-t-requires c κs =
       g,
       others,
       S.args.goal,
-      clauses.turn-clause trying stand w left,
+      clauses.turn_clause trying stand w left,
       clauses.walk_trying trying stand w,
       clauses.walk_stand trying stand w,
       clauses.turn_candidate trying stand w left,
@@ -122,14 +123,14 @@ clauses-preserved c =
     let S = A.before.before in
     let left = T.before.before.before.clauses-test.true in
     let passed : clauses.Passed L.clauses.readers T.trial-t.result J.match-t-2.readers =
-    ⊎_elim
-    (λ w. inl (w.1.given.0.0, w.1.given.1, w.3))
-    (λ w. inr (clauses.neither T.trial-t.result J.before.in_default.in_default-own.keys2 w.0.keys2, w.1))
-    J.match-t-2.branch in
+    elim J.match-t-2.branch [
+      lts.in-Waits w ↦ inl (w.in-Waits.n, w.in-Waits.is, w.readers-is)
+    | lts.in_default-t w ↦ inr (clauses.neither T.trial-t.result J.before.in_default.in_default-own.keys2 w.in_default-t.in_default-t-own.keys2, w.readers-is)
+    ] in
     λ text names j limit figures at g others trying stand new.
     let w = L.clauses.invariant text names j limit figures at g others trying stand new in
     clauses.turn_passed trying stand w left
-    (T.trial-t.ensures text names j limit figures at g others S.args.goal (clauses.turn-clause trying stand w left) w.waiting
+    (T.trial-t.ensures text names j limit figures at g others S.args.goal (clauses.turn_clause trying stand w left) w.waiting
     (clauses.walk_trying trying stand w) (clauses.walk_stand trying stand w) (clauses.turn_candidate trying stand w left) w.marks_now w.gathered)
     c.further-left.ensures J.match-t-2.readers passed
 
@@ -158,7 +159,7 @@ returns-in-clauses c =
     let w = L.clauses.invariant text names j limit figures at g others trying stand new in
     following.choice_then before told
     (clauses.turn_succeeds trying stand w left
-    (T.trial-t.ensures text names j limit figures at g others S.args.goal (clauses.turn-clause trying stand w left) w.waiting
+    (T.trial-t.ensures text names j limit figures at g others S.args.goal (clauses.turn_clause trying stand w left) w.waiting
     (clauses.walk_trying trying stand w) (clauses.walk_stand trying stand w) (clauses.turn_candidate trying stand w left) w.marks_now w.gathered)
     W.in-Succeeds.n W.in-Succeeds.is)
 

@@ -26,7 +26,7 @@ head-requires c κs =
     let B = c.before.before.before in
     let S = B.before.before.before in
     let (text, names, j, limit, figures, at, g, others, goal, k, trying, stand, candidate, new, met, fit) = S.requires in
-    let begun = B.begin.ensures.only in (
+    let begun = B.begin.ensures.0 in (
       setting figures at (unit_of j limit figures g),
       template S.args.k k,
       k.head.number,
@@ -48,7 +48,7 @@ asks-requires c κs =
     let B = P.before.before.before.before in
     let S = B.before.before.before in
     let (text, names, j, limit, figures, at, g, others, goal, k, t, f, m, new, met, fit) = S.requires in
-    let begun = B.begin.ensures.only in
+    let begun = B.begin.ensures.0 in
     let told = trials.comparison t f m begun P.head.new.s P.head.result (Noted N.in-Noted.n) P.head.ensures N.in-Noted.is in
     (trials.large_noted t f m begun told, trials.few_noted t f m begun told)
 
@@ -68,7 +68,7 @@ meet_all-requires c κs =
     let B = P.before.before.before.before in
     let S = B.before.before.before in
     let (text, names, j, limit, figures, at, g, others, goal, k, t, f, m, new, met, fit) = S.requires in
-    let begun = B.begin.ensures.only in
+    let begun = B.begin.ensures.0 in
     let told = trials.comparison t f m begun P.head.new.s P.head.result (Noted N.in-Noted.n) P.head.ensures N.in-Noted.is in
     answering.meets t f m begun met told
 
@@ -84,7 +84,7 @@ returns-then-asks c =
     let P = N.before.before.before in
     let B = P.before.before.before.before in
     λ text names j limit figures at g others goal k earlier t f m new gathered.
-    let begun = B.begin.ensures.only in
+    let begun = B.begin.ensures.0 in
     let told = trials.comparison t f m begun P.head.new.s P.head.result (Noted N.in-Noted.n) P.head.ensures N.in-Noted.is in
     answering.some_wait t f m begun gathered.ok new N.in-Noted.n told (trials.waiting t f m begun told A.asks.ensures E.if-asks.true)
     M.meet_all.result M.meet_all.ensures
@@ -98,11 +98,11 @@ circle-requires c κs =
     let B = P.before.before.before.before in
     let S = B.before.before.before in
     let (text, names, j, limit, figures, at, g, others, goal, k, t, f, m, new, met, fit) = S.requires in
-    let begun = B.begin.ensures.only in
-    let cleared = trials.cleared_all t f m begun B.begin.ensures.nothing in
+    let begun = B.begin.ensures.0 in
+    let cleared = trials.cleared_all t f m begun B.begin.ensures.1 in
     let told = trials.comparison t f m begun P.head.new.s P.head.result (Noted N.in-Noted.n) P.head.ensures N.in-Noted.is in
     let quiet = trials.quiet t f m begun told A.asks.ensures E.if-asks.false in
-    (trials.tried-as t f m begun new fit cleared told quiet, trials.tried t f m begun new fit cleared told quiet)
+    (trials.tried_as t f m begun new fit cleared told quiet, trials.tried t f m begun new fit cleared told quiet)
 
 shape_of-s-then-circle : tie.Need-shape_of-s-then-circle
 shape_of-s-then-circle c = search rules
@@ -118,11 +118,11 @@ returns-then-circle c =
     let S = B.before.before.before in
     let fit = S.requires.15 in
     λ text names j limit figures at g others goal k earlier t f m new gathered.
-    let begun = B.begin.ensures.only in
-    let cleared = trials.cleared_all t f m begun B.begin.ensures.nothing in
+    let begun = B.begin.ensures.0 in
+    let cleared = trials.cleared_all t f m begun B.begin.ensures.1 in
     let told = trials.comparison t f m begun P.head.new.s P.head.result (Noted N.in-Noted.n) P.head.ensures N.in-Noted.is in
     let quiet = trials.quiet t f m begun told A.asks.ensures E.if-asks.false in
-    let tested = C.circle.ensures (trials.tried-as t f m begun new fit cleared told quiet) (trials.tried t f m begun new fit cleared told quiet) in
+    let tested = C.circle.ensures (trials.tried_as t f m begun new fit cleared told quiet) (trials.tried t f m begun new fit cleared told quiet) in
     answering.circle_fails t f m begun gathered.ok new fit cleared told quiet tested c.if-circle.true
 
 overflow_add-stamp : tie.Need-overflow_add-stamp
@@ -144,11 +144,11 @@ guards-requires c κs =
     let B = P.before.before.before.before in
     let S = B.before.before.before in
     let (text, names, j, limit, figures, at, g, others, goal, k, t, f, m, new, met, fit) = S.requires in
-    let begun = B.begin.ensures.only in
-    let cleared = trials.cleared_all t f m begun B.begin.ensures.nothing in
+    let begun = B.begin.ensures.0 in
+    let cleared = trials.cleared_all t f m begun B.begin.ensures.1 in
     let told = trials.comparison t f m begun P.head.new.s P.head.result (Noted N.in-Noted.n) P.head.ensures N.in-Noted.is in
     let quiet = trials.quiet t f m begun told A.asks.ensures E.if-asks.false in
-    let tested = C.circle.ensures (trials.tried-as t f m begun new fit cleared told quiet) (trials.tried t f m begun new fit cleared told quiet) in (
+    let tested = C.circle.ensures (trials.tried_as t f m begun new fit cleared told quiet) (trials.tried t f m begun new fit cleared told quiet) in (
       setting figures at (unit_of j limit figures g),
       template S.args.k k,
       k,
@@ -185,11 +185,11 @@ returns-in-Succeeds c =
     let S = B.before.before.before in
     let fit = S.requires.15 in
     λ text names j limit figures at g others goal k earlier t f m new gathered.
-    let begun = B.begin.ensures.only in
-    let cleared = trials.cleared_all t f m begun B.begin.ensures.nothing in
+    let begun = B.begin.ensures.0 in
+    let cleared = trials.cleared_all t f m begun B.begin.ensures.1 in
     let told = trials.comparison t f m begun P.head.new.s P.head.result (Noted N.in-Noted.n) P.head.ensures N.in-Noted.is in
     let quiet = trials.quiet t f m begun told A.asks.ensures E.if-asks.false in
-    let tested = C.circle.ensures (trials.tried-as t f m begun new fit cleared told quiet) (trials.tried t f m begun new fit cleared told quiet) in
+    let tested = C.circle.ensures (trials.tried_as t f m begun new fit cleared told quiet) (trials.tried t f m begun new fit cleared told quiet) in
     let guarded = G.guards.ensures (setting figures at (unit_of j limit figures g)) (template S.args.k k) k (trials.given t f m begun new fit cleared told quiet)
     earlier (answering.guarding t f m begun gathered.ok new fit cleared told quiet tested) refl (answering.gathered_earlier gathered) in
     answering.guards_succeed t f m begun gathered.ok new fit cleared told quiet tested I.if-circle.false guarded c.in-Succeeds.is
@@ -211,11 +211,11 @@ returns-in-Waits c =
     let S = B.before.before.before in
     let fit = S.requires.15 in
     λ text names j limit figures at g others goal k earlier t f m new gathered.
-    let begun = B.begin.ensures.only in
-    let cleared = trials.cleared_all t f m begun B.begin.ensures.nothing in
+    let begun = B.begin.ensures.0 in
+    let cleared = trials.cleared_all t f m begun B.begin.ensures.1 in
     let told = trials.comparison t f m begun P.head.new.s P.head.result (Noted N.in-Noted.n) P.head.ensures N.in-Noted.is in
     let quiet = trials.quiet t f m begun told A.asks.ensures E.if-asks.false in
-    let tested = C.circle.ensures (trials.tried-as t f m begun new fit cleared told quiet) (trials.tried t f m begun new fit cleared told quiet) in
+    let tested = C.circle.ensures (trials.tried_as t f m begun new fit cleared told quiet) (trials.tried t f m begun new fit cleared told quiet) in
     let guarded = G.guards.ensures (setting figures at (unit_of j limit figures g)) (template S.args.k k) k (trials.given t f m begun new fit cleared told quiet)
     earlier (answering.guarding t f m begun gathered.ok new fit cleared told quiet tested) refl (answering.gathered_earlier gathered) in
     answering.guards_wait t f m begun gathered.ok new fit cleared told quiet tested I.if-circle.false guarded W.in-Waits.m W.in-Waits.is
@@ -236,11 +236,11 @@ returns-in-Fails-guards c =
     let S = B.before.before.before in
     let fit = S.requires.15 in
     λ text names j limit figures at g others goal k earlier t f m new gathered.
-    let begun = B.begin.ensures.only in
-    let cleared = trials.cleared_all t f m begun B.begin.ensures.nothing in
+    let begun = B.begin.ensures.0 in
+    let cleared = trials.cleared_all t f m begun B.begin.ensures.1 in
     let told = trials.comparison t f m begun P.head.new.s P.head.result (Noted N.in-Noted.n) P.head.ensures N.in-Noted.is in
     let quiet = trials.quiet t f m begun told A.asks.ensures E.if-asks.false in
-    let tested = C.circle.ensures (trials.tried-as t f m begun new fit cleared told quiet) (trials.tried t f m begun new fit cleared told quiet) in
+    let tested = C.circle.ensures (trials.tried_as t f m begun new fit cleared told quiet) (trials.tried t f m begun new fit cleared told quiet) in
     let guarded = G.guards.ensures (setting figures at (unit_of j limit figures g)) (template S.args.k k) k (trials.given t f m begun new fit cleared told quiet)
     earlier (answering.guarding t f m begun gathered.ok new fit cleared told quiet tested) refl (answering.gathered_earlier gathered) in
     answering.guards_fail t f m begun gathered.ok new fit cleared told quiet tested I.if-circle.false guarded c.in-Fails-guards.is
@@ -251,7 +251,7 @@ shape_of-s-in-Fails c = search rules
 returns-in-Fails : tie.Need-returns-in-Fails
 returns-in-Fails c =
     let P = c.before.before.before in
-    let begun = P.before.before.before.before.begin.ensures.only in
+    let begun = P.before.before.before.before.begin.ensures.0 in
     λ text names j limit figures at g others goal k earlier t f m new gathered.
     answering.place_fails t f m begun gathered.ok new
     (trials.comparison t f m begun P.head.new.s P.head.result Fails P.head.ensures c.in-Fails.is)
