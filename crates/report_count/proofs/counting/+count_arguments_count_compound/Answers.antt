@@ -70,12 +70,12 @@ turn t c o =
     walk.walk_turn S.s.now l.s o.text o.x S.facts o.seen (walk.order_of o.x o.seen (Term.compound o.n o.f o.ts))
     (walk.whole_of o.x o.seen (Term.compound o.n o.f o.ts)) S.at l.p l.i l.to W M.s M.to
     (elim M.branch [
-    | count_arguments-in-Compound v ↦
-    let said = sym c.look.ensures ∙ v.in-Compound.is in
-    counted_as l.s o.text o.x S.facts W.now W.u l.to _ _ _ _ v.s-is v.to-is (walk.compound_tells l.s led.new.s o.text o.x S.facts W.now W.u l.to w led.result W.counts W.low k L _ said v.count_compound-to.new.s v.count_compound-to.result (v.count_compound-to.ensures o.text o.x W.now W.u))
-    | count_arguments-in_default v ↦
-    let other : NoCompound (look led.result) = λ q e. v.in_default.not-Compound q (c.look.ensures ∙ e) in
-    counted_as l.s o.text o.x S.facts W.now W.u l.to _ _ _ _ v.s-is v.to-is (walk.leaf_tells l.s led.new.s o.text o.x S.facts W.now W.u l.to w led.result W.counts W.low k L other v.leaf.new.s v.leaf.result v.further-to.result (v.leaf.ensures o.text o.x W.now W.u) v.further-to.ensures)
+      | count_arguments-in-Compound v ↦
+          let said = sym c.look.ensures ∙ v.in-Compound.is in
+          counted_as l.s o.text o.x S.facts W.now W.u l.to _ _ _ _ v.s-is v.to-is (walk.compound_tells l.s led.new.s o.text o.x S.facts W.now W.u l.to w led.result W.counts W.low k L _ said v.count_compound-to.new.s v.count_compound-to.result (v.count_compound-to.ensures o.text o.x W.now W.u))
+      | count_arguments-in_default v ↦
+          let other : NoCompound (look led.result) = λ q e. v.in_default.not-Compound q (c.look.ensures ∙ e) in
+          counted_as l.s o.text o.x S.facts W.now W.u l.to _ _ _ _ v.s-is v.to-is (walk.leaf_tells l.s led.new.s o.text o.x S.facts W.now W.u l.to w led.result W.counts W.low k L other v.leaf.new.s v.leaf.result v.further-to.result (v.leaf.ensures o.text o.x W.now W.u) v.further-to.ensures)
     ])
 
 -- What stands before the first argument.
