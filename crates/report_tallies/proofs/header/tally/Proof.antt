@@ -40,7 +40,7 @@ active-requires c κs = search rules
 
 -- src/header.rt:39:17
 number-requires : tie.Need-number-requires
-number-requires c κs = rw c.active.ensures c.before.before.before.before.requires.1.active
+number-requires c κs = rw c.active.ensures c.requires.1.active
 
 -- src/header.rt:40:28
 waiting-requires : tie.Need-waiting-requires
@@ -48,7 +48,7 @@ waiting-requires c κs = search rules
 
 -- src/header.rt:40:18
 number-requires-2 : tie.Need-number-requires-2
-number-requires-2 c κs = rw c.waiting.ensures c.before.before.before.before.before.before.requires.1.waiting
+number-requires-2 c κs = rw c.waiting.ensures c.requires.1.waiting
 
 -- src/header.rt:41:27
 failed-requires : tie.Need-failed-requires
@@ -56,12 +56,12 @@ failed-requires c κs = search rules
 
 -- src/header.rt:41:17
 number-requires-3 : tie.Need-number-requires-3
-number-requires-3 c κs = rw c.failed.ensures c.before.before.before.before.before.before.before.before.requires.1.failed
+number-requires-3 c κs = rw c.failed.ensures c.requires.1.failed
 
 -- src/header.rt:33:1
 returns : tie.Need-returns
 returns c =
-    same_tallies (c.before.before.before.before.before.before.index.ensures ∙ c.before.before.before.before.before.before.before.word_at.ensures) (rw c.before.before.before.before.before.active.ensures at c.before.before.before.before.number.ensures) (rw c.before.before.before.waiting.ensures at c.before.before.number-2.ensures) (rw c.before.failed.ensures at c.number-3.ensures)
+    same_tallies (c.index.ensures ∙ c.word_at.ensures) (rw c.active.ensures at c.number.ensures) (rw c.waiting.ensures at c.number-2.ensures) (rw c.failed.ensures at c.number-3.ensures)
 
 pub tally_spec : {M : Type 1} → statement M
 tally_spec =
