@@ -133,9 +133,6 @@ count_arguments-behind-requires t c =
     (o.text, o.x, T.g, T.j, T.u, T.us, T.counts.readable, T.position)
 
 -- Another argument.
-pub count_arguments-overflow_sub-t-29 : goal.count_arguments-overflow_sub-t-29
-count_arguments-overflow_sub-t-29 t c = omega arith
-
 pub count_arguments-shape_of-s-then-to : goal.count_arguments-shape_of-s-then-to
 count_arguments-shape_of-s-then-to t c = let j = c.before.before.before in (turn t j (asked t (head t j))).changed.size
 
