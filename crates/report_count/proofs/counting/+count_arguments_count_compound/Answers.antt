@@ -1,16 +1,15 @@
 -- `report_count::counting::count_arguments` and `count_compound` meet their contracts: `turn` says that the walk's invariant holds behind an argument.
 use Prim.Native.Nat.{ℕ, ◌+◌, ◌-◌, ◌*◌, ◌<◌}
-use mathlib.Core.Path.{◌≡◌, refl, ◌∙◌, sym}
+use mathlib.Core.Path.{◌≡◌, ◌∙◌, sym}
 use mathlib.Core.List.{List}
 use lib.ListN.{get_or}
 use native.Mathlib.Omega.{arith}
-use borrow.Author.Rules.{rules}
 use Rattle.meaning.specs.Bytes.{Bytes}
 use Rattle.meaning.specs.Terms.{Functor, Term, Terms}
 use Rattle.term.specs.Setting.{Setting}
 use Rattle.report_count.specs.Counts.{Counts, CountedTerm}
-use Rattle.report_pairs.specs.Facts.{Shows, Leads}
-use Rattle.report_pairs.specs.Walk.{StandsAt, Found}
+use Rattle.report_pairs.specs.Facts.{Shows}
+use Rattle.report_pairs.specs.Walk.{StandsAt}
 use Rattle.report_pairs.proofs.Told.{seen as look}
 use Rattle.report_pairs.specs.Pairs.{NoCompound}
 use Rattle.report_pairs.proofs.Walking.{position_inside, position_shows}

@@ -1,14 +1,11 @@
 -- `report_leaves::leaf::leaf` meets its contract: by what the word shows.
-use Prim.Native.Nat.{ℕ, ◌+◌, ◌-◌, ◌*◌, ◌≤◌}
 use mathlib.Core.Path.{◌≡◌, ◌∙◌, sym, ap}
-use mathlib.Core.List.{[], ◌∷◌, ◌++◌}
 use native.Mathlib.Omega.{arith}
 use borrow.Author.Rules.{rules}
-use lib.ListN.{length, get_or}
+use lib.ListN.{length}
 use Rattle.meaning.specs.Report.{alone, written}
 use Rattle.term.specs.declared.word.View.TheVariants.{Writer, Reader, Integer, Name, Empty}
-use Rattle.report_pairs.specs.Threaded.{full}
-use Rattle.report_put.proofs.Putting.{puts_two, puts_is, puts_length, puts_one_place}
+use Rattle.report_put.proofs.Putting.{puts_two, puts_is, puts_length}
 use Rattle.report_pairs.proofs.Told.{seen, other_leaf}
 use Rattle.report_pairs.proofs.Leaves.{leaf_integer, leaf_name, leaf_empty, leaf_nothing, integer_written, name_written, empty_written}
 use Rattle.report_leaves.proofs.LeafWrites.{write_writer, write_reader, writer_fits, reader_fits}

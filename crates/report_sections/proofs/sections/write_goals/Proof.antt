@@ -1,7 +1,6 @@
 -- `report_sections::sections::write_goals` meets its contract: the lines of the query's goals at the places passed are written.
-use Prim.Native.Nat.{ℕ, ◌+◌, ◌*◌, ◌-◌, ◌/◌, ◌≤◌, ◌<◌}
+use Prim.Native.Nat.{ℕ, ◌+◌, ◌-◌, ◌≤◌, ◌<◌}
 use mathlib.Core.Path.{◌≡◌, refl, sym, ap, ◌∙◌}
-use mathlib.Core.Logic.{⊎_elim}
 use mathlib.Core.Bool.{true}
 use mathlib.Core.List.{List}
 use native.Mathlib.Omega.{arith}
@@ -17,12 +16,7 @@ use Rattle.report_sections.specs.Whole.{Numbers, AllIn}
 use Rattle.report_sections.proofs.WrittenGoals.{Wrote, wrote_none, wrote_skip, wrote_as, wrote_all, next_line}
 use Rattle.report_sections.proofs.sections.write_goals.Statement.{statement}
 use Rattle.report_sections.proofs.sections.write_goals.Tie as tie
-use Rattle.report_sections.proofs.sections.write_goals.Reads as reads
-use Rattle.report_sections.proofs.sections.write_goals.Lts as lts
 use Rattle.report_sections.proofs.sections.write_goals.Lts.{then-own, else-own}
-use Rattle.report_tallies.proofs.groups.goal_at.Reads as goal_at_reads
-use Rattle.report_tallies.proofs.groups.own.Reads as own_reads
-use Rattle.report_sections.proofs.sections.write_goal.Reads as write_goal_reads
 
 abbrev invariant-loop-i : tie.invariant-loop-i
 invariant-loop-i text s facts buffer₀ at label g q to₀ i₀ buffer to i =

@@ -1,14 +1,12 @@
 -- `report_sections::sections::write_section` meets its contract: header, values and the goals of the three lists, one behind the other.
-use Prim.Native.Nat.{ℕ, ◌+◌, ◌≤◌}
-use mathlib.Core.Path.{◌≡◌, refl, sym, ap, ◌∙◌}
-use mathlib.Core.List.{List}
+use mathlib.Core.Path.{ap, ◌∙◌}
 use native.Mathlib.Omega.{arith}
 use lib.ListN.{length}
 use Rattle.meaning.specs.Bytes.{bytes}
 use Rattle.term.specs.Layout.{figures, waiters_region}
 use Rattle.report_tallies.specs.Groups.{active_group, waiting_group, failed_group}
 use Rattle.report_pairs.specs.Threaded.{lines_seen}
-use Rattle.report_tallies.specs.Header.{header_of, tallies_of}
+use Rattle.report_tallies.specs.Header.{header_of}
 use Rattle.report_pairs.proofs.Laid.{puts_as}
 use Rattle.report_sections.proofs.SectionWrites.{
   section_actives_in,
@@ -27,16 +25,6 @@ use Rattle.report_sections.proofs.SectionWrites.{
 use borrow.Author.Rules.{rules}
 use Rattle.report_sections.proofs.sections.write_section.Statement.{statement}
 use Rattle.report_sections.proofs.sections.write_section.Tie as tie
-use Rattle.report_sections.proofs.sections.write_section.Reads as reads
-use Rattle.report_sections.proofs.sections.write_section.Lts as lts
-use Rattle.report_tallies.proofs.groups.active.Reads as active_reads
-use Rattle.report_tallies.proofs.groups.failed.Reads as failed_reads
-use Rattle.report_tallies.proofs.groups.waiting.Reads as waiting_reads
-use Rattle.report_tallies.proofs.header.header.Reads as header_reads
-use Rattle.report_tallies.proofs.header.tally.Reads as tally_reads
-use Rattle.report_sections.proofs.sections.write_goals.Reads as write_goals_reads
-use Rattle.report_sections.proofs.sections.write_values.Reads as write_values_reads
-use Rattle.term.proofs.layout.waiters.Reads as waiters_reads
 
 -- src/sections.rt:341:17
 waiters-facts-requires : tie.Need-waiters-facts-requires

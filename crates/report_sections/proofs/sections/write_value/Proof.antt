@@ -1,9 +1,8 @@
 -- `report_sections::sections::write_value` meets its contract: the name, three bytes, the value, one byte.
-use Prim.Native.Nat.{ℕ, ◌+◌}
-use mathlib.Core.Path.{◌≡◌, refl, sym, ap, ◌∙◌}
-use mathlib.Core.List.{List, [], ◌∷◌, ◌++◌}
+use mathlib.Core.Path.{sym, ◌∙◌}
+use mathlib.Core.List.{[], ◌++◌}
 use native.Mathlib.Omega.{arith}
-use lib.ListN.{length, get_or}
+use lib.ListN.{get_or}
 use Rattle.meaning.specs.Bytes.{bytes}
 use Rattle.report_pairs.proofs.Laid.{puts_behind}
 use Rattle.report_leaves.proofs.Copying.{fits_behind}
@@ -12,13 +11,6 @@ use Rattle.report_sections.proofs.WrittenLines.{value_line_size}
 use borrow.Author.Rules.{rules}
 use Rattle.report_sections.proofs.sections.write_value.Statement.{statement}
 use Rattle.report_sections.proofs.sections.write_value.Tie as tie
-use Rattle.report_sections.proofs.sections.write_value.Reads as reads
-use Rattle.report_sections.proofs.sections.write_value.Lts as lts
-use Rattle.report_put.proofs.put.spelling.Reads as spelling_reads
-use Rattle.report_put.proofs.put.words.Reads as words_reads
-use Rattle.report_sections.proofs.sections.spelled.Reads as spelled_reads
-use Rattle.report_sections.proofs.sections.variable.Reads as variable_reads
-use Rattle.report_sections.proofs.sections.write_line.Reads as write_line_reads
 
 -- src/sections.rt:163:9
 spelled-from-requires : tie.Need-spelled-from-requires

@@ -1,18 +1,13 @@
 -- `report_tallies::groups::number` meets its contract: those counted and those from the place on are all.
 use Prim.Native.Nat.{◌+◌, ◌-◌, ◌≤◌, ◌<◌}
-use mathlib.Core.Path.{◌≡◌, refl, sym, ap, ◌∙◌}
-use mathlib.Core.Logic.{⊎_elim}
+use mathlib.Core.Path.{◌≡◌, sym, ap, ◌∙◌}
 use native.Mathlib.Omega.{arith}
 use lib.ListN.{length}
 use Rattle.report_tallies.specs.Groups.{goal_in, own, own_from}
 use Rattle.report_tallies.proofs.GoalPlaces.{own_in, own_out, own_end}
 use Rattle.report_tallies.proofs.groups.number.Statement.{statement}
 use Rattle.report_tallies.proofs.groups.number.Tie as tie
-use Rattle.report_tallies.proofs.groups.number.Reads as reads
-use Rattle.report_tallies.proofs.groups.number.Lts as lts
 use Rattle.report_tallies.proofs.groups.number.Lts.{then-own, else-own}
-use Rattle.report_tallies.proofs.groups.goal_at.Reads as goal_at_reads
-use Rattle.report_tallies.proofs.groups.own.Reads as own_reads
 
 abbrev invariant-loop-i : tie.invariant-loop-i
 invariant-loop-i s g q n₀ i₀ n i =

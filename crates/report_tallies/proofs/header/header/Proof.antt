@@ -1,15 +1,10 @@
 -- `report_tallies::header::header` meets its contract: six pieces, one behind the other.
-use mathlib.Core.Path.{◌∙◌}
 use native.Mathlib.Omega.{arith}
 use Rattle.meaning.specs.Bytes.{bytes}
 use Rattle.report_tallies.proofs.FirstLines.{header_size, puts_header}
 use borrow.Author.Rules.{rules}
 use Rattle.report_tallies.proofs.header.header.Statement.{statement}
 use Rattle.report_tallies.proofs.header.header.Tie as tie
-use Rattle.report_tallies.proofs.header.header.Reads as reads
-use Rattle.report_tallies.proofs.header.header.Lts as lts
-use Rattle.report_tallies.proofs.header.count.Reads as count_reads
-use Rattle.report_put.proofs.put.put.Reads as put_reads
 
 -- src/header.rt:72:47
 overflow_add-q : tie.Need-overflow_add-q

@@ -5,11 +5,6 @@ use Rattle.report_tallies.proofs.FirstLines.{run_line_size, puts_run}
 use borrow.Author.Rules.{rules}
 use Rattle.report_tallies.proofs.header.run_line.Statement.{statement}
 use Rattle.report_tallies.proofs.header.run_line.Tie as tie
-use Rattle.report_tallies.proofs.header.run_line.Reads as reads
-use Rattle.report_tallies.proofs.header.run_line.Lts as lts
-use Rattle.report_tallies.proofs.header.run_words.Reads as run_words_reads
-use Rattle.report_put.proofs.put.decimal.Reads as decimal_reads
-use Rattle.report_put.proofs.put.put.Reads as put_reads
 
 -- src/header.rt:100:9
 run_words-to-requires : tie.Need-run_words-to-requires

@@ -1,16 +1,11 @@
 -- `report_tallies::header::run_words` meets its contract: each verdict's words.
-use mathlib.Core.Path.{◌≡◌, sym}
 use native.Mathlib.Omega.{arith}
-use lib.ListN.{length}
 use Rattle.meaning.specs.Bytes.{bytes}
 use Rattle.meaning.specs.Report.{verdict_bytes}
 use Rattle.report_tallies.specs.Header.{run_words_of}
 use borrow.Author.Rules.{rules}
 use Rattle.report_tallies.proofs.header.run_words.Statement.{statement}
 use Rattle.report_tallies.proofs.header.run_words.Tie as tie
-use Rattle.report_tallies.proofs.header.run_words.Reads as reads
-use Rattle.report_tallies.proofs.header.run_words.Lts as lts
-use Rattle.report_put.proofs.put.words.Reads as words_reads
 
 -- src/header.rt:90:32
 enum_told-1 : tie.Need-enum_told-1

@@ -5,14 +5,6 @@ use Rattle.report_tallies.specs.declared.header.Tallies.{Tallies}
 use borrow.Author.Rules.{rules}
 use Rattle.report_tallies.proofs.header.tally.Statement.{statement}
 use Rattle.report_tallies.proofs.header.tally.Tie as tie
-use Rattle.report_tallies.proofs.header.tally.Reads as reads
-use Rattle.report_tallies.proofs.header.tally.Lts as lts
-use Rattle.term.proofs.word.index.Reads as index_Reads
-use Rattle.term.proofs.scratch.word_at.Reads as word_at_reads
-use Rattle.report_tallies.proofs.groups.active.Reads as active_reads
-use Rattle.report_tallies.proofs.groups.failed.Reads as failed_reads
-use Rattle.report_tallies.proofs.groups.number.Reads as number_reads
-use Rattle.report_tallies.proofs.groups.waiting.Reads as waiting_reads
 
 same_tallies : {a b c d a' b' c' d' : ℕ} → a ≡ a' → b ≡ b' → c ≡ c' → d ≡ d'
     → ◌≡◌ {A = Tallies} (record { tries = a; active = b; waiting = c; failed = d }) (record { tries = a'; active = b'; waiting = c'; failed = d' })

@@ -7,11 +7,6 @@ use Rattle.report_tallies.proofs.Origins.{origin_size, puts_origin}
 use borrow.Author.Rules.{rules}
 use Rattle.report_tallies.proofs.origin.origin.Statement.{statement}
 use Rattle.report_tallies.proofs.origin.origin.Tie as tie
-use Rattle.report_tallies.proofs.origin.origin.Reads as reads
-use Rattle.report_tallies.proofs.origin.origin.Lts as lts
-use Rattle.report_tallies.proofs.header.count.Reads as count_reads
-use Rattle.term.proofs.goal.clause_of.Reads as clause_of_reads
-use Rattle.term.proofs.goal.tries_of.Reads as tries_of_reads
 
 -- src/origin.rt:23:43
 clause_of-requires : tie.Need-clause_of-requires

@@ -1,6 +1,6 @@
 -- `report_write::rising::rise` meets its contract: each byte that is put ends a compound, or stands before the next argument.
-use Prim.Native.Nat.{ℕ, ◌+◌}
-use mathlib.Core.Path.{◌≡◌, ◌∙◌}
+use Prim.Native.Nat.{ℕ}
+use mathlib.Core.Path.{◌∙◌}
 use mathlib.Core.List.{List}
 use native.Mathlib.Omega.{arith}
 use Rattle.meaning.specs.Bytes.{Bytes}
@@ -11,10 +11,6 @@ use Rattle.report_put.proofs.Putting.{puts_length}
 use Rattle.report_write.proofs.Upward.{Rising, rising_first, rising_room, rising_goes, rising_ends, rising_on}
 use Rattle.report_write.proofs.rising.rise.Statement.{statement}
 use Rattle.report_write.proofs.rising.rise.Tie as tie
-use Rattle.report_write.proofs.rising.rise.Reads as reads
-use Rattle.report_write.proofs.rising.rise.Lts as lts
-use Rattle.report_pairs.proofs.cells.behind.Reads as behind_reads
-use Rattle.report_put.proofs.put.put.Reads as put_reads
 
 abbrev invariant-loop-b : tie.invariant-loop-b
 invariant-loop-b s facts buffer₀ frames at place number deep to₀ p₀ i₀ depth₀ buffer to p i depth =

@@ -1,5 +1,5 @@
 -- `report_write::terms::write_arguments` and `write_term` meet their contracts. `met` says that an argument was put: copied, written by a call, or as a leaf.
-use Prim.Native.Nat.{ℕ, ◌+◌, ◌-◌, ◌*◌, ◌≤◌, ◌<◌}
+use Prim.Native.Nat.{ℕ, ◌+◌, ◌-◌, ◌*◌, ◌<◌}
 use mathlib.Core.Path.{◌≡◌, ◌∙◌, sym, refl}
 use mathlib.Core.List.{List}
 use native.Mathlib.Omega.{arith}
@@ -8,39 +8,13 @@ use Rattle.meaning.specs.Bytes.{Bytes}
 use Rattle.term.specs.Setting.{Setting}
 use Rattle.term.specs.declared.word.View.TheVariants.{Compound}
 use Rattle.report_pairs.specs.Laid.{Puts}
-use Rattle.report_pairs.specs.Facts.{Readable, Shows, Led}
+use Rattle.report_pairs.specs.Facts.{Readable, Shows}
 use Rattle.report_pairs.specs.Pairs.{NoCompound}
-use Rattle.report_leaves.specs.Fits.{Fits, Copied}
+use Rattle.report_leaves.specs.Fits.{Fits}
 use Rattle.report_pairs.proofs.Told.{seen}
 use Rattle.report_write.specs.Frames.{Before, Nothing}
 use Rattle.report_put.proofs.Putting.{puts_length}
-use Rattle.report_write.proofs.Writing.{
-  Going,
-  going_first,
-  going_writes,
-  going_room,
-  going_inside,
-  going_shows,
-  going_falls,
-  here,
-  later_bytes,
-  going_behind,
-  going_fits,
-  going_ends,
-  going_on,
-  going_still,
-  within,
-  into_fits,
-  into_falls,
-  into_room,
-  into_whole,
-  going_into,
-  puts_moved,
-  fits_still,
-  puts_still,
-  writes_still,
-  still_length,
-}
+use Rattle.report_write.proofs.Writing.{going_first, going_writes, going_room, going_inside, going_shows, going_falls, here, later_bytes, going_behind, going_fits, going_ends, going_on, going_still, within, into_fits, into_falls, into_room, into_whole, going_into, puts_moved, fits_still, puts_still, writes_still, still_length}
 use Rattle.report_write.proofs.terms.write_arguments.Reads as write_arguments
 use Rattle.report_write.proofs.terms.write_term.Reads as write_term
 use Rattle.report_write.proofs.terms.+write_arguments_write_term.Lts-write_arguments as write_arguments_lts
