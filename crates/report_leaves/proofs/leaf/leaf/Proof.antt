@@ -1,14 +1,11 @@
 -- `report_leaves::leaf::leaf` meets its contract: by what the word shows.
-use Prim.Native.Nat.{ℕ, ◌+◌, ◌-◌, ◌*◌, ◌≤◌}
 use mathlib.Core.Path.{◌≡◌, ◌∙◌, sym, ap}
-use mathlib.Core.List.{[], ◌∷◌, ◌++◌}
 use native.Mathlib.Omega.{arith}
 use borrow.Author.Rules.{rules}
-use lib.ListN.{length, get_or}
+use lib.ListN.{length}
 use Rattle.meaning.specs.Report.{alone, written}
 use Rattle.term.specs.declared.word.View.TheVariants.{Writer, Reader, Integer, Name, Empty}
-use Rattle.report_pairs.specs.Threaded.{full}
-use Rattle.report_put.proofs.Putting.{puts_two, puts_is, puts_length, puts_one_place}
+use Rattle.report_put.proofs.Putting.{puts_two, puts_is, puts_length}
 use Rattle.report_pairs.proofs.Told.{seen, other_leaf}
 use Rattle.report_pairs.proofs.Leaves.{leaf_integer, leaf_name, leaf_empty, leaf_nothing, integer_written, name_written, empty_written}
 use Rattle.report_leaves.proofs.LeafWrites.{write_writer, write_reader, writer_fits, reader_fits}
@@ -77,16 +74,11 @@ name-requires c κs =
 enum_told-1 : tie.Need-enum_told-1
 enum_told-1 c = search rules
 
-slice-aggregate-words : tie.Need-slice-aggregate-words
-slice-aggregate-words c = search rules
-
 words-requires : tie.Need-words-requires
 words-requires c κs =
-    let looked = c.before.before.before in
-    let entry = looked.before.before.before.before.before in
-    let at : seen entry.args.w ≡ Empty = sym looked.look.ensures ∙ c.before.before.enum_told.given.1 in
-    let bytes_are = ap (written entry.requires.1 alone) (leaf_empty _ _ _ _ entry.requires.3.readable _ _ entry.requires.4 at) ∙ empty_written entry.requires.1 in
-    omega (arith, ap length bytes_are, entry.requires.3.fits)
+    let at : seen c.args.w ≡ Empty = sym c.look.ensures ∙ c.in-Empty.is in
+    let bytes_are = ap (written c.requires.1 alone) (leaf_empty _ _ _ _ c.requires.3.readable _ _ c.requires.4 at) ∙ empty_written c.requires.1 in
+    omega (arith, ap length bytes_are, c.requires.3.fits)
 
 shape_of-buffer-in-Writer : tie.Need-shape_of-buffer-in-Writer
 shape_of-buffer-in-Writer c = search rules
@@ -139,9 +131,7 @@ shape_of-buffer-in-Empty c = search rules
 
 returns-in-Empty : tie.Need-returns-in-Empty
 returns-in-Empty c x order t W l d =
-    let looked = c.before.before.before.before.before.before in
-    let entry = looked.before.before.before.before.before in
-    let at : seen entry.args.w ≡ Empty = sym looked.look.ensures ∙ c.before.before.before.before.before.enum_told.given.1 in
+    let at : seen c.args.w ≡ Empty = sym c.look.ensures ∙ c.in-Empty.is in
     puts_is (sym (ap (written order alone) (leaf_empty _ _ _ _ W.readable _ _ l at) ∙ empty_written order)) c.before.before.words.ensures
 
 returns-in_default : tie.Need-returns-in_default

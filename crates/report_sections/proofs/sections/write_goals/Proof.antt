@@ -1,7 +1,6 @@
 -- `report_sections::sections::write_goals` meets its contract: the lines of the query's goals at the places passed are written.
-use Prim.Native.Nat.{ℕ, ◌+◌, ◌*◌, ◌-◌, ◌/◌, ◌≤◌, ◌<◌}
+use Prim.Native.Nat.{ℕ, ◌+◌, ◌-◌, ◌≤◌, ◌<◌}
 use mathlib.Core.Path.{◌≡◌, refl, sym, ap, ◌∙◌}
-use mathlib.Core.Logic.{⊎_elim}
 use mathlib.Core.Bool.{true}
 use mathlib.Core.List.{List}
 use native.Mathlib.Omega.{arith}
@@ -17,11 +16,7 @@ use Rattle.report_sections.specs.Whole.{Numbers, AllIn}
 use Rattle.report_sections.proofs.WrittenGoals.{Wrote, wrote_none, wrote_skip, wrote_as, wrote_all, next_line}
 use Rattle.report_sections.proofs.sections.write_goals.Statement.{statement}
 use Rattle.report_sections.proofs.sections.write_goals.Tie as tie
-use Rattle.report_sections.proofs.sections.write_goals.Reads as reads
-use Rattle.report_sections.proofs.sections.write_goals.Lts as lts
-use Rattle.report_tallies.proofs.groups.goal_at.Reads as goal_at_reads
-use Rattle.report_tallies.proofs.groups.own.Reads as own_reads
-use Rattle.report_sections.proofs.sections.write_goal.Reads as write_goal_reads
+use Rattle.report_sections.proofs.sections.write_goals.Lts.{then-own, else-own}
 
 abbrev invariant-loop-i : tie.invariant-loop-i
 invariant-loop-i text s facts buffer₀ at label g q to₀ i₀ buffer to i =
@@ -77,31 +72,30 @@ loop-i-smaller c = omega arith
 -- src/sections.rt:291:5
 loop-i-preserved : tie.Need-loop-i-preserved invariant-loop-i decreases-loop-i
 loop-i-preserved c =
-    let S = c.before.before.before.before.before.before.before.before.before.before in
-    let a = S.args in
-    let l = c.before.before.before.before.before.loop-i in
-    let goal = c.before.before.goal_at-goal in
+    let a = c.args in
+    let l = c.loop-i in
+    let goal = c.goal_at-goal in
     let inside : l.i < a.g.count = omega arith in
-    let same : own a.q (goal_in a.s.now a.g l.i) ≡ c.before.own.result =
-    ap (own a.q) (sym goal.ensures) ∙ sym c.before.own.ensures in
-    ⊎_elim
-    (λ w. (
-      omega arith,
-      ap length w.5 ∙ w.2.kept.1.1.1.0 ∙ l.invariant.1,
-      λ x order gs readable listed numbers all fits.
-          let n = next_line a.s.now a.text.now x a.facts order a.buffer.now l.buffer a.at a.g a.q gs a.label.now l.to l.i goal.result
-          inside readable listed numbers all fits goal.ensures (same ∙ w.0.taken) (l.invariant.2 x order gs readable listed numbers all fits) in
-          wrote_as a.s.now x order a.buffer.now _ _ a.at a.g a.q gs a.label.now _ _ (l.i + 1) w.5 w.6
-          (n.gives w.2.last.1.1.1.0 w.2.result (w.2.ensures x order n.term n.writes n.shows n.fits)),
-    ))
-    (λ w. (
-      omega arith,
-      ap length w.1 ∙ l.invariant.1,
-      λ x order gs readable listed numbers all fits.
-          wrote_as a.s.now x order a.buffer.now _ _ a.at a.g a.q gs a.label.now _ _ (l.i + 1) w.1 w.2
-          (wrote_skip a.s.now a.text.now x a.facts order a.buffer.now l.buffer a.at a.g a.q gs a.label.now l.to l.i inside (same ∙ w.0.left) (l.invariant.2 x order gs readable listed numbers all fits)),
-    ))
-    c.if-own.branch
+    let same : own a.q (goal_in a.s.now a.g l.i) ≡ c.own.result =
+    ap (own a.q) (sym goal.ensures) ∙ sym c.own.ensures in
+    elim c.if-own.branch [
+      | then-own w ↦ (
+        omega arith,
+        ap length w.buffer-is ∙ w.write_goal-to.auto.buffer ∙ l.invariant.1,
+        λ x order gs readable listed numbers all fits.
+            let n = next_line a.s.now a.text.now x a.facts order a.buffer.now l.buffer a.at a.g a.q gs a.label.now l.to l.i goal.result
+            inside readable listed numbers all fits goal.ensures (same ∙ w.if-own.true) (l.invariant.2 x order gs readable listed numbers all fits) in
+            wrote_as a.s.now x order a.buffer.now _ _ a.at a.g a.q gs a.label.now _ _ (l.i + 1) w.buffer-is w.to-is
+            (n.gives w.write_goal-to.new.buffer w.write_goal-to.result (w.write_goal-to.ensures x order n.term n.writes n.shows n.fits)),
+      )
+      | else-own w ↦ (
+        omega arith,
+        ap length w.buffer-is ∙ l.invariant.1,
+        λ x order gs readable listed numbers all fits.
+            wrote_as a.s.now x order a.buffer.now _ _ a.at a.g a.q gs a.label.now _ _ (l.i + 1) w.buffer-is w.to-is
+            (wrote_skip a.s.now a.text.now x a.facts order a.buffer.now l.buffer a.at a.g a.q gs a.label.now l.to l.i inside (same ∙ w.if-own.false) (l.invariant.2 x order gs readable listed numbers all fits)),
+      )
+    ]
 
 -- src/sections.rt:271:1
 shape_of-buffer : tie.Need-shape_of-buffer invariant-loop-i decreases-loop-i

@@ -1,14 +1,12 @@
 -- `report_sections::sections::write_section` meets its contract: header, values and the goals of the three lists, one behind the other.
-use Prim.Native.Nat.{ℕ, ◌+◌, ◌≤◌}
-use mathlib.Core.Path.{◌≡◌, refl, sym, ap, ◌∙◌}
-use mathlib.Core.List.{List}
+use mathlib.Core.Path.{ap, ◌∙◌}
 use native.Mathlib.Omega.{arith}
 use lib.ListN.{length}
 use Rattle.meaning.specs.Bytes.{bytes}
 use Rattle.term.specs.Layout.{figures, waiters_region}
 use Rattle.report_tallies.specs.Groups.{active_group, waiting_group, failed_group}
 use Rattle.report_pairs.specs.Threaded.{lines_seen}
-use Rattle.report_tallies.specs.Header.{header_of, tallies_of}
+use Rattle.report_tallies.specs.Header.{header_of}
 use Rattle.report_pairs.proofs.Laid.{puts_as}
 use Rattle.report_sections.proofs.SectionWrites.{
   section_actives_in,
@@ -27,16 +25,6 @@ use Rattle.report_sections.proofs.SectionWrites.{
 use borrow.Author.Rules.{rules}
 use Rattle.report_sections.proofs.sections.write_section.Statement.{statement}
 use Rattle.report_sections.proofs.sections.write_section.Tie as tie
-use Rattle.report_sections.proofs.sections.write_section.Reads as reads
-use Rattle.report_sections.proofs.sections.write_section.Lts as lts
-use Rattle.report_tallies.proofs.groups.active.Reads as active_reads
-use Rattle.report_tallies.proofs.groups.failed.Reads as failed_reads
-use Rattle.report_tallies.proofs.groups.waiting.Reads as waiting_reads
-use Rattle.report_tallies.proofs.header.header.Reads as header_reads
-use Rattle.report_tallies.proofs.header.tally.Reads as tally_reads
-use Rattle.report_sections.proofs.sections.write_goals.Reads as write_goals_reads
-use Rattle.report_sections.proofs.sections.write_values.Reads as write_values_reads
-use Rattle.term.proofs.layout.waiters.Reads as waiters_reads
 
 -- src/sections.rt:341:17
 waiters-facts-requires : tie.Need-waiters-facts-requires
@@ -49,7 +37,7 @@ tally-requires c κs = search rules
 -- src/sections.rt:342:18
 header-to-requires : tie.Need-header-to-requires
 header-to-requires c κs =
-    let S = c.before.before.before.before.before.before in
+    let S = c in
     let a = S.args in
     let (x, xs, actives, ws, fs, stands, numbers, fits) = S.requires in
     let tallied = c.tally in
@@ -59,21 +47,17 @@ header-to-requires c κs =
 -- src/sections.rt:343:10
 write_values-to-requires : tie.Need-write_values-to-requires
 write_values-to-requires c κs =
-    let S = c.before.before.before.before.before.before.before.before.before.before in
+    let S = c in
     let a = S.args in
     let (x, xs, actives, ws, fs, stands, numbers, fits) = S.requires in
     let order = lines_seen x.values xs actives ws fs in
-    let tallied = c.before.before.before.before.tally in
-    let h = c.before.before.before.header-to in
+    let tallied = c.tally in
+    let h = c.header-to in
     let p₀ = puts_as _ _ a.buffer.now h.new.buffer a.at h.result (ap (header_of a.q) tallied.ensures) h.ensures in
-    let w = c.before.before.before.before.before.before.waiters-facts in
+    let w = c.waiters-facts in
     let (readable, numbered) = values_ready a.s.now a.text.now x (figures a.room) a.t a.q xs actives ws fs w.result w.ensures stands numbers in
     let values_fits = fits_from w.ensures (values_fit x.values xs actives ws fs a.s.now (figures a.room) a.t a.q fits p₀) in
     (x, order, xs, readable, stands.here.variables, numbered, values_fits)
-
--- src/sections.rt:344:50
-slice-aggregate-write-goals : tie.Need-slice-aggregate-write-goals
-slice-aggregate-write-goals c = search rules
 
 -- src/sections.rt:344:62
 active-requires : tie.Need-active-requires
@@ -83,16 +67,16 @@ active-requires c κs = search rules
 write_goals-to-requires : tie.Need-write_goals-to-requires
 unfolding bytes
 write_goals-to-requires c κs =
-    let S = c.before.before.before.before.before.before.before.before.before.before.before.before.before.before.before.before.before in
+    let S = c in
     let a = S.args in
     let (x, xs, actives, ws, fs, stands, numbers, fits) = S.requires in
     let order = lines_seen x.values xs actives ws fs in
-    let tallied = c.before.before.before.before.before.before.before.before.before.before.tally in
-    let h = c.before.before.before.before.before.before.before.before.before.header in
-    let p₀ = puts_as _ _ a.buffer.now h.new.0 a.at h.result (ap (header_of a.q) tallied.ensures) h.ensures in
-    let w = c.before.before.before.before.before.before.before.before.before.before.before.before.waiters in
+    let tallied = c.tally in
+    let h = c.header-to in
+    let p₀ = puts_as _ _ a.buffer.now h.new.buffer a.at h.result (ap (header_of a.q) tallied.ensures) h.ensures in
+    let w = c.waiters-facts in
     let (readable, numbered) = values_ready a.s.now a.text.now x (figures a.room) a.t a.q xs actives ws fs w.result w.ensures stands numbers in
-    let v = c.before.before.before.before.before.write-values in
+    let v = c.write_values-to in
     let values_fits = fits_from w.ensures (values_fit x.values xs actives ws fs a.s.now (figures a.room) a.t a.q fits p₀) in
     let p₁ = v.ensures x order xs readable stands.here.variables numbered values_fits in
     let one = c.active in
@@ -101,14 +85,10 @@ write_goals-to-requires c κs =
     let actives_fits = fits_from w.ensures (actives_fit x.values xs actives ws fs a.s.now (figures a.room) a.t a.q fits p₀ p₁) in
     (x, order, actives, one_r, one_l, one_n, section_actives_in x.values xs actives ws fs, actives_fits)
 
--- src/sections.rt:345:50
-slice-aggregate-write-goals-2 : tie.Need-slice-aggregate-write-goals-2
-slice-aggregate-write-goals-2 c = search rules
-
 -- src/sections.rt:345:63
 waiting-requires : tie.Need-waiting-requires
 waiting-requires c κs =
-    let S = c.before.before.before.before.before.before.before.before.before.before.before.before.before.before.before.before.before.before.before.before.before.before.before in
+    let S = c in
     let a = S.args in
     let (x, xs, actives, ws, fs, stands, numbers, fits) = S.requires in
     stands.here.in_range
@@ -117,22 +97,22 @@ waiting-requires c κs =
 write_goals-to-requires-2 : tie.Need-write_goals-to-requires-2
 unfolding bytes
 write_goals-to-requires-2 c κs =
-    let S = c.before.before.before.before.before.before.before.before.before.before.before.before.before.before.before.before.before.before.before.before.before.before.before.before in
+    let S = c in
     let a = S.args in
     let (x, xs, actives, ws, fs, stands, numbers, fits) = S.requires in
     let order = lines_seen x.values xs actives ws fs in
-    let tallied = c.before.before.before.before.before.before.before.before.before.before.before.before.before.before.before.before.tally in
-    let h = c.before.before.before.before.before.before.before.before.before.before.before.before.before.before.before.header in
-    let p₀ = puts_as _ _ a.buffer.now h.new.0 a.at h.result (ap (header_of a.q) tallied.ensures) h.ensures in
-    let w = c.before.before.before.before.before.before.before.before.before.before.before.before.before.before.before.before.before.before.waiters in
+    let tallied = c.tally in
+    let h = c.header-to in
+    let p₀ = puts_as _ _ a.buffer.now h.new.buffer a.at h.result (ap (header_of a.q) tallied.ensures) h.ensures in
+    let w = c.waiters-facts in
     let (readable, numbered) = values_ready a.s.now a.text.now x (figures a.room) a.t a.q xs actives ws fs w.result w.ensures stands numbers in
-    let v = c.before.before.before.before.before.before.before.before.before.before.before.write-values in
+    let v = c.write_values-to in
     let values_fits = fits_from w.ensures (values_fit x.values xs actives ws fs a.s.now (figures a.room) a.t a.q fits p₀) in
     let p₁ = v.ensures x order xs readable stands.here.variables numbered values_fits in
-    let one = c.before.before.before.before.before.before.active in
+    let one = c.active in
     let (one_r, one_l, one_n) = goals_ready a.s.now a.text.now x (waiters_region (figures a.room)) w.result (active_group (figures a.room) a.t) one.result a.q actives order
     w.ensures one.ensures stands.readable stands.here.active numbers in
-    let g₁ = c.before.before.before.before.before.write-goals in
+    let g₁ = c.write_goals-to in
     let actives_fits = fits_from w.ensures (actives_fit x.values xs actives ws fs a.s.now (figures a.room) a.t a.q fits p₀ p₁) in
     let p₂ = g₁.ensures x order actives one_r one_l one_n (section_actives_in x.values xs actives ws fs) actives_fits in
     let two = c.waiting in
@@ -141,14 +121,10 @@ write_goals-to-requires-2 c κs =
     let waits_fits = fits_from w.ensures (waits_fit x.values xs actives ws fs a.s.now (figures a.room) a.t a.q fits p₀ p₁ p₂) in
     (x, order, ws, two_r, two_l, two_n, section_waits_in x.values xs actives ws fs, waits_fits)
 
--- src/sections.rt:346:45
-slice-aggregate-write-goals-3 : tie.Need-slice-aggregate-write-goals-3
-slice-aggregate-write-goals-3 c = search rules
-
 -- src/sections.rt:346:57
 failed-requires : tie.Need-failed-requires
 failed-requires c κs =
-    let S = c.before.before.before.before.before.before.before.before.before.before.before.before.before.before.before.before.before.before.before.before.before.before.before.before.before.before.before.before.before.before in
+    let S = c in
     let a = S.args in
     let (x, xs, actives, ws, fs, stands, numbers, fits) = S.requires in
     stands.here.in_range
@@ -157,28 +133,28 @@ failed-requires c κs =
 write_goals-requires : tie.Need-write_goals-requires
 unfolding bytes
 write_goals-requires c κs =
-    let S = c.before.before.before.before.before.before.before.before.before.before.before.before.before.before.before.before.before.before.before.before.before.before.before.before.before.before.before.before.before.before.before in
+    let S = c in
     let a = S.args in
     let (x, xs, actives, ws, fs, stands, numbers, fits) = S.requires in
     let order = lines_seen x.values xs actives ws fs in
-    let tallied = c.before.before.before.before.before.before.before.before.before.before.before.before.before.before.before.before.before.before.before.before.before.before.tally in
-    let h = c.before.before.before.before.before.before.before.before.before.before.before.before.before.before.before.before.before.before.before.before.before.header in
-    let p₀ = puts_as _ _ a.buffer.now h.new.0 a.at h.result (ap (header_of a.q) tallied.ensures) h.ensures in
-    let w = c.before.before.before.before.before.before.before.before.before.before.before.before.before.before.before.before.before.before.before.before.before.before.before.before.waiters in
+    let tallied = c.tally in
+    let h = c.header-to in
+    let p₀ = puts_as _ _ a.buffer.now h.new.buffer a.at h.result (ap (header_of a.q) tallied.ensures) h.ensures in
+    let w = c.waiters-facts in
     let (readable, numbered) = values_ready a.s.now a.text.now x (figures a.room) a.t a.q xs actives ws fs w.result w.ensures stands numbers in
-    let v = c.before.before.before.before.before.before.before.before.before.before.before.before.before.before.before.before.before.write-values in
+    let v = c.write_values-to in
     let values_fits = fits_from w.ensures (values_fit x.values xs actives ws fs a.s.now (figures a.room) a.t a.q fits p₀) in
     let p₁ = v.ensures x order xs readable stands.here.variables numbered values_fits in
-    let one = c.before.before.before.before.before.before.before.before.before.before.before.before.active in
+    let one = c.active in
     let (one_r, one_l, one_n) = goals_ready a.s.now a.text.now x (waiters_region (figures a.room)) w.result (active_group (figures a.room) a.t) one.result a.q actives order
     w.ensures one.ensures stands.readable stands.here.active numbers in
-    let g₁ = c.before.before.before.before.before.before.before.before.before.before.before.write-goals in
+    let g₁ = c.write_goals-to in
     let actives_fits = fits_from w.ensures (actives_fit x.values xs actives ws fs a.s.now (figures a.room) a.t a.q fits p₀ p₁) in
     let p₂ = g₁.ensures x order actives one_r one_l one_n (section_actives_in x.values xs actives ws fs) actives_fits in
-    let two = c.before.before.before.before.before.before.waiting in
+    let two = c.waiting in
     let (two_r, two_l, two_n) = goals_ready a.s.now a.text.now x (waiters_region (figures a.room)) w.result (waiting_group (figures a.room) a.t) two.result a.q ws order
     w.ensures two.ensures stands.readable stands.here.waiting numbers in
-    let g₂ = c.before.before.before.before.before.write-goals2 in
+    let g₂ = c.write_goals-to-2 in
     let waits_fits = fits_from w.ensures (waits_fit x.values xs actives ws fs a.s.now (figures a.room) a.t a.q fits p₀ p₁ p₂) in
     let p₃ = g₂.ensures x order ws two_r two_l two_n (section_waits_in x.values xs actives ws fs) waits_fits in
     let three = c.failed in
@@ -190,49 +166,49 @@ write_goals-requires c κs =
 -- src/sections.rt:322:1
 shape_of-buffer : tie.Need-shape_of-buffer
 shape_of-buffer c =
-    let h = c.before.before.before.before.before.before.before.before.before.before.before.before.before.before.before.before.before.before.before.before.before.before.before.before.header in
-    let v = c.before.before.before.before.before.before.before.before.before.before.before.before.before.before.before.before.before.before.before.before.write-values in
-    let g₁ = c.before.before.before.before.before.before.before.before.before.before.before.before.before.before.write-goals in
-    let g₂ = c.before.before.before.before.before.before.before.before.write-goals2 in
-    let g₃ = c.before.before.write_goals in
-    g₃.auto.buffer ∙ g₂.auto.1.1.1.0 ∙ g₁.auto.1.1.1.0 ∙ v.auto.1.1.1.0 ∙ h.auto.0
+    let h = c.header-to in
+    let v = c.write_values-to in
+    let g₁ = c.write_goals-to in
+    let g₂ = c.write_goals-to-2 in
+    let g₃ = c.write_goals in
+    g₃.auto.buffer ∙ g₂.auto.buffer ∙ g₁.auto.buffer ∙ v.auto.buffer ∙ h.auto.buffer
 
 -- src/sections.rt:322:1
 returns : tie.Need-returns
 unfolding bytes
 returns c =
-    let S = c.before.before.before.before.before.before.before.before.before.before.before.before.before.before.before.before.before.before.before.before.before.before.before.before.before.before.before.before.before.before.before.before.before.before in
+    let S = c in
     let a = S.args in
     λ x xs actives ws fs stands numbers fits.
     let order = lines_seen x.values xs actives ws fs in
-    let tallied = c.before.before.before.before.before.before.before.before.before.before.before.before.before.before.before.before.before.before.before.before.before.before.before.before.before.tally in
-    let h = c.before.before.before.before.before.before.before.before.before.before.before.before.before.before.before.before.before.before.before.before.before.before.before.before.header in
-    let p₀ = puts_as _ _ a.buffer.now h.new.0 a.at h.result (ap (header_of a.q) tallied.ensures) h.ensures in
-    let w = c.before.before.before.before.before.before.before.before.before.before.before.before.before.before.before.before.before.before.before.before.before.before.before.before.before.before.before.waiters in
+    let tallied = c.tally in
+    let h = c.header-to in
+    let p₀ = puts_as _ _ a.buffer.now h.new.buffer a.at h.result (ap (header_of a.q) tallied.ensures) h.ensures in
+    let w = c.waiters-facts in
     let (readable, numbered) = values_ready a.s.now a.text.now x (figures a.room) a.t a.q xs actives ws fs w.result w.ensures stands numbers in
-    let v = c.before.before.before.before.before.before.before.before.before.before.before.before.before.before.before.before.before.before.before.before.write-values in
+    let v = c.write_values-to in
     let values_fits = fits_from w.ensures (values_fit x.values xs actives ws fs a.s.now (figures a.room) a.t a.q fits p₀) in
     let p₁ = v.ensures x order xs readable stands.here.variables numbered values_fits in
-    let one = c.before.before.before.before.before.before.before.before.before.before.before.before.before.before.before.active in
+    let one = c.active in
     let (one_r, one_l, one_n) = goals_ready a.s.now a.text.now x (waiters_region (figures a.room)) w.result (active_group (figures a.room) a.t) one.result a.q actives order
     w.ensures one.ensures stands.readable stands.here.active numbers in
-    let g₁ = c.before.before.before.before.before.before.before.before.before.before.before.before.before.before.write-goals in
+    let g₁ = c.write_goals-to in
     let actives_fits = fits_from w.ensures (actives_fit x.values xs actives ws fs a.s.now (figures a.room) a.t a.q fits p₀ p₁) in
     let p₂ = g₁.ensures x order actives one_r one_l one_n (section_actives_in x.values xs actives ws fs) actives_fits in
-    let two = c.before.before.before.before.before.before.before.before.before.waiting in
+    let two = c.waiting in
     let (two_r, two_l, two_n) = goals_ready a.s.now a.text.now x (waiters_region (figures a.room)) w.result (waiting_group (figures a.room) a.t) two.result a.q ws order
     w.ensures two.ensures stands.readable stands.here.waiting numbers in
-    let g₂ = c.before.before.before.before.before.before.before.before.write-goals2 in
+    let g₂ = c.write_goals-to-2 in
     let waits_fits = fits_from w.ensures (waits_fit x.values xs actives ws fs a.s.now (figures a.room) a.t a.q fits p₀ p₁ p₂) in
     let p₃ = g₂.ensures x order ws two_r two_l two_n (section_waits_in x.values xs actives ws fs) waits_fits in
-    let three = c.before.before.before.failed in
+    let three = c.failed in
     let (three_r, three_l, three_n) = goals_ready a.s.now a.text.now x (waiters_region (figures a.room)) w.result (failed_group (figures a.room) a.t) three.result a.q fs order
     w.ensures three.ensures stands.readable stands.here.failed numbers in
-    let g₃ = c.before.before.write_goals in
+    let g₃ = c.write_goals in
     let fails_fits = fits_from w.ensures (fails_fit x.values xs actives ws fs a.s.now (figures a.room) a.t a.q fits p₀ p₁ p₂ p₃) in
     let p₄ = g₃.ensures x order fs three_r three_l three_n (section_fails_in x.values xs actives ws fs) fails_fits in
     section_puts x.values xs actives ws fs a.s.now (figures a.room) a.t a.q
-    a.buffer.now h.new.0 v.new.1.1.1.0 g₁.new.1.1.1.0 g₂.new.1.1.1.0 g₃.new.buffer
+    a.buffer.now h.new.buffer v.new.buffer g₁.new.buffer g₂.new.buffer g₃.new.buffer
     a.at h.result v.result g₁.result g₂.result g₃.result
     p₀ p₁ p₂ p₃ p₄
 

@@ -1,17 +1,13 @@
 -- `report_tallies::groups::number` meets its contract: those counted and those from the place on are all.
 use Prim.Native.Nat.{◌+◌, ◌-◌, ◌≤◌, ◌<◌}
-use mathlib.Core.Path.{◌≡◌, refl, sym, ap, ◌∙◌}
-use mathlib.Core.Logic.{⊎_elim}
+use mathlib.Core.Path.{◌≡◌, sym, ap, ◌∙◌}
 use native.Mathlib.Omega.{arith}
 use lib.ListN.{length}
 use Rattle.report_tallies.specs.Groups.{goal_in, own, own_from}
 use Rattle.report_tallies.proofs.GoalPlaces.{own_in, own_out, own_end}
 use Rattle.report_tallies.proofs.groups.number.Statement.{statement}
 use Rattle.report_tallies.proofs.groups.number.Tie as tie
-use Rattle.report_tallies.proofs.groups.number.Reads as reads
-use Rattle.report_tallies.proofs.groups.number.Lts as lts
-use Rattle.report_tallies.proofs.groups.goal_at.Reads as goal_at_reads
-use Rattle.report_tallies.proofs.groups.own.Reads as own_reads
+use Rattle.report_tallies.proofs.groups.number.Lts.{then-own, else-own}
 
 abbrev invariant-loop-i : tie.invariant-loop-i
 invariant-loop-i s g q n₀ i₀ n i =
@@ -47,15 +43,15 @@ loop-i-smaller c = omega arith
 -- src/groups.rt:51:5
 loop-i-preserved : tie.Need-loop-i-preserved invariant-loop-i decreases-loop-i
 loop-i-preserved c =
-    let S = c.before.before.before.before.before.before.before in
-    let l = c.before.before.before.before.before.loop-i in
-    let same : own S.args.q (goal_in S.args.s.now S.args.g l.i) ≡ c.before.own.result =
-    ap (own S.args.q) (sym c.before.before.goal_at-goal.ensures) ∙ sym c.before.own.ensures in
+    let S = c in
+    let l = c.loop-i in
+    let same : own S.args.q (goal_in S.args.s.now S.args.g l.i) ≡ c.own.result =
+    ap (own S.args.q) (sym c.goal_at-goal.ensures) ∙ sym c.own.ensures in
     let inside : l.i < S.args.g.count = omega arith in
-    ⊎_elim
-    (λ w. omega (arith, ap length (own_in S.args.s.now S.args.g S.args.q l.i S.args.g.count inside (same ∙ w.0.taken))))
-    (λ w. omega (arith, ap length (own_out S.args.s.now S.args.g S.args.q l.i S.args.g.count inside (same ∙ w.0.left))))
-    c.if-own.branch
+    elim c.if-own.branch [
+      | then-own w ↦ omega (arith, ap length (own_in S.args.s.now S.args.g S.args.q l.i S.args.g.count inside (same ∙ w.if-own.true)))
+      | else-own w ↦ omega (arith, ap length (own_out S.args.s.now S.args.g S.args.q l.i S.args.g.count inside (same ∙ w.if-own.false)))
+    ]
 
 -- src/groups.rt:45:1
 returns : tie.Need-returns invariant-loop-i decreases-loop-i

@@ -5,25 +5,20 @@ use Rattle.report_tallies.proofs.FirstLines.{run_line_size, puts_run}
 use borrow.Author.Rules.{rules}
 use Rattle.report_tallies.proofs.header.run_line.Statement.{statement}
 use Rattle.report_tallies.proofs.header.run_line.Tie as tie
-use Rattle.report_tallies.proofs.header.run_line.Reads as reads
-use Rattle.report_tallies.proofs.header.run_line.Lts as lts
-use Rattle.report_tallies.proofs.header.run_words.Reads as run_words_reads
-use Rattle.report_put.proofs.put.decimal.Reads as decimal_reads
-use Rattle.report_put.proofs.put.put.Reads as put_reads
 
 -- src/header.rt:100:9
 run_words-to-requires : tie.Need-run_words-to-requires
-run_words-to-requires c κs = omega (arith, c.before.before.requires, run_line_size c.before.before.args.verdict c.before.before.args.steps)
+run_words-to-requires c κs = omega (arith, c.requires, run_line_size c.args.verdict c.args.steps)
 
 -- src/header.rt:101:5
 decimal-to-requires : tie.Need-decimal-to-requires
 decimal-to-requires c κs =
-    omega (arith, c.before.before.before.before.before.before.requires, run_line_size c.before.before.before.before.before.before.args.verdict c.before.before.before.before.before.before.args.steps, c.before.before.before.run_words-to.auto.buffer, c.before.before.before.run_words-to.ensures.place)
+    omega (arith, c.requires, run_line_size c.args.verdict c.args.steps, c.run_words-to.auto.buffer, c.run_words-to.ensures.place)
 
 -- src/header.rt:102:5
 put-requires : tie.Need-put-requires
 put-requires c κs =
-    omega (arith, c.before.before.before.before.before.before.before.before.before.before.requires, run_line_size c.before.before.before.before.before.before.before.before.before.before.args.verdict c.before.before.before.before.before.before.before.before.before.before.args.steps, c.before.before.before.before.before.before.before.run_words-to.auto.buffer, c.before.before.before.before.before.before.before.run_words-to.ensures.place, c.before.before.before.decimal-to.auto.buffer, c.before.before.before.decimal-to.ensures.place)
+    omega (arith, c.requires, run_line_size c.args.verdict c.args.steps, c.run_words-to.auto.buffer, c.run_words-to.ensures.place, c.decimal-to.auto.buffer, c.decimal-to.ensures.place)
 
 -- src/header.rt:96:1
 shape_of-buffer : tie.Need-shape_of-buffer
@@ -33,7 +28,7 @@ shape_of-buffer c = search rules
 returns : tie.Need-returns
 unfolding bytes
 returns c =
-    puts_run c.before.before.before.before.before.before.before.before.before.before.before.before.before.args.verdict c.before.before.before.before.before.before.before.before.before.before.before.before.before.args.steps _ _ _ _ _ _ _ c.before.before.before.before.before.before.before.before.before.before.run_words-to.ensures c.before.before.before.before.before.before.decimal-to.ensures c.before.before.put.ensures
+    puts_run c.args.verdict c.args.steps _ _ _ _ _ _ _ c.run_words-to.ensures c.decimal-to.ensures c.put.ensures
 
 pub run_line_spec : {M : Type 1} → statement M
 run_line_spec =

@@ -5,14 +5,6 @@ use Rattle.report_tallies.specs.declared.header.Tallies.{Tallies}
 use borrow.Author.Rules.{rules}
 use Rattle.report_tallies.proofs.header.tally.Statement.{statement}
 use Rattle.report_tallies.proofs.header.tally.Tie as tie
-use Rattle.report_tallies.proofs.header.tally.Reads as reads
-use Rattle.report_tallies.proofs.header.tally.Lts as lts
-use Rattle.term.proofs.word.index.Reads as index_Reads
-use Rattle.term.proofs.scratch.word_at.Reads as word_at_reads
-use Rattle.report_tallies.proofs.groups.active.Reads as active_reads
-use Rattle.report_tallies.proofs.groups.failed.Reads as failed_reads
-use Rattle.report_tallies.proofs.groups.number.Reads as number_reads
-use Rattle.report_tallies.proofs.groups.waiting.Reads as waiting_reads
 
 same_tallies : {a b c d a' b' c' d' : ℕ} → a ≡ a' → b ≡ b' → c ≡ c' → d ≡ d'
     → ◌≡◌ {A = Tallies} (record { tries = a; active = b; waiting = c; failed = d }) (record { tries = a'; active = b'; waiting = c'; failed = d' })
@@ -40,7 +32,7 @@ active-requires c κs = search rules
 
 -- src/header.rt:39:17
 number-requires : tie.Need-number-requires
-number-requires c κs = rw c.active.ensures c.before.before.before.before.requires.1.active
+number-requires c κs = rw c.active.ensures c.requires.1.active
 
 -- src/header.rt:40:28
 waiting-requires : tie.Need-waiting-requires
@@ -48,7 +40,7 @@ waiting-requires c κs = search rules
 
 -- src/header.rt:40:18
 number-requires-2 : tie.Need-number-requires-2
-number-requires-2 c κs = rw c.waiting.ensures c.before.before.before.before.before.before.requires.1.waiting
+number-requires-2 c κs = rw c.waiting.ensures c.requires.1.waiting
 
 -- src/header.rt:41:27
 failed-requires : tie.Need-failed-requires
@@ -56,12 +48,12 @@ failed-requires c κs = search rules
 
 -- src/header.rt:41:17
 number-requires-3 : tie.Need-number-requires-3
-number-requires-3 c κs = rw c.failed.ensures c.before.before.before.before.before.before.before.before.requires.1.failed
+number-requires-3 c κs = rw c.failed.ensures c.requires.1.failed
 
 -- src/header.rt:33:1
 returns : tie.Need-returns
 returns c =
-    same_tallies (c.before.before.before.before.before.before.index.ensures ∙ c.before.before.before.before.before.before.before.word_at.ensures) (rw c.before.before.before.before.before.active.ensures at c.before.before.before.before.number.ensures) (rw c.before.before.before.waiting.ensures at c.before.before.number-2.ensures) (rw c.before.failed.ensures at c.number-3.ensures)
+    same_tallies (c.index.ensures ∙ c.word_at.ensures) (rw c.active.ensures at c.number.ensures) (rw c.waiting.ensures at c.number-2.ensures) (rw c.failed.ensures at c.number-3.ensures)
 
 pub tally_spec : {M : Type 1} → statement M
 tally_spec =

@@ -7,15 +7,6 @@ use Rattle.report_tallies.proofs.Origins.{origin_size, puts_origin}
 use borrow.Author.Rules.{rules}
 use Rattle.report_tallies.proofs.origin.origin.Statement.{statement}
 use Rattle.report_tallies.proofs.origin.origin.Tie as tie
-use Rattle.report_tallies.proofs.origin.origin.Reads as reads
-use Rattle.report_tallies.proofs.origin.origin.Lts as lts
-use Rattle.report_tallies.proofs.header.count.Reads as count_reads
-use Rattle.term.proofs.goal.clause_of.Reads as clause_of_reads
-use Rattle.term.proofs.goal.tries_of.Reads as tries_of_reads
-
--- src/origin.rt:23:32
-slice-aggregate-count : tie.Need-slice-aggregate-count
-slice-aggregate-count c = search rules
 
 -- src/origin.rt:23:43
 clause_of-requires : tie.Need-clause_of-requires
@@ -24,12 +15,8 @@ clause_of-requires c κs = search rules
 -- src/origin.rt:23:9
 count-to-requires : tie.Need-count-to-requires
 count-to-requires c κs =
-    let S = c.before.before.before.before.before in
+    let S = c in
     omega (arith, origin_size S.args.goal c.clause_of.result (tries_in S.args.goal) c.clause_of.ensures refl, S.requires)
-
--- src/origin.rt:24:23
-slice-aggregate-count-2 : tie.Need-slice-aggregate-count-2
-slice-aggregate-count-2 c = search rules
 
 -- src/origin.rt:24:32
 tries_of-requires : tie.Need-tries_of-requires
@@ -38,10 +25,10 @@ tries_of-requires c κs = search rules
 -- src/origin.rt:24:5
 count-requires : tie.Need-count-requires
 count-requires c κs =
-    let S = c.before.before.before.before.before.before.before.before.before.before.before.before in
-    let clause = c.before.before.before.before.before.before.clause_of in
-    let first = c.before.before.before.before.before.count in
-    omega (arith, origin_size S.args.goal clause.result c.tries_of.result clause.ensures c.tries_of.ensures, S.requires, first.auto.0, first.ensures.place)
+    let S = c in
+    let clause = c.clause_of in
+    let first = c.count-to in
+    omega (arith, origin_size S.args.goal clause.result c.tries_of.result clause.ensures c.tries_of.ensures, S.requires, first.auto.buffer, first.ensures.place)
 
 -- src/origin.rt:19:1
 shape_of-buffer : tie.Need-shape_of-buffer
@@ -51,10 +38,10 @@ shape_of-buffer c = search rules
 returns : tie.Need-returns
 unfolding bytes
 returns c =
-    let S = c.before.before.before.before.before.before.before.before.before.before.before.before.before.before.before in
-    let clause = c.before.before.before.before.before.before.before.before.before.clause_of in
-    let tries = c.before.before.before.tries_of in
-    puts_origin S.args.goal clause.result tries.result clause.ensures tries.ensures _ _ _ _ _ _ c.before.before.before.before.before.before.before.before.count.ensures c.before.before.count.ensures
+    let S = c in
+    let clause = c.clause_of in
+    let tries = c.tries_of in
+    puts_origin S.args.goal clause.result tries.result clause.ensures tries.ensures _ _ _ _ _ _ c.count-to.ensures c.count.ensures
 
 pub origin_spec : {M : Type 1} → statement M
 origin_spec =

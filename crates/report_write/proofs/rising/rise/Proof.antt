@@ -1,6 +1,6 @@
 -- `report_write::rising::rise` meets its contract: each byte that is put ends a compound, or stands before the next argument.
-use Prim.Native.Nat.{ℕ, ◌+◌}
-use mathlib.Core.Path.{◌≡◌, ◌∙◌}
+use Prim.Native.Nat.{ℕ}
+use mathlib.Core.Path.{◌∙◌}
 use mathlib.Core.List.{List}
 use native.Mathlib.Omega.{arith}
 use Rattle.meaning.specs.Bytes.{Bytes}
@@ -11,10 +11,6 @@ use Rattle.report_put.proofs.Putting.{puts_length}
 use Rattle.report_write.proofs.Upward.{Rising, rising_first, rising_room, rising_goes, rising_ends, rising_on}
 use Rattle.report_write.proofs.rising.rise.Statement.{statement}
 use Rattle.report_write.proofs.rising.rise.Tie as tie
-use Rattle.report_write.proofs.rising.rise.Reads as reads
-use Rattle.report_write.proofs.rising.rise.Lts as lts
-use Rattle.report_pairs.proofs.cells.behind.Reads as behind_reads
-use Rattle.report_put.proofs.put.put.Reads as put_reads
 
 abbrev invariant-loop-b : tie.invariant-loop-b
 invariant-loop-b s facts buffer₀ frames at place number deep to₀ p₀ i₀ depth₀ buffer to p i depth =
@@ -38,7 +34,7 @@ behind-requires c κs =
     (pre.0, pre.1, B.f, B.j, B.u, B.us, pre.4, B.position)
 
 enum_known-b : tie.Need-enum_known-b invariant-loop-b decreases-loop-b
-enum_known-b c = c.in-Goes.in-Goes-own.keys1
+enum_known-b c = c.in-Goes-1.keys1
 
 put-to-requires : tie.Need-put-to-requires invariant-loop-b decreases-loop-b
 put-to-requires c κs =
@@ -67,7 +63,7 @@ returns-in-Goes c text x order bs r B₀ =
     rising_goes S.args.frames.now S.args.s.now x S.args.facts order S.args.buffer.now at.buffer S.args.at at.to at.p at.i at.depth S.args.deep bs R _ _ _ c.before.before.put-to.ensures _ _ F
 
 enum_known-b-in-Ends-1 : tie.Need-enum_known-b-in-Ends-1 invariant-loop-b decreases-loop-b
-enum_known-b-in-Ends-1 c = c.in-Ends.in-Ends-own.keys2
+enum_known-b-in-Ends-1 c = c.in-Ends-1.keys2
 
 put-to-requires-in-Ends : tie.Need-put-to-requires-in-Ends invariant-loop-b decreases-loop-b
 put-to-requires-in-Ends c κs =
@@ -108,23 +104,22 @@ offset_bounds-frames-depth c =
 
 bounds-frames-depth : tie.Need-bounds-frames-depth invariant-loop-b decreases-loop-b
 bounds-frames-depth c =
-    let S = c.before.before.before.before.before.before.before.before.before.before.before in let pre = S.requires in
-    let at = c.before.before.before.before.before.before.before.loop in
+    let pre = c.requires in
+    let at = c.loop-b in
     let R = at.invariant pre.0 pre.1 pre.2 pre.3 pre.4 pre.5 in
-    let B = R.behind in
-    omega (arith, R.low, pre.7, c.if1.false)
+    omega (arith, R.low, pre.7, c.if-depth-eq0.false)
 
 loop-b-smaller : tie.Need-loop-b-smaller invariant-loop-b decreases-loop-b
-loop-b-smaller c = omega (arith, c.before.if1.false)
+loop-b-smaller c = omega (arith, c.if-depth-eq0.false)
 
 loop-b-preserved : tie.Need-loop-b-preserved invariant-loop-b decreases-loop-b
 loop-b-preserved c text x order bs r B₀ =
-    let S = c.before.before.before.before.before.before.before.before.before.before.before.before in let pre = S.requires in
-    let at = c.before.before.before.before.before.before.before.before.loop in
+    let S = c.args in
+    let at = c.loop-b in
     let R = at.invariant text x order bs r B₀ in
     let B = R.behind in
-    let F = rw c.before.before.before.before.before.before.before.b2.given.1 at (c.before.before.before.before.before.before.before.behind.ensures text x B.f B.j B.u B.us r B.position) in
-    rising_on S.args.frames.now S.args.s.now x S.args.facts order S.args.buffer.now at.buffer S.args.at at.to at.p at.i at.depth S.args.deep bs R _ _ _ c.before.before.before.before.put2.ensures F c.before.if1.false
+    let F = c.in-Ends.ensures text x B.f B.j B.u B.us r B.position in
+    rising_on S.frames.now S.s.now x S.facts order S.buffer.now at.buffer S.at at.to at.p at.i at.depth S.deep bs R _ _ _ c.put-to-in-Ends.ensures F c.if-depth-eq0.false
 
 pub rise_spec : {M : Type 1} → statement M
 rise_spec =
