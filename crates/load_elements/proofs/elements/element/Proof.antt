@@ -22,7 +22,7 @@ next_is-requires c κs =
     let back1 = c.before.before.before.before.before.before.before in
     let the_term = back1.term in
     let entry = back1.before.before.before.before.before.before.before.before.before in
-    let p = entry.requires.stands in
+    let p = entry.requires.1 in
     let b = rw the_w.is at (the_term.ensures p.0 p.1 p.2) in
     b.2.stands.inside
 
@@ -40,8 +40,8 @@ right_side-requires c κs =
     let the_term = back3.term in
     let entry = back3.before.before.before.before.before.before.before.before.before in
     let a = entry.args in
-    let r = entry.requires.base_in_bounds in
-    let p = entry.requires.stands in
+    let r = entry.requires.0 in
+    let p = entry.requires.1 in
     let b = rw the_w.is at (the_term.ensures p.0 p.1 p.2) in
     let sign = rw the_behind.is at the_next_is.ensures in
     let l : length the_term.new.s ≡ length a.s.now = the_term.auto.s in (
@@ -65,8 +65,8 @@ stands_alone-requires c κs =
     let the_term = back2.term in
     let entry = back2.before.before.before.before.before.before.before.before.before in
     let a = entry.args in
-    let r = entry.requires.base_in_bounds in
-    let p = entry.requires.stands in
+    let r = entry.requires.0 in
+    let p = entry.requires.1 in
     let b = rw the_w.is at (the_term.ensures p.0 p.1 p.2) in
     let l : length the_term.new.s ≡ length a.s.now = the_term.auto.s in (
       names_over b.1 p.0,
@@ -98,7 +98,7 @@ returns-then-stands_alone c =
     let the_term = back3.term in
     let entry = back3.before.before.before.before.before.before.before.before.before in
     let a = entry.args in
-    let r = entry.requires.base_in_bounds in
+    let r = entry.requires.0 in
     let l : length the_term.new.s ≡ length a.s.now = the_term.auto.s in
     let stops = rw the_a.is at the_next_is.ensures in
     λ known vars st.
@@ -167,7 +167,7 @@ returns-else-stands_alone c =
     let the_term = back3.term in
     let entry = back3.before.before.before.before.before.before.before.before.before in
     let a = entry.args in
-    let r = entry.requires.base_in_bounds in
+    let r = entry.requires.0 in
     let l : length the_term.new.s ≡ length a.s.now = the_term.auto.s in
     let stops = rw the_a.is at the_next_is.ensures in
     λ known vars st.

@@ -52,11 +52,11 @@ element-requires c κs =
     let back1 = c.before.before.before.before in
     let the_loop = back1.loop-i in
     let entry = back1.before.before.before.before.before.before.before in
-    let p = entry.requires.stands in
+    let p = entry.requires.1 in
     let known = p.0 in
     let vars = p.1 in
     let t = the_loop.invariant.0 p.0 p.1 p.2 in
-    let r = entry.requires.base_in_bounds in
+    let r = entry.requires.0 in
     ((omega (arith, the_loop.invariant.2, r.0), omega (arith, the_loop.invariant.2, r.1)), (t.1, t.2, t.5.had.stands))
 
 enum_known-w : tie.Need-enum_known-w invariant-loop-i decreases-loop-i
@@ -71,7 +71,7 @@ bounds-words-i c =
     let the_loop_test = back1.loop-i-test in
     let the_loop = back1.before.loop-i in
     let entry = back1.before.before.before.before.before.before.before.before in
-    let r = entry.requires.base_in_bounds in
+    let r = entry.requires.0 in
     let room : the_loop.i < length the_loop.words = omega (arith, the_loop.invariant.5, r.2, the_loop_test.true) in
     search rules
 
@@ -86,7 +86,7 @@ next_of-requires c κs =
     let back2 = back1.before.before.before.before.before in
     let the_loop = back2.loop-i in
     let entry = back2.before.before.before.before.before.before.before in
-    let p = entry.requires.stands in
+    let p = entry.requires.1 in
     let known = p.0 in
     let vars = p.1 in
     let t = the_loop.invariant.0 p.0 p.1 p.2 in
@@ -112,7 +112,7 @@ loop-i-preserved c =
     let the_loop = back3.before.loop-i in
     let entry = back3.before.before.before.before.before.before.before.before in
     let a = entry.args in
-    let long : 8 ≤ length the_loop.words = omega (arith, the_loop.invariant.5, entry.requires.base_in_bounds.2) in (
+    let long : 8 ≤ length the_loop.words = omega (arith, the_loop.invariant.5, entry.requires.0.2) in (
       λ known vars st.
           let t = the_loop.invariant.0 known vars st in
           let gave = rw the_w.is at (the_element.ensures t.1 t.2 t.5.had.stands) in
@@ -172,7 +172,7 @@ returns-in-Second c =
     let the_loop = back3.before.loop-i in
     let entry = back3.before.before.before.before.before.before.before.before in
     let a = entry.args in
-    let long : 8 ≤ length the_loop.words = omega (arith, the_loop.invariant.5, entry.requires.base_in_bounds.2) in
+    let long : 8 ≤ length the_loop.words = omega (arith, the_loop.invariant.5, entry.requires.0.2) in
     λ known vars st.
     let t = the_loop.invariant.0 known vars st in
     let gave = rw the_w.is at (the_element.ensures t.1 t.2 t.5.had.stands) in
@@ -233,7 +233,7 @@ returns-in-Third c =
     let the_loop = back3.before.loop-i in
     let entry = back3.before.before.before.before.before.before.before.before in
     let a = entry.args in
-    let long : 8 ≤ length the_loop.words = omega (arith, the_loop.invariant.5, entry.requires.base_in_bounds.2) in
+    let long : 8 ≤ length the_loop.words = omega (arith, the_loop.invariant.5, entry.requires.0.2) in
     λ known vars st.
     let t = the_loop.invariant.0 known vars st in
     let gave = rw the_w.is at (the_element.ensures t.1 t.2 t.5.had.stands) in
@@ -288,7 +288,7 @@ returns-in-Other c =
     let the_loop = back3.before.loop-i in
     let entry = back3.before.before.before.before.before.before.before.before in
     let a = entry.args in
-    let long : 8 ≤ length the_loop.words = omega (arith, the_loop.invariant.5, entry.requires.base_in_bounds.2) in
+    let long : 8 ≤ length the_loop.words = omega (arith, the_loop.invariant.5, entry.requires.0.2) in
     λ known vars st.
     let t = the_loop.invariant.0 known vars st in
     let gave = rw the_w.is at (the_element.ensures t.1 t.2 t.5.had.stands) in
@@ -395,7 +395,7 @@ ninth-requires : tie.Need-ninth-requires invariant-loop-i decreases-loop-i
 ninth-requires c κs =
     let the_loop = c.before.loop-i in
     let entry = c.before.before.before.before.before.before.before.before in
-    let p = entry.requires.stands in
+    let p = entry.requires.1 in
     let known = p.0 in
     let vars = p.1 in
     let t = the_loop.invariant.0 p.0 p.1 p.2 in

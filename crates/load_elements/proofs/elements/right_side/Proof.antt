@@ -21,8 +21,8 @@ term-requires c κs =
     let back1 = c.before.before.before in
     let the_if1 = back1.if-n-ge-ITEM_COMPOUNDS in
     let entry = back1.before.before.before.before.before.before in
-    let r = entry.requires.base_in_bounds in
-    let p = entry.requires.stands in
+    let r = entry.requires.0 in
+    let p = entry.requires.1 in
     ((omega arith, r.0, r.1), (p.0, p.1, stands_counted p.2 the_if1.false))
 
 enum_known-right : tie.Need-enum_known-right

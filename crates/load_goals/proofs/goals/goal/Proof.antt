@@ -20,9 +20,9 @@ enum_known-n c = search rules
 compound-requires : tie.Need-compound-requires
 compound-requires c κs =
     let a = c.before.before.before.before.before.before.before.before.before.before.before.before.before.args in
-    let st = c.before.before.before.before.before.before.before.before.before.before.before.before.before.requires.stands in
+    let st = c.before.before.before.before.before.before.before.before.before.before.before.before.before.requires.1 in
     let o = rw c.before.before.before.in-Named.is at (c.before.before.before.before.before.before.goal_name.ensures st.0 st.1 a.item.now st.2) in
-    ((omega arith, c.before.before.before.before.before.before.before.before.before.before.before.before.before.requires.base_in_bounds.0, c.before.before.before.before.before.before.before.before.before.before.before.before.before.requires.base_in_bounds.1), (with_place o.1 o.0 st.0, st.1, o.3.stands, o.0, o.3.number_is))
+    ((omega arith, c.before.before.before.before.before.before.before.before.before.before.before.before.before.requires.0.0, c.before.before.before.before.before.before.before.before.before.before.before.before.before.requires.0.1), (with_place o.1 o.0 st.0, st.1, o.3.stands, o.0, o.3.number_is))
 
 enum_known-a : tie.Need-enum_known-a
 enum_known-a c = search rules

@@ -39,7 +39,7 @@ goal-requires : tie.Need-goal-requires invariant-loop-i decreases-loop-i
 goal-requires c κs =
     let a = c.before.before.before.before.before.before.before.before.before.before.args in
     let l = c.before.before.before.before.loop-i in
-    let p = c.before.before.before.before.before.before.before.before.before.before.requires.stands in
+    let p = c.before.before.before.before.before.before.before.before.before.before.requires.1 in
     let t = l.invariant.0 p.0 p.1 p.2 in
     ((omega arith, omega arith), (names_over t.1 p.0, variables_over a.from t.1 p.1, t.3.stands))
 
@@ -62,7 +62,7 @@ next_of-requires : tie.Need-next_of-requires invariant-loop-i decreases-loop-i
 next_of-requires c κs =
     let a = c.before.before.before.before.before.before.before.before.before.before.before.before.before.before.before.before.before.before.args in
     let l = c.before.before.before.before.before.before.before.before.before.before.before.before.loop-i in
-    let p = c.before.before.before.before.before.before.before.before.before.before.before.before.before.before.before.before.before.before.requires.stands in
+    let p = c.before.before.before.before.before.before.before.before.before.before.before.before.before.before.before.before.before.before.requires.1 in
     let t = l.invariant.0 p.0 p.1 p.2 in
     let known = p.0 in
     let vars = p.1 in
@@ -84,7 +84,7 @@ loop-i-preserved c =
           let gave = rw c.before.before.in-Got.is at (c.before.before.before.before.before.before.before.before.before.goal.ensures (names_over t.1 known) (variables_over a.from t.1 vars) t.3.stands) in
           let room : length t.0 < 8 = omega (arith, t.2, c.before.before.before.before.before.before.before.before.before.before.before.before.before.loop-i-test.true) in
           let next = rw c.in-First.is at c.before.next_of.ensures in
-          let new = partly_comma a.text.now a.rest.now a.from a.base a.place known vars a.c a.s.now a.item.now l.s l.names l.item l.d t.0 t.1 t.3 room c.before.before.before.before.before.before.before.before.before.goal.new.s c.before.before.before.before.before.before.before.before.before.goal.new.names c.before.before.before.before.before.before.before.before.before.goal.new.item c.before.before.in-Got.w c.before.before.in-Got.e gave.0 gave.1 gave.2 c.before.before.before.before.before.before.before.before.before.before.before.before.before.before.before.before.before.before.before.before.requires.item_compounds_bound.0 c.before.before.before.before.before.before.before.before.before.before.before.before.before.before.before.before.before.before.before.before.requires.item_compounds_bound.1 c.in-First.behind next in
+          let new = partly_comma a.text.now a.rest.now a.from a.base a.place known vars a.c a.s.now a.item.now l.s l.names l.item l.d t.0 t.1 t.3 room c.before.before.before.before.before.before.before.before.before.goal.new.s c.before.before.before.before.before.before.before.before.before.goal.new.names c.before.before.before.before.before.before.before.before.before.goal.new.item c.before.before.in-Got.w c.before.before.in-Got.e gave.0 gave.1 gave.2 c.before.before.before.before.before.before.before.before.before.before.before.before.before.before.before.before.before.before.before.before.requires.0.0 c.before.before.before.before.before.before.before.before.before.before.before.before.before.before.before.before.before.before.before.before.requires.0.1 c.in-First.behind next in
           (_, _, length_snoc t.0 gave.0 ∙ ap (λ n. n + 1) t.2, rw t.2 at new)),
       omega arith,
       simp length-set (c.before.before.before.before.before.before.before.before.before.goal.auto.s ∙ l.invariant.2),
@@ -117,7 +117,7 @@ returns-in-Second c =
     let room : length t.0 < 8 = omega (arith, t.2, c.before.before.before.before.before.before.before.before.before.before.before.before.before.before.loop-i-test.true) in
     let next = rw c.before.in-Second.is at c.before.before.next_of.ensures in
     let count : c.word.result ≡ length t.0 + 1 = omega (arith, t.2, c.word.ensures) in
-    let new = partly_stop a.text.now a.rest.now a.from a.base a.place known vars a.c a.s.now a.item.now l.s l.names l.item l.d t.0 t.1 t.3 room c.before.before.before.before.before.before.before.before.before.before.goal.new.s c.before.before.before.before.before.before.before.before.before.before.goal.new.names c.before.before.before.before.before.before.before.before.before.before.goal.new.item c.before.before.before.in-Got.w c.before.before.before.in-Got.e gave.0 gave.1 gave.2 c.before.before.before.before.before.before.before.before.before.before.before.before.before.before.before.before.before.before.before.before.before.requires.item_compounds_bound.0 c.before.before.before.before.before.before.before.before.before.before.before.before.before.before.before.before.before.before.before.before.before.requires.item_compounds_bound.1 c.before.in-Second.behind c.word.result count next.1 in
+    let new = partly_stop a.text.now a.rest.now a.from a.base a.place known vars a.c a.s.now a.item.now l.s l.names l.item l.d t.0 t.1 t.3 room c.before.before.before.before.before.before.before.before.before.before.goal.new.s c.before.before.before.before.before.before.before.before.before.before.goal.new.names c.before.before.before.before.before.before.before.before.before.before.goal.new.item c.before.before.before.in-Got.w c.before.before.before.in-Got.e gave.0 gave.1 gave.2 c.before.before.before.before.before.before.before.before.before.before.before.before.before.before.before.before.before.before.before.before.before.requires.0.0 c.before.before.before.before.before.before.before.before.before.before.before.before.before.before.before.before.before.before.before.before.before.requires.0.1 c.before.in-Second.behind c.word.result count next.1 in
     (_, _, _, rw t.2 at new)
 
 enum_known-a : tie.Need-enum_known-a invariant-loop-i decreases-loop-i
@@ -158,7 +158,7 @@ returns-in-Other c =
     let gave = rw c.before.before.in-Got.is at (c.before.before.before.before.before.before.before.before.before.goal.ensures (names_over t.1 known) (variables_over a.from t.1 vars) t.3.stands) in
     let room : length t.0 < 8 = omega (arith, t.2, c.before.before.before.before.before.before.before.before.before.before.before.before.before.loop-i-test.true) in
     let stops = rw c.in-Other.is at c.before.next_of.ensures in
-    (partly_other a.text.now a.rest.now a.from a.base a.place known vars a.c a.s.now a.item.now l.s l.names l.item l.d t.0 t.1 t.3 room c.before.before.before.before.before.before.before.before.before.goal.new.s c.before.before.before.before.before.before.before.before.before.goal.new.names c.before.before.before.before.before.before.before.before.before.goal.new.item c.before.before.in-Got.w c.before.before.in-Got.e gave.0 gave.1 gave.2 c.before.before.before.before.before.before.before.before.before.before.before.before.before.before.before.before.before.before.before.before.requires.item_compounds_bound.0 c.before.before.before.before.before.before.before.before.before.before.before.before.before.before.before.before.before.before.before.before.requires.item_compounds_bound.1 (a.from + c.in-Other.a) (stops.1 a.from), stops.0, rw t.2 at (grown_only a.text.now a.rest.now a.from a.base a.place known vars a.c a.s.now a.item.now l.s l.names l.item l.d t.0 t.1 t.3 room c.before.before.before.before.before.before.before.before.before.goal.new.s c.before.before.before.before.before.before.before.before.before.goal.new.names c.before.before.before.before.before.before.before.before.before.goal.new.item c.before.before.in-Got.w c.before.before.in-Got.e gave.0 gave.1 gave.2 c.before.before.before.before.before.before.before.before.before.before.before.before.before.before.before.before.before.before.before.before.requires.item_compounds_bound.0 c.before.before.before.before.before.before.before.before.before.before.before.before.before.before.before.before.before.before.before.before.requires.item_compounds_bound.1))
+    (partly_other a.text.now a.rest.now a.from a.base a.place known vars a.c a.s.now a.item.now l.s l.names l.item l.d t.0 t.1 t.3 room c.before.before.before.before.before.before.before.before.before.goal.new.s c.before.before.before.before.before.before.before.before.before.goal.new.names c.before.before.before.before.before.before.before.before.before.goal.new.item c.before.before.in-Got.w c.before.before.in-Got.e gave.0 gave.1 gave.2 c.before.before.before.before.before.before.before.before.before.before.before.before.before.before.before.before.before.before.before.before.requires.0.0 c.before.before.before.before.before.before.before.before.before.before.before.before.before.before.before.before.before.before.before.before.requires.0.1 (a.from + c.in-Other.a) (stops.1 a.from), stops.0, rw t.2 at (grown_only a.text.now a.rest.now a.from a.base a.place known vars a.c a.s.now a.item.now l.s l.names l.item l.d t.0 t.1 t.3 room c.before.before.before.before.before.before.before.before.before.goal.new.s c.before.before.before.before.before.before.before.before.before.goal.new.names c.before.before.before.before.before.before.before.before.before.goal.new.item c.before.before.in-Got.w c.before.before.in-Got.e gave.0 gave.1 gave.2 c.before.before.before.before.before.before.before.before.before.before.before.before.before.before.before.before.before.before.before.before.requires.0.0 c.before.before.before.before.before.before.before.before.before.before.before.before.before.before.before.before.before.before.before.before.requires.0.1))
 
 enum_known-a-in-Malformed-1 : tie.Need-enum_known-a-in-Malformed-1 invariant-loop-i decreases-loop-i
 enum_known-a-in-Malformed-1 c = search rules
@@ -180,7 +180,7 @@ returns-in-Malformed c =
     let t = l.invariant.0 known vars st in
     let room : length t.0 < 8 = omega (arith, t.2, c.before.before.before.before.before.before.before.before.before.before.before.loop-i-test.true) in
     let bad = rw c.in-Malformed.is at (c.before.before.before.before.before.before.before.goal.ensures (names_over t.1 known) (variables_over a.from t.1 vars) t.3.stands) in
-    (partly_malformed a.text.now a.rest.now a.from a.base a.place known vars a.c a.s.now a.item.now l.s l.names l.item l.d t.0 t.1 t.3 room (a.from + c.in-Malformed.a) bad.0, bad.1, only_then 0 trial_region a.s.now l.s c.before.before.before.before.before.before.before.goal.new.s t.3.only (only_wider (item_start a.base) (item_end a.base) 0 trial_region l.s c.before.before.before.before.before.before.before.goal.new.s (omega arith) (omega (arith, c.before.before.before.before.before.before.before.before.before.before.before.before.before.before.before.before.before.before.requires.item_compounds_bound.0)) bad.2))
+    (partly_malformed a.text.now a.rest.now a.from a.base a.place known vars a.c a.s.now a.item.now l.s l.names l.item l.d t.0 t.1 t.3 room (a.from + c.in-Malformed.a) bad.0, bad.1, only_then 0 trial_region a.s.now l.s c.before.before.before.before.before.before.before.goal.new.s t.3.only (only_wider (item_start a.base) (item_end a.base) 0 trial_region l.s c.before.before.before.before.before.before.before.goal.new.s (omega arith) (omega (arith, c.before.before.before.before.before.before.before.before.before.before.before.before.before.before.before.before.before.before.requires.0.0)) bad.2))
 
 enum_told-1 : tie.Need-enum_told-1 invariant-loop-i decreases-loop-i
 enum_told-1 c = search rules
@@ -202,13 +202,13 @@ returns-in-Exceeded c =
     let t = l.invariant.0 known vars st in
     let room : length t.0 < 8 = omega (arith, t.2, c.before.before.before.before.before.before.before.before.before.before.before.loop-i-test.true) in
     let bad = rw c.in-Exceeded.is at (c.before.before.before.before.before.before.before.goal.ensures (names_over t.1 known) (variables_over a.from t.1 vars) t.3.stands) in
-    (partly_passed a.text.now a.rest.now a.from a.base a.place known vars a.c a.s.now a.item.now l.s l.names l.item l.d t.0 t.1 t.3 room bad.0, only_then 0 trial_region a.s.now l.s c.before.before.before.before.before.before.before.goal.new.s t.3.only (only_wider (item_start a.base) (item_end a.base) 0 trial_region l.s c.before.before.before.before.before.before.before.goal.new.s (omega arith) (omega (arith, c.before.before.before.before.before.before.before.before.before.before.before.before.before.before.before.before.before.before.requires.item_compounds_bound.0)) bad.1))
+    (partly_passed a.text.now a.rest.now a.from a.base a.place known vars a.c a.s.now a.item.now l.s l.names l.item l.d t.0 t.1 t.3 room bad.0, only_then 0 trial_region a.s.now l.s c.before.before.before.before.before.before.before.goal.new.s t.3.only (only_wider (item_start a.base) (item_end a.base) 0 trial_region l.s c.before.before.before.before.before.before.before.goal.new.s (omega arith) (omega (arith, c.before.before.before.before.before.before.before.before.before.before.before.before.before.before.before.before.before.before.requires.0.0)) bad.1))
 
 ninth-requires : tie.Need-ninth-requires invariant-loop-i decreases-loop-i
 ninth-requires c κs =
     let a = c.before.before.before.before.before.before.before.args in
     let l = c.before.loop-i in
-    let p = c.before.before.before.before.before.before.before.requires.stands in
+    let p = c.before.before.before.before.before.before.before.requires.1 in
     let t = l.invariant.0 p.0 p.1 p.2 in
     t.3.stands.inside
 

@@ -22,10 +22,10 @@ decreases-loop-next text rest table h a e next₀ next = next
 
 -- The hash is below 256, and the table has all its words.
 hashed : (c : tie.Start invariant-loop-next decreases-loop-next) → c.args.h < 256
-hashed c = rw c.requires.a_le_e.2 (hash_fits _)
+hashed c = rw c.requires.0.2 (hash_fits _)
 
 whole : (c : tie.Start invariant-loop-next decreases-loop-next) → length c.args.table.now ≡ 1024
-whole c = c.requires.names_in.1.size
+whole c = c.requires.1.1.size
 
 overflow_add-h : tie.Need-overflow_add-h invariant-loop-next decreases-loop-next
 overflow_add-h c = omega (arith, hashed c.before.before.before)
@@ -43,7 +43,7 @@ loop-next-init : tie.Need-loop-next-init invariant-loop-next decreases-loop-next
 loop-next-init c places kept =
     let start = c.before.before.before.before.before in
     let a = start.args in
-    rw (c.index-next.ensures, kept.heads a.h (hashed start), start.requires.a_le_e.2) (walk_begin (slice a.a a.e a.rest.now) places)
+    rw (c.index-next.ensures, kept.heads a.h (hashed start), start.requires.0.2) (walk_begin (slice a.a a.e a.rest.now) places)
 
 overflow_sub-n : tie.Need-overflow_sub-n invariant-loop-next decreases-loop-next
 overflow_sub-n c = omega arith
@@ -69,14 +69,14 @@ module _ (c : tie.In-loop-next invariant-loop-next decreases-loop-next) where
   inside places kept = omega (arith, counts, (c.before.loop-next.invariant places kept).below)
 
   few : here < 256
-  few = omega (arith, inside start.pre.1.0 start.pre.1.1, start.pre.1.1.few)
+  few = omega (arith, inside start.requires.1.0 start.requires.1.1, start.requires.1.1.few)
 
 spelled-requires : tie.Need-spelled-requires invariant-loop-next decreases-loop-next
 spelled-requires c κs =
     let s = start c in
-    let places = s.pre.1.0 in
-    let kept = s.pre.1.1 in
-    ((s.pre.0.0, s.pre.0.1), (_, name_stands s.args.text.now places s.args.table.now kept (here c) (inside c places kept)))
+    let places = s.requires.1.0 in
+    let kept = s.requires.1.1 in
+    ((s.requires.0.0, s.requires.0.1), (_, name_stands s.args.text.now places s.args.table.now kept (here c) (inside c places kept)))
 
 -- What the comparison says of that place.
 compared : (c : tie.After-spelled invariant-loop-next decreases-loop-next) (places : List Place) → Kept c.before places
@@ -109,8 +109,8 @@ loop-next-smaller : tie.Need-loop-next-smaller invariant-loop-next decreases-loo
 loop-next-smaller c =
     let turn = c.before.before.before.before in
     let s = start turn in
-    let places = s.pre.1.0 in
-    let kept = s.pre.1.1 in
+    let places = s.requires.1.0 in
+    let kept = s.requires.1.1 in
     let link = c.index-next-in-loop-next.ensures ∙ kept.chains (here turn) (inside turn places kept) in
     omega (arith, last_below (hash_of (get_or places (here turn) no_place).spelling) places (here turn), counts turn)
 

@@ -55,7 +55,7 @@ overflow_sub-e c = search rules
 add-requires : tie.Need-add-requires
 add-requires c κs =
     let start = c.before.before.before.before.before.before.before.before in
-    (c.before.if-count-ge256.false, rw c.before.before.before.before.hash-h.ensures (hash_fits _), start.requires.names_in.1.size)
+    (c.before.if-count-ge256.false, rw c.before.before.before.before.hash-h.ensures (hash_fits _), start.requires.1.1.size)
 
 overflow_add-result : tie.Need-overflow_add-result
 overflow_add-result c = search rules
@@ -73,9 +73,9 @@ returns c places kept counted =
     name_new a.text.now places a.table.now a.count (a.from + a.a) f kept counted hashed.result (a.e - a.a) c.before.before.add.new.table
     (sym (searched.ensures places kept) ∙ ap found c.before.before.before.before.before.in_default.is)
     c.before.before.before.before.if-count-ge256.false
-    (part_behind a.text.now a.rest.now a.from a.a a.e start.requires.from_in_bounds.0 start.requires.from_in_bounds.1 (omega arith) start.requires.from_in_bounds.3)
+    (part_behind a.text.now a.rest.now a.from a.a a.e start.requires.0.0 start.requires.0.1 (omega arith) start.requires.0.3)
     hashed.ensures
-    (sym (length-slice a.a a.e a.rest.now start.requires.from_in_bounds.3))
+    (sym (length-slice a.a a.e a.rest.now start.requires.0.3))
     c.before.before.add.ensures
 
 pub number_spec : {M : Type 1} → statement M

@@ -42,7 +42,7 @@ returns-then-size-e c f stands =
     let a = start.args in
     sym
     (stands_longer a.text.now a.rest.now a.table.now a.n a.a a.e f stands
-    start.requires.a_le_e.0 start.requires.a_le_e.1 sized.result sized.ensures c.if-size-e.true)
+    start.requires.0.0 start.requires.0.1 sized.result sized.ensures c.if-size-e.true)
 
 same-requires : tie.Need-same-requires
 same-requires c κs = search rules
@@ -54,7 +54,7 @@ returns c f stands =
     let start = c.before.before.before.before.before.before.before.before.before in
     let a = start.args in
     stands_spelled a.text.now a.rest.now a.table.now a.n a.a a.e f stands
-    start.requires.a_le_e.0 start.requires.a_le_e.1 sized.result sized.ensures started.result started.ensures c.before.if-size-e.false
+    start.requires.0.0 start.requires.0.1 sized.result sized.ensures started.result started.ensures c.before.if-size-e.false
     c.same.result c.same.ensures
 
 pub spelled_spec : {M : Type 1} → statement M

@@ -1,10 +1,11 @@
 -- `load_names::rules::pair_rules` meets its contract: each test that fails decides, and where none does the last one does.
 use mathlib.Core.Path.{sym, ◌∙◌}
-use mathlib.Core.Logic.{inl, inr, ⊎_elim}
+use mathlib.Core.Logic.{inl, inr}
 use borrow.Author.Rules.{rules}
 use Rattle.load_names.proofs.Pairs.{writer_in_head, reader_in_head, writer_twice, reader_twice, else_both}
 use Rattle.load_names.proofs.rules.pair_rules.Statement.{statement}
 use Rattle.load_names.proofs.rules.pair_rules.Tie as tie
+use Rattle.load_names.proofs.rules.pair_rules.Lts.{then-item-n-gt1-2+else-licensed-n-eq0, else-item-n-gt1-2}
 
 offset_bounds-heads-n : tie.Need-offset_bounds-heads-n
 offset_bounds-heads-n c = search rules
@@ -92,7 +93,10 @@ returns c =
     let a = join.before.before.before.before.before.before.before.before.before.before.before.args in
     c.both_or_none.ensures
     ∙ sym (else_both a.item.now a.heads.now a.licensed.now a.n join.before.before.before.before.before.before.if-heads-n-gt1.false
-    join.before.before.before.before.if-heads-n-gt1-2.false join.before.before.if-item-n-gt1.false (⊎_elim (λ w. inl w.2.left) (λ w. inr w.left) join.if-item-n-gt1-2.branch))
+    join.before.before.before.before.if-heads-n-gt1-2.false join.before.before.if-item-n-gt1.false (elim join.if-item-n-gt1-2.branch [
+      then-item-n-gt1-2+else-licensed-n-eq0 w ↦ inl w.if-licensed-n-eq0.false
+      | else-item-n-gt1-2 w ↦ inr w.if-item-n-gt1-2.false
+    ]))
 
 pub pair_rules_spec : {M : Type 1} → statement M
 pair_rules_spec =

@@ -31,8 +31,8 @@ spelled-requires : tie.Need-spelled-requires invariant-loop-n decreases-loop-n
 spelled-requires c κs =
     let start = c.before.before.before.before in
     let a = start.args in
-    let places = start.requires.variables_in.0 in
-    (start.requires.a_le_e, (_, variable_stands a.rest.now places a.table.now start.requires.variables_in.1 c.before.loop-n.n (omega arith)))
+    let places = start.requires.1.0 in
+    (start.requires.0, (_, variable_stands a.rest.now places a.table.now start.requires.1.1 c.before.loop-n.n (omega arith)))
 
 -- What the comparison says of the variable at which the search stands.
 compared : (c : tie.After-spelled invariant-loop-n decreases-loop-n) (places : List Place)

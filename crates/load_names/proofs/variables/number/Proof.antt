@@ -22,10 +22,10 @@ within : (c : tie.In-At) → c.before.before.before.before.args.half + c.in-At.n
 within c =
     let start = c.before.before.before.before in
     let a = start.args in
-    let places = start.requires.variables_in.0 in
-    let kept = start.requires.variables_in.1 in
-    let found_at = sym (c.before.find.ensures places kept start.requires.variables_in.2) ∙ ap found c.in-At.is in
-    omega (arith, has_place (slice a.a a.e a.rest.now) places c.in-At.n found_at, kept.few, start.requires.a_lt_e.3)
+    let places = start.requires.1.0 in
+    let kept = start.requires.1.1 in
+    let found_at = sym (c.before.find.ensures places kept start.requires.1.2) ∙ ap found c.in-At.is in
+    omega (arith, has_place (slice a.a a.e a.rest.now) places c.in-At.n found_at, kept.few, start.requires.0.3)
 
 overflow_add-half : tie.Need-overflow_add-half
 overflow_add-half c = omega (arith, within c.before)
@@ -34,7 +34,7 @@ occurs-requires : tie.Need-occurs-requires
 occurs-requires c κs =
     let start = c.before.before.before.before.before in
     let a = start.args in
-    half_read a.rest.now start.requires.variables_in.0 a.table.now start.requires.variables_in.1 (a.half + c.before.in-At.n) (omega arith) (within c.before)
+    half_read a.rest.now start.requires.1.0 a.table.now start.requires.1.1 (a.half + c.before.in-At.n) (omega arith) (within c.before)
 
 shape_of-table-in-At : tie.Need-shape_of-table-in-At
 shape_of-table-in-At c = search rules
@@ -46,7 +46,7 @@ returns-in-At c places kept counted =
     let searched = c.before.before.before.before.before.find in
     let n = c.before.before.before.before.in-At in
     variable_known a.rest.now places a.table.now a.count a.half a.a (slice a.a a.e a.rest.now) kept counted
-    start.requires.a_lt_e.2 start.requires.a_lt_e.3 n.n c.before.before.occurs.new.table
+    start.requires.0.2 start.requires.0.3 n.n c.before.before.occurs.new.table
     (sym (searched.ensures places kept counted) ∙ ap found n.is) c.before.before.occurs.ensures
 
 enum_told-1 : tie.Need-enum_told-1
@@ -61,7 +61,7 @@ returns-then-count-ge16 c places kept counted =
     let a = start.args in
     let searched = c.before.before.find in
     variable_passed a.rest.now places a.table.now a.count a.half a.a (slice a.a a.e a.rest.now) kept counted
-    start.requires.a_lt_e.2 start.requires.a_lt_e.3
+    start.requires.0.2 start.requires.0.3
     (sym (searched.ensures places kept counted) ∙ ap found c.before.in_default.is) c.if-count-ge16.true
 
 overflow_sub-e : tie.Need-overflow_sub-e
@@ -78,7 +78,7 @@ occurs-requires-2 c κs =
     let start = c.before.before.before.before.before.before.before.before.before.before in
     let a = start.args in
     rw c.before.before.before.add.ensures
-    (half_read_more a.rest.now start.requires.variables_in.0 a.table.now start.requires.variables_in.1 (a.half + a.count) (omega arith) (omega arith)
+    (half_read_more a.rest.now start.requires.1.0 a.table.now start.requires.1.1 (a.half + a.count) (omega arith) (omega arith)
     a.count a.a (a.e - a.a) c.before.before.before.before.before.if-count-ge16.false)
 
 overflow_add-result : tie.Need-overflow_add-result
@@ -93,11 +93,11 @@ returns c places kept counted =
     let a = start.args in
     let tested = c.before.before.before.before.before.before.before.before in
     variable_new a.rest.now places a.table.now a.count a.half a.a (slice a.a a.e a.rest.now) kept counted
-    start.requires.a_lt_e.2 start.requires.a_lt_e.3 (a.e - a.a) c.before.before.occurs-2.new.table
+    start.requires.0.2 start.requires.0.3 (a.e - a.a) c.before.before.occurs-2.new.table
     (sym (tested.before.before.find.ensures places kept counted) ∙ ap found tested.before.in_default.is)
     tested.if-count-ge16.false
-    (part_here a.rest.now a.a a.e (omega arith) start.requires.a_lt_e.1)
-    (sym (length-slice a.a a.e a.rest.now start.requires.a_lt_e.1))
+    (part_here a.rest.now a.a a.e (omega arith) start.requires.0.1)
+    (sym (length-slice a.a a.e a.rest.now start.requires.0.1))
     (rw c.before.before.before.before.before.before.add.ensures at c.before.before.occurs-2.ensures)
 
 pub number_spec : {M : Type 1} → statement M

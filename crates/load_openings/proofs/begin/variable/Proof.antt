@@ -26,13 +26,13 @@ word-requires c κs = search rules
 
 overflow_mul-result : tie.Need-overflow_mul-result
 overflow_mul-result c =
-    let p = c.before.before.before.before.before.before.before.before.before.requires.variables_in in
+    let p = c.before.before.before.before.before.before.before.before.before.requires.1 in
     let v = rw c.before.in-Number.is at (c.before.before.before.before.number.ensures p.0 p.1 p.2) in
     omega (arith, c.word.ensures, v.1, v.2, v.0.few)
 
 overflow_add-result : tie.Need-overflow_add-result
 overflow_add-result c =
-    let p = c.before.before.before.before.before.before.before.before.before.requires.variables_in in
+    let p = c.before.before.before.before.before.before.before.before.before.requires.1 in
     let v = rw c.before.in-Number.is at (c.before.before.before.before.number.ensures p.0 p.1 p.2) in
     omega (arith, c.word.ensures, v.1, v.2, v.0.few)
 

@@ -2,7 +2,6 @@
 use Prim.Native.Nat.{ℕ, ◌+◌, ◌-◌, ◌≤◌, ◌<◌}
 use mathlib.Core.Path.{◌≡◌, refl, ap, ◌∙◌}
 use mathlib.Core.Bool.{Bool}
-use mathlib.Core.Logic.{⊎_elim}
 use lib.Dec.{eqb}
 use lib.ListN.{length, get_or, take}
 use borrow.Author.Tests.{eq-eqb, ne_eqb}
@@ -13,6 +12,7 @@ use native.Mathlib.Omega.{arith}
 use borrow.Author.Rules.{rules}
 use Rattle.load_tokens.proofs.lines.line.Statement.{statement}
 use Rattle.load_tokens.proofs.lines.line.Tie as tie
+use Rattle.load_tokens.proofs.lines.line.Lts.{then-text-i-eq10, else-text-i-eq10}
 
 feeds : ℕ → Bool
 feeds c = eqb c 10
@@ -44,13 +44,13 @@ loop-i-smaller c = search rules
 loop-i-preserved : tie.Need-loop-i-preserved invariant-loop-i decreases-loop-i
 unfolding feeds
 loop-i-preserved c =
-    let text = c.before.before.before.before.before.before.args.text.now in
-    let i = c.before.before.before.loop-i.i in
+    let text = c.args.text.now in
+    let i = c.loop-i.i in
     let inside : i < length text = omega arith in
-    ⊎_elim
-    (λ w. (omega (arith, those_passes feeds text i inside (eq-eqb (get_or text i 0) 10 w.0.taken)), omega arith, omega arith))
-    (λ w. (omega (arith, those_fails feeds text i inside (ne_eqb (get_or text i 0) 10 w.0.left)), omega arith, omega arith))
-    c.if-text-i-eq10.branch
+    elim c.if-text-i-eq10.branch [
+      then-text-i-eq10 w ↦ (omega (arith, those_passes feeds text i inside (eq-eqb (get_or text i 0) 10 w.if-text-i-eq10.true)), omega arith, omega arith)
+      | else-text-i-eq10 w ↦ (omega (arith, those_fails feeds text i inside (ne_eqb (get_or text i 0) 10 w.if-text-i-eq10.false)), omega arith, omega arith)
+    ]
 
 returns : tie.Need-returns invariant-loop-i decreases-loop-i
 unfolding line_of_place byte feeds

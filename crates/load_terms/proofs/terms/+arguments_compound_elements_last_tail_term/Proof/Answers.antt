@@ -22,322 +22,300 @@ use Rattle.load_terms.proofs.terms.+arguments_compound_elements_last_tail_term.L
 use Rattle.load_terms.proofs.terms.+arguments_compound_elements_last_tail_term.Proof.Claims.{elements_at, elements_calls}
 use Rattle.load_terms.proofs.terms.+arguments_compound_elements_last_tail_term.Proof.Elements.{elements_Inv_loop, elements_μ_loop}
 
-pub elements_same_length : (t₀ : ℕ) → elements_lts.Need-same-length (elements_calls t₀) (elements_at t₀) elements.Post elements_Inv_loop elements_μ_loop
-elements_same_length t₀ c =
-    let l = c.before.before.before.before.before.before.before.before.before.before.before.before.before.before.before.before.before.before.before.before.before.before.before.before.before.before.before.before.before.before.before.before.before.before.before.before.before.loop in
-    let one_term = c.before.before.before.before.before.before.before.before.before.before.before.before.before.before.before.before.before.before.before.before.before.before.before.before.before.before.before.before.before.before.before.term in
-    let the_last = c.before.before.before.before.before.before.before.before.before.before.before.before.before.before.last-tail in
-    let kept = c.before.before.before.store-cell2 in
-    kept.auto.0 ∙ the_last.auto.1.1.1.0 ∙ one_term.auto.1.1.1.0 ∙ l.invariant.1
+pub elements-shape_of-s-in-Got-last_tail : (t₀ : ℕ) → elements_lts.Need-shape_of-s-in-Got-last_tail (elements_calls t₀) (elements_at t₀) elements.Post elements_Inv_loop elements_μ_loop
+elements-shape_of-s-in-Got-last_tail t₀ c =
+    let l = c.loop-d in
+    let one_term = c.term in
+    let the_last = c.last_tail in
+    let kept = c.store_cell-in-Got-last_tail in
+    kept.auto.s ∙ the_last.auto.s ∙ one_term.auto.s ∙ l.invariant.1
 
-pub elements_same_length_2 : (t₀ : ℕ) → elements_lts.Need-same-length-2 (elements_calls t₀) (elements_at t₀) elements.Post elements_Inv_loop elements_μ_loop
-elements_same_length_2 t₀ c =
-    let l = c.before.before.before.before.before.before.before.before.before.before.before.before.before.before.before.before.before.before.before.before.before.before.before.before.before.before.before.before.before.before.before.before.before.before.before.before.before.loop in
-    let one_term = c.before.before.before.before.before.before.before.before.before.before.before.before.before.before.before.before.before.before.before.before.before.before.before.before.before.before.before.before.before.before.before.term in
-    let the_last = c.before.before.before.before.before.before.before.before.before.before.before.before.before.before.last-tail in
-    let kept = c.before.before.before.store-cell2 in
-    the_last.auto.1.1.1.1.0 ∙ one_term.auto.1.1.1.1.0 ∙ l.invariant.2
+pub elements-shape_of-names-in-Got-last_tail : (t₀ : ℕ) → elements_lts.Need-shape_of-names-in-Got-last_tail (elements_calls t₀) (elements_at t₀) elements.Post elements_Inv_loop elements_μ_loop
+elements-shape_of-names-in-Got-last_tail t₀ c =
+    let l = c.loop-d in
+    let one_term = c.term in
+    let the_last = c.last_tail in
+    the_last.auto.names ∙ one_term.auto.names ∙ l.invariant.2
 
-pub elements_same_length_3 : (t₀ : ℕ) → elements_lts.Need-same-length-3 (elements_calls t₀) (elements_at t₀) elements.Post elements_Inv_loop elements_μ_loop
-elements_same_length_3 t₀ c =
-    let l = c.before.before.before.before.before.before.before.before.before.before.before.before.before.before.before.before.before.before.before.before.before.before.before.before.before.before.before.before.before.before.before.before.before.before.before.before.before.loop in
-    let one_term = c.before.before.before.before.before.before.before.before.before.before.before.before.before.before.before.before.before.before.before.before.before.before.before.before.before.before.before.before.before.before.before.term in
-    let the_last = c.before.before.before.before.before.before.before.before.before.before.before.before.before.before.last-tail in
-    let kept = c.before.before.before.store-cell2 in
-    the_last.auto.1.1.1.1.1.0 ∙ one_term.auto.1.1.1.1.1.0 ∙ l.invariant.3
+pub elements-shape_of-item-in-Got-last_tail : (t₀ : ℕ) → elements_lts.Need-shape_of-item-in-Got-last_tail (elements_calls t₀) (elements_at t₀) elements.Post elements_Inv_loop elements_μ_loop
+elements-shape_of-item-in-Got-last_tail t₀ c =
+    let l = c.loop-d in
+    let one_term = c.term in
+    let the_last = c.last_tail in
+    the_last.auto.item ∙ one_term.auto.item ∙ l.invariant.3
 
-pub elements_returns : (t₀ : ℕ) → elements_lts.Need-returns (elements_calls t₀) (elements_at t₀) elements.Post elements_Inv_loop elements_μ_loop
-elements_returns t₀ c known vars stands left_over enough =
-    let entry = c.before.before.before.before.before.before.before.before.before.before.before.before.before.before.before.before.before.before.before.before.before.before.before.before.before.before.before.before.before.before.before.before.before.before.before.before.before.before.before.before.before.before.before in
-    let a = entry.args in
-    let l = c.before.before.before.before.before.before.before.before.before.before.before.before.before.before.before.before.before.before.before.before.before.before.before.before.before.before.before.before.before.before.before.before.before.before.before.before.before.loop in
-    let test = c.before.before.before.before.before.before.before.before.before.before.before.before.before.before.before.before.before.before.before.before.before.before.before.before.before.before.before.before.before.before.before.before.before.before.before.if1 in
-    let one_term = c.before.before.before.before.before.before.before.before.before.before.before.before.before.before.before.before.before.before.before.before.before.before.before.before.before.before.before.before.before.before.before.term in
-    let word_got = c.before.before.before.before.before.before.before.before.before.before.before.before.before.before.before.before.before.before.before.before.before.before.before.w in
-    let sign_next = c.before.before.before.before.before.before.before.before.before.before.before.before.before.before.before.before.before.before.before.before.before.next_of in
-    let sign_end = c.before.before.before.before.before.before.before.before.before.before.before.before.before.before.before.before.before.before.before.behind2 in
-    let the_last = c.before.before.before.before.before.before.before.before.before.before.before.before.before.before.last-tail in
-    let tail_got = c.before.before.before.before.before.before.v in
-    let kept = c.before.before.before.store-cell2 in
-    let own_word = c.compound-word2 in
+pub elements-returns-in-Got-last_tail : (t₀ : ℕ) → elements_lts.Need-returns-in-Got-last_tail (elements_calls t₀) (elements_at t₀) elements.Post elements_Inv_loop elements_μ_loop
+elements-returns-in-Got-last_tail t₀ c known vars stands left_over enough =
+    let a = c.args in
+    let l = c.loop-d in
+    let test = c.loop-d-test in
+    let one_term = c.term in
+    let sign_next = c.next_of in
+    let the_last = c.last_tail in
+    let tail_got = c.in-Got-last_tail in
+    let kept = c.store_cell-in-Got-last_tail in
+    let own_word = c.compound_word-in-Got-last_tail in
     let t = l.invariant.0 known vars stands left_over enough in
-    let g = word_got.given in
-    let b = rw g.1 at (one_term.ensures t.known₁ t.vars₁ (stands_counted t.stands test.true)) in
-    let h = sign_end.given in
-    let o = (rw h.1 at sign_next.ensures).1 in
+    let g = c.in-Got in
+    let b = rw g.is at (one_term.ensures t.known₁ t.vars₁ (stands_counted t.stands test.true)) in
+    let h = c.in-Second in
+    let o = (rw h.is at sign_next.ensures).1 in
     let known₂ = names_over b.1 t.known₁ in
     let vars₂ = variables_over a.from b.1 t.vars₁ in
-    let z = rw tail_got.given.1 at (the_last.ensures known₂ vars₂ (stands_moved {known = known₂} {vars = vars₂} h.0.0 b.2.stands o.inside)) in
-    linked_last a.left left_over a.text.now a.rest.now a.from a.base known vars a.c a.s.now a.item.now l.d l.s l.names l.item t test.true one_term.new.1.1.1.0 one_term.new.1.1.1.1.0 one_term.new.1.1.1.1.1.0 g.0.0 g.0.1.0 b.0 b.1 b.2 h.0.0 o the_last.new.1.1.1.0 the_last.new.1.1.1.1.0 the_last.new.1.1.1.1.1.0 kept.new.0 tail_got.given.0.0 own_word.result tail_got.given.0.1.0 z kept.ensures own_word.ensures
+    let z = rw tail_got.is at (the_last.ensures known₂ vars₂ (stands_moved {known = known₂} {vars = vars₂} h.behind b.2.stands o.inside)) in
+    linked_last a.left left_over a.text.now a.rest.now a.from a.base known vars a.c a.s.now a.item.now l.d l.s l.names l.item t test.true one_term.new.s one_term.new.names one_term.new.item g.w g.e b.0 b.1 b.2 h.behind o the_last.new.s the_last.new.names the_last.new.item kept.new.s tail_got.v own_word.result tail_got.g z kept.ensures own_word.ensures
 
-pub elements_same_length_4 : (t₀ : ℕ) → elements_lts.Need-same-length-4 (elements_calls t₀) (elements_at t₀) elements.Post elements_Inv_loop elements_μ_loop
-elements_same_length_4 t₀ c =
-    let l = c.before.before.before.before.before.before.before.before.before.before.before.before.before.before.before.before.before.before.before.before.before.before.before.before.before.before.before.before.before.before.before.before.loop in
-    let one_term = c.before.before.before.before.before.before.before.before.before.before.before.before.before.before.before.before.before.before.before.before.before.before.before.before.before.before.term in
-    let the_last = c.before.before.before.before.before.before.before.before.before.last-tail in
-    the_last.auto.1.1.1.0 ∙ one_term.auto.1.1.1.0 ∙ l.invariant.1
+pub elements-shape_of-s-in-Malformed-last_tail : (t₀ : ℕ) → elements_lts.Need-shape_of-s-in-Malformed-last_tail (elements_calls t₀) (elements_at t₀) elements.Post elements_Inv_loop elements_μ_loop
+elements-shape_of-s-in-Malformed-last_tail t₀ c =
+    let l = c.loop-d in
+    let one_term = c.term in
+    let the_last = c.last_tail in
+    the_last.auto.s ∙ one_term.auto.s ∙ l.invariant.1
 
-pub elements_same_length_5 : (t₀ : ℕ) → elements_lts.Need-same-length-5 (elements_calls t₀) (elements_at t₀) elements.Post elements_Inv_loop elements_μ_loop
-elements_same_length_5 t₀ c =
-    let l = c.before.before.before.before.before.before.before.before.before.before.before.before.before.before.before.before.before.before.before.before.before.before.before.before.before.before.before.before.before.before.before.before.loop in
-    let one_term = c.before.before.before.before.before.before.before.before.before.before.before.before.before.before.before.before.before.before.before.before.before.before.before.before.before.before.term in
-    let the_last = c.before.before.before.before.before.before.before.before.before.last-tail in
-    the_last.auto.1.1.1.1.0 ∙ one_term.auto.1.1.1.1.0 ∙ l.invariant.2
+pub elements-shape_of-names-in-Malformed-last_tail : (t₀ : ℕ) → elements_lts.Need-shape_of-names-in-Malformed-last_tail (elements_calls t₀) (elements_at t₀) elements.Post elements_Inv_loop elements_μ_loop
+elements-shape_of-names-in-Malformed-last_tail t₀ c =
+    let l = c.loop-d in
+    let one_term = c.term in
+    let the_last = c.last_tail in
+    the_last.auto.names ∙ one_term.auto.names ∙ l.invariant.2
 
-pub elements_same_length_6 : (t₀ : ℕ) → elements_lts.Need-same-length-6 (elements_calls t₀) (elements_at t₀) elements.Post elements_Inv_loop elements_μ_loop
-elements_same_length_6 t₀ c =
-    let l = c.before.before.before.before.before.before.before.before.before.before.before.before.before.before.before.before.before.before.before.before.before.before.before.before.before.before.before.before.before.before.before.before.loop in
-    let one_term = c.before.before.before.before.before.before.before.before.before.before.before.before.before.before.before.before.before.before.before.before.before.before.before.before.before.before.term in
-    let the_last = c.before.before.before.before.before.before.before.before.before.last-tail in
-    the_last.auto.1.1.1.1.1.0 ∙ one_term.auto.1.1.1.1.1.0 ∙ l.invariant.3
+pub elements-shape_of-item-in-Malformed-last_tail : (t₀ : ℕ) → elements_lts.Need-shape_of-item-in-Malformed-last_tail (elements_calls t₀) (elements_at t₀) elements.Post elements_Inv_loop elements_μ_loop
+elements-shape_of-item-in-Malformed-last_tail t₀ c =
+    let l = c.loop-d in
+    let one_term = c.term in
+    let the_last = c.last_tail in
+    the_last.auto.item ∙ one_term.auto.item ∙ l.invariant.3
 
-pub elements_returns_2 : (t₀ : ℕ) → elements_lts.Need-returns-2 (elements_calls t₀) (elements_at t₀) elements.Post elements_Inv_loop elements_μ_loop
-elements_returns_2 t₀ c known vars stands left_over enough =
-    let entry = c.before.before.before.before.before.before.before.before.before.before.before.before.before.before.before.before.before.before.before.before.before.before.before.before.before.before.before.before.before.before.before.before.before.before.before.before.before.before in
-    let a = entry.args in
-    let l = c.before.before.before.before.before.before.before.before.before.before.before.before.before.before.before.before.before.before.before.before.before.before.before.before.before.before.before.before.before.before.before.before.loop in
-    let test = c.before.before.before.before.before.before.before.before.before.before.before.before.before.before.before.before.before.before.before.before.before.before.before.before.before.before.before.before.before.before.if1 in
-    let one_term = c.before.before.before.before.before.before.before.before.before.before.before.before.before.before.before.before.before.before.before.before.before.before.before.before.before.before.term in
-    let word_got = c.before.before.before.before.before.before.before.before.before.before.before.before.before.before.before.before.before.before.w in
-    let sign_next = c.before.before.before.before.before.before.before.before.before.before.before.before.before.before.before.before.next_of in
-    let sign_end = c.before.before.before.before.before.before.before.before.before.before.before.before.before.before.behind2 in
-    let the_last = c.before.before.before.before.before.before.before.before.before.last-tail in
-    let stop = c.before.a in
+pub elements-returns-in-Malformed-last_tail : (t₀ : ℕ) → elements_lts.Need-returns-in-Malformed-last_tail (elements_calls t₀) (elements_at t₀) elements.Post elements_Inv_loop elements_μ_loop
+elements-returns-in-Malformed-last_tail t₀ c known vars stands left_over enough =
+    let a = c.args in
+    let l = c.loop-d in
+    let test = c.loop-d-test in
+    let one_term = c.term in
+    let sign_next = c.next_of in
+    let the_last = c.last_tail in
+    let stop = c.in-Malformed-last_tail in
     let t = l.invariant.0 known vars stands left_over enough in
-    let g = word_got.given in
-    let b = rw g.1 at (one_term.ensures t.known₁ t.vars₁ (stands_counted t.stands test.true)) in
-    let h = sign_end.given in
-    let o = (rw h.1 at sign_next.ensures).1 in
+    let g = c.in-Got in
+    let b = rw g.is at (one_term.ensures t.known₁ t.vars₁ (stands_counted t.stands test.true)) in
+    let h = c.in-Second in
+    let o = (rw h.is at sign_next.ensures).1 in
     let known₂ = names_over b.1 t.known₁ in
     let vars₂ = variables_over a.from b.1 t.vars₁ in
-    let z = rw stop.given.1 at (the_last.ensures known₂ vars₂ (stands_moved {known = known₂} {vars = vars₂} h.0.0 b.2.stands o.inside)) in
-    linked_last_malformed a.left left_over a.text.now a.rest.now a.from a.base known vars a.c a.s.now a.item.now l.d l.s l.names l.item t test.true one_term.new.1.1.1.0 one_term.new.1.1.1.1.0 one_term.new.1.1.1.1.1.0 g.0.0 g.0.1.0 b.0 b.1 b.2 h.0.0 o the_last.new.1.1.1.0 the_last.new.1.1.1.1.0 the_last.new.1.1.1.1.1.0 stop.given.0.0 z
+    let z = rw stop.is at (the_last.ensures known₂ vars₂ (stands_moved {known = known₂} {vars = vars₂} h.behind b.2.stands o.inside)) in
+    linked_last_malformed a.left left_over a.text.now a.rest.now a.from a.base known vars a.c a.s.now a.item.now l.d l.s l.names l.item t test.true one_term.new.s one_term.new.names one_term.new.item g.w g.e b.0 b.1 b.2 h.behind o the_last.new.s the_last.new.names the_last.new.item stop.a z
 
-pub elements_same_length_7 : (t₀ : ℕ) → elements_lts.Need-same-length-7 (elements_calls t₀) (elements_at t₀) elements.Post elements_Inv_loop elements_μ_loop
-elements_same_length_7 t₀ c =
-    let l = c.before.before.before.before.before.before.before.before.before.before.before.before.before.before.before.before.before.before.before.before.before.before.before.before.before.before.before.before.before.before.before.loop in
-    let one_term = c.before.before.before.before.before.before.before.before.before.before.before.before.before.before.before.before.before.before.before.before.before.before.before.before.before.term in
-    let the_last = c.before.before.before.before.before.before.before.before.last-tail in
-    the_last.auto.1.1.1.0 ∙ one_term.auto.1.1.1.0 ∙ l.invariant.1
+pub elements-shape_of-s-in-Exceeded-last_tail : (t₀ : ℕ) → elements_lts.Need-shape_of-s-in-Exceeded-last_tail (elements_calls t₀) (elements_at t₀) elements.Post elements_Inv_loop elements_μ_loop
+elements-shape_of-s-in-Exceeded-last_tail t₀ c =
+    let l = c.loop-d in
+    let one_term = c.term in
+    let the_last = c.last_tail in
+    the_last.auto.s ∙ one_term.auto.s ∙ l.invariant.1
 
-pub elements_same_length_8 : (t₀ : ℕ) → elements_lts.Need-same-length-8 (elements_calls t₀) (elements_at t₀) elements.Post elements_Inv_loop elements_μ_loop
-elements_same_length_8 t₀ c =
-    let l = c.before.before.before.before.before.before.before.before.before.before.before.before.before.before.before.before.before.before.before.before.before.before.before.before.before.before.before.before.before.before.before.loop in
-    let one_term = c.before.before.before.before.before.before.before.before.before.before.before.before.before.before.before.before.before.before.before.before.before.before.before.before.before.term in
-    let the_last = c.before.before.before.before.before.before.before.before.last-tail in
-    the_last.auto.1.1.1.1.0 ∙ one_term.auto.1.1.1.1.0 ∙ l.invariant.2
+pub elements-shape_of-names-in-Exceeded-last_tail : (t₀ : ℕ) → elements_lts.Need-shape_of-names-in-Exceeded-last_tail (elements_calls t₀) (elements_at t₀) elements.Post elements_Inv_loop elements_μ_loop
+elements-shape_of-names-in-Exceeded-last_tail t₀ c =
+    let l = c.loop-d in
+    let one_term = c.term in
+    let the_last = c.last_tail in
+    the_last.auto.names ∙ one_term.auto.names ∙ l.invariant.2
 
-pub elements_same_length_9 : (t₀ : ℕ) → elements_lts.Need-same-length-9 (elements_calls t₀) (elements_at t₀) elements.Post elements_Inv_loop elements_μ_loop
-elements_same_length_9 t₀ c =
-    let l = c.before.before.before.before.before.before.before.before.before.before.before.before.before.before.before.before.before.before.before.before.before.before.before.before.before.before.before.before.before.before.before.loop in
-    let one_term = c.before.before.before.before.before.before.before.before.before.before.before.before.before.before.before.before.before.before.before.before.before.before.before.before.before.term in
-    let the_last = c.before.before.before.before.before.before.before.before.last-tail in
-    the_last.auto.1.1.1.1.1.0 ∙ one_term.auto.1.1.1.1.1.0 ∙ l.invariant.3
+pub elements-shape_of-item-in-Exceeded-last_tail : (t₀ : ℕ) → elements_lts.Need-shape_of-item-in-Exceeded-last_tail (elements_calls t₀) (elements_at t₀) elements.Post elements_Inv_loop elements_μ_loop
+elements-shape_of-item-in-Exceeded-last_tail t₀ c =
+    let l = c.loop-d in
+    let one_term = c.term in
+    let the_last = c.last_tail in
+    the_last.auto.item ∙ one_term.auto.item ∙ l.invariant.3
 
-pub elements_returns_3 : (t₀ : ℕ) → elements_lts.Need-returns-3 (elements_calls t₀) (elements_at t₀) elements.Post elements_Inv_loop elements_μ_loop
-elements_returns_3 t₀ c known vars stands left_over enough =
-    let entry = c.before.before.before.before.before.before.before.before.before.before.before.before.before.before.before.before.before.before.before.before.before.before.before.before.before.before.before.before.before.before.before.before.before.before.before.before.before in
-    let a = entry.args in
-    let l = c.before.before.before.before.before.before.before.before.before.before.before.before.before.before.before.before.before.before.before.before.before.before.before.before.before.before.before.before.before.before.before.loop in
-    let test = c.before.before.before.before.before.before.before.before.before.before.before.before.before.before.before.before.before.before.before.before.before.before.before.before.before.before.before.before.before.if1 in
-    let one_term = c.before.before.before.before.before.before.before.before.before.before.before.before.before.before.before.before.before.before.before.before.before.before.before.before.before.term in
-    let word_got = c.before.before.before.before.before.before.before.before.before.before.before.before.before.before.before.before.before.w in
-    let sign_next = c.before.before.before.before.before.before.before.before.before.before.before.before.before.before.before.next_of in
-    let sign_end = c.before.before.before.before.before.before.before.before.before.before.before.before.before.behind2 in
-    let the_last = c.before.before.before.before.before.before.before.before.last-tail in
-    let told = c.enum-told in
+pub elements-returns-in-Exceeded-last_tail : (t₀ : ℕ) → elements_lts.Need-returns-in-Exceeded-last_tail (elements_calls t₀) (elements_at t₀) elements.Post elements_Inv_loop elements_μ_loop
+elements-returns-in-Exceeded-last_tail t₀ c known vars stands left_over enough =
+    let a = c.args in
+    let l = c.loop-d in
+    let test = c.loop-d-test in
+    let one_term = c.term in
+    let sign_next = c.next_of in
+    let the_last = c.last_tail in
+    let told = c.in-Exceeded-last_tail in
     let t = l.invariant.0 known vars stands left_over enough in
-    let g = word_got.given in
-    let b = rw g.1 at (one_term.ensures t.known₁ t.vars₁ (stands_counted t.stands test.true)) in
-    let h = sign_end.given in
-    let o = (rw h.1 at sign_next.ensures).1 in
+    let g = c.in-Got in
+    let b = rw g.is at (one_term.ensures t.known₁ t.vars₁ (stands_counted t.stands test.true)) in
+    let h = c.in-Second in
+    let o = (rw h.is at sign_next.ensures).1 in
     let known₂ = names_over b.1 t.known₁ in
     let vars₂ = variables_over a.from b.1 t.vars₁ in
-    let z = rw told.given.1 at (the_last.ensures known₂ vars₂ (stands_moved {known = known₂} {vars = vars₂} h.0.0 b.2.stands o.inside)) in
-    linked_last_passed a.left left_over a.text.now a.rest.now a.from a.base known vars a.c a.s.now a.item.now l.d l.s l.names l.item t test.true one_term.new.1.1.1.0 one_term.new.1.1.1.1.0 one_term.new.1.1.1.1.1.0 g.0.0 g.0.1.0 b.0 b.1 b.2 h.0.0 o the_last.new.1.1.1.0 the_last.new.1.1.1.1.0 the_last.new.1.1.1.1.1.0 z
+    let z = rw told.is at (the_last.ensures known₂ vars₂ (stands_moved {known = known₂} {vars = vars₂} h.behind b.2.stands o.inside)) in
+    linked_last_passed a.left left_over a.text.now a.rest.now a.from a.base known vars a.c a.s.now a.item.now l.d l.s l.names l.item t test.true one_term.new.s one_term.new.names one_term.new.item g.w g.e b.0 b.1 b.2 h.behind o the_last.new.s the_last.new.names the_last.new.item z
 
-pub elements_same_length_10 : (t₀ : ℕ) → elements_lts.Need-same-length-10 (elements_calls t₀) (elements_at t₀) elements.Post elements_Inv_loop elements_μ_loop
-elements_same_length_10 t₀ c =
-    let l = c.before.before.before.before.before.before.before.before.before.before.before.before.before.before.before.before.before.before.before.before.before.before.before.before.loop in
-    let one_term = c.before.before.before.before.before.before.before.before.before.before.before.before.before.before.before.before.before.before.term in
-    let kept = c.before.before.before.store-cell3 in
-    kept.auto.0 ∙ one_term.auto.1.1.1.0 ∙ l.invariant.1
+pub elements-shape_of-s-in-Third : (t₀ : ℕ) → elements_lts.Need-shape_of-s-in-Third (elements_calls t₀) (elements_at t₀) elements.Post elements_Inv_loop elements_μ_loop
+elements-shape_of-s-in-Third t₀ c =
+    let l = c.loop-d in
+    let one_term = c.term in
+    let kept = c.store_cell-in-Third in
+    kept.auto.s ∙ one_term.auto.s ∙ l.invariant.1
 
-pub elements_same_length_11 : (t₀ : ℕ) → elements_lts.Need-same-length-11 (elements_calls t₀) (elements_at t₀) elements.Post elements_Inv_loop elements_μ_loop
-elements_same_length_11 t₀ c =
-    let l = c.before.before.before.before.before.before.before.before.before.before.before.before.before.before.before.before.before.before.before.before.before.before.before.before.loop in
-    let one_term = c.before.before.before.before.before.before.before.before.before.before.before.before.before.before.before.before.before.before.term in
-    let kept = c.before.before.before.store-cell3 in
-    one_term.auto.1.1.1.1.0 ∙ l.invariant.2
+pub elements-shape_of-names-in-Third : (t₀ : ℕ) → elements_lts.Need-shape_of-names-in-Third (elements_calls t₀) (elements_at t₀) elements.Post elements_Inv_loop elements_μ_loop
+elements-shape_of-names-in-Third t₀ c =
+    let l = c.loop-d in
+    let one_term = c.term in
+    one_term.auto.names ∙ l.invariant.2
 
-pub elements_same_length_12 : (t₀ : ℕ) → elements_lts.Need-same-length-12 (elements_calls t₀) (elements_at t₀) elements.Post elements_Inv_loop elements_μ_loop
-elements_same_length_12 t₀ c =
-    let l = c.before.before.before.before.before.before.before.before.before.before.before.before.before.before.before.before.before.before.before.before.before.before.before.before.loop in
-    let one_term = c.before.before.before.before.before.before.before.before.before.before.before.before.before.before.before.before.before.before.term in
-    let kept = c.before.before.before.store-cell3 in
-    one_term.auto.1.1.1.1.1.0 ∙ l.invariant.3
+pub elements-shape_of-item-in-Third : (t₀ : ℕ) → elements_lts.Need-shape_of-item-in-Third (elements_calls t₀) (elements_at t₀) elements.Post elements_Inv_loop elements_μ_loop
+elements-shape_of-item-in-Third t₀ c =
+    let l = c.loop-d in
+    let one_term = c.term in
+    one_term.auto.item ∙ l.invariant.3
 
-pub elements_returns_4 : (t₀ : ℕ) → elements_lts.Need-returns-4 (elements_calls t₀) (elements_at t₀) elements.Post elements_Inv_loop elements_μ_loop
-elements_returns_4 t₀ c known vars stands left_over enough =
-    let entry = c.before.before.before.before.before.before.before.before.before.before.before.before.before.before.before.before.before.before.before.before.before.before.before.before.before.before.before.before.before.before in
-    let a = entry.args in
-    let l = c.before.before.before.before.before.before.before.before.before.before.before.before.before.before.before.before.before.before.before.before.before.before.before.before.loop in
-    let test = c.before.before.before.before.before.before.before.before.before.before.before.before.before.before.before.before.before.before.before.before.before.before.if1 in
-    let one_term = c.before.before.before.before.before.before.before.before.before.before.before.before.before.before.before.before.before.before.term in
-    let word_got = c.before.before.before.before.before.before.before.before.before.before.w in
-    let sign_next = c.before.before.before.before.before.before.before.before.next_of in
-    let sign_end = c.before.before.before.before.before.before.behind3 in
-    let kept = c.before.before.before.store-cell3 in
-    let own_word = c.compound-word3 in
+pub elements-returns-in-Third : (t₀ : ℕ) → elements_lts.Need-returns-in-Third (elements_calls t₀) (elements_at t₀) elements.Post elements_Inv_loop elements_μ_loop
+elements-returns-in-Third t₀ c known vars stands left_over enough =
+    let a = c.args in
+    let l = c.loop-d in
+    let test = c.loop-d-test in
+    let one_term = c.term in
+    let sign_next = c.next_of in
+    let kept = c.store_cell-in-Third in
+    let own_word = c.compound_word-in-Third in
     let t = l.invariant.0 known vars stands left_over enough in
-    let g = word_got.given in
-    let b = rw g.1 at (one_term.ensures t.known₁ t.vars₁ (stands_counted t.stands test.true)) in
-    let h = sign_end.given in
-    let o = (rw h.1 at sign_next.ensures).2 in
-    linked_closed a.left left_over a.text.now a.rest.now a.from a.base known vars a.c a.s.now a.item.now l.d l.s l.names l.item t test.true one_term.new.1.1.1.0 one_term.new.1.1.1.1.0 one_term.new.1.1.1.1.1.0 g.0.0 g.0.1.0 b.0 b.1 b.2 h.0.0 o kept.new.0 own_word.result kept.ensures own_word.ensures
+    let g = c.in-Got in
+    let b = rw g.is at (one_term.ensures t.known₁ t.vars₁ (stands_counted t.stands test.true)) in
+    let h = c.in-Third in
+    let o = (rw h.is at sign_next.ensures).2 in
+    linked_closed a.left left_over a.text.now a.rest.now a.from a.base known vars a.c a.s.now a.item.now l.d l.s l.names l.item t test.true one_term.new.s one_term.new.names one_term.new.item g.w g.e b.0 b.1 b.2 h.behind o kept.new.s own_word.result kept.ensures own_word.ensures
 
-pub elements_same_length_13 : (t₀ : ℕ) → elements_lts.Need-same-length-13 (elements_calls t₀) (elements_at t₀) elements.Post elements_Inv_loop elements_μ_loop
-elements_same_length_13 t₀ c =
-    let l = c.before.before.before.before.before.before.before.before.before.before.before.before.before.before.before.before.before.before.before.loop in
-    let one_term = c.before.before.before.before.before.before.before.before.before.before.before.before.before.term in
-    one_term.auto.1.1.1.0 ∙ l.invariant.1
+pub elements-shape_of-s-in-Other : (t₀ : ℕ) → elements_lts.Need-shape_of-s-in-Other (elements_calls t₀) (elements_at t₀) elements.Post elements_Inv_loop elements_μ_loop
+elements-shape_of-s-in-Other t₀ c =
+    let l = c.loop-d in
+    let one_term = c.term in
+    one_term.auto.s ∙ l.invariant.1
 
-pub elements_same_length_14 : (t₀ : ℕ) → elements_lts.Need-same-length-14 (elements_calls t₀) (elements_at t₀) elements.Post elements_Inv_loop elements_μ_loop
-elements_same_length_14 t₀ c =
-    let l = c.before.before.before.before.before.before.before.before.before.before.before.before.before.before.before.before.before.before.before.loop in
-    let one_term = c.before.before.before.before.before.before.before.before.before.before.before.before.before.term in
-    one_term.auto.1.1.1.1.0 ∙ l.invariant.2
+pub elements-shape_of-names-in-Other : (t₀ : ℕ) → elements_lts.Need-shape_of-names-in-Other (elements_calls t₀) (elements_at t₀) elements.Post elements_Inv_loop elements_μ_loop
+elements-shape_of-names-in-Other t₀ c =
+    let l = c.loop-d in
+    let one_term = c.term in
+    one_term.auto.names ∙ l.invariant.2
 
-pub elements_same_length_15 : (t₀ : ℕ) → elements_lts.Need-same-length-15 (elements_calls t₀) (elements_at t₀) elements.Post elements_Inv_loop elements_μ_loop
-elements_same_length_15 t₀ c =
-    let l = c.before.before.before.before.before.before.before.before.before.before.before.before.before.before.before.before.before.before.before.loop in
-    let one_term = c.before.before.before.before.before.before.before.before.before.before.before.before.before.term in
-    one_term.auto.1.1.1.1.1.0 ∙ l.invariant.3
+pub elements-shape_of-item-in-Other : (t₀ : ℕ) → elements_lts.Need-shape_of-item-in-Other (elements_calls t₀) (elements_at t₀) elements.Post elements_Inv_loop elements_μ_loop
+elements-shape_of-item-in-Other t₀ c =
+    let l = c.loop-d in
+    let one_term = c.term in
+    one_term.auto.item ∙ l.invariant.3
 
-pub elements_returns_5 : (t₀ : ℕ) → elements_lts.Need-returns-5 (elements_calls t₀) (elements_at t₀) elements.Post elements_Inv_loop elements_μ_loop
-elements_returns_5 t₀ c known vars stands left_over enough =
-    let entry = c.before.before.before.before.before.before.before.before.before.before.before.before.before.before.before.before.before.before.before.before.before.before.before.before.before in
-    let a = entry.args in
-    let l = c.before.before.before.before.before.before.before.before.before.before.before.before.before.before.before.before.before.before.before.loop in
-    let test = c.before.before.before.before.before.before.before.before.before.before.before.before.before.before.before.before.before.if1 in
-    let one_term = c.before.before.before.before.before.before.before.before.before.before.before.before.before.term in
-    let word_got = c.before.before.before.before.before.w in
-    let sign_next = c.before.before.before.next_of in
-    let stop = c.before.a2 in
+pub elements-returns-in-Other : (t₀ : ℕ) → elements_lts.Need-returns-in-Other (elements_calls t₀) (elements_at t₀) elements.Post elements_Inv_loop elements_μ_loop
+elements-returns-in-Other t₀ c known vars stands left_over enough =
+    let a = c.args in
+    let l = c.loop-d in
+    let test = c.loop-d-test in
+    let one_term = c.term in
+    let sign_next = c.next_of in
+    let stop = c.in-Other in
     let t = l.invariant.0 known vars stands left_over enough in
-    let g = word_got.given in
-    let b = rw g.1 at (one_term.ensures t.known₁ t.vars₁ (stands_counted t.stands test.true)) in
-    let o = rw stop.given.1 at sign_next.ensures in
-    linked_stop a.left left_over a.text.now a.rest.now a.from a.base known vars a.c a.s.now a.item.now l.d l.s l.names l.item t test.true one_term.new.1.1.1.0 one_term.new.1.1.1.1.0 one_term.new.1.1.1.1.1.0 g.0.0 g.0.1.0 b.0 b.1 b.2 stop.given.0.0 o.0 o.1
+    let g = c.in-Got in
+    let b = rw g.is at (one_term.ensures t.known₁ t.vars₁ (stands_counted t.stands test.true)) in
+    let o = rw stop.is at sign_next.ensures in
+    linked_stop a.left left_over a.text.now a.rest.now a.from a.base known vars a.c a.s.now a.item.now l.d l.s l.names l.item t test.true one_term.new.s one_term.new.names one_term.new.item g.w g.e b.0 b.1 b.2 stop.a o.0 o.1
 
-pub elements_same_length_16 : (t₀ : ℕ) → elements_lts.Need-same-length-16 (elements_calls t₀) (elements_at t₀) elements.Post elements_Inv_loop elements_μ_loop
-elements_same_length_16 t₀ c =
-    let l = c.before.before.before.before.before.before.before.before.before.before.before.before.before.before.before.loop in
-    let one_term = c.before.before.before.before.before.before.before.before.before.term in
-    one_term.auto.1.1.1.0 ∙ l.invariant.1
+pub elements-shape_of-s-in-Malformed : (t₀ : ℕ) → elements_lts.Need-shape_of-s-in-Malformed (elements_calls t₀) (elements_at t₀) elements.Post elements_Inv_loop elements_μ_loop
+elements-shape_of-s-in-Malformed t₀ c =
+    let l = c.loop-d in
+    let one_term = c.term in
+    one_term.auto.s ∙ l.invariant.1
 
-pub elements_same_length_17 : (t₀ : ℕ) → elements_lts.Need-same-length-17 (elements_calls t₀) (elements_at t₀) elements.Post elements_Inv_loop elements_μ_loop
-elements_same_length_17 t₀ c =
-    let l = c.before.before.before.before.before.before.before.before.before.before.before.before.before.before.before.loop in
-    let one_term = c.before.before.before.before.before.before.before.before.before.term in
-    one_term.auto.1.1.1.1.0 ∙ l.invariant.2
+pub elements-shape_of-names-in-Malformed : (t₀ : ℕ) → elements_lts.Need-shape_of-names-in-Malformed (elements_calls t₀) (elements_at t₀) elements.Post elements_Inv_loop elements_μ_loop
+elements-shape_of-names-in-Malformed t₀ c =
+    let l = c.loop-d in
+    let one_term = c.term in
+    one_term.auto.names ∙ l.invariant.2
 
-pub elements_same_length_18 : (t₀ : ℕ) → elements_lts.Need-same-length-18 (elements_calls t₀) (elements_at t₀) elements.Post elements_Inv_loop elements_μ_loop
-elements_same_length_18 t₀ c =
-    let l = c.before.before.before.before.before.before.before.before.before.before.before.before.before.before.before.loop in
-    let one_term = c.before.before.before.before.before.before.before.before.before.term in
-    one_term.auto.1.1.1.1.1.0 ∙ l.invariant.3
+pub elements-shape_of-item-in-Malformed : (t₀ : ℕ) → elements_lts.Need-shape_of-item-in-Malformed (elements_calls t₀) (elements_at t₀) elements.Post elements_Inv_loop elements_μ_loop
+elements-shape_of-item-in-Malformed t₀ c =
+    let l = c.loop-d in
+    let one_term = c.term in
+    one_term.auto.item ∙ l.invariant.3
 
-pub elements_returns_6 : (t₀ : ℕ) → elements_lts.Need-returns-6 (elements_calls t₀) (elements_at t₀) elements.Post elements_Inv_loop elements_μ_loop
-elements_returns_6 t₀ c known vars stands left_over enough =
-    let entry = c.before.before.before.before.before.before.before.before.before.before.before.before.before.before.before.before.before.before.before.before.before in
-    let a = entry.args in
-    let l = c.before.before.before.before.before.before.before.before.before.before.before.before.before.before.before.loop in
-    let test = c.before.before.before.before.before.before.before.before.before.before.before.before.before.if1 in
-    let one_term = c.before.before.before.before.before.before.before.before.before.term in
-    let stop = c.before.a3 in
+pub elements-returns-in-Malformed : (t₀ : ℕ) → elements_lts.Need-returns-in-Malformed (elements_calls t₀) (elements_at t₀) elements.Post elements_Inv_loop elements_μ_loop
+elements-returns-in-Malformed t₀ c known vars stands left_over enough =
+    let a = c.args in
+    let l = c.loop-d in
+    let test = c.loop-d-test in
+    let one_term = c.term in
+    let stop = c.in-Malformed in
     let t = l.invariant.0 known vars stands left_over enough in
-    let b = rw stop.given.1 at (one_term.ensures t.known₁ t.vars₁ (stands_counted t.stands test.true)) in
-    linked_malformed a.left left_over a.text.now a.rest.now a.from a.base known vars a.c a.s.now a.item.now l.d l.s l.names l.item t test.true one_term.new.1.1.1.0 one_term.new.1.1.1.1.0 one_term.new.1.1.1.1.1.0 stop.given.0.0 b
+    let b = rw stop.is at (one_term.ensures t.known₁ t.vars₁ (stands_counted t.stands test.true)) in
+    linked_malformed a.left left_over a.text.now a.rest.now a.from a.base known vars a.c a.s.now a.item.now l.d l.s l.names l.item t test.true one_term.new.s one_term.new.names one_term.new.item stop.a b
 
-pub elements_same_length_19 : (t₀ : ℕ) → elements_lts.Need-same-length-19 (elements_calls t₀) (elements_at t₀) elements.Post elements_Inv_loop elements_μ_loop
-elements_same_length_19 t₀ c =
-    let l = c.before.before.before.before.before.before.before.before.before.before.before.before.before.before.loop in
-    let one_term = c.before.before.before.before.before.before.before.before.term in
-    one_term.auto.1.1.1.0 ∙ l.invariant.1
+pub elements-shape_of-s-in-Exceeded : (t₀ : ℕ) → elements_lts.Need-shape_of-s-in-Exceeded (elements_calls t₀) (elements_at t₀) elements.Post elements_Inv_loop elements_μ_loop
+elements-shape_of-s-in-Exceeded t₀ c =
+    let l = c.loop-d in
+    let one_term = c.term in
+    one_term.auto.s ∙ l.invariant.1
 
-pub elements_same_length_20 : (t₀ : ℕ) → elements_lts.Need-same-length-20 (elements_calls t₀) (elements_at t₀) elements.Post elements_Inv_loop elements_μ_loop
-elements_same_length_20 t₀ c =
-    let l = c.before.before.before.before.before.before.before.before.before.before.before.before.before.before.loop in
-    let one_term = c.before.before.before.before.before.before.before.before.term in
-    one_term.auto.1.1.1.1.0 ∙ l.invariant.2
+pub elements-shape_of-names-in-Exceeded : (t₀ : ℕ) → elements_lts.Need-shape_of-names-in-Exceeded (elements_calls t₀) (elements_at t₀) elements.Post elements_Inv_loop elements_μ_loop
+elements-shape_of-names-in-Exceeded t₀ c =
+    let l = c.loop-d in
+    let one_term = c.term in
+    one_term.auto.names ∙ l.invariant.2
 
-pub elements_same_length_21 : (t₀ : ℕ) → elements_lts.Need-same-length-21 (elements_calls t₀) (elements_at t₀) elements.Post elements_Inv_loop elements_μ_loop
-elements_same_length_21 t₀ c =
-    let l = c.before.before.before.before.before.before.before.before.before.before.before.before.before.before.loop in
-    let one_term = c.before.before.before.before.before.before.before.before.term in
-    one_term.auto.1.1.1.1.1.0 ∙ l.invariant.3
+pub elements-shape_of-item-in-Exceeded : (t₀ : ℕ) → elements_lts.Need-shape_of-item-in-Exceeded (elements_calls t₀) (elements_at t₀) elements.Post elements_Inv_loop elements_μ_loop
+elements-shape_of-item-in-Exceeded t₀ c =
+    let l = c.loop-d in
+    let one_term = c.term in
+    one_term.auto.item ∙ l.invariant.3
 
-pub elements_returns_7 : (t₀ : ℕ) → elements_lts.Need-returns-7 (elements_calls t₀) (elements_at t₀) elements.Post elements_Inv_loop elements_μ_loop
-elements_returns_7 t₀ c known vars stands left_over enough =
-    let entry = c.before.before.before.before.before.before.before.before.before.before.before.before.before.before.before.before.before.before.before.before in
-    let a = entry.args in
-    let l = c.before.before.before.before.before.before.before.before.before.before.before.before.before.before.loop in
-    let test = c.before.before.before.before.before.before.before.before.before.before.before.before.if1 in
-    let one_term = c.before.before.before.before.before.before.before.before.term in
-    let told = c.enum-told2 in
+pub elements-returns-in-Exceeded : (t₀ : ℕ) → elements_lts.Need-returns-in-Exceeded (elements_calls t₀) (elements_at t₀) elements.Post elements_Inv_loop elements_μ_loop
+elements-returns-in-Exceeded t₀ c known vars stands left_over enough =
+    let a = c.args in
+    let l = c.loop-d in
+    let test = c.loop-d-test in
+    let one_term = c.term in
+    let told = c.in-Exceeded in
     let t = l.invariant.0 known vars stands left_over enough in
-    let b = rw told.given.1 at (one_term.ensures t.known₁ t.vars₁ (stands_counted t.stands test.true)) in
-    linked_passed a.left left_over a.text.now a.rest.now a.from a.base known vars a.c a.s.now a.item.now l.d l.s l.names l.item t test.true one_term.new.1.1.1.0 one_term.new.1.1.1.1.0 one_term.new.1.1.1.1.1.0 b
+    let b = rw told.is at (one_term.ensures t.known₁ t.vars₁ (stands_counted t.stands test.true)) in
+    linked_passed a.left left_over a.text.now a.rest.now a.from a.base known vars a.c a.s.now a.item.now l.d l.s l.names l.item t test.true one_term.new.s one_term.new.names one_term.new.item b
 
-pub elements_same_length_22 : (t₀ : ℕ) → elements_lts.Need-same-length-22 (elements_calls t₀) (elements_at t₀) elements.Post elements_Inv_loop elements_μ_loop
-elements_same_length_22 t₀ c =
-    let l = c.before.before.before.before.before.loop in
+pub elements-shape_of-s-in-Can : (t₀ : ℕ) → elements_lts.Need-shape_of-s-in-Can (elements_calls t₀) (elements_at t₀) elements.Post elements_Inv_loop elements_μ_loop
+elements-shape_of-s-in-Can t₀ c =
+    let l = c.loop-d in
     l.invariant.1
 
-pub elements_same_length_23 : (t₀ : ℕ) → elements_lts.Need-same-length-23 (elements_calls t₀) (elements_at t₀) elements.Post elements_Inv_loop elements_μ_loop
-elements_same_length_23 t₀ c =
-    let l = c.before.before.before.before.before.loop in
+pub elements-shape_of-names-in-Can : (t₀ : ℕ) → elements_lts.Need-shape_of-names-in-Can (elements_calls t₀) (elements_at t₀) elements.Post elements_Inv_loop elements_μ_loop
+elements-shape_of-names-in-Can t₀ c =
+    let l = c.loop-d in
     l.invariant.2
 
-pub elements_same_length_24 : (t₀ : ℕ) → elements_lts.Need-same-length-24 (elements_calls t₀) (elements_at t₀) elements.Post elements_Inv_loop elements_μ_loop
-elements_same_length_24 t₀ c =
-    let l = c.before.before.before.before.before.loop in
+pub elements-shape_of-item-in-Can : (t₀ : ℕ) → elements_lts.Need-shape_of-item-in-Can (elements_calls t₀) (elements_at t₀) elements.Post elements_Inv_loop elements_μ_loop
+elements-shape_of-item-in-Can t₀ c =
+    let l = c.loop-d in
     l.invariant.3
 
-pub elements_returns_8 : (t₀ : ℕ) → elements_lts.Need-returns-8 (elements_calls t₀) (elements_at t₀) elements.Post elements_Inv_loop elements_μ_loop
-elements_returns_8 t₀ c known vars stands left_over enough =
-    let entry = c.before.before.before.before.before.before.before.before.before.before.before in
-    let a = entry.args in
-    let l = c.before.before.before.before.before.loop in
-    let test = c.before.before.before.if1 in
-    let started = c.before.before.starts in
-    let told = c.enum-told3 in
+pub elements-returns-in-Can : (t₀ : ℕ) → elements_lts.Need-returns-in-Can (elements_calls t₀) (elements_at t₀) elements.Post elements_Inv_loop elements_μ_loop
+elements-returns-in-Can t₀ c known vars stands left_over enough =
+    let a = c.args in
+    let l = c.loop-d in
+    let test = c.loop-d-test in
+    let started = c.starts in
+    let told = c.in-Can in
     let t = l.invariant.0 known vars stands left_over enough in
-    linked_many a.left left_over a.text.now a.rest.now a.from a.base known vars a.c a.s.now a.item.now l.d l.s l.names l.item t (rw told.given.1 at started.ensures) (omega (arith, test.false))
+    linked_many a.left left_over a.text.now a.rest.now a.from a.base known vars a.c a.s.now a.item.now l.d l.s l.names l.item t (rw told.is at started.ensures) (omega (arith, test.false))
 
-pub elements_same_length_25 : (t₀ : ℕ) → elements_lts.Need-same-length-25 (elements_calls t₀) (elements_at t₀) elements.Post elements_Inv_loop elements_μ_loop
-elements_same_length_25 t₀ c =
-    let l = c.before.before.before.before.before.before.loop in
+pub elements-shape_of-s-in-Cannot : (t₀ : ℕ) → elements_lts.Need-shape_of-s-in-Cannot (elements_calls t₀) (elements_at t₀) elements.Post elements_Inv_loop elements_μ_loop
+elements-shape_of-s-in-Cannot t₀ c =
+    let l = c.loop-d in
     l.invariant.1
 
-pub elements_same_length_26 : (t₀ : ℕ) → elements_lts.Need-same-length-26 (elements_calls t₀) (elements_at t₀) elements.Post elements_Inv_loop elements_μ_loop
-elements_same_length_26 t₀ c =
-    let l = c.before.before.before.before.before.before.loop in
+pub elements-shape_of-names-in-Cannot : (t₀ : ℕ) → elements_lts.Need-shape_of-names-in-Cannot (elements_calls t₀) (elements_at t₀) elements.Post elements_Inv_loop elements_μ_loop
+elements-shape_of-names-in-Cannot t₀ c =
+    let l = c.loop-d in
     l.invariant.2
 
-pub elements_same_length_27 : (t₀ : ℕ) → elements_lts.Need-same-length-27 (elements_calls t₀) (elements_at t₀) elements.Post elements_Inv_loop elements_μ_loop
-elements_same_length_27 t₀ c =
-    let l = c.before.before.before.before.before.before.loop in
+pub elements-shape_of-item-in-Cannot : (t₀ : ℕ) → elements_lts.Need-shape_of-item-in-Cannot (elements_calls t₀) (elements_at t₀) elements.Post elements_Inv_loop elements_μ_loop
+elements-shape_of-item-in-Cannot t₀ c =
+    let l = c.loop-d in
     l.invariant.3
 
-pub elements_returns_9 : (t₀ : ℕ) → elements_lts.Need-returns-9 (elements_calls t₀) (elements_at t₀) elements.Post elements_Inv_loop elements_μ_loop
-elements_returns_9 t₀ c known vars stands left_over enough =
-    let entry = c.before.before.before.before.before.before.before.before.before.before.before.before in
-    let a = entry.args in
-    let l = c.before.before.before.before.before.before.loop in
-    let started = c.before.before.before.starts in
-    let stop = c.before.a4 in
+pub elements-returns-in-Cannot : (t₀ : ℕ) → elements_lts.Need-returns-in-Cannot (elements_calls t₀) (elements_at t₀) elements.Post elements_Inv_loop elements_μ_loop
+elements-returns-in-Cannot t₀ c known vars stands left_over enough =
+    let a = c.args in
+    let l = c.loop-d in
+    let started = c.starts in
+    let stop = c.in-Cannot in
     let t = l.invariant.0 known vars stands left_over enough in
-    let o = rw stop.given.1 at started.ensures in
-    linked_cannot a.left left_over a.text.now a.rest.now a.from a.base known vars a.c a.s.now a.item.now l.d l.s l.names l.item t stop.given.0.0 o.0 o.1
+    let o = rw stop.is at started.ensures in
+    linked_cannot a.left left_over a.text.now a.rest.now a.from a.base known vars a.c a.s.now a.item.now l.d l.s l.names l.item t stop.a o.0 o.1
