@@ -91,7 +91,7 @@ pub +copy-arguments-copy-compound-spec : {M : Type 1} → statement M
     -- add-free-2
     (λ c.
     let S = c.before.before.before.before.before.before.before in let a = S.args in
-    let inside = calls.copy-inside a.s.now a.pair a.to a.p _ c.before.before.before.before.count.ensures S.requires.1 in
+    let inside = calls.copy_inside a.s.now a.pair a.to a.p _ c.before.before.before.before.count.ensures S.requires.1 in
     omega (arith, inside, S.well-formed))
     -- loop-holds
     (λ c. let a = c.before.before.before.before.before.before.before.args in calls.walk_begins _ a.pair a.to a.p _)
@@ -100,7 +100,7 @@ pub +copy-arguments-copy-compound-spec : {M : Type 1} → statement M
     let W = c.before.before in let L = W.loop in let S = W.before.before.before.before.before.before.before.before in let a = S.args in
     let counted = W.before.before.before.before.before.count.ensures in let put = W.before.before.before.copy-functor.ensures in
     let inside = calls.compound_inside a.s.now a.pair a.to a.p S.requires.1 in
-    let size = calls.walk-size a.s.now a.pair a.to a.p _ counted _ put L.s L.free L.i L.invariant S.requires.1 in
+    let size = calls.walk_size a.s.now a.pair a.to a.p _ counted _ put L.s L.free L.i L.invariant S.requires.1 in
     omega (arith, c.before.loop-test.true, inside.0, size.0, size.1))
     -- look-requires
     (λ c κs. tt)
@@ -109,35 +109,35 @@ pub +copy-arguments-copy-compound-spec : {M : Type 1} → statement M
     (λ c.
     let W = c.before.before.before.before.before.before.before.before in let L = W.loop in let S = W.before.before.before.before.before.before.before.before in let a = S.args in
     let counted = W.before.before.before.before.before.count.ensures in let put = W.before.before.before.copy-functor.ensures in
-    let inside = calls.copy-inside a.s.now a.pair a.to a.p _ counted S.requires.1 in
+    let inside = calls.copy_inside a.s.now a.pair a.to a.p _ counted S.requires.1 in
     omega (arith, c.before.before.before.before.before.before.before.loop-test.true, inside, S.well-formed))
     (λ c κs.
     let W = c.before.before.before.before.before.before.before.before in let L = W.loop in let S = W.before.before.before.before.before.before.before.before in let a = S.args in
     let counted = W.before.before.before.before.before.count.ensures in let put = W.before.before.before.copy-functor.ensures in
     let A = c.before.before.before.before.before.argument in
     let said = sym c.before.before.before.before.look.ensures ∙ c.before.before.q.given.1 in
-    calls.walk-asks a.s.now a.pair a.to a.p _ counted _ put L.s L.free L.i L.invariant S.requires.1 c.before.before.before.before.before.before.before.loop-test.true A.result A.ensures _ said t S.requires.0)
+    calls.walk_asks a.s.now a.pair a.to a.p _ counted _ put L.s L.free L.i L.invariant S.requires.1 c.before.before.before.before.before.before.before.loop-test.true A.result A.ensures _ said t S.requires.0)
     -- one that is none
     (λ c.
     let W = c.before.before.before.before.before.before in let L = W.loop in let S = W.before.before.before.before.before.before.before.before in let a = S.args in
     let counted = W.before.before.before.before.before.count.ensures in let put = W.before.before.before.copy-functor.ensures in
-    let inside = calls.copy-inside a.s.now a.pair a.to a.p _ counted S.requires.1 in
+    let inside = calls.copy_inside a.s.now a.pair a.to a.p _ counted S.requires.1 in
     omega (arith, c.before.before.before.before.before.loop-test.true, inside, S.well-formed))
     (λ c κs.
     let W = c.before.before.before.before.before.before in let L = W.loop in let S = W.before.before.before.before.before.before.before.before in let a = S.args in
     let counted = W.before.before.before.before.before.count.ensures in let put = W.before.before.before.copy-functor.ensures in
     let A = c.before.before.before.argument in
-    calls.pair_fits L.s a.pair _ _ A.result (calls.walk-term a.s.now a.pair a.to a.p _ counted _ put L.s L.free L.i L.invariant S.requires.1 c.before.before.before.before.before.loop-test.true A.result A.ensures))
+    calls.pair_fits L.s a.pair _ _ A.result (calls.walk_term a.s.now a.pair a.to a.p _ counted _ put L.s L.free L.i L.invariant S.requires.1 c.before.before.before.before.before.loop-test.true A.result A.ensures))
     (λ c κs.
     let W = c.before.before.before.before.before.before.before in let L = W.loop in let S = W.before.before.before.before.before.before.before.before in let a = S.args in
     let counted = W.before.before.before.before.before.count.ensures in let put = W.before.before.before.copy-functor.ensures in
     let A = c.before.before.before.before.argument in
-    calls.term-inside L.s a.pair _ _ A.result (calls.walk-term a.s.now a.pair a.to a.p _ counted _ put L.s L.free L.i L.invariant S.requires.1 c.before.before.before.before.before.before.loop-test.true A.result A.ensures))
+    calls.term_inside L.s a.pair _ _ A.result (calls.walk_term a.s.now a.pair a.to a.p _ counted _ put L.s L.free L.i L.invariant S.requires.1 c.before.before.before.before.before.before.loop-test.true A.result A.ensures))
     -- add_i
     (λ c.
     let W = c.before.before.before.before.before in let L = W.loop in let S = W.before.before.before.before.before.before.before.before in let a = S.args in
     let counted = W.before.before.before.before.before.count.ensures in let put = W.before.before.before.copy-functor.ensures in
-    let size = calls.walk-size a.s.now a.pair a.to a.p _ counted _ put L.s L.free L.i L.invariant S.requires.1 in
+    let size = calls.walk_size a.s.now a.pair a.to a.p _ counted _ put L.s L.free L.i L.invariant S.requires.1 in
     omega (arith, c.before.before.before.before.loop-test.true, size.1))
     -- loop-less
     (λ c. omega (arith, c.before.before.before.before.loop-test.true))
@@ -153,13 +153,13 @@ pub +copy-arguments-copy-compound-spec : {M : Type 1} → statement M
     on _ _ (calls.whole_tells L.s a.pair (a.to + L.i) L.free A.result _ said _ _ v.4.ensures) M.s M.free v.7 v.8)
     (λ v.
     let plain = rw c.before.look.ensures at v.0.keys2 in
-    on _ _ (calls.moved-tells L.s a.pair (a.to + L.i) L.free A.result plain _ v.2.ensures) M.s M.free (v.6 ∙ v.3.ensures) v.7)
+    on _ _ (calls.moved_tells L.s a.pair (a.to + L.i) L.free A.result plain _ v.2.ensures) M.s M.free (v.6 ∙ v.3.ensures) v.7)
     M.branch)
     -- same-length
     (λ c.
     let W = c.before in let L = W.loop in let S = W.before.before.before.before.before.before.before.before in let a = S.args in
     let counted = W.before.before.before.before.before.count.ensures in let put = W.before.before.before.copy-functor.ensures in
-    (calls.walk-size a.s.now a.pair a.to a.p _ counted _ put L.s L.free L.i L.invariant S.requires.1).0)
+    (calls.walk_size a.s.now a.pair a.to a.p _ counted _ put L.s L.free L.i L.invariant S.requires.1).0)
     -- returns
     (λ c.
     let W = c.before in let L = W.loop in let S = W.before.before.before.before.before.before.before.before in let a = S.args in
@@ -178,16 +178,16 @@ pub +copy-arguments-copy-compound-spec : {M : Type 1} → statement M
     -- placed-requires
     (λ c κs.
     let S = c.before.before in let a = S.args in
-    (omega arith, omega (arith, (calls.whole-inside a.s.now a.pair a.at a.to a.p S.requires.1).1, S.well-formed)))
+    (omega arith, omega (arith, (calls.whole_inside a.s.now a.pair a.at a.to a.p S.requires.1).1, S.well-formed)))
     -- put-requires
-    (λ c κs. let S = c.before.before.before in let a = S.args in (calls.whole-inside a.s.now a.pair a.at a.to a.p S.requires.1).0)
+    (λ c κs. let S = c.before.before.before in let a = S.args in (calls.whole_inside a.s.now a.pair a.at a.to a.p S.requires.1).0)
     -- copy-arguments-requires
     (λ c κs.
     let S = c.before.before.before.before.before.before.before in let a = S.args in
-    calls.compound-asks a.s.now a.pair a.at a.to a.p S.requires.1 _ _ c.before.before.before.put.ensures t S.requires.0)
+    calls.compound_asks a.s.now a.pair a.at a.to a.p S.requires.1 _ _ c.before.before.before.put.ensures t S.requires.0)
     -- same-length
     (λ c. c.before.before.copy-arguments.auto.0 ∙ c.before.before.before.before.before.before.put.auto.0)
     -- returns
     (λ c.
     let a = c.before.before.before.before.before.before.before.before.before.before.args in
-    calls.compound-tells a.s.now a.pair a.at a.to a.p _ _ _ _ c.before.before.before.before.before.before.put.ensures c.before.before.before.before.before.before.before.placed.ensures c.before.before.copy-arguments.ensures))
+    calls.compound_tells a.s.now a.pair a.at a.to a.p _ _ _ _ c.before.before.before.before.before.before.put.ensures c.before.before.before.before.before.before.before.placed.ensures c.before.before.copy-arguments.ensures))
