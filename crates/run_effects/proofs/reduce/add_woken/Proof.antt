@@ -61,7 +61,7 @@ push-requires c κs =
     let r = L.invariant.1 p.0 p.1 p.2 p.3 p.4 p.5 in
     steps.room S.args.s.now S.args.log p.0 p.1 p.2 p.3 p.4 S.args.n S.args.queue S.args.size S.args.front S.args.active p.5
     L.s L.i r less _ read _ _
-    (c.before.before.before.take-goal.ensures.log p.0 p.1 p.2 _ _
+    (c.before.before.before.take-goal.ensures.1.1 p.0 p.1 p.2 _ _
     (steps.goal_there S.args.s.now S.args.log p.0 p.1 p.2 p.3 p.4 S.args.n S.args.queue S.args.size S.args.front S.args.active p.5
     L.s L.i r less _ read))
 
@@ -82,7 +82,7 @@ loop-i-preserved c =
           let r = L.invariant.1 waiters sets pairs slots zs a in
           steps.rejoining_on S.args.s.now S.args.log waiters sets pairs slots zs S.args.n S.args.queue S.args.size S.args.front S.args.active a
           L.s L.i r less _ read _ _
-          (c.before.before.before.before.before.before.take-goal.ensures.log waiters sets pairs _ _
+          (c.before.before.before.before.before.before.take-goal.ensures.1.1 waiters sets pairs _ _
           (steps.goal_there S.args.s.now S.args.log waiters sets pairs slots zs S.args.n S.args.queue S.args.size S.args.front S.args.active a
           L.s L.i r less _ read))
           _ c.before.before.push.ensures,
