@@ -79,11 +79,10 @@ returns-then-not-fits c =
     let third = c.before.before in
     let second = third.before.before in
     let first = second.before.before in
-    let S = first.before.before.before.before.before.before in
     let e_pairs = first.index-pairs.ensures ∙ first.before.word_at.ensures ∙ red.at.held.pairs in
     let e_compounds = second.index-compounds.ensures ∙ second.before.word_at-2.ensures ∙ red.at.held.compounds in
     let e_body = third.index-body.ensures ∙ third.before.word_at-3.ensures ∙ red.at.held.goals in
-    let fit = calls.fit_told taken clause given _ _ _ e_pairs e_compounds e_body _ false c.before.fits2.ensures (calls.not_true _ c.if-not-fits.true) in
+    let fit = calls.fit_told taken clause given _ _ _ e_pairs e_compounds e_body _ false c.before.fits.ensures c.if-not-fits.true in
     calls.reduction_stops taken red fit
 
 behind-front-requires : tie.Need-behind-front-requires
@@ -114,7 +113,7 @@ assign_head-requires c κs =
     let e_pairs = first.index-pairs.ensures ∙ first.before.word_at.ensures ∙ red.at.held.pairs in
     let e_compounds = second.index-compounds.ensures ∙ second.before.word_at-2.ensures ∙ red.at.held.compounds in
     let e_body = third.index-body.ensures ∙ third.before.word_at-3.ensures ∙ red.at.held.goals in
-    let fit = calls.fit_told taken p.8 p.9 _ _ _ e_pairs e_compounds e_body _ true test.before.fits2.ensures (calls.not_false _ test.if-not-fits.false) in
+    let fit = calls.fit_told taken p.8 p.9 _ _ _ e_pairs e_compounds e_body _ true test.before.fits.ensures test.if-not-fits.false in
     calls.asks_1 taken red fit
     c.values.ensures e_pairs
 
@@ -142,7 +141,7 @@ assign_goal-free-requires c κs =
     let e_pairs = first.index-pairs.ensures ∙ first.before.word_at.ensures ∙ red.at.held.pairs in
     let e_compounds = second.index-compounds.ensures ∙ second.before.word_at-2.ensures ∙ red.at.held.compounds in
     let e_body = third.index-body.ensures ∙ third.before.word_at-3.ensures ∙ red.at.held.goals in
-    let fit = calls.fit_told taken p.8 p.9 _ _ _ e_pairs e_compounds e_body _ true test.before.fits2.ensures (calls.not_false _ test.if-not-fits.false) in
+    let fit = calls.fit_told taken p.8 p.9 _ _ _ e_pairs e_compounds e_body _ true test.before.fits.ensures test.if-not-fits.false in
     calls.asks_2 taken red fit
     heads.before.values.ensures e_pairs heads.assign_head.ensures c.values-2.ensures
 
@@ -194,7 +193,7 @@ wake-woken-requires c κs =
     let e_pairs = first.index-pairs.ensures ∙ first.before.word_at.ensures ∙ red.at.held.pairs in
     let e_compounds = second.index-compounds.ensures ∙ second.before.word_at-2.ensures ∙ red.at.held.compounds in
     let e_body = third.index-body.ensures ∙ third.before.word_at-3.ensures ∙ red.at.held.goals in
-    let fit = calls.fit_told taken p.8 p.9 _ _ _ e_pairs e_compounds e_body _ true test.before.fits2.ensures (calls.not_false _ test.if-not-fits.false) in
+    let fit = calls.fit_told taken p.8 p.9 _ _ _ e_pairs e_compounds e_body _ true test.before.fits.ensures test.if-not-fits.false in
     calls.asks_3 taken red fit
     heads.before.values.ensures e_pairs heads.assign_head.ensures gives.before.values-2.ensures gives.assign_goal-free.ensures
     c.before.before.waiting.ensures c.before.waiters.ensures c.sets.ensures
@@ -263,7 +262,7 @@ add_goals-cells-requires c κs =
     let e_pairs = first.index-pairs.ensures ∙ first.before.word_at.ensures ∙ red.at.held.pairs in
     let e_compounds = second.index-compounds.ensures ∙ second.before.word_at-2.ensures ∙ red.at.held.compounds in
     let e_body = third.index-body.ensures ∙ third.before.word_at-3.ensures ∙ red.at.held.goals in
-    let fit = calls.fit_told taken p.8 p.9 _ _ _ e_pairs e_compounds e_body _ true test.before.fits2.ensures (calls.not_false _ test.if-not-fits.false) in
+    let fit = calls.fit_told taken p.8 p.9 _ _ _ e_pairs e_compounds e_body _ true test.before.fits.ensures test.if-not-fits.false in
     calls.asks_4 taken red fit
     heads.before.values.ensures e_pairs heads.assign_head.ensures gives.before.values-2.ensures gives.assign_goal-free.ensures
     wakes.before.before.before.waiting.ensures wakes.before.before.waiters.ensures wakes.before.sets.ensures
@@ -328,7 +327,7 @@ add_woken-requires c κs =
     let e_pairs = first.index-pairs.ensures ∙ first.before.word_at.ensures ∙ red.at.held.pairs in
     let e_compounds = second.index-compounds.ensures ∙ second.before.word_at-2.ensures ∙ red.at.held.compounds in
     let e_body = third.index-body.ensures ∙ third.before.word_at-3.ensures ∙ red.at.held.goals in
-    let fit = calls.fit_told taken p.8 p.9 _ _ _ e_pairs e_compounds e_body _ true test.before.fits2.ensures (calls.not_false _ test.if-not-fits.false) in
+    let fit = calls.fit_told taken p.8 p.9 _ _ _ e_pairs e_compounds e_body _ true test.before.fits.ensures test.if-not-fits.false in
     calls.asks_5 taken red fit
     heads.before.values.ensures e_pairs heads.assign_head.ensures gives.before.values-2.ensures gives.assign_goal-free.ensures
     wakes.before.before.before.waiting.ensures wakes.before.before.waiters.ensures wakes.before.sets.ensures
@@ -353,7 +352,7 @@ count_try-requires c κs =
     let e_pairs = first.index-pairs.ensures ∙ first.before.word_at.ensures ∙ red.at.held.pairs in
     let e_compounds = second.index-compounds.ensures ∙ second.before.word_at-2.ensures ∙ red.at.held.compounds in
     let e_body = third.index-body.ensures ∙ third.before.word_at-3.ensures ∙ red.at.held.goals in
-    let fit = calls.fit_told taken p.8 p.9 _ _ _ e_pairs e_compounds e_body _ true test.before.fits2.ensures (calls.not_false _ test.if-not-fits.false) in
+    let fit = calls.fit_told taken p.8 p.9 _ _ _ e_pairs e_compounds e_body _ true test.before.fits.ensures test.if-not-fits.false in
     calls.asks_6 taken red fit
     heads.before.values.ensures e_pairs heads.assign_head.ensures gives.before.values-2.ensures gives.assign_goal-free.ensures
     wakes.before.before.before.waiting.ensures wakes.before.before.waiters.ensures wakes.before.sets.ensures
@@ -433,7 +432,7 @@ overflow_add-result-4 c =
     let e_pairs = first.index-pairs.ensures ∙ first.before.word_at.ensures ∙ red.at.held.pairs in
     let e_compounds = second.index-compounds.ensures ∙ second.before.word_at-2.ensures ∙ red.at.held.compounds in
     let e_body = third.index-body.ensures ∙ third.before.word_at-3.ensures ∙ red.at.held.goals in
-    let fit = calls.fit_told taken p.8 p.9 _ _ _ e_pairs e_compounds e_body _ true test.before.fits2.ensures (calls.not_false _ test.if-not-fits.false) in
+    let fit = calls.fit_told taken p.8 p.9 _ _ _ e_pairs e_compounds e_body _ true test.before.fits.ensures test.if-not-fits.false in
     let few =
     calls.woken_few taken red fit
     heads.before.values.ensures e_pairs heads.assign_head.ensures gives.before.values-2.ensures gives.assign_goal-free.ensures
@@ -462,7 +461,7 @@ overflow_sub-result c =
     let e_pairs = first.index-pairs.ensures ∙ first.before.word_at.ensures ∙ red.at.held.pairs in
     let e_compounds = second.index-compounds.ensures ∙ second.before.word_at-2.ensures ∙ red.at.held.compounds in
     let e_body = third.index-body.ensures ∙ third.before.word_at-3.ensures ∙ red.at.held.goals in
-    let fit = calls.fit_told taken p.8 p.9 _ _ _ e_pairs e_compounds e_body _ true test.before.fits2.ensures (calls.not_false _ test.if-not-fits.false) in
+    let fit = calls.fit_told taken p.8 p.9 _ _ _ e_pairs e_compounds e_body _ true test.before.fits.ensures test.if-not-fits.false in
     (calls.woken_few taken red fit
     heads.before.values.ensures e_pairs heads.assign_head.ensures gives.before.values-2.ensures gives.assign_goal-free.ensures
     wakes.before.before.before.waiting.ensures wakes.before.before.waiters.ensures wakes.before.sets.ensures
@@ -503,7 +502,7 @@ shape_of-s c =
     let e_pairs = first.index-pairs.ensures ∙ first.before.word_at.ensures ∙ red.at.held.pairs in
     let e_compounds = second.index-compounds.ensures ∙ second.before.word_at-2.ensures ∙ red.at.held.compounds in
     let e_body = third.index-body.ensures ∙ third.before.word_at-3.ensures ∙ red.at.held.goals in
-    let fit = calls.fit_told taken p.8 p.9 _ _ _ e_pairs e_compounds e_body _ true test.before.fits2.ensures (calls.not_false _ test.if-not-fits.false) in
+    let fit = calls.fit_told taken p.8 p.9 _ _ _ e_pairs e_compounds e_body _ true test.before.fits.ensures test.if-not-fits.false in
     calls.size_6 taken red fit
     heads.before.values.ensures e_pairs heads.assign_head.ensures gives.before.values-2.ensures gives.assign_goal-free.ensures
     wakes.before.before.before.waiting.ensures wakes.before.before.waiters.ensures wakes.before.sets.ensures
@@ -527,7 +526,7 @@ returns c =
     let e_pairs = first.index-pairs.ensures ∙ first.before.word_at.ensures ∙ red.at.held.pairs in
     let e_compounds = second.index-compounds.ensures ∙ second.before.word_at-2.ensures ∙ red.at.held.compounds in
     let e_body = third.index-body.ensures ∙ third.before.word_at-3.ensures ∙ red.at.held.goals in
-    let fit = calls.fit_told taken clause given _ _ _ e_pairs e_compounds e_body _ true test.before.fits2.ensures (calls.not_false _ test.if-not-fits.false) in
+    let fit = calls.fit_told taken clause given _ _ _ e_pairs e_compounds e_body _ true test.before.fits.ensures test.if-not-fits.false in
     calls.ends taken red fit
     heads.before.values.ensures e_pairs heads.assign_head.ensures gives.before.values-2.ensures gives.assign_goal-free.ensures
     wakes.before.before.before.waiting.ensures wakes.before.before.waiters.ensures wakes.before.sets.ensures
