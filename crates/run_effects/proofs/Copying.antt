@@ -31,7 +31,7 @@ use Rattle.meaning.specs.Terms.{
 use Rattle.term.specs.Words.{view, writer_word, reader_word, compound_word, tag_in, rest_in}
 use Rattle.term.specs.declared.word.View.{View}
 use Rattle.term.specs.contracts.word.View.{the_type}
-use Rattle.term.specs.declared.word.View.TheVariants.{Writer, Reader, Compound}
+use Rattle.term.specs.declared.word.View.TheVariants.{Nothing, Writer, Reader, Integer, Name, Empty, Compound}
 use Rattle.term.specs.Cells.{Places, term_word, functor_word}
 use Rattle.term.specs.Holds.{Holds, HoldsFrom}
 use Rattle.term.specs.Setting.{Within, AllWithin}
@@ -61,6 +61,15 @@ use Rattle.run_effects.proofs.Spreading.{copy_stays}
 -- What is seen is no compound, by its tag.
 abbrev pub NoCompound : View → Type 0
 NoCompound v = OneOf (0 ∷ 1 ∷ 2 ∷ 3 ∷ 4 ∷ 5 ∷ []) (tag_of the_type v)
+
+pub none_compound : (v : View) → ((p : ℕ) → v ≡ Compound p → ⊥) → NoCompound v
+none_compound Nothing k = inl refl
+none_compound (Writer m) k = inr (inl refl)
+none_compound (Reader m) k = inr (inr (inl refl))
+none_compound (Integer i) k = inr (inr (inr (inl refl)))
+none_compound (Name n) k = inr (inr (inr (inr (inl refl))))
+none_compound Empty k = inr (inr (inr (inr (inr refl))))
+none_compound (Compound p) k = absurd (k p refl)
 
 module _ (s : List ℕ) (x : Item) (pair to h : ℕ) where
   -- A writer or a reader is one of the item's pairs.

@@ -28,7 +28,7 @@ Assigns s₀ values pair to n s free i =
 
 module _ (s₀ : List ℕ) (values pair to n : ℕ) where
   pub assigns_none : Assigns s₀ values pair to n s₀ to 0
-  assigns_none x unit bound list a = (list, assigned.none-assigned s₀ x unit values bound pair to n list a)
+  assigns_none x unit bound list a = (list, assigned.none_assigned s₀ x unit values bound pair to n list a)
 
   module _ (s : List ℕ) (free i : ℕ) (walk : Assigns s₀ values pair to n s free i) where
     pub assigns_size : AsksEntries s₀ values pair to n → (length s ≡ length s₀) × (n ≤ 192)
@@ -43,7 +43,7 @@ module _ (s₀ : List ℕ) (values pair to n : ℕ) where
         → AsksTerm s pair (values + z) free h
     assigns_asks (x, unit, bound, list, a) less h z place read =
         let (rest, g) = walk x unit bound list a in
-        let (e, others, is, at, b, aside) = assigned.next-entry s₀ x unit values bound pair to n list a s i free rest g less in
+        let (e, others, is, at, b, aside) = assigned.next_entry s₀ x unit values bound pair to n list a s i free rest g less in
         let where_it_is : z ≡ unit.pair e.pair = place ∙ at in
         let aside' : Aside s (values + z) free e.term = rw where_it_is aside in
         (x, e.term, rw read b, aside')
@@ -51,7 +51,7 @@ module _ (s₀ : List ℕ) (values pair to n : ℕ) where
     pub assigns_place : AsksEntries s₀ values pair to n → i < n → (z : ℕ) → z ≡ get_or s (gift_pair i) 0 → values + z < length s
     assigns_place (x, unit, bound, list, a) less z read =
         let (rest, g) = walk x unit bound list a in
-        let (e, others, is, at, b, aside) = assigned.next-entry s₀ x unit values bound pair to n list a s i free rest g less in
+        let (e, others, is, at, b, aside) = assigned.next_entry s₀ x unit values bound pair to n list a s i free rest g less in
         omega (arith, aside.inside)
 
     pub assigns_on : i < n → (s₁ : List ℕ) (r h z : ℕ) → z ≡ get_or s (gift_pair i) 0 → h ≡ get_or s (gift_term i) 0
@@ -64,7 +64,7 @@ module _ (s₀ : List ℕ) (values pair to n : ℕ) where
         → GoalAssigned s₀ s x unit values bound pair to list free
     assigns_all done x unit bound list a =
         let (rest, g) = walk x unit bound list a in
-        assigned.all-assigned s₀ x unit values bound pair to n list a s i free rest g done
+        assigned.all_assigned s₀ x unit values bound pair to n list a s i free rest g done
 
 -- Goals that join the queue, i of them so far.
 module _ (s₀ : List ℕ) (from n pair to mark queue size front active : ℕ) where
@@ -77,7 +77,7 @@ module _ (s₀ : List ℕ) (from n pair to mark queue size front active : ℕ) w
       → (rest : List Named) × added.Partly s₀ s x from n pair to mark queue size front active goals i free rest
 
   pub adds_none : Adds s₀ to 0
-  adds_none x goals a = (goals, added.none-added s₀ x from n pair to mark queue size front active goals a)
+  adds_none x goals a = (goals, added.none_added s₀ x from n pair to mark queue size front active goals a)
 
   -- How many there may be.
   pub adds_few : AsksGoals → (mark ≤ 4503599627370496) × (active + n ≤ size) × (queue + size ≤ length s₀)
@@ -103,7 +103,7 @@ module _ (s₀ : List ℕ) (from n pair to mark queue size front active : ℕ) w
       adds_asks (x, goals, a) =
           let (rest, g) = walk x goals a in
           let (d, others, same, b) =
-          added.next-goal s₀ x from n pair to mark queue size front active goals a s i free rest g less s₁ v pushed q read in
+          added.next_goal s₀ x from n pair to mark queue size front active goals a s i free rest g less s₁ v pushed q read in
           (x, d.number, named d.name, d.arguments, b)
 
       pub adds_on : (s₂ : List ℕ) (r : ℕ) → TellsCompound s₁ pair free q s₂ r → Adds s₂ r (i + 1)
@@ -115,4 +115,4 @@ module _ (s₀ : List ℕ) (from n pair to mark queue size front active : ℕ) w
         → Added s₀ s x n pair to mark queue size front active goals free
     adds_all done x goals a =
         let (rest, g) = walk x goals a in
-        added.all-added s₀ x from n pair to mark queue size front active goals a s i free rest g done
+        added.all_added s₀ x from n pair to mark queue size front active goals a s i free rest g done

@@ -60,7 +60,7 @@ module _ (queue size : ℕ) where
       (λ same. round_apart size at (suc n) (omega arith) less far (omega arith))
       in
       let later : ring (set s (queue + round size (at + suc n)) g) queue size (at + 1) (suc n) ≡ ring s queue size (at + 1) n ++ (g ∷ []) =
-      rw e (ring_stored s g (at + 1) n inside (omega arith) (omega arith))
+      ap (λ at'. ring (set s (queue + round size at') g) queue size (at + 1) (suc n)) e ∙ ring_stored s g (at + 1) n inside (omega arith) (omega arith)
       in
       cc
 

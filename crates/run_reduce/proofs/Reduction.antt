@@ -193,7 +193,7 @@ module _ {s : List ℕ} {text : Bytes} {names : List Bytes} {j : Job} {figures :
                   pub asks_5 : (ws : ℕ) × (ss : ℕ) × (all : ℕ) × (vs : List Slot) × (zs : List ℕ)
                       × AddsWoken s₄ waiting₂ ws ss all vs zs r queue₂ figures.goals front (active + body)
                   asks_5 =
-                      (waiters_region figures, sets_region figures, figures.pairs, slots, entry_places s₂ n, rw (d₂, d₃, e₈) (parts.adds-woken taken red fit s₁ h₁ s₂ r₂ h₂ s₃ r h₃ front body passed.front_inside e₉ s₄ r₄ h₄))
+                      (waiters_region figures, sets_region figures, figures.pairs, slots, entry_places s₂ n, rw (d₂, d₃, e₈) (parts.adds_woken taken red fit s₁ h₁ s₂ r₂ h₂ s₃ r h₃ front body passed.front_inside e₉ s₄ r₄ h₄))
 
                   module _ {s₅ : List ℕ} (raw₅ : (ws ss all : ℕ) (vs : List Slot) (zs : List ℕ)
                       → AddsWoken s₄ waiting₂ ws ss all vs zs r queue₂ figures.goals front (active + body)
@@ -202,23 +202,23 @@ module _ {s : List ℕ} {text : Bytes} {names : List Bytes} {j : Job} {figures :
                         (queue_region figures) figures.goals front (t.active - 1 + body)
                     h₅ =
                         (rw (d₂, d₃, e₈) at raw₅) _ _ _ _ _
-                        (parts.adds-woken taken red fit s₁ h₁ s₂ r₂ h₂ s₃ r h₃ front body passed.front_inside e₉ s₄ r₄ h₄)
+                        (parts.adds_woken taken red fit s₁ h₁ s₂ r₂ h₂ s₃ r h₃ front body passed.front_inside e₉ s₄ r₄ h₄)
 
                     size_5 : length s₅ ≡ length s
-                    size_5 = parts.size-5 taken red fit s₁ h₁ s₂ r₂ h₂ s₃ r h₃ front body passed.front_inside e₉ s₄ r₄ h₄ s₅ h₅
+                    size_5 = parts.size_5 taken red fit s₁ h₁ s₂ r₂ h₂ s₃ r h₃ front body passed.front_inside e₉ s₄ r₄ h₄ s₅ h₅
 
                     pub asks_6 : (query < 8) × (items_region ≤ length s₅) × (get_or s₅ (query_tries_word query) 0 ≤ 1000000)
                     asks_6 =
                         rw red.query_is (
-                          parts.few-query taken red fit,
+                          parts.few_query taken red fit,
                           omega (arith, size_5, taken.running.inside),
-                          parts.tries-few taken red fit s₁ h₁ s₂ r₂ h₂ s₃ r h₃ front body passed.front_inside e₉ s₄ r₄ h₄ s₅ h₅,
+                          parts.tries_few taken red fit s₁ h₁ s₂ r₂ h₂ s₃ r h₃ front body passed.front_inside e₉ s₄ r₄ h₄ s₅ h₅,
                         )
 
                     pub woken_few : (active + body + r ≤ figures.goals) × (r ≤ t.waiting)
                     woken_few = (
-                      rw e₈ (parts.adds-woken taken red fit s₁ h₁ s₂ r₂ h₂ s₃ r h₃ front body passed.front_inside e₉ s₄ r₄ h₄).space,
-                      parts.few-woken taken red fit s₁ h₁ s₂ r₂ h₂ s₃ r h₃,
+                      rw e₈ (parts.adds_woken taken red fit s₁ h₁ s₂ r₂ h₂ s₃ r h₃ front body passed.front_inside e₉ s₄ r₄ h₄).space,
+                      parts.few_woken taken red fit s₁ h₁ s₂ r₂ h₂ s₃ r h₃,
                     )
 
                     module _ (s₆ : List ℕ) (raw₆ : s₆ ≡ set s₅ (query_tries_word query) (get_or s₅ (query_tries_word query) 0 + 1)) where
@@ -231,4 +231,4 @@ module _ {s : List ℕ} {text : Bytes} {names : List Bytes} {j : Job} {figures :
                           (reduction_steps taken red _ u _ _ front (entry_places s₂ n) fit passed
                           (parts.reduced taken red fit s₁ h₁ s₂ r₂ h₂ s₃ r h₃ front body passed.front_inside e₉ s₄ r₄ h₄ s₅ h₅)
                           (rw (← h₃.number, ← h₄.behind) after)
-                          (parts.waked-are taken red fit s₁ h₁ s₂ r₂ h₂))
+                          (parts.waked_are taken red fit s₁ h₁ s₂ r₂ h₂))

@@ -15,7 +15,7 @@ copy_compound-requires : tie.Need-copy_compound-requires
 copy_compound-requires c κs =
     let S = c.before.before.before.before in let a = S.args in
     let said = sym c.before.before.look.ensures ∙ c.before.in-Compound.is in
-    calls.whole-asks a.s.now a.pair a.at a.to a.h S.requires _ said
+    calls.whole_asks a.s.now a.pair a.at a.to a.h S.requires _ said
 
 moved-requires : tie.Need-moved-requires
 moved-requires c κs = let S = c.before.before.before.before in let a = S.args in calls.pair_fits a.s.now a.pair a.at a.to a.h S.requires
@@ -39,7 +39,7 @@ returns-in_default : tie.Need-returns-in_default
 returns-in_default c =
     let a = c.before.before.before.before.before.before.before.before.args in
     rw c.before.before.put.ensures
-    (calls.moved-tells a.s.now a.pair a.at a.to a.h (rw c.before.before.before.before.before.before.look.ensures at c.before.before.before.before.before.in_default.in_default-own.keys2) _ c.before.before.before.moved.ensures)
+    (calls.moved_tells a.s.now a.pair a.at a.to a.h (rw c.before.before.before.before.before.before.look.ensures at c.before.before.before.before.before.in_default.in_default-own.keys2) _ c.before.before.before.moved.ensures)
 
 pub copy_spec : {M : Type 1} → statement M
 copy_spec =

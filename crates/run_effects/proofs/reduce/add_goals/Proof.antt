@@ -22,14 +22,14 @@ word_at-h-requires : tie.Need-word_at-h-requires invariant-loop-i decreases-loop
 word_at-h-requires c κs =
     let S = c.before.before.before in let a = S.args in
     let L = c.before.loop-i in
-    (calls.adds-inside a.s.now a.from a.n a.pair a.to a.mark a.queue a.size a.front a.active
+    (calls.adds_inside a.s.now a.from a.n a.pair a.to a.mark a.queue a.size a.front a.active
     L.s L.free L.i L.invariant S.requires c.loop-i-test.true).0
 
 overflow_add-active : tie.Need-overflow_add-active invariant-loop-i decreases-loop-i
 overflow_add-active c =
     let S = c.before.before.before.before.before in let a = S.args in
     let few =
-    calls.adds-few a.s.now a.from a.n a.pair a.to a.mark a.queue a.size a.front a.active S.requires
+    calls.adds_few a.s.now a.from a.n a.pair a.to a.mark a.queue a.size a.front a.active S.requires
     in
     omega (arith, c.before.before.loop-i-test.true, few.1, few.2, S.well_formed)
 
@@ -38,14 +38,14 @@ goal_of-requires c κs =
     let S = c.before.before.before.before.before in let a = S.args in
     let L = c.before.before.before.loop-i in
     let few =
-    calls.adds-few a.s.now a.from a.n a.pair a.to a.mark a.queue a.size a.front a.active S.requires
+    calls.adds_few a.s.now a.from a.n a.pair a.to a.mark a.queue a.size a.front a.active S.requires
     in
     let inside =
-    calls.adds-inside a.s.now a.from a.n a.pair a.to a.mark a.queue a.size a.front a.active
+    calls.adds_inside a.s.now a.from a.n a.pair a.to a.mark a.queue a.size a.front a.active
     L.s L.free L.i L.invariant S.requires c.before.before.loop-i-test.true
     in
     let same =
-    calls.adds-size a.s.now a.from a.n a.pair a.to a.mark a.queue a.size a.front a.active L.s L.free L.i L.invariant S.requires
+    calls.adds_size a.s.now a.from a.n a.pair a.to a.mark a.queue a.size a.front a.active L.s L.free L.i L.invariant S.requires
     in
     (omega (arith, inside.1, same, S.well_formed), few.0)
 
@@ -54,10 +54,10 @@ push-requires c κs =
     let S = c.before.before.before.before.before.before in let a = S.args in
     let L = c.before.before.before.before.loop-i in
     let few =
-    calls.adds-few a.s.now a.from a.n a.pair a.to a.mark a.queue a.size a.front a.active S.requires
+    calls.adds_few a.s.now a.from a.n a.pair a.to a.mark a.queue a.size a.front a.active S.requires
     in
     let ok =
-    calls.adds-ring a.s.now a.from a.n a.pair a.to a.mark a.queue a.size a.front a.active L.s L.free L.i L.invariant S.requires
+    calls.adds_ring a.s.now a.from a.n a.pair a.to a.mark a.queue a.size a.front a.active L.s L.free L.i L.invariant S.requires
     in
     (ok, omega (arith, c.before.before.before.loop-i-test.true, few.1))
 
@@ -69,7 +69,7 @@ copy_arguments-free-requires c κs =
     let S = c.before.before.before.before.before.before.before.before.before.before.before in let a = S.args in
     let L = c.before.before.before.before.before.before.before.before.before.loop-i in
     let G = c.before.before.before.before.before.goal_of in
-    calls.adds-asks a.s.now a.from a.n a.pair a.to a.mark a.queue a.size a.front a.active
+    calls.adds_asks a.s.now a.from a.n a.pair a.to a.mark a.queue a.size a.front a.active
     L.s L.free L.i L.invariant c.before.before.before.before.before.before.before.before.loop-i-test.true _ G.result G.ensures c.before.before.before.before.push.ensures
     _ (c.index.ensures ∙ ap (λ w. rest_in w) c.before.before.before.before.before.before.before.word_at-h.ensures) S.requires
 
@@ -77,7 +77,7 @@ overflow_add-i : tie.Need-overflow_add-i invariant-loop-i decreases-loop-i
 overflow_add-i c =
     let S = c.before.before.before.before.before.before.before.before.before.before.before.before.before.before in let a = S.args in
     let few =
-    calls.adds-few a.s.now a.from a.n a.pair a.to a.mark a.queue a.size a.front a.active S.requires
+    calls.adds_few a.s.now a.from a.n a.pair a.to a.mark a.queue a.size a.front a.active S.requires
     in
     omega (arith, c.before.before.before.before.before.before.before.before.before.before.before.loop-i-test.true, few.1, few.2, S.well_formed)
 
@@ -97,13 +97,13 @@ shape_of-s : tie.Need-shape_of-s invariant-loop-i decreases-loop-i
 shape_of-s c =
     let S = c.before.before.before in let a = S.args in
     let L = c.before.loop-i in
-    calls.adds-size a.s.now a.from a.n a.pair a.to a.mark a.queue a.size a.front a.active L.s L.free L.i L.invariant S.requires
+    calls.adds_size a.s.now a.from a.n a.pair a.to a.mark a.queue a.size a.front a.active L.s L.free L.i L.invariant S.requires
 
 returns : tie.Need-returns invariant-loop-i decreases-loop-i
 returns c =
     let a = c.before.before.before.args in
     let L = c.before.loop-i in
-    calls.adds-all a.s.now a.from a.n a.pair a.to a.mark a.queue a.size a.front a.active L.s L.free L.i L.invariant c.loop-i-test.false
+    calls.adds_all a.s.now a.from a.n a.pair a.to a.mark a.queue a.size a.front a.active L.s L.free L.i L.invariant c.loop-i-test.false
 
 pub add_goals_spec : {M : Type 1} → statement M
 add_goals_spec =

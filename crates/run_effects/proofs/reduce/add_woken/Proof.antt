@@ -24,7 +24,7 @@ loop-i-init c =
     let S = c.before in (
       omega arith,
       λ waiters sets pairs slots zs a.
-          steps.rejoining-begins S.args.s.now S.args.log waiters sets pairs slots zs S.args.n S.args.queue S.args.size S.args.front S.args.active a,
+          steps.rejoining_begins S.args.s.now S.args.log waiters sets pairs slots zs S.args.n S.args.queue S.args.size S.args.front S.args.active a,
     )
 
 word_at-requires : tie.Need-word_at-requires invariant-loop-i decreases-loop-i
@@ -43,7 +43,7 @@ take-goal-requires c κs =
     let S = c.before.before.before.before.before.before in
     let L = c.before.before.before.before.loop-i in
     let p = S.requires in
-    steps.slot-inside S.args.s.now S.args.log p.0 p.1 p.2 p.3 p.4 S.args.n S.args.queue S.args.size S.args.front S.args.active p.5
+    steps.slot_inside S.args.s.now S.args.log p.0 p.1 p.2 p.3 p.4 S.args.n S.args.queue S.args.size S.args.front S.args.active p.5
     L.s L.i (L.invariant.1 p.0 p.1 p.2 p.3 p.4 p.5) c.before.before.before.loop-i-test.true _
     (c.before.index-place.ensures ∙ c.before.before.word_at.ensures)
 
@@ -61,8 +61,8 @@ push-requires c κs =
     let r = L.invariant.1 p.0 p.1 p.2 p.3 p.4 p.5 in
     steps.room S.args.s.now S.args.log p.0 p.1 p.2 p.3 p.4 S.args.n S.args.queue S.args.size S.args.front S.args.active p.5
     L.s L.i r less _ read _ _
-    (c.before.before.before.take-goal.ensures.log p.0 p.1 p.2 _ _
-    (steps.goal-there S.args.s.now S.args.log p.0 p.1 p.2 p.3 p.4 S.args.n S.args.queue S.args.size S.args.front S.args.active p.5
+    (c.before.before.before.take-goal.ensures.1.1 p.0 p.1 p.2 _ _
+    (steps.goal_there S.args.s.now S.args.log p.0 p.1 p.2 p.3 p.4 S.args.n S.args.queue S.args.size S.args.front S.args.active p.5
     L.s L.i r less _ read))
 
 overflow_add-i : tie.Need-overflow_add-i invariant-loop-i decreases-loop-i
@@ -80,10 +80,10 @@ loop-i-preserved c =
       omega arith,
       λ waiters sets pairs slots zs a.
           let r = L.invariant.1 waiters sets pairs slots zs a in
-          steps.rejoining-on S.args.s.now S.args.log waiters sets pairs slots zs S.args.n S.args.queue S.args.size S.args.front S.args.active a
+          steps.rejoining_on S.args.s.now S.args.log waiters sets pairs slots zs S.args.n S.args.queue S.args.size S.args.front S.args.active a
           L.s L.i r less _ read _ _
-          (c.before.before.before.before.before.before.take-goal.ensures.log waiters sets pairs _ _
-          (steps.goal-there S.args.s.now S.args.log waiters sets pairs slots zs S.args.n S.args.queue S.args.size S.args.front S.args.active a
+          (c.before.before.before.before.before.before.take-goal.ensures.1.1 waiters sets pairs _ _
+          (steps.goal_there S.args.s.now S.args.log waiters sets pairs slots zs S.args.n S.args.queue S.args.size S.args.front S.args.active a
           L.s L.i r less _ read))
           _ c.before.before.push.ensures,
     )
@@ -98,7 +98,7 @@ returns c =
     let S = c.before.before.before in
     let L = c.before.loop-i in
     λ waiters sets pairs slots zs a.
-    steps.rejoining-ends S.args.s.now S.args.log waiters sets pairs slots zs S.args.n S.args.queue S.args.size S.args.front S.args.active a
+    steps.rejoining_ends S.args.s.now S.args.log waiters sets pairs slots zs S.args.n S.args.queue S.args.size S.args.front S.args.active a
     L.s L.i (L.invariant.1 waiters sets pairs slots zs a) (omega arith)
 
 pub add_woken_spec : {M : Type 1} → statement M

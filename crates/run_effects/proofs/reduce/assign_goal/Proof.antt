@@ -20,7 +20,7 @@ overflow_mul-i : tie.Need-overflow_mul-i invariant-loop-i decreases-loop-i
 overflow_mul-i c =
     let S = c.before.before.before in let a = S.args in
     let L = c.before.loop-i in
-    omega (arith, c.loop-i-test.true, (calls.assigns-size a.s.now a.values a.pair a.to a.n L.s L.free L.i L.invariant S.requires).1)
+    omega (arith, c.loop-i-test.true, (calls.assigns_size a.s.now a.values a.pair a.to a.n L.s L.free L.i L.invariant S.requires).1)
 
 word_at-requires : tie.Need-word_at-requires invariant-loop-i decreases-loop-i
 word_at-requires c κs =
@@ -28,7 +28,7 @@ word_at-requires c κs =
     let L = c.before.loop-i in
     omega (
       arith,
-      calls.assigns-inside a.s.now a.values a.pair a.to a.n L.s L.free L.i L.invariant S.requires c.loop-i-test.true,
+      calls.assigns_inside a.s.now a.values a.pair a.to a.n L.s L.free L.i L.invariant S.requires c.loop-i-test.true,
     )
 
 index-z-requires : tie.Need-index-z-requires invariant-loop-i decreases-loop-i
@@ -41,7 +41,7 @@ overflow_mul-i-in-loop-i : tie.Need-overflow_mul-i-in-loop-i invariant-loop-i de
 overflow_mul-i-in-loop-i c =
     let S = c.before.before.before.before.before in let a = S.args in
     let L = c.before.before.before.loop-i in
-    omega (arith, c.before.before.loop-i-test.true, (calls.assigns-size a.s.now a.values a.pair a.to a.n L.s L.free L.i L.invariant S.requires).1)
+    omega (arith, c.before.before.loop-i-test.true, (calls.assigns_size a.s.now a.values a.pair a.to a.n L.s L.free L.i L.invariant S.requires).1)
 
 word_at-h-requires : tie.Need-word_at-h-requires invariant-loop-i decreases-loop-i
 word_at-h-requires c κs =
@@ -49,7 +49,7 @@ word_at-h-requires c κs =
     let L = c.before.before.before.loop-i in
     omega (
       arith,
-      calls.assigns-inside a.s.now a.values a.pair a.to a.n L.s L.free L.i L.invariant S.requires c.before.before.loop-i-test.true,
+      calls.assigns_inside a.s.now a.values a.pair a.to a.n L.s L.free L.i L.invariant S.requires c.before.before.loop-i-test.true,
     )
 
 overflow_add-values : tie.Need-overflow_add-values invariant-loop-i decreases-loop-i
@@ -58,9 +58,9 @@ overflow_add-values c =
     let L = c.before.before.before.before.before.loop-i in
     let Z = c.before.before.index-z in
     let inside =
-    calls.assigns-place a.s.now a.values a.pair a.to a.n L.s L.free L.i L.invariant S.requires c.before.before.before.before.loop-i-test.true
+    calls.assigns_place a.s.now a.values a.pair a.to a.n L.s L.free L.i L.invariant S.requires c.before.before.before.before.loop-i-test.true
     Z.result (Z.ensures ∙ c.before.before.before.word_at.ensures) in
-    let size = calls.assigns-size a.s.now a.values a.pair a.to a.n L.s L.free L.i L.invariant S.requires in
+    let size = calls.assigns_size a.s.now a.values a.pair a.to a.n L.s L.free L.i L.invariant S.requires in
     omega (arith, inside, size.0, S.well_formed)
 
 copy-free-requires : tie.Need-copy-free-requires invariant-loop-i decreases-loop-i
@@ -69,14 +69,14 @@ copy-free-requires c κs =
     let L = c.before.before.before.before.before.loop-i in
     let Z = c.before.before.index-z in
     let H = c.before.word_at-h in
-    calls.assigns-asks a.s.now a.values a.pair a.to a.n L.s L.free L.i L.invariant S.requires c.before.before.before.before.loop-i-test.true
+    calls.assigns_asks a.s.now a.values a.pair a.to a.n L.s L.free L.i L.invariant S.requires c.before.before.before.before.loop-i-test.true
     H.result Z.result (Z.ensures ∙ c.before.before.before.word_at.ensures) H.ensures
 
 overflow_add-i : tie.Need-overflow_add-i invariant-loop-i decreases-loop-i
 overflow_add-i c =
     let S = c.before.before.before.before.before.before.before.before.before.before in let a = S.args in
     let L = c.before.before.before.before.before.before.before.before.loop-i in
-    omega (arith, c.before.before.before.before.before.before.before.loop-i-test.true, (calls.assigns-size a.s.now a.values a.pair a.to a.n L.s L.free L.i L.invariant S.requires).1)
+    omega (arith, c.before.before.before.before.before.before.before.loop-i-test.true, (calls.assigns_size a.s.now a.values a.pair a.to a.n L.s L.free L.i L.invariant S.requires).1)
 
 loop-i-smaller : tie.Need-loop-i-smaller invariant-loop-i decreases-loop-i
 loop-i-smaller c = omega (arith, c.before.before.before.before.before.before.before.loop-i-test.true)
@@ -87,20 +87,20 @@ loop-i-preserved c =
     let L = c.before.before.before.before.before.before.before.before.loop-i in
     let Z = c.before.before.before.before.before.index-z in
     let H = c.before.before.before.before.word_at-h in
-    calls.assigns-on a.s.now a.values a.pair a.to a.n L.s L.free L.i L.invariant c.before.before.before.before.before.before.before.loop-i-test.true _ _
+    calls.assigns_on a.s.now a.values a.pair a.to a.n L.s L.free L.i L.invariant c.before.before.before.before.before.before.before.loop-i-test.true _ _
     H.result Z.result (Z.ensures ∙ c.before.before.before.before.before.before.word_at.ensures) H.ensures c.before.before.copy-free.ensures
 
 shape_of-s : tie.Need-shape_of-s invariant-loop-i decreases-loop-i
 shape_of-s c =
     let S = c.before.before.before in let a = S.args in
     let L = c.before.loop-i in
-    (calls.assigns-size a.s.now a.values a.pair a.to a.n L.s L.free L.i L.invariant S.requires).0
+    (calls.assigns_size a.s.now a.values a.pair a.to a.n L.s L.free L.i L.invariant S.requires).0
 
 returns : tie.Need-returns invariant-loop-i decreases-loop-i
 returns c =
     let a = c.before.before.before.args in
     let L = c.before.loop-i in
-    calls.assigns-all a.s.now a.values a.pair a.to a.n L.s L.free L.i L.invariant c.loop-i-test.false
+    calls.assigns_all a.s.now a.values a.pair a.to a.n L.s L.free L.i L.invariant c.loop-i-test.false
 
 pub assign_goal_spec : {M : Type 1} → statement M
 assign_goal_spec =

@@ -1,13 +1,13 @@
 -- `run_effects::reduce::insert` meets its contract: the words from i on have moved on by one, and none of them is less than the place.
 use Prim.Native.Nat.{◌+◌, ◌-◌}
 use mathlib.Core.Path.{ap, ◌∙◌}
-use mathlib.Core.Logic.{⊎_elim}
 use native.Mathlib.Omega.{arith}
 use lib.ListN.{length, length-set}
 use Rattle.term.specs.Layout.{woken_part}
 use borrow.Author.Rules.{rules}
 use Rattle.run_effects.proofs.Inserting.{Opened, opened_begins, opened_on, opened_ends, lower, lower_than}
 use Rattle.run_effects.proofs.reduce.insert.Statement.{statement}
+use Rattle.run_effects.proofs.reduce.insert.Lts.{else-loop-i-test, then-loop-i-test+then-index-place}
 use Rattle.run_effects.proofs.reduce.insert.Tie as tie
 
 abbrev invariant-loop-i : tie.invariant-loop-i
@@ -75,11 +75,12 @@ returns c =
     let L = c.before.before.before.before.before.before.loop-i in
     rw (c.before.before.set_at-2.ensures, c.before.before.before.word.ensures)
     (opened_ends S.args.s.now L.s S.args.place S.args.woken L.i S.requires L.invariant
-    (⊎_elim
-    (λ l. lower S.args.s.now L.s S.args.place S.args.woken L.i S.requires L.invariant (omega (arith, l.left)))
-    (λ w. lower_than S.args.s.now L.s S.args.place S.args.woken L.i S.requires L.invariant (L.i - 1) (omega (arith, w.0.taken))
-    (omega (arith, w.4.taken, w.3.ensures, w.2.ensures)))
-    c.before.before.before.before.before.loop-i-test.branch))
+    (elim c.before.before.before.before.before.loop-i-test.branch [
+        else-loop-i-test w ↦ lower S.args.s.now L.s S.args.place S.args.woken L.i S.requires L.invariant (omega (arith, w.loop-i-test.false))
+      | then-loop-i-test+then-index-place w ↦
+          lower_than S.args.s.now L.s S.args.place S.args.woken L.i S.requires L.invariant (L.i - 1) (omega (arith, w.loop-i-test.true))
+          (omega (arith, w.if-index-place.true, w.index.ensures, w.word_at-before.ensures))
+    ]))
 
 pub insert_spec : {M : Type 1} → statement M
 insert_spec =

@@ -1,7 +1,6 @@
 -- `run_effects::reduce::wake` meets its contract: after i entries the goals found wait on nothing, and their places are listed.
 use Prim.Native.Nat.{ℕ, ◌-◌, ◌≤◌}
 use mathlib.Core.Path.{sym, ◌∙◌}
-use mathlib.Core.Logic.{⊎_elim}
 use mathlib.Core.List.{List}
 use native.Mathlib.Omega.{arith}
 use borrow.Author.Rules.{rules}
@@ -9,6 +8,7 @@ use Rattle.run_queues.specs.Log.{Slot}
 use Rattle.run_effects.specs.Reducing.{Wakes, quieted, entry_places}
 use Rattle.run_effects.proofs.Awaking as steps
 use Rattle.run_effects.proofs.reduce.wake.Statement.{statement}
+use Rattle.run_effects.proofs.reduce.wake.Lts.{then-waiter-ne0, else-waiter-ne0}
 use Rattle.run_effects.proofs.reduce.wake.Tie as tie
 
 abbrev invariant-loop-i : tie.invariant-loop-i
@@ -33,7 +33,7 @@ word_at-requires c κs =
     let S = c.before.before.before in
     let L = c.before.loop-i in
     let p = S.requires in
-    steps.entry-inside S.args.s.now S.args.log S.args.waiters S.args.sets p.0 p.1 S.args.n p.2 L.s L.i L.woken
+    steps.entry_inside S.args.s.now S.args.log S.args.waiters S.args.sets p.0 p.1 S.args.n p.2 L.s L.i L.woken
     (L.invariant.1 p.0 p.1 p.2) c.loop-i-test.true
 
 index-z-requires : tie.Need-index-z-requires invariant-loop-i decreases-loop-i
@@ -44,7 +44,7 @@ word_at-requires-in-loop-i c κs =
     let S = c.before.before.before.before.before in
     let L = c.before.before.before.loop-i in
     let p = S.requires in
-    steps.waiter-inside S.args.s.now S.args.log S.args.waiters S.args.sets p.0 p.1 S.args.n p.2 L.s L.i L.woken
+    steps.waiter_inside S.args.s.now S.args.log S.args.waiters S.args.sets p.0 p.1 S.args.n p.2 L.s L.i L.woken
     (L.invariant.1 p.0 p.1 p.2) c.before.before.loop-i-test.true _
     (c.index-z.ensures ∙ c.before.word_at.ensures)
 
@@ -69,7 +69,7 @@ leave-requires c κs =
       quieted (entry_places S.args.s.now L.i) p.1,
       f.0,
       f.1,
-      steps.waits-at S.args.s.now S.args.log S.args.waiters S.args.sets p.0 p.1 S.args.n p.2 L.s L.i L.woken a less _ read _ j,
+      steps.waits_at S.args.s.now S.args.log S.args.waiters S.args.sets p.0 p.1 S.args.n p.2 L.s L.i L.woken a less _ read _ j,
     )
 
 overflow_sub-waiter-then-waiter-ne0 : tie.Need-overflow_sub-waiter-then-waiter-ne0 invariant-loop-i decreases-loop-i
@@ -88,7 +88,7 @@ insert-requires c κs =
     let j = steps.place_before _ _ waiter C.before.if-waiter-ne0.true in
     steps.inserting S.args.s.now S.args.log S.args.waiters S.args.sets p.0 p.1 S.args.n p.2 L.s L.i L.woken a less _ read _ j _
     (c.before.before.before.leave.ensures p.0 _ _ _
-    (steps.waits-at S.args.s.now S.args.log S.args.waiters S.args.sets p.0 p.1 S.args.n p.2 L.s L.i L.woken a less _ read _ j))
+    (steps.waits_at S.args.s.now S.args.log S.args.waiters S.args.sets p.0 p.1 S.args.n p.2 L.s L.i L.woken a less _ read _ j))
 
 overflow_add-woken : tie.Need-overflow_add-woken invariant-loop-i decreases-loop-i
 overflow_add-woken c =
@@ -113,19 +113,19 @@ loop-i-preserved c =
       omega arith,
       λ pairs slots w.
           let a = L.invariant.1 pairs slots w in
-          ⊎_elim
-          (λ t.
-          let j = steps.place_before _ _ waiter t.0.taken in
-          rw (t.9, t.10)
-          (steps.awake-one S.args.s.now S.args.log S.args.waiters S.args.sets pairs slots S.args.n w L.s L.i L.woken a less _ read _ j _
-          (t.2.ensures pairs _ _ _
-          (steps.waits-at S.args.s.now S.args.log S.args.waiters S.args.sets pairs slots S.args.n w L.s L.i L.woken a less _ read _ j))
-          _ t.6.ensures))
-          (λ t.
-          rw (t.1, t.2)
-          (steps.awake-none S.args.s.now S.args.log S.args.waiters S.args.sets pairs slots S.args.n w L.s L.i L.woken a less _ read
-          (sym waiter ∙ t.0.left)))
-          c.if-waiter-ne0.branch,
+          elim c.if-waiter-ne0.branch [
+            then-waiter-ne0 t ↦
+                let j = steps.place_before _ _ waiter t.if-waiter-ne0.true in
+                rw (t.s-is, t.woken-is)
+                (steps.awake_one S.args.s.now S.args.log S.args.waiters S.args.sets pairs slots S.args.n w L.s L.i L.woken a less _ read _ j _
+                (t.leave.ensures pairs _ _ _
+                (steps.waits_at S.args.s.now S.args.log S.args.waiters S.args.sets pairs slots S.args.n w L.s L.i L.woken a less _ read _ j))
+                _ t.insert.ensures)
+          | else-waiter-ne0 t ↦
+                rw (t.s-is, t.woken-is)
+                (steps.awake_none S.args.s.now S.args.log S.args.waiters S.args.sets pairs slots S.args.n w L.s L.i L.woken a less _ read
+                (sym waiter ∙ t.if-waiter-ne0.false))
+          ],
     )
 
 shape_of-s : tie.Need-shape_of-s invariant-loop-i decreases-loop-i

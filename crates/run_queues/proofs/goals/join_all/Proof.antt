@@ -14,7 +14,7 @@ abbrev invariant-loop-i : tie.invariant-loop-i
 invariant-loop-i s₀ log waiters sets place readers n i₀ s i =
     (i ≤ n)
     × ((pairs : ℕ) (slots : List Slot) (goal : ℕ) (ps : List ℕ) (a : JoinsAll s₀ log waiters sets pairs slots place goal ps readers n)
-    → LogNow s₀ s log waiters sets pairs (length slots) (steps.slots-after s₀ log waiters sets pairs slots place goal ps readers n a i))
+    → LogNow s₀ s log waiters sets pairs (length slots) (steps.slots_after s₀ log waiters sets pairs slots place goal ps readers n a i))
 
 abbrev decreases-loop-i : tie.decreases-loop-i
 decreases-loop-i s₀ log waiters sets place readers n i₀ s i = n - i
@@ -23,7 +23,7 @@ loop-i-init : tie.Need-loop-i-init invariant-loop-i decreases-loop-i
 loop-i-init c =
     let S = c.before in (
       omega arith,
-      λ pairs slots goal ps a. steps.joining-begins S.args.s.now S.args.log S.args.waiters S.args.sets pairs slots S.args.place goal ps S.args.readers S.args.n a,
+      λ pairs slots goal ps a. steps.joining_begins S.args.s.now S.args.log S.args.waiters S.args.sets pairs slots S.args.place goal ps S.args.readers S.args.n a,
     )
 
 reader-p-requires : tie.Need-reader-p-requires invariant-loop-i decreases-loop-i
@@ -31,7 +31,7 @@ reader-p-requires c κs =
     let S = c.before.before.before in
     let L = c.before.loop-i in
     let a = S.requires in
-    steps.reader-inside S.args.s.now S.args.log S.args.waiters S.args.sets a.0 a.1 S.args.place a.2 a.3 S.args.readers S.args.n a.4 L.s L.i
+    steps.reader_inside S.args.s.now S.args.log S.args.waiters S.args.sets a.0 a.1 S.args.place a.2 a.3 S.args.readers S.args.n a.4 L.s L.i
     (L.invariant.1 a.0 a.1 a.2 a.3 a.4) c.loop-i-test.true
 
 join-requires : tie.Need-join-requires invariant-loop-i decreases-loop-i
@@ -44,7 +44,7 @@ join-requires c κs =
     (L.invariant.1 a.0 a.1 a.2 a.3 a.4) c.before.before.loop-i-test.true
     in (
       a.0,
-      steps.slots-after S.args.s.now S.args.log S.args.waiters S.args.sets a.0 a.1 S.args.place a.2 a.3 S.args.readers S.args.n a.4 L.i,
+      steps.slots_after S.args.s.now S.args.log S.args.waiters S.args.sets a.0 a.1 S.args.place a.2 a.3 S.args.readers S.args.n a.4 L.i,
       a.2,
       steps.set_after S.args.s.now S.args.log S.args.waiters S.args.sets a.0 a.1 S.args.place a.2 a.3 S.args.readers S.args.n a.4 L.i,
       rw c.before.reader-p.ensures j,
@@ -64,7 +64,7 @@ loop-i-preserved c =
       omega arith,
       λ pairs slots goal ps a.
           let now = L.invariant.1 pairs slots goal ps a in
-          steps.joining-on S.args.s.now S.args.log S.args.waiters S.args.sets pairs slots S.args.place goal ps S.args.readers S.args.n a L.s L.i now taken _
+          steps.joining_on S.args.s.now S.args.log S.args.waiters S.args.sets pairs slots S.args.place goal ps S.args.readers S.args.n a L.s L.i now taken _
           ((rw c.before.before.before.before.reader-p.ensures at c.before.before.join.ensures) pairs _ goal _
           (steps.joining S.args.s.now S.args.log S.args.waiters S.args.sets pairs slots S.args.place goal ps S.args.readers S.args.n a L.s L.i now taken)),
     )

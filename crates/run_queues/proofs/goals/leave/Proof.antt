@@ -49,7 +49,7 @@ loop-first-smaller c =
     let L = c.before.before.before.before.before.loop-first in
     let a = S.requires in
     let l = L.invariant a.0 a.1 a.2 a.3 a.4 in
-    rw c.before.before.part-first.ensures.words
+    rw c.before.before.part-first.ensures.1
     (leaving_less S.args.s.now S.args.log S.args.waiters S.args.sets a.0 a.1 S.args.place a.2 a.3 a.4 L.s L.first l.0 l.1
     (omega (arith, c.before.before.before.before.loop-first-test.true)))
 
@@ -59,7 +59,7 @@ loop-first-preserved c =
     let L = c.before.before.before.before.before.loop-first in
     λ pairs slots goal ps a.
     let l = L.invariant pairs slots goal ps a in
-    rw (c.before.before.part-first.ensures.words, c.before.before.part-first.ensures.next)
+    rw (c.before.before.part-first.ensures.1, c.before.before.part-first.ensures.0)
     (leaving_on S.args.s.now S.args.log S.args.waiters S.args.sets pairs slots S.args.place goal ps a L.s L.first l.0 l.1
     (omega (arith, c.before.before.before.before.loop-first-test.true)))
 

@@ -40,7 +40,7 @@ loop-first-smaller c =
     let L = c.before.before.before.before.before.loop-first in
     let t = S.requires in
     let u = L.invariant t.0 t.1 t.2 t.3 in
-    rw c.before.before.turn-first.ensures.words
+    rw c.before.before.turn-first.ensures.1
     (turning_less S.args.s.now S.args.waiters S.args.sets t.0 t.1 S.args.waiter S.args.start t.2 t.3 L.s L.first u.0 u.1
     (omega (arith, c.before.before.before.before.loop-first-test.true)))
 
@@ -50,7 +50,7 @@ loop-first-preserved c =
     let L = c.before.before.before.before.before.loop-first in
     λ pairs from ps t.
     let u = L.invariant pairs from ps t in
-    rw (c.before.before.turn-first.ensures.words, c.before.before.turn-first.ensures.next)
+    rw (c.before.before.turn-first.ensures.1, c.before.before.turn-first.ensures.0)
     (turning_on S.args.s.now S.args.waiters S.args.sets pairs from S.args.waiter S.args.start ps t L.s L.first u.0 u.1
     (omega (arith, c.before.before.before.before.loop-first-test.true)))
 

@@ -79,12 +79,11 @@ returns-then-not-fits c =
     let third = c.before.before in
     let second = third.before.before in
     let first = second.before.before in
-    let S = first.before.before.before.before.before.before in
     let e_pairs = first.index-pairs.ensures ∙ first.before.word_at.ensures ∙ red.at.held.pairs in
     let e_compounds = second.index-compounds.ensures ∙ second.before.word_at-2.ensures ∙ red.at.held.compounds in
     let e_body = third.index-body.ensures ∙ third.before.word_at-3.ensures ∙ red.at.held.goals in
-    let fit = calls.fit-told taken clause given _ _ _ e_pairs e_compounds e_body _ false c.before.fits2.ensures (calls.not_true _ c.if-not-fits.true) in
-    calls.reduction-stops taken red fit
+    let fit = calls.fit_told taken clause given _ _ _ e_pairs e_compounds e_body _ false c.before.fits.ensures c.if-not-fits.true in
+    calls.reduction_stops taken red fit
 
 behind-front-requires : tie.Need-behind-front-requires
 behind-front-requires c κs = search rules
@@ -114,8 +113,8 @@ assign_head-requires c κs =
     let e_pairs = first.index-pairs.ensures ∙ first.before.word_at.ensures ∙ red.at.held.pairs in
     let e_compounds = second.index-compounds.ensures ∙ second.before.word_at-2.ensures ∙ red.at.held.compounds in
     let e_body = third.index-body.ensures ∙ third.before.word_at-3.ensures ∙ red.at.held.goals in
-    let fit = calls.fit-told taken p.8 p.9 _ _ _ e_pairs e_compounds e_body _ true test.before.fits2.ensures (calls.not_false _ test.if-not-fits.false) in
-    calls.asks-1 taken red fit
+    let fit = calls.fit_told taken p.8 p.9 _ _ _ e_pairs e_compounds e_body _ true test.before.fits.ensures test.if-not-fits.false in
+    calls.asks_1 taken red fit
     c.values.ensures e_pairs
 
 values-requires-2 : tie.Need-values-requires-2
@@ -142,8 +141,8 @@ assign_goal-free-requires c κs =
     let e_pairs = first.index-pairs.ensures ∙ first.before.word_at.ensures ∙ red.at.held.pairs in
     let e_compounds = second.index-compounds.ensures ∙ second.before.word_at-2.ensures ∙ red.at.held.compounds in
     let e_body = third.index-body.ensures ∙ third.before.word_at-3.ensures ∙ red.at.held.goals in
-    let fit = calls.fit-told taken p.8 p.9 _ _ _ e_pairs e_compounds e_body _ true test.before.fits2.ensures (calls.not_false _ test.if-not-fits.false) in
-    calls.asks-2 taken red fit
+    let fit = calls.fit_told taken p.8 p.9 _ _ _ e_pairs e_compounds e_body _ true test.before.fits.ensures test.if-not-fits.false in
+    calls.asks_2 taken red fit
     heads.before.values.ensures e_pairs heads.assign_head.ensures c.values-2.ensures
 
 waiting-requires : tie.Need-waiting-requires
@@ -194,8 +193,8 @@ wake-woken-requires c κs =
     let e_pairs = first.index-pairs.ensures ∙ first.before.word_at.ensures ∙ red.at.held.pairs in
     let e_compounds = second.index-compounds.ensures ∙ second.before.word_at-2.ensures ∙ red.at.held.compounds in
     let e_body = third.index-body.ensures ∙ third.before.word_at-3.ensures ∙ red.at.held.goals in
-    let fit = calls.fit-told taken p.8 p.9 _ _ _ e_pairs e_compounds e_body _ true test.before.fits2.ensures (calls.not_false _ test.if-not-fits.false) in
-    calls.asks-3 taken red fit
+    let fit = calls.fit_told taken p.8 p.9 _ _ _ e_pairs e_compounds e_body _ true test.before.fits.ensures test.if-not-fits.false in
+    calls.asks_3 taken red fit
     heads.before.values.ensures e_pairs heads.assign_head.ensures gives.before.values-2.ensures gives.assign_goal-free.ensures
     c.before.before.waiting.ensures c.before.waiters.ensures c.sets.ensures
 
@@ -263,11 +262,11 @@ add_goals-cells-requires c κs =
     let e_pairs = first.index-pairs.ensures ∙ first.before.word_at.ensures ∙ red.at.held.pairs in
     let e_compounds = second.index-compounds.ensures ∙ second.before.word_at-2.ensures ∙ red.at.held.compounds in
     let e_body = third.index-body.ensures ∙ third.before.word_at-3.ensures ∙ red.at.held.goals in
-    let fit = calls.fit-told taken p.8 p.9 _ _ _ e_pairs e_compounds e_body _ true test.before.fits2.ensures (calls.not_false _ test.if-not-fits.false) in
-    calls.asks-4 taken red fit
+    let fit = calls.fit_told taken p.8 p.9 _ _ _ e_pairs e_compounds e_body _ true test.before.fits.ensures test.if-not-fits.false in
+    calls.asks_4 taken red fit
     heads.before.values.ensures e_pairs heads.assign_head.ensures gives.before.values-2.ensures gives.assign_goal-free.ensures
     wakes.before.before.before.waiting.ensures wakes.before.before.waiters.ensures wakes.before.sets.ensures
-    wakes.wake-woken.ensures heads.before.before.before.before.behind-front.ensures refl e_body c.queue.ensures (origins.made-is taken red first.before.before.made-mark.ensures)
+    wakes.wake-woken.ensures heads.before.before.before.before.behind-front.ensures refl e_body c.queue.ensures (origins.made_is taken red first.before.before.made-mark.ensures)
 
 waiting-requires-2 : tie.Need-waiting-requires-2
 waiting-requires-2 c κs =
@@ -328,11 +327,11 @@ add_woken-requires c κs =
     let e_pairs = first.index-pairs.ensures ∙ first.before.word_at.ensures ∙ red.at.held.pairs in
     let e_compounds = second.index-compounds.ensures ∙ second.before.word_at-2.ensures ∙ red.at.held.compounds in
     let e_body = third.index-body.ensures ∙ third.before.word_at-3.ensures ∙ red.at.held.goals in
-    let fit = calls.fit-told taken p.8 p.9 _ _ _ e_pairs e_compounds e_body _ true test.before.fits2.ensures (calls.not_false _ test.if-not-fits.false) in
-    calls.asks-5 taken red fit
+    let fit = calls.fit_told taken p.8 p.9 _ _ _ e_pairs e_compounds e_body _ true test.before.fits.ensures test.if-not-fits.false in
+    calls.asks_5 taken red fit
     heads.before.values.ensures e_pairs heads.assign_head.ensures gives.before.values-2.ensures gives.assign_goal-free.ensures
     wakes.before.before.before.waiting.ensures wakes.before.before.waiters.ensures wakes.before.sets.ensures
-    wakes.wake-woken.ensures heads.before.before.before.before.behind-front.ensures refl e_body goals.before.queue.ensures (origins.made-is taken red first.before.before.made-mark.ensures)
+    wakes.wake-woken.ensures heads.before.before.before.before.behind-front.ensures refl e_body goals.before.queue.ensures (origins.made_is taken red first.before.before.made-mark.ensures)
     goals.add_goals-cells.ensures c.before.waiting-2.ensures c.queue-2.ensures
 
 count_try-requires : tie.Need-count_try-requires
@@ -353,11 +352,11 @@ count_try-requires c κs =
     let e_pairs = first.index-pairs.ensures ∙ first.before.word_at.ensures ∙ red.at.held.pairs in
     let e_compounds = second.index-compounds.ensures ∙ second.before.word_at-2.ensures ∙ red.at.held.compounds in
     let e_body = third.index-body.ensures ∙ third.before.word_at-3.ensures ∙ red.at.held.goals in
-    let fit = calls.fit-told taken p.8 p.9 _ _ _ e_pairs e_compounds e_body _ true test.before.fits2.ensures (calls.not_false _ test.if-not-fits.false) in
-    calls.asks-6 taken red fit
+    let fit = calls.fit_told taken p.8 p.9 _ _ _ e_pairs e_compounds e_body _ true test.before.fits.ensures test.if-not-fits.false in
+    calls.asks_6 taken red fit
     heads.before.values.ensures e_pairs heads.assign_head.ensures gives.before.values-2.ensures gives.assign_goal-free.ensures
     wakes.before.before.before.waiting.ensures wakes.before.before.waiters.ensures wakes.before.sets.ensures
-    wakes.wake-woken.ensures heads.before.before.before.before.behind-front.ensures refl e_body goals.before.queue.ensures (origins.made-is taken red first.before.before.made-mark.ensures)
+    wakes.wake-woken.ensures heads.before.before.before.before.behind-front.ensures refl e_body goals.before.queue.ensures (origins.made_is taken red first.before.before.made-mark.ensures)
     goals.add_goals-cells.ensures woken.before.before.waiting-2.ensures woken.before.queue-2.ensures woken.add_woken.ensures
 
 overflow_add-result : tie.Need-overflow_add-result
@@ -433,12 +432,12 @@ overflow_add-result-4 c =
     let e_pairs = first.index-pairs.ensures ∙ first.before.word_at.ensures ∙ red.at.held.pairs in
     let e_compounds = second.index-compounds.ensures ∙ second.before.word_at-2.ensures ∙ red.at.held.compounds in
     let e_body = third.index-body.ensures ∙ third.before.word_at-3.ensures ∙ red.at.held.goals in
-    let fit = calls.fit-told taken p.8 p.9 _ _ _ e_pairs e_compounds e_body _ true test.before.fits2.ensures (calls.not_false _ test.if-not-fits.false) in
+    let fit = calls.fit_told taken p.8 p.9 _ _ _ e_pairs e_compounds e_body _ true test.before.fits.ensures test.if-not-fits.false in
     let few =
-    calls.woken-few taken red fit
+    calls.woken_few taken red fit
     heads.before.values.ensures e_pairs heads.assign_head.ensures gives.before.values-2.ensures gives.assign_goal-free.ensures
     wakes.before.before.before.waiting.ensures wakes.before.before.waiters.ensures wakes.before.sets.ensures
-    wakes.wake-woken.ensures heads.before.before.before.before.behind-front.ensures refl e_body goals.before.queue.ensures (origins.made-is taken red first.before.before.made-mark.ensures)
+    wakes.wake-woken.ensures heads.before.before.before.before.behind-front.ensures refl e_body goals.before.queue.ensures (origins.made_is taken red first.before.before.made-mark.ensures)
     goals.add_goals-cells.ensures woken.before.before.waiting-2.ensures woken.before.queue-2.ensures woken.add_woken.ensures
     in
     small (S.args.t.active - 1 + third.index-body.result + wakes.wake-woken.result) (calls.small_goals _ _ few.0 taken.running.in_range.goals)
@@ -462,11 +461,11 @@ overflow_sub-result c =
     let e_pairs = first.index-pairs.ensures ∙ first.before.word_at.ensures ∙ red.at.held.pairs in
     let e_compounds = second.index-compounds.ensures ∙ second.before.word_at-2.ensures ∙ red.at.held.compounds in
     let e_body = third.index-body.ensures ∙ third.before.word_at-3.ensures ∙ red.at.held.goals in
-    let fit = calls.fit-told taken p.8 p.9 _ _ _ e_pairs e_compounds e_body _ true test.before.fits2.ensures (calls.not_false _ test.if-not-fits.false) in
-    (calls.woken-few taken red fit
+    let fit = calls.fit_told taken p.8 p.9 _ _ _ e_pairs e_compounds e_body _ true test.before.fits.ensures test.if-not-fits.false in
+    (calls.woken_few taken red fit
     heads.before.values.ensures e_pairs heads.assign_head.ensures gives.before.values-2.ensures gives.assign_goal-free.ensures
     wakes.before.before.before.waiting.ensures wakes.before.before.waiters.ensures wakes.before.sets.ensures
-    wakes.wake-woken.ensures heads.before.before.before.before.behind-front.ensures refl e_body goals.before.queue.ensures (origins.made-is taken red first.before.before.made-mark.ensures)
+    wakes.wake-woken.ensures heads.before.before.before.before.behind-front.ensures refl e_body goals.before.queue.ensures (origins.made_is taken red first.before.before.made-mark.ensures)
     goals.add_goals-cells.ensures woken.before.before.waiting-2.ensures woken.before.queue-2.ensures woken.add_woken.ensures).1
 
 overflow_add-result-5 : tie.Need-overflow_add-result-5
@@ -503,11 +502,11 @@ shape_of-s c =
     let e_pairs = first.index-pairs.ensures ∙ first.before.word_at.ensures ∙ red.at.held.pairs in
     let e_compounds = second.index-compounds.ensures ∙ second.before.word_at-2.ensures ∙ red.at.held.compounds in
     let e_body = third.index-body.ensures ∙ third.before.word_at-3.ensures ∙ red.at.held.goals in
-    let fit = calls.fit-told taken p.8 p.9 _ _ _ e_pairs e_compounds e_body _ true test.before.fits2.ensures (calls.not_false _ test.if-not-fits.false) in
-    calls.size-6 taken red fit
+    let fit = calls.fit_told taken p.8 p.9 _ _ _ e_pairs e_compounds e_body _ true test.before.fits.ensures test.if-not-fits.false in
+    calls.size_6 taken red fit
     heads.before.values.ensures e_pairs heads.assign_head.ensures gives.before.values-2.ensures gives.assign_goal-free.ensures
     wakes.before.before.before.waiting.ensures wakes.before.before.waiters.ensures wakes.before.sets.ensures
-    wakes.wake-woken.ensures heads.before.before.before.before.behind-front.ensures refl e_body goals.before.queue.ensures (origins.made-is taken red first.before.before.made-mark.ensures)
+    wakes.wake-woken.ensures heads.before.before.before.before.behind-front.ensures refl e_body goals.before.queue.ensures (origins.made_is taken red first.before.before.made-mark.ensures)
     goals.add_goals-cells.ensures woken.before.before.waiting-2.ensures woken.before.queue-2.ensures woken.add_woken.ensures _ tries.count_try.ensures
 
 returns : tie.Need-returns
@@ -527,11 +526,11 @@ returns c =
     let e_pairs = first.index-pairs.ensures ∙ first.before.word_at.ensures ∙ red.at.held.pairs in
     let e_compounds = second.index-compounds.ensures ∙ second.before.word_at-2.ensures ∙ red.at.held.compounds in
     let e_body = third.index-body.ensures ∙ third.before.word_at-3.ensures ∙ red.at.held.goals in
-    let fit = calls.fit-told taken clause given _ _ _ e_pairs e_compounds e_body _ true test.before.fits2.ensures (calls.not_false _ test.if-not-fits.false) in
+    let fit = calls.fit_told taken clause given _ _ _ e_pairs e_compounds e_body _ true test.before.fits.ensures test.if-not-fits.false in
     calls.ends taken red fit
     heads.before.values.ensures e_pairs heads.assign_head.ensures gives.before.values-2.ensures gives.assign_goal-free.ensures
     wakes.before.before.before.waiting.ensures wakes.before.before.waiters.ensures wakes.before.sets.ensures
-    wakes.wake-woken.ensures heads.before.before.before.before.behind-front.ensures refl e_body goals.before.queue.ensures (origins.made-is taken red first.before.before.made-mark.ensures)
+    wakes.wake-woken.ensures heads.before.before.before.before.behind-front.ensures refl e_body goals.before.queue.ensures (origins.made_is taken red first.before.before.made-mark.ensures)
     goals.add_goals-cells.ensures woken.before.before.waiting-2.ensures woken.before.queue-2.ensures woken.add_woken.ensures _ tries.count_try.ensures _
     (record {
       pairs = ap (λ m. S.args.t.pairs + m) e_pairs;

@@ -56,8 +56,8 @@ add_waiting-requires c κs =
       p.6,
       p.7,
       p.8,
-      keeping.still-taken p.9 p.10 now,
-      keeping.still-joins p.9 p.10 now,
+      keeping.still_taken p.9 p.10 now,
+      keeping.still_joins p.9 p.10 now,
     )
 
 shape_of-s : tie.Need-shape_of-s
@@ -69,7 +69,7 @@ returns c =
     λ text names j limit atlas slots g others readers k joins.
     let now = kept e text names j limit atlas slots g others readers k joins in
     keeping.step_kept k joins now
-    (c.before.before.add_waiting.ensures text names j limit atlas slots g others readers (keeping.still-taken k joins now) (keeping.still-joins k joins now))
+    (c.before.before.add_waiting.ensures text names j limit atlas slots g others readers (keeping.still_taken k joins now) (keeping.still_joins k joins now))
 
 pub join_waiting_spec : {M : Type 1} → statement M
 join_waiting_spec =
