@@ -21,8 +21,8 @@ use Rattle.load_faults.proofs.faults.judge.Tie as tie
 find-requires : tie.Need-find-requires
 find-requires c κs =
     let start = c.before.before.before in
-    let s = start.requires.searched.3 in
-    (start.requires.a_le_e, (start.requires.searched.0, s.table, s.count_is))
+    let s = start.requires.1.1.3 in
+    (start.requires.0, (start.requires.1.1.0, s.table, s.count_is))
 
 enum_known-n : tie.Need-enum_known-n
 enum_known-n c = search rules
@@ -42,14 +42,14 @@ number_few : (c : tie.In-At) → c.in-At.n < 16
 number_few c =
     let start = c.before.before.before.before.before in
     let a = start.args in
-    let s = start.requires.searched.3 in
-    let here = sym (c.before.find.ensures start.requires.searched.0 s.table s.count_is) ∙ ap found c.in-At.is in
-    omega (arith, has_place (slice a.a a.e a.rest.now) start.requires.searched.0 c.in-At.n here, s.table.few)
+    let s = start.requires.1.1.3 in
+    let here = sym (c.before.find.ensures start.requires.1.1.0 s.table s.count_is) ∙ ap found c.in-At.is in
+    omega (arith, has_place (slice a.a a.e a.rest.now) start.requires.1.1.0 c.in-At.n here, s.table.few)
 
 half_few : (c : tie.In-At) → c.before.before.before.before.before.args.half < 17
 half_few c =
     let start = c.before.before.before.before.before in
-    omega (arith, half_small start.requires.half_value.0, start.requires.half_value.1)
+    omega (arith, half_small start.requires.1.0.0, start.requires.1.0.1)
 
 overflow_add-half : tie.Need-overflow_add-half
 overflow_add-half c = omega (arith, number_few c, half_few c)
@@ -61,7 +61,7 @@ bounds-seen-half : tie.Need-bounds-seen-half
 bounds-seen-half c = omega (arith, number_few c, half_few c)
 
 excused-requires : tie.Need-excused-requires
-excused-requires c κs = omega (arith, number_few c.before.before, c.before.before.before.before.before.before.before.before.requires.searched.3.frees_size)
+excused-requires c κs = omega (arith, number_few c.before.before, c.before.before.before.before.before.before.before.before.requires.1.1.3.frees_size)
 
 returns-then-excused : tie.Need-returns-then-excused
 returns-then-excused c h places free whole implied at ts f half_is pardon_is searched reached =
@@ -90,7 +90,7 @@ overflow_add-half-2 : tie.Need-overflow_add-half-2
 overflow_add-half-2 c = omega (arith, number_few c.before.before, half_few c.before.before)
 
 lone-requires : tie.Need-lone-requires
-lone-requires c κs = omega (arith, number_few c.before.before, half_few c.before.before, c.before.before.before.before.before.before.before.before.requires.searched.3.table.size)
+lone-requires c κs = omega (arith, number_few c.before.before, half_few c.before.before, c.before.before.before.before.before.before.before.before.requires.1.1.3.table.size)
 
 returns-then-lone : tie.Need-returns-then-lone
 returns-then-lone c h places free whole implied at ts f half_is pardon_is searched reached =
