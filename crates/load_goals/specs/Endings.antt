@@ -27,7 +27,7 @@ unfoldable pub goals_part : ℕ → Part (List Goal)
 goals_part place = record { kept = λ p gs s. goals_stored p place gs s; goals = λ gs. gs; size = λ gs. length gs }
 
 -- Read up to its full stop: the same value as the definitions' reader, over the tokens that were passed, with its goals kept and counted.
-pub record Ended {A : Type 0} (part : PartMut A) (by : Reader A) (text rest : Bytes) (from base : ℕ) (known vars : List Place) (c : Cursor)
+pub record Ended {A : Type 0} (part : Part A) (by : Reader A) (text rest : Bytes) (from base : ℕ) (known vars : List Place) (c : Cursor)
     (s item s' names' item' : List ℕ) (w : ℕ) (c' : Cursor) (a : A) (passed : List Placed) (stop : ℕ) : Type 0 where
   pub reads : by (counted_at known vars c.compounds) (piece (tokens_in from rest c.at))
       ≡ read a (counted_at (names_over passed known) (variables_over from passed vars) c'.compounds) (ends stop)
