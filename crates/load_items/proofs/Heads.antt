@@ -1,6 +1,6 @@
 -- A clause's head, and behind it its body, a full stop, or something that cannot stand.
 use Prim.Native.Nat.{ℕ, zero, suc, ◌+◌, ◌*◌, ◌-◌, ◌≤◌, ◌<◌, min}
-use mathlib.Core.Path.{◌≡◌, refl, ap, sym, ◌∙◌}
+use mathlib.Core.Path.{◌≡◌, refl, ap, sym, ◌∙◌, subst}
 use mathlib.Core.Bool.{Bool, true, false}
 use mathlib.Core.List.{List, [], ◌∷◌, ◌++◌}
 use mathlib.Core.Option.{none}
@@ -229,7 +229,8 @@ module _ (k : ℕ) (text rest : Bytes) (from : ℕ) (known vars : List Place) (c
             stands = rw (eN, eV) t.stands;
             size_is = t.size_is;
             stored_is = rw (eN, still_stored known' (names_over ps known') base m g s gave.known_names, ← gave.stored_is) t.stored_is;
-            known_names = rw eN (still_named known' (names_over ps known') base m g gave.known_names, t.known_names);
+            known_names = subst (λ names. GoalsKnown (spellings names) (g ∷ b.goals)) (sym eN)
+                (still_named known' (names_over ps known') base m g gave.known_names, t.known_names);
             halves = λ h j l. omega (arith, gave.halves h j l, t.halves h j l);
             only = then_only t.only;
           }

@@ -36,7 +36,7 @@ unfolding left_at
 loop-e-init c =
     let start = c.before.before.before in
     let a = start.args in (
-      start.requires.begins_in_bounds,
+      start.requires.0,
       λ from places free after f s. at_first a.both places free (pairing after (piece (tokens_in from a.rest.now a.begins))) s.searched.table.few f s.found
           s.walkable,
     )
@@ -76,7 +76,7 @@ judge-requires c κs =
     let front = c.before.before in
     let start = c.before.before.before.before.before.before.before in
     let t = rw c.before.in-Writer.is at front.front.ensures in
-    let s = start.requires.by_index in
+    let s = start.requires.1 in
     ((omega (arith, t.1), omega (arith, t.2)), ((writer, refl), (s.1, s.2, pairing s.3 (piece (tokens_in s.0 start.args.rest.now start.args.begins)), s.5.searched)))
 
 enum_told-1 : tie.Need-enum_told-1 invariant-loop-e decreases-loop-e
@@ -156,7 +156,7 @@ judge-requires-in-Reader c κs =
     let front = c.before.before in
     let start = c.before.before.before.before.before.before.before in
     let t = rw c.before.in-Reader.is at front.front.ensures in
-    let s = start.requires.by_index in
+    let s = start.requires.1 in
     ((omega (arith, t.1), omega (arith, t.2)), ((reader, refl), (s.1, s.2, pairing s.3 (piece (tokens_in s.0 start.args.rest.now start.args.begins)), s.5.searched)))
 
 enum_told-in-Twice-judge : tie.Need-enum_told-in-Twice-judge invariant-loop-e decreases-loop-e
@@ -279,7 +279,7 @@ loop-e-smaller c =
     let a = start.args in
     let g = c.before.before.in-Sign in
     let t = rw g.is at front.front.ensures in
-    let s = start.requires.by_index in
+    let s = start.requires.1 in
     rw (c.before.onward-at.ensures, c.behind_neck-implied.ensures)
     (sign_less (length a.rest.now) at.loop-e.at g.c g.a a.bar at.loop-e.implied t.0 t.1 (bar_inside a.rest.now s.0 a.bar s.3 s.5.bar_is))
 
@@ -292,7 +292,7 @@ loop-e-preserved c =
     let a = start.args in
     let g = c.before.before.in-Sign in
     let t = rw g.is at front.front.ensures in
-    let s₀ = start.requires.by_index in
+    let s₀ = start.requires.1 in
     rw (c.before.onward-at.ensures, c.behind_neck-implied.ensures) (
       sign_inside (length a.rest.now) g.c g.a a.bar at.loop-e.implied t.1 (bar_inside a.rest.now s₀.0 a.bar s₀.3 s₀.5.bar_is),
       λ from places free after f s.

@@ -21,8 +21,8 @@ use Rattle.load_faults.proofs.faults.judge.Tie as tie
 find-requires : tie.Need-find-requires
 find-requires c κs =
     let start = c.before.before.before in
-    let s = start.requires.searched.3 in
-    (start.requires.a_le_e, (start.requires.searched.0, s.table, s.count_is))
+    let s = start.requires.1.1.3 in
+    (start.requires.0, (start.requires.1.1.0, s.table, s.count_is))
 
 enum_known-n : tie.Need-enum_known-n
 enum_known-n c = search rules
@@ -42,14 +42,14 @@ number_few : (c : tie.In-At) → c.in-At.n < 16
 number_few c =
     let start = c.before.before.before.before.before in
     let a = start.args in
-    let s = start.requires.searched.3 in
-    let here = sym (c.before.find.ensures start.requires.searched.0 s.table s.count_is) ∙ ap found c.in-At.is in
-    omega (arith, has_place (slice a.a a.e a.rest.now) start.requires.searched.0 c.in-At.n here, s.table.few)
+    let s = start.requires.1.1.3 in
+    let here = sym (c.before.find.ensures start.requires.1.1.0 s.table s.count_is) ∙ ap found c.in-At.is in
+    omega (arith, has_place (slice a.a a.e a.rest.now) start.requires.1.1.0 c.in-At.n here, s.table.few)
 
 half_few : (c : tie.In-At) → c.before.before.before.before.before.args.half < 17
 half_few c =
     let start = c.before.before.before.before.before in
-    omega (arith, half_small start.requires.half_value.0, start.requires.half_value.1)
+    omega (arith, half_small start.requires.1.0.0, start.requires.1.0.1)
 
 overflow_add-half : tie.Need-overflow_add-half
 overflow_add-half c = omega (arith, number_few c, half_few c)
@@ -58,68 +58,60 @@ offset_bounds-seen-half : tie.Need-offset_bounds-seen-half
 offset_bounds-seen-half c = omega (arith, number_few c, half_few c)
 
 bounds-seen-half : tie.Need-bounds-seen-half
-bounds-seen-half c = omega (arith, number_few c, half_few c)
+bounds-seen-half c = omega (arith, number_few c.before, half_few c.before)
 
 excused-requires : tie.Need-excused-requires
-excused-requires c κs = omega (arith, number_few c.before.before, c.before.before.before.before.before.before.before.before.requires.searched.3.frees_size)
+excused-requires c κs = omega (arith, number_few c.before.before.before, c.requires.1.1.3.frees_size)
 
 returns-then-excused : tie.Need-returns-then-excused
 returns-then-excused c h places free whole implied at ts f half_is pardon_is searched reached =
-    let found_at = c.before.before.before.before in
-    let start = found_at.before.before.before.before.before.before in
-    let a = start.args in
-    let here = sym (found_at.before.find.ensures places searched.table searched.count_is) ∙ ap found found_at.before.n.given.1 in
+    let a = c.args in
+    let here = sym (c.find.ensures places searched.table searched.count_is) ∙ ap found c.in-At.is in
     seen_again a.both places free whole implied a.seen.now f a.rest.now a.item.now a.count a.licensed.now searched h (slice a.a a.e a.rest.now)
-    found_at.before.n.given.0.0 here at ts reached
-    (rw half_is at c.before.before.if-seen-half-ne0.true) (rw pardon_is at (sym c.before.excused.ensures ∙ c.if-excused.true))
+    c.in-At.n here at ts reached
+    (rw half_is at c.if-seen-half-ne0.true) (rw pardon_is at (sym c.excused.ensures ∙ c.if-excused.true))
 
 returns-then-seen-half-ne0 : tie.Need-returns-then-seen-half-ne0
 returns-then-seen-half-ne0 c h places free whole implied at ts f half_is pardon_is searched reached =
-    let found_at = c.before.before.before.before in
-    let start = found_at.before.before.before.before.before.before in
-    let a = start.args in
-    let here = sym (found_at.before.find.ensures places searched.table searched.count_is) ∙ ap found found_at.before.n.given.1 in
+    let a = c.args in
+    let here = sym (c.find.ensures places searched.table searched.count_is) ∙ ap found c.in-At.is in
     second_time a.both places free whole implied a.seen.now f a.rest.now a.item.now a.count a.licensed.now searched h (slice a.a a.e a.rest.now)
-    found_at.before.n.given.0.0 here at ts reached
-    (rw half_is at c.before.before.if-seen-half-ne0.true) (rw pardon_is at (sym c.before.excused.ensures ∙ c.if-excused.false))
+    c.in-At.n here at ts reached
+    (rw half_is at c.if-seen-half-ne0.true) (rw pardon_is at (sym c.excused.ensures ∙ c.if-excused.false))
 
 overflow_sub-half : tie.Need-overflow_sub-half
-overflow_sub-half c = omega (arith, half_few c.before.before)
+overflow_sub-half c = omega (arith, half_few c.before.before.before)
 
 overflow_add-half-2 : tie.Need-overflow_add-half-2
-overflow_add-half-2 c = omega (arith, number_few c.before.before, half_few c.before.before)
+overflow_add-half-2 c = omega (arith, number_few c.before.before.before, half_few c.before.before.before)
 
 lone-requires : tie.Need-lone-requires
-lone-requires c κs = omega (arith, number_few c.before.before, half_few c.before.before, c.before.before.before.before.before.before.before.before.requires.searched.3.table.size)
+lone-requires c κs = omega (arith, number_few c.before.before.before, half_few c.before.before.before, c.requires.1.1.3.table.size)
 
 returns-then-lone : tie.Need-returns-then-lone
 returns-then-lone c h places free whole implied at ts f half_is pardon_is searched reached =
-    let found_at = c.before.before.before.before in
-    let start = found_at.before.before.before.before.before.before in
-    let a = start.args in
-    let here = sym (found_at.before.find.ensures places searched.table searched.count_is) ∙ ap found found_at.before.n.given.1 in
+    let a = c.args in
+    let here = sym (c.find.ensures places searched.table searched.count_is) ∙ ap found c.in-At.is in
     is_lone a.both places free whole implied a.seen.now f a.rest.now a.item.now a.count a.licensed.now searched h (slice a.a a.e a.rest.now)
-    found_at.before.n.given.0.0 here at ts reached
-    (rw half_is at c.before.before.if-seen-half-ne0.false) (rw half_is at (sym c.before.lone.ensures ∙ c.if-lone.true))
+    c.in-At.n here at ts reached
+    (rw half_is at c.if-seen-half-ne0.false) (rw half_is at (sym c.lone.ensures ∙ c.if-lone.true))
 
 overflow_add-seen : tie.Need-overflow_add-seen
-overflow_add-seen c = omega (arith, number_few c.before.before.before.before, half_few c.before.before.before.before)
+overflow_add-seen c = omega (arith, number_few c.before.before.before.before.before, half_few c.before.before.before.before.before)
 
 offset_bounds-seen-half-2 : tie.Need-offset_bounds-seen-half-2
-offset_bounds-seen-half-2 c = omega (arith, number_few c.before.before.before.before, half_few c.before.before.before.before)
+offset_bounds-seen-half-2 c = omega (arith, number_few c.before.before.before.before.before, half_few c.before.before.before.before.before)
 
 bounds-seen-half-2 : tie.Need-bounds-seen-half-2
-bounds-seen-half-2 c = omega (arith, number_few c.before.before.before.before, half_few c.before.before.before.before)
+bounds-seen-half-2 c = omega (arith, number_few c.before.before.before.before.before, half_few c.before.before.before.before.before)
 
 returns : tie.Need-returns
 returns c h places free whole implied at ts f half_is pardon_is searched reached =
-    let found_at = c.before.before.before.before in
-    let start = found_at.before.before.before.before.before.before in
-    let a = start.args in
-    let here = sym (found_at.before.find.ensures places searched.table searched.count_is) ∙ ap found found_at.before.n.given.1 in
+    let a = c.args in
+    let here = sym (c.find.ensures places searched.table searched.count_is) ∙ ap found c.in-At.is in
     rw half_is (noted_on a.both places free whole implied a.seen.now f a.rest.now a.item.now a.count a.licensed.now searched h (slice a.a a.e a.rest.now)
-    found_at.before.n.given.0.0 here at ts reached
-    (rw half_is at c.before.before.if-seen-half-ne0.false) (rw half_is at (sym c.before.lone.ensures ∙ c.if-lone.false)))
+    c.in-At.n here at ts reached
+    (rw half_is at c.if-seen-half-ne0.false) (rw half_is at (sym c.lone.ensures ∙ c.if-lone.false)))
 
 pub judge_spec : {M : Type 1} → statement M
 judge_spec =

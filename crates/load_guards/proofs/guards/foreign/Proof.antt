@@ -2,12 +2,12 @@
 use Prim.Native.Nat.{ℕ, ◌+◌, ◌-◌, ◌≤◌}
 use mathlib.Core.Path.{◌≡◌, refl, sym, ◌∙◌}
 use mathlib.Core.Bool.{true}
-use mathlib.Core.Logic.{⊎_elim}
 use native.Mathlib.Omega.{arith}
 use borrow.Author.Rules.{rules}
 use Rattle.meaning.specs.Bytes.{all, up_to}
 use Rattle.load_names.proofs.Tallies.{all_next, all_none, all_fails}
 use Rattle.load_guards.proofs.Foreign.{fine, has_writer, has_reader, no_reader, in_head, all_fine}
+use Rattle.load_guards.proofs.guards.foreign.Lts.{then-item-n-ne0-2+else-heads-n-eq0, else-item-n-ne0-2}
 use Rattle.load_guards.proofs.guards.foreign.Statement.{statement}
 use Rattle.load_guards.proofs.guards.foreign.Tie as tie
 
@@ -69,11 +69,13 @@ loop-n-smaller c = search rules
 
 loop-n-preserved : tie.Need-loop-n-preserved invariant-loop-n decreases-loop-n
 loop-n-preserved c =
-    let at = c.before.before.before.before.before in
-    let a = at.before.args in
-    let no_writer = c.before.before.if-item-n-ne0.false in (
-      all_next (fine a.item.now a.heads.now) at.loop-n.n at.loop-n.invariant.0
-          (⊎_elim (λ w. in_head a.item.now a.heads.now at.loop-n.n no_writer w.2.left) (λ w. no_reader a.item.now a.heads.now at.loop-n.n no_writer w.left) c.if-item-n-ne0-2.branch),
+    let a = c.args in
+    let no_writer = c.if-item-n-ne0.false in (
+      all_next (fine a.item.now a.heads.now) c.loop-n.n c.loop-n.invariant.0
+          (elim c.if-item-n-ne0-2.branch [
+            | then-item-n-ne0-2+else-heads-n-eq0 w ↦ in_head a.item.now a.heads.now c.loop-n.n no_writer w.if-heads-n-eq0.false
+            | else-item-n-ne0-2 w ↦ no_reader a.item.now a.heads.now c.loop-n.n no_writer w.if-item-n-ne0-2.false
+          ]),
       omega arith,
     )
 

@@ -15,7 +15,7 @@ index-requires c κs = search rules
 means_ground-requires : tie.Need-means_ground-requires
 means_ground-requires c κs =
     let start = c.before.before in
-    let (base, known, g, t) = start.requires.by_index in
+    let (base, known, g, t) = start.requires.1 in
     omega (arith, c.index.ensures, test_row start.args.s.now start.args.w base known g t, t.in_table.number_few)
 
 index-requires-then-means_ground : tie.Need-index-requires-then-means_ground
@@ -24,20 +24,20 @@ index-requires-then-means_ground c κs = search rules
 overflow_add-argument : tie.Need-overflow_add-argument
 overflow_add-argument c =
     let start = c.before.before.before.before.before in
-    let (base, known, g, t) = start.requires.by_index in
-    omega (arith, c.index-then-means_ground.ensures, start.requires.s_len_bound, (test_place start.args.s.now start.args.w base known g t).1)
+    let (base, known, g, t) = start.requires.1 in
+    omega (arith, c.index-then-means_ground.ensures, start.requires.0, (test_place start.args.s.now start.args.w base known g t).1)
 
 offset_bounds-s-index : tie.Need-offset_bounds-s-index
 offset_bounds-s-index c =
     let start = c.before.before.before.before.before in
-    let (base, known, g, t) = start.requires.by_index in
-    omega (arith, c.index-then-means_ground.ensures, start.requires.s_len_bound, (test_place start.args.s.now start.args.w base known g t).1)
+    let (base, known, g, t) = start.requires.1 in
+    omega (arith, c.index-then-means_ground.ensures, start.requires.0, (test_place start.args.s.now start.args.w base known g t).1)
 
 bounds-s-index : tie.Need-bounds-s-index
 bounds-s-index c =
     let start = c.before.before.before.before.before.before in
-    let (base, known, g, t) = start.requires.by_index in
-    omega (arith, c.before.index-then-means_ground.ensures, start.requires.s_len_bound, (test_place start.args.s.now start.args.w base known g t).1)
+    let (base, known, g, t) = start.requires.1 in
+    omega (arith, c.before.index-then-means_ground.ensures, start.requires.0, (test_place start.args.s.now start.args.w base known g t).1)
 
 index-requires-then-argument-eq-READER : tie.Need-index-requires-then-argument-eq-READER
 index-requires-then-argument-eq-READER c κs = search rules

@@ -24,22 +24,22 @@ loop-i-init : tie.Need-loop-i-init invariant-loop-i decreases-loop-i
 loop-i-init c =
     let start = c.before.before in
     let a = start.args in
-    let cleared = start.requires.licensed_value.0 in
+    let cleared = start.requires.0.0 in
     (omega arith, ap length cleared ∙ length-replicate {A = ℕ} 16 0, λ base known gs t. rw cleared (none_yet a.s.now a.place a.n base known gs t))
 
 overflow_add-place : tie.Need-overflow_add-place invariant-loop-i decreases-loop-i
 overflow_add-place c =
-    let (base, known, gs, t) = c.before.before.before.before.requires.by_index in
-    omega (arith, t.inside, t.few, c.before.before.before.before.requires.licensed_value.1)
+    let (base, known, gs, t) = c.before.before.before.before.requires.1 in
+    omega (arith, t.inside, t.few, c.before.before.before.before.requires.0.1)
 
 offset_bounds-s-place : tie.Need-offset_bounds-s-place invariant-loop-i decreases-loop-i
 offset_bounds-s-place c =
-    let (base, known, gs, t) = c.before.before.before.before.requires.by_index in
-    omega (arith, t.inside, t.few, c.before.before.before.before.requires.licensed_value.1)
+    let (base, known, gs, t) = c.before.before.before.before.requires.1 in
+    omega (arith, t.inside, t.few, c.before.before.before.before.requires.0.1)
 
 bounds-s-place : tie.Need-bounds-s-place invariant-loop-i decreases-loop-i
 bounds-s-place c =
-    let (base, known, gs, t) = c.before.before.before.before.before.requires.by_index in
+    let (base, known, gs, t) = c.before.before.before.before.before.requires.1 in
     omega (arith, t.inside, t.few)
 
 grounded-m-requires : tie.Need-grounded-m-requires invariant-loop-i decreases-loop-i
@@ -47,10 +47,10 @@ grounded-m-requires c κs =
     let at = c.before.before in
     let start = at.before.before.before in
     let a = start.args in
-    let (base, known, gs, t) = start.requires.by_index in
+    let (base, known, gs, t) = start.requires.1 in
     let p = at.loop-i.invariant.2 base known gs t in
     let further : at.loop-i.i < a.n = omega arith in (
-      start.requires.licensed_value.1,
+      start.requires.0.1,
       (
         base,
         known,
@@ -87,7 +87,7 @@ loop-i-preserved c =
 shape_of-licensed : tie.Need-shape_of-licensed invariant-loop-i decreases-loop-i
 shape_of-licensed c =
     let start = c.before.before.before.before in
-    c.before.loop-i.invariant.1 ∙ sym (ap length start.requires.licensed_value.0 ∙ length-replicate {A = ℕ} 16 0)
+    c.before.loop-i.invariant.1 ∙ sym (ap length start.requires.0.0 ∙ length-replicate {A = ℕ} 16 0)
 
 returns : tie.Need-returns invariant-loop-i decreases-loop-i
 returns c base known gs t =

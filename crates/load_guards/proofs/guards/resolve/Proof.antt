@@ -30,7 +30,7 @@ offset_bounds-words-i c =
     let at = c.before in
     let start = at.before.before.before.before.before in
     let a = start.args in
-    let (known, es, l) = start.requires.listed in
+    let (known, es, l) = start.requires.1 in
     omega (arith, l.few)
 
 bounds-words-i : tie.Need-bounds-words-i invariant-loop-i decreases-loop-i
@@ -38,7 +38,7 @@ bounds-words-i c =
     let at = c.before.before in
     let start = at.before.before.before.before.before in
     let a = start.args in
-    let (known, es, l) = start.requires.listed in
+    let (known, es, l) = start.requires.1 in
     omega (arith, l.kept)
 
 row_for-row-requires : tie.Need-row_for-row-requires invariant-loop-i decreases-loop-i
@@ -46,7 +46,7 @@ row_for-row-requires c κs =
     let at = c.before.before in
     let start = at.before.before.before.before.before in
     let a = start.args in
-    let (known, es, l) = start.requires.listed in (
+    let (known, es, l) = start.requires.1 in (
       a.base,
       known,
       (first a.text.now a.names.now a.s.now a.words.now a.n a.base a.place known es l at.loop-i.i at.loop-i.s (at.loop-i.invariant.2 known es l)
@@ -78,7 +78,7 @@ test_word-requires c κs =
     let at = c.before.before.before.before in
     let start = at.before.before.before.before.before in
     let a = start.args in
-    let (known, es, l) = start.requires.listed in
+    let (known, es, l) = start.requires.1 in
     let further : at.loop-i.i < a.n = omega arith in
     let row = c.before.row_for-row.ensures a.base known (first a.text.now a.names.now a.s.now a.words.now a.n a.base a.place known es l at.loop-i.i at.loop-i.s
     (at.loop-i.invariant.2 known es l) at.loop-i.invariant.0 further).0 (alone a.text.now a.names.now a.s.now a.words.now a.n a.base a.place known es l at.loop-i.i
@@ -89,7 +89,7 @@ test_word-requires c κs =
         row_few (first a.text.now a.names.now a.s.now a.words.now a.n a.base a.place known es l at.loop-i.i at.loop-i.s (at.loop-i.invariant.2 known es l)
             at.loop-i.invariant.0 further).0,
       ),
-      omega (arith, l.inside, start.requires.s_len_bound),
+      omega (arith, l.inside, start.requires.0),
     )
 
 overflow_add-s : tie.Need-overflow_add-s invariant-loop-i decreases-loop-i
@@ -97,23 +97,23 @@ overflow_add-s c =
     let at = c.before.before.before.before.before.before in
     let start = at.before.before.before.before in
     let a = start.args in
-    let (known, es, l) = start.requires.listed in
-    omega (arith, l.few, l.apart, l.inside, start.requires.s_len_bound)
+    let (known, es, l) = start.requires.1 in
+    omega (arith, l.few, l.apart, l.inside, start.requires.0)
 
 offset_bounds-s-place : tie.Need-offset_bounds-s-place invariant-loop-i decreases-loop-i
 offset_bounds-s-place c =
     let at = c.before.before.before.before.before.before in
     let start = at.before.before.before.before in
     let a = start.args in
-    let (known, es, l) = start.requires.listed in
-    omega (arith, l.few, l.apart, l.inside, start.requires.s_len_bound)
+    let (known, es, l) = start.requires.1 in
+    omega (arith, l.few, l.apart, l.inside, start.requires.0)
 
 bounds-s-place : tie.Need-bounds-s-place invariant-loop-i decreases-loop-i
 bounds-s-place c =
     let at = c.before.before.before.before.before in
     let start = at.before.before.before.before.before in
     let a = start.args in
-    let (known, es, l) = start.requires.listed in
+    let (known, es, l) = start.requires.1 in
     omega (arith, l.few, l.apart, l.inside, at.loop-i.invariant.1)
 
 overflow_add-i : tie.Need-overflow_add-i invariant-loop-i decreases-loop-i

@@ -33,7 +33,7 @@ bounds-table-n c = search rules
 overflow_add-s : tie.Need-overflow_add-s invariant-loop-n decreases-loop-n
 overflow_add-s c =
     let l = c.before.before.before.loop-n in
-    omega (arith, c.before.before.before.before.before.before.requires.by_index l.n (omega arith), c.before.word.ensures)
+    omega (arith, c.before.before.before.before.before.before.requires.1 l.n (omega arith), c.before.word.ensures)
 
 overflow_mul-s-in-loop-n : tie.Need-overflow_mul-s-in-loop-n invariant-loop-n decreases-loop-n
 overflow_mul-s-in-loop-n c = search rules

@@ -32,16 +32,16 @@ index-requires : tie.Need-index-requires invariant-loop-k decreases-loop-k
 index-requires c κs = search rules
 
 overflow_add-first : tie.Need-overflow_add-first invariant-loop-k decreases-loop-k
-overflow_add-first c = omega (arith, c.before.before.before.before.before.before.requires.by_index (c.before.before.before.loop-k.k - 1) (omega arith), c.index.ensures)
+overflow_add-first c = omega (arith, c.before.before.before.before.before.before.requires.1 (c.before.before.before.loop-k.k - 1) (omega arith), c.index.ensures)
 
 overflow_sub-first : tie.Need-overflow_sub-first invariant-loop-k decreases-loop-k
-overflow_sub-first c = omega (arith, c.before.before.before.before.before.before.requires.by_index (c.before.before.before.loop-k.k - 1) (omega arith), c.index.ensures)
+overflow_sub-first c = omega (arith, c.before.before.before.before.before.before.requires.1 (c.before.before.before.loop-k.k - 1) (omega arith), c.index.ensures)
 
 offset_bounds-s-first : tie.Need-offset_bounds-s-first invariant-loop-k decreases-loop-k
-offset_bounds-s-first c = omega (arith, c.before.before.before.before.before.before.requires.by_index (c.before.before.before.loop-k.k - 1) (omega arith), c.index.ensures)
+offset_bounds-s-first c = omega (arith, c.before.before.before.before.before.before.requires.1 (c.before.before.before.loop-k.k - 1) (omega arith), c.index.ensures)
 
 bounds-s-first : tie.Need-bounds-s-first invariant-loop-k decreases-loop-k
-bounds-s-first c = omega (arith, c.before.before.before.before.before.before.before.requires.by_index (c.before.before.before.before.loop-k.k - 1) (omega arith), c.before.index.ensures)
+bounds-s-first c = omega (arith, c.before.before.before.before.before.before.before.requires.1 (c.before.before.before.before.loop-k.k - 1) (omega arith), c.before.index.ensures)
 
 overflow_mul-s : tie.Need-overflow_mul-s invariant-loop-k decreases-loop-k
 overflow_mul-s c = search rules
@@ -62,10 +62,10 @@ word-requires : tie.Need-word-requires invariant-loop-k decreases-loop-k
 word-requires c κs = search rules
 
 offset_bounds-s-first-in-loop-k : tie.Need-offset_bounds-s-first-in-loop-k invariant-loop-k decreases-loop-k
-offset_bounds-s-first-in-loop-k c = omega (arith, c.before.before.before.before.before.before.before.before.requires.by_index (c.before.before.before.before.before.loop-k.k - 1) (omega arith), c.before.before.index.ensures)
+offset_bounds-s-first-in-loop-k c = omega (arith, c.before.before.before.before.before.before.before.before.requires.1 (c.before.before.before.before.before.loop-k.k - 1) (omega arith), c.before.before.index.ensures)
 
 bounds-s-first-in-loop-k : tie.Need-bounds-s-first-in-loop-k invariant-loop-k decreases-loop-k
-bounds-s-first-in-loop-k c = simp length-set (omega (arith, c.before.before.before.before.before.before.before.before.requires.by_index (c.before.before.before.before.before.loop-k.k - 1) (omega arith), c.before.before.index.ensures))
+bounds-s-first-in-loop-k c = simp length-set (omega (arith, c.before.before.before.before.before.before.before.before.requires.1 (c.before.before.before.before.before.loop-k.k - 1) (omega arith), c.before.before.index.ensures))
 
 loop-k-smaller : tie.Need-loop-k-smaller invariant-loop-k decreases-loop-k
 loop-k-smaller c = search rules
@@ -77,7 +77,7 @@ loop-k-preserved c =
     let l = c.before.before.before.before.before.loop-k in
     let w = c.before.before.index in
     let low : l.k - 1 < a.clauses = omega arith in
-    let first : 512 + w.result - 8 ≡ procedure_slot (get_or a.heads.now (l.k - 1) 0) = omega (arith, start.requires.by_index (l.k - 1) low, w.ensures) in (
+    let first : 512 + w.result - 8 ≡ procedure_slot (get_or a.heads.now (l.k - 1) 0) = omega (arith, start.requires.1 (l.k - 1) low, w.ensures) in (
       linked_again a.heads.now a.clauses (l.k - 1) l.k (512 + w.result - 8) c.word.result l.s a.s.now
           (omega arith) (omega arith) (omega arith) first c.word.ensures l.invariant.0,
       omega arith,

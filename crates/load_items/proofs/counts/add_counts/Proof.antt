@@ -17,7 +17,7 @@ decreases-loop-i table₀ source i₀ table i = 64 - i
 loop-i-init : tie.Need-loop-i-init invariant-loop-i decreases-loop-i
 loop-i-init c =
     let a = c.before.before.args in
-    halfway_none (λ j. min 2 (get_or a.table.now j 0 + get_or a.source.now j 0)) a.table.now c.before.before.requires.source_len.1
+    halfway_none (λ j. min 2 (get_or a.table.now j 0 + get_or a.source.now j 0)) a.table.now c.before.before.requires.0.1
 
 offset_bounds-table-i : tie.Need-offset_bounds-table-i invariant-loop-i decreases-loop-i
 offset_bounds-table-i c = search rules
@@ -36,7 +36,7 @@ sum-requires c κs =
     let l = c.before.before.before.loop-i in
     let start = c.before.before.before.before.before.before in
     let a = start.args in
-    let both = by_place (λ j. (get_or a.source.now j 0 ≤ 2) × (get_or a.table.now j 0 ≤ 2)) start.requires.by_index l.i l.invariant.low (omega arith) in
+    let both = by_place (λ j. (get_or a.source.now j 0 ≤ 2) × (get_or a.table.now j 0 ≤ 2)) start.requires.1 l.i l.invariant.low (omega arith) in
     (omega (arith, both.1, l.invariant.left l.i (omega arith)), both.0)
 
 offset_bounds-table-i-in-loop-i : tie.Need-offset_bounds-table-i-in-loop-i invariant-loop-i decreases-loop-i
@@ -59,7 +59,7 @@ loop-i-preserved c =
     (c.sum.ensures ∙ ap (λ v. min 2 (v + get_or a.source.now l.i 0)) (l.invariant.left l.i (omega arith)))
 
 shape_of-table : tie.Need-shape_of-table invariant-loop-i decreases-loop-i
-shape_of-table c = omega (arith, c.before.loop-i.invariant.size, c.before.before.before.before.requires.source_len.1)
+shape_of-table c = omega (arith, c.before.loop-i.invariant.size, c.before.before.before.before.requires.0.1)
 
 returns : tie.Need-returns invariant-loop-i decreases-loop-i
 returns c =

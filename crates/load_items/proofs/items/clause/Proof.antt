@@ -18,7 +18,7 @@ returns-then-k-ge128 c =
     let start = c.before.before.before.before.before.before.before in
     let a = start.args in
     let q = start.requires in
-    let x = q.begins_in_bounds in
+    let x = q.1.1 in
     λ known queries b. (clause_passes a.rest.now a.from known a.k queries a.begins x.0 x.1 x.3 c.if-k-ge128.true, x.2, only_same 0 trial_region a.s.now)
 
 slice_bounds-rule-end : tie.Need-slice_bounds-rule-end
@@ -39,11 +39,11 @@ rule-requires c κs =
     let start = at_if1.before.before.before.before.before.before.before in
     let a = start.args in
     let q = start.requires in
-    let known = q.begins.0 in
-    let b = q.begins.1 in
+    let known = q.1.0.0 in
+    let b = q.1.0.1 in
     let f = c.first.ensures in
     let st = begin_stands a.text.now a.rest.now a.from a.names.now a.item.now a.known known b c.first.result (omega (arith, f.0)) f.1 f.2 f.3 in
-    let l = q.lent in (
+    let l = q.0 in (
       (at_if1.if-k-ge128.false, l.enough, l.fits, l.heads_size, f.3),
       ((length-replicate {A = ℕ} 64 0, refl, refl), (known, [], st)),
     )
@@ -69,9 +69,9 @@ judged-requires c κs =
     let start = at_if1.before.before.before.before.before.before.before in
     let a = start.args in
     let q = start.requires in
-    let x = q.begins_in_bounds in
-    let known = q.begins.0 in
-    let b = q.begins.1 in
+    let x = q.1.1 in
+    let known = q.1.0.0 in
+    let b = q.1.0.1 in
     let f = at_first.first.ensures in
     let st = begin_stands a.text.now a.rest.now a.from a.names.now a.item.now a.known known b at_first.first.result (omega (arith, f.0)) f.1 f.2 f.3 in
     let got = rw at_guards.in-Got.is at (at_rule.rule.ensures known [] st) in
@@ -97,7 +97,7 @@ judged-requires c κs =
     at_rule.rule.new.in_guards at_rule.rule.new.licensed a.k a.begins at_guards.in-Got.guards
     at_guards.in-Got.bar at_guards.in-Got.goals at_guards.in-Got.c w = record
     { was_read = got.4; empty = b.empty; at_first = (f.0, f.3); tokens = x.3; inside = x.2 } in
-    let l = q.lent in
+    let l = q.0 in
     ((at_if1.if-k-ge128.false, omega (arith, l.enough, at_rule.rule.auto.s), omega (arith, l.fits, at_rule.rule.auto.s)), (w, j))
 
 enum_told-1 : tie.Need-enum_told-1
@@ -130,7 +130,7 @@ returns-in-Got c =
     let start = at_first.before.before.before.before.before.before.before.before.before.before.before.before.before.before.before in
     let a = start.args in
     let q = start.requires in
-    let x = q.begins_in_bounds in
+    let x = q.1.1 in
     λ known queries b.
     let f = at_first.first.ensures in
     let st = begin_stands a.text.now a.rest.now a.from a.names.now a.item.now a.known known b at_first.first.result (omega (arith, f.0)) f.1 f.2 f.3 in
@@ -179,7 +179,7 @@ returns-in-Unknown c =
     let start = at_if1.before.before.before.before.before.before.before in
     let a = start.args in
     let q = start.requires in
-    let x = q.begins_in_bounds in
+    let x = q.1.1 in
     λ known queries b.
     let f = at_first.first.ensures in
     let st = begin_stands a.text.now a.rest.now a.from a.names.now a.item.now a.known known b at_first.first.result (omega (arith, f.0)) f.1 f.2 f.3 in
@@ -211,7 +211,7 @@ returns-in-Malformed c =
     let start = at_if1.before.before.before.before.before.before.before in
     let a = start.args in
     let q = start.requires in
-    let x = q.begins_in_bounds in
+    let x = q.1.1 in
     λ known queries b.
     let f = at_first.first.ensures in
     let st = begin_stands a.text.now a.rest.now a.from a.names.now a.item.now a.known known b at_first.first.result (omega (arith, f.0)) f.1 f.2 f.3 in
@@ -242,7 +242,7 @@ returns-in-Exceeded c =
     let start = at_if1.before.before.before.before.before.before.before in
     let a = start.args in
     let q = start.requires in
-    let x = q.begins_in_bounds in
+    let x = q.1.1 in
     λ known queries b.
     let f = at_first.first.ensures in
     let st = begin_stands a.text.now a.rest.now a.from a.names.now a.item.now a.known known b at_first.first.result (omega (arith, f.0)) f.1 f.2 f.3 in

@@ -31,10 +31,10 @@ returns-then-foreign c =
     let a = start.args in
     let q = start.requires in
     λ w j queries. (
-      clause_strange a.rest.now a.s.now a.item.now a.in_head.now a.in-guards.now a.licensed.now a.k a.begins a.guards a.bar a.goals
-          a.c w q.k_bound.0 j (take (length a.in_head.now - 32) (drop 32 a.in_head.now)) (part_counts a.in_head.now) queries at_foreign.foreign.result
-          (at_foreign.foreign.ensures w.rule.head w.rule.body.guards w.guards (counts_are a.rest.now a.s.now a.item.now a.in_head.now a.in-guards.now
-          a.licensed.now a.k a.begins a.guards a.bar a.goals a.c w q.k_bound.0 j (take (length a.in_head.now - 32) (drop 32 a.in_head.now))
+      clause_strange a.rest.now a.s.now a.item.now a.in_head.now a.in_guards.now a.licensed.now a.k a.begins a.guards a.bar a.goals
+          a.c w q.0.0 j (take (length a.in_head.now - 32) (drop 32 a.in_head.now)) (part_counts a.in_head.now) queries at_foreign.foreign.result
+          (at_foreign.foreign.ensures w.rule.head w.rule.body.guards w.guards (counts_are a.rest.now a.s.now a.item.now a.in_head.now a.in_guards.now
+          a.licensed.now a.k a.begins a.guards a.bar a.goals a.c w q.0.0 j (take (length a.in_head.now - 32) (drop 32 a.in_head.now))
           (part_counts a.in_head.now)) j.was_read.guards_are.in_table) c.if-foreign.true,
       j.inside,
       j.was_read.ended.only,
@@ -51,14 +51,13 @@ first_fault-fault-requires c κs =
     let start = at_foreign.before.before.before.before.before.before.before.before in
     let a = start.args in
     let q = start.requires in
-    let (w, j) = q.judging in
+    let (w, j) = q.1 in
     let queries : ℕ = 0 in
-    let told = broken a.rest.now a.s.now a.item.now a.in_head.now a.in-guards.now a.licensed.now a.k a.begins a.guards a.bar a.goals a.c w q.k_bound.0
+    let told = broken a.rest.now a.s.now a.item.now a.in_head.now a.in_guards.now a.licensed.now a.k a.begins a.guards a.bar a.goals a.c w q.0.0
     j (take (length a.in_head.now - 32) (drop 32 a.in_head.now)) (part_counts a.in_head.now) queries at_foreign.foreign.result
-    (at_foreign.foreign.ensures w.rule.head w.rule.body.guards w.guards (counts_are a.rest.now a.s.now a.item.now a.in_head.now a.in-guards.now
-    a.licensed.now a.k a.begins a.guards a.bar a.goals a.c w q.k_bound.0 j (take (length a.in_head.now - 32) (drop 32 a.in_head.now))
-    (part_counts a.in_head.now)) j.was_read.guards_are.in_table) at_if1.if-foreign.false (sym at_clause_rules.clause_rules.ensures ∙ not-true
-    at_clause_rules.clause_rules.result c.if-not-clause_rules.true) in
+    (at_foreign.foreign.ensures w.rule.head w.rule.body.guards w.guards (counts_are a.rest.now a.s.now a.item.now a.in_head.now a.in_guards.now
+    a.licensed.now a.k a.begins a.guards a.bar a.goals a.c w q.0.0 j (take (length a.in_head.now - 32) (drop 32 a.in_head.now))
+    (part_counts a.in_head.now)) j.was_read.guards_are.in_table) at_if1.if-foreign.false (sym at_clause_rules.clause_rules.ensures ∙ c.if-not-clause_rules.true) in
     (omega arith, (w.from, (variables_over w.from w.passed []), (free w.guards (spellings (variables_over w.from w.passed []))), w.rule.body.behind, told.0, told.2))
 
 returns-then-not-clause_rules : tie.Need-returns-then-not-clause_rules
@@ -71,12 +70,11 @@ returns-then-not-clause_rules c =
     let a = start.args in
     let q = start.requires in
     λ w j queries.
-    let told = broken a.rest.now a.s.now a.item.now a.in_head.now a.in-guards.now a.licensed.now a.k a.begins a.guards a.bar a.goals a.c w q.k_bound.0
+    let told = broken a.rest.now a.s.now a.item.now a.in_head.now a.in_guards.now a.licensed.now a.k a.begins a.guards a.bar a.goals a.c w q.0.0
     j (take (length a.in_head.now - 32) (drop 32 a.in_head.now)) (part_counts a.in_head.now) queries at_foreign.foreign.result
-    (at_foreign.foreign.ensures w.rule.head w.rule.body.guards w.guards (counts_are a.rest.now a.s.now a.item.now a.in_head.now a.in-guards.now
-    a.licensed.now a.k a.begins a.guards a.bar a.goals a.c w q.k_bound.0 j (take (length a.in_head.now - 32) (drop 32 a.in_head.now))
-    (part_counts a.in_head.now)) j.was_read.guards_are.in_table) at_if1.if-foreign.false (sym at_clause_rules.clause_rules.ensures ∙ not-true
-    at_clause_rules.clause_rules.result at_if2.if-not-clause_rules.true) in (
+    (at_foreign.foreign.ensures w.rule.head w.rule.body.guards w.guards (counts_are a.rest.now a.s.now a.item.now a.in_head.now a.in_guards.now
+    a.licensed.now a.k a.begins a.guards a.bar a.goals a.c w q.0.0 j (take (length a.in_head.now - 32) (drop 32 a.in_head.now))
+    (part_counts a.in_head.now)) j.was_read.guards_are.in_table) at_if1.if-foreign.false (sym at_clause_rules.clause_rules.ensures ∙ at_if2.if-not-clause_rules.true) in (
       told.0,
       told.1,
       c.first_fault-fault.ensures w.from (variables_over w.from w.passed []) (free w.guards (spellings (variables_over w.from w.passed [])))
@@ -116,7 +114,7 @@ bounds-s-record-2 : tie.Need-bounds-s-record-2
 bounds-s-record-2 c =
     let start = c.before.before.before.before.before.before.before.before.before.before.before.before.before in
     let q = start.requires in
-    simp length-set (omega (arith, q.k_bound.0, q.k_bound.1))
+    simp length-set (omega (arith, q.0.0, q.0.1))
 
 overflow_add-s-3 : tie.Need-overflow_add-s-3
 overflow_add-s-3 c = search rules
@@ -128,7 +126,7 @@ bounds-s-record-3 : tie.Need-bounds-s-record-3
 bounds-s-record-3 c =
     let start = c.before.before.before.before.before.before.before.before.before.before.before.before.before in
     let q = start.requires in
-    simp length-set (omega (arith, q.k_bound.0, q.k_bound.1))
+    simp length-set (omega (arith, q.0.0, q.0.1))
 
 word-requires-3 : tie.Need-word-requires-3
 word-requires-3 c κs = search rules
@@ -143,7 +141,7 @@ bounds-s-record-4 : tie.Need-bounds-s-record-4
 bounds-s-record-4 c =
     let start = c.before.before.before.before.before.before.before.before.before.before.before.before.before.before in
     let q = start.requires in
-    simp length-set (omega (arith, q.k_bound.0, q.k_bound.1))
+    simp length-set (omega (arith, q.0.0, q.0.1))
 
 shape_of-s : tie.Need-shape_of-s
 shape_of-s c = search rules
@@ -160,10 +158,10 @@ returns c =
     let a = start.args in
     let q = start.requires in
     λ w j queries.
-    clause_took a.rest.now a.s.now a.item.now a.in_head.now a.in-guards.now a.licensed.now a.k a.begins a.guards a.bar a.goals a.c w q.k_bound.0 j
+    clause_took a.rest.now a.s.now a.item.now a.in_head.now a.in_guards.now a.licensed.now a.k a.begins a.guards a.bar a.goals a.c w q.0.0 j
     (take (length a.in_head.now - 32) (drop 32 a.in_head.now)) (part_counts a.in_head.now) queries at_foreign.foreign.result
-    (at_foreign.foreign.ensures w.rule.head w.rule.body.guards w.guards (counts_are a.rest.now a.s.now a.item.now a.in_head.now a.in-guards.now
-    a.licensed.now a.k a.begins a.guards a.bar a.goals a.c w q.k_bound.0 j (take (length a.in_head.now - 32) (drop 32 a.in_head.now))
+    (at_foreign.foreign.ensures w.rule.head w.rule.body.guards w.guards (counts_are a.rest.now a.s.now a.item.now a.in_head.now a.in_guards.now
+    a.licensed.now a.k a.begins a.guards a.bar a.goals a.c w q.0.0 j (take (length a.in_head.now - 32) (drop 32 a.in_head.now))
     (part_counts a.in_head.now)) j.was_read.guards_are.in_table) at_if1.if-foreign.false at_word.word.result at_word2.word-2.result c.word-3.result
     (sym at_clause_rules.clause_rules.ensures ∙ at_if2.if-not-clause_rules.false) at_word.word.ensures at_word2.word-2.ensures
     c.word-3.ensures

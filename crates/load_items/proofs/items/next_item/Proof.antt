@@ -18,7 +18,7 @@ clause-requires : tie.Need-clause-requires
 clause-requires c κs =
     let a = c.before.before.before.before.before.before.before.before.before.before.before.before.args in
     let h = rw c.before.before.before.before.in-Name.is at c.before.before.before.before.before.front.ensures in
-    (c.before.before.before.before.before.before.before.before.before.before.before.before.requires.lent, (c.before.before.before.before.before.before.before.before.before.before.before.before.requires.begins, (_, _, omega (arith, h.1, h.2), h.4 a.from)))
+    (c.before.before.before.before.before.before.before.before.before.before.before.before.requires.0, (c.before.before.before.before.before.before.before.before.before.before.before.before.requires.1, (_, _, omega (arith, h.1, h.2), h.4 a.from)))
 
 enum_known-c : tie.Need-enum_known-c
 enum_known-c c = search rules
@@ -27,7 +27,7 @@ query-requires : tie.Need-query-requires
 query-requires c κs =
     let a = c.before.before.before.before.before.before.before.before.before.before.before.before.before.args in
     let h = rw c.before.before.before.before.before.in-Sign.is at c.before.before.before.before.before.before.front.ensures in
-    (c.before.before.before.before.before.before.before.before.before.before.before.before.before.requires.lent, (c.before.before.before.before.before.before.before.before.before.before.before.before.before.requires.begins, query_sign a.rest.now a.from c.before.before.before.before.before.in-Sign.c c.before.before.before.before.before.in-Sign.a c.before.before.before.before.if-c-eq63.true h))
+    (c.before.before.before.before.before.before.before.before.before.before.before.before.before.requires.0, (c.before.before.before.before.before.before.before.before.before.before.before.before.before.requires.1, query_sign a.rest.now a.from c.before.before.before.before.before.in-Sign.c c.before.before.before.before.before.in-Sign.a c.before.before.before.before.if-c-eq63.true h))
 
 shape_of-s-then-c-eq63 : tie.Need-shape_of-s-then-c-eq63
 shape_of-s-then-c-eq63 c = c.before.before.before.before.before.before.before.before.query.auto.s

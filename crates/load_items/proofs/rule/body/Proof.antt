@@ -37,8 +37,8 @@ copy_counts-requires : tie.Need-copy_counts-requires
 copy_counts-requires c κs =
     let start = c.before.before.before.before.before.before.before.before.before in
     let q = start.requires in
-    let st = q.stands.2 in
-    (rw q.in_head_len.1 (length-replicate {A = ℕ} 64 0), st.variables_in.size)
+    let st = q.1.1.1.2 in
+    (rw q.1.0.1 (length-replicate {A = ℕ} 64 0), st.variables_in.size)
 
 slice_bounds-elements-end : tie.Need-slice_bounds-elements-end
 slice_bounds-elements-end c = search rules
@@ -49,16 +49,16 @@ elements-requires c κs =
     let start = at_copy_counts.before.before.before.before.before.before.before.before.before.before in
     let a = start.args in
     let q = start.requires in
-    let known = q.stands.0 in
-    let vars = q.stands.1 in
-    let st = q.stands.2 in
-    let fresh = rw q.in_head_len.1 at at_copy_counts.copy_counts.ensures in (
-      (omega (arith, q.k_bound.0, q.k_bound.1), q.k_bound.2, omega (arith, length-replicate {A = ℕ} 8 0)),
+    let known = q.1.1.1.0 in
+    let vars = q.1.1.1.1 in
+    let st = q.1.1.1.2 in
+    let fresh = rw q.1.0.1 at at_copy_counts.copy_counts.ensures in (
+      (omega (arith, q.0.0, q.0.1), q.0.2, omega (arith, length-replicate {A = ℕ} 8 0)),
       (
         known,
         vars,
-        fresh_stands a.k q.k_bound.0 a.text.now a.rest.now a.from known vars
-            a.c a.s.now a.names.now a.item.now a.in_head.now q.by_index st at_copy_counts.copy_counts.new.table at_copy_counts.copy_counts.auto.table fresh,
+        fresh_stands a.k q.0.0 a.text.now a.rest.now a.from known vars
+            a.c a.s.now a.names.now a.item.now a.in_head.now q.1.1.0 st at_copy_counts.copy_counts.new.table at_copy_counts.copy_counts.auto.table fresh,
       ),
     )
 
@@ -72,7 +72,7 @@ overflow_add-record-in-Stop : tie.Need-overflow_add-record-in-Stop
 overflow_add-record-in-Stop c =
     let start = c.before.before.before.before.before.before.before.before.before.before.before.before.before.before.before.before.before.before.before.before.before.before.before.before.before.before.before in
     let a = start.args in
-    let q = start.pre in
+    let q = start.requires in
     omega (arith, q.0.0)
 
 set_goals-requires : tie.Need-set_goals-requires
@@ -83,14 +83,14 @@ set_goals-requires c κs =
     let start = at_copy_counts.before.before.before.before.before.before.before.before.before.before in
     let a = start.args in
     let q = start.requires in
-    let known = q.stands.0 in
-    let vars = q.stands.1 in
-    let st = q.stands.2 in
-    let fresh = rw q.in_head_len.1 at at_copy_counts.copy_counts.ensures in
-    let told = rw at_n.in-Stop.is at (at_elements.elements.ensures known vars (fresh_stands a.k q.k_bound.0 a.text.now a.rest.now a.from known vars a.c a.s.now
-    a.names.now a.item.now a.in_head.now q.by_index st at_copy_counts.copy_counts.new.table at_copy_counts.copy_counts.auto.table fresh)) in (
-      omega (arith, q.k_bound.0, q.k_bound.1, at_elements.elements.auto.s),
-      omega (arith, q.k_bound.2, at_elements.elements.auto.s),
+    let known = q.1.1.1.0 in
+    let vars = q.1.1.1.1 in
+    let st = q.1.1.1.2 in
+    let fresh = rw q.1.0.1 at at_copy_counts.copy_counts.ensures in
+    let told = rw at_n.in-Stop.is at (at_elements.elements.ensures known vars (fresh_stands a.k q.0.0 a.text.now a.rest.now a.from known vars a.c a.s.now
+    a.names.now a.item.now a.in_head.now q.1.1.0 st at_copy_counts.copy_counts.new.table at_copy_counts.copy_counts.auto.table fresh)) in (
+      omega (arith, q.0.0, q.0.1, at_elements.elements.auto.s),
+      omega (arith, q.0.2, at_elements.elements.auto.s),
       told.2.gave.few,
       omega
           (arith, at_elements.elements.auto.words, length-replicate {A = ℕ} 8 0),
@@ -118,18 +118,18 @@ returns-then-not-set_goals c =
     let a = start.args in
     let q = start.requires in
     λ known vars st.
-    let fresh = rw q.in_head_len.1 at at_copy_counts.copy_counts.ensures in
-    let told = rw at_n.in-Stop.is at (at_elements.elements.ensures known vars (fresh_stands a.k q.k_bound.0 a.text.now a.rest.now a.from known vars a.c a.s.now
-    a.names.now a.item.now a.in_head.now q.by_index st at_copy_counts.copy_counts.new.table at_copy_counts.copy_counts.auto.table fresh)) in
+    let fresh = rw q.1.0.1 at at_copy_counts.copy_counts.ensures in
+    let told = rw at_n.in-Stop.is at (at_elements.elements.ensures known vars (fresh_stands a.k q.0.0 a.text.now a.rest.now a.from known vars a.c a.s.now
+    a.names.now a.item.now a.in_head.now q.1.1.0 st at_copy_counts.copy_counts.new.table at_copy_counts.copy_counts.auto.table fresh)) in
     let set_told = rw (c.if-not-set_goals.true) at (at_set_goals.set_goals.ensures (item_places (names_over told.1 known) (clause_base a.k))
-    told.0 (worded a.k q.k_bound.0 a.text.now a.rest.now a.from known vars a.c a.s.now a.names.now a.item.now a.in_head.now q.by_index st
+    told.0 (worded a.k q.0.0 a.text.now a.rest.now a.from known vars a.c a.s.now a.names.now a.item.now a.in_head.now q.1.1.0 st
     at_copy_counts.copy_counts.new.table at_copy_counts.copy_counts.auto.table fresh (replicate 8 0) at_elements.elements.new.s
     at_elements.elements.new.names at_elements.elements.new.item at_elements.elements.new.words at_n.in-Stop.n
     at_n.in-Stop.d told.0 told.1 told.2.gave)) in
-    stop_not a.k q.k_bound.0 a.text.now a.rest.now a.from known vars a.c a.s.now a.names.now a.item.now a.in_head.now q.by_index st
+    stop_not a.k q.0.0 a.text.now a.rest.now a.from known vars a.c a.s.now a.names.now a.item.now a.in_head.now q.1.1.0 st
     at_copy_counts.copy_counts.new.table at_copy_counts.copy_counts.auto.table fresh (replicate 8 0) at_elements.elements.new.s
     at_elements.elements.new.names at_elements.elements.new.item at_elements.elements.new.words at_n.in-Stop.n
-    at_n.in-Stop.d told.0 told.1 at_n.in-Stop.a told.2 at_set_goals.set_goals.new.s a.in-guards.now a.licensed.now set_told
+    at_n.in-Stop.d told.0 told.1 at_n.in-Stop.a told.2 at_set_goals.set_goals.new.s a.in_guards.now a.licensed.now set_told
 
 add_counts-requires : tie.Need-add_counts-requires
 add_counts-requires c κs =
@@ -139,13 +139,13 @@ add_counts-requires c κs =
     let start = at_copy_counts.before.before.before.before.before.before.before.before.before.before in
     let a = start.args in
     let q = start.requires in
-    let known = q.stands.0 in
-    let vars = q.stands.1 in
-    let st = q.stands.2 in
-    let fresh = rw q.in_head_len.1 at at_copy_counts.copy_counts.ensures in
-    let told = rw at_n.in-Stop.is at (at_elements.elements.ensures known vars (fresh_stands a.k q.k_bound.0 a.text.now a.rest.now a.from known vars a.c a.s.now
-    a.names.now a.item.now a.in_head.now q.by_index st at_copy_counts.copy_counts.new.table at_copy_counts.copy_counts.auto.table fresh)) in
-    ((q.in_head_len.0, told.2.gave.stands.variables_in.size), λ i l. (omega (arith, q.by_index i l, st.variables_in.counted i l), told.2.gave.stands.variables_in.counted i l))
+    let known = q.1.1.1.0 in
+    let vars = q.1.1.1.1 in
+    let st = q.1.1.1.2 in
+    let fresh = rw q.1.0.1 at at_copy_counts.copy_counts.ensures in
+    let told = rw at_n.in-Stop.is at (at_elements.elements.ensures known vars (fresh_stands a.k q.0.0 a.text.now a.rest.now a.from known vars a.c a.s.now
+    a.names.now a.item.now a.in_head.now q.1.1.0 st at_copy_counts.copy_counts.new.table at_copy_counts.copy_counts.auto.table fresh)) in
+    ((q.1.0.0, told.2.gave.stands.variables_in.size), λ i l. (omega (arith, q.1.1.0 i l, st.variables_in.counted i l), told.2.gave.stands.variables_in.counted i l))
 
 word-requires : tie.Need-word-requires
 word-requires c κs = search rules
@@ -161,13 +161,13 @@ copy_counts-requires-in-Bar c κs =
     let start = at_copy_counts.before.before.before.before.before.before.before.before.before.before in
     let a = start.args in
     let q = start.requires in
-    let known = q.stands.0 in
-    let vars = q.stands.1 in
-    let st = q.stands.2 in
-    let fresh = rw q.in_head_len.1 at at_copy_counts.copy_counts.ensures in
-    let told = rw at_n2.in-Bar.is at (at_elements.elements.ensures known vars (fresh_stands a.k q.k_bound.0 a.text.now a.rest.now a.from known vars a.c a.s.now
-    a.names.now a.item.now a.in_head.now q.by_index st at_copy_counts.copy_counts.new.table at_copy_counts.copy_counts.auto.table fresh)) in
-    (told.3.gave.stands.variables_in.size, rw q.in_head_len.1 (length-replicate {A = ℕ} 64 0))
+    let known = q.1.1.1.0 in
+    let vars = q.1.1.1.1 in
+    let st = q.1.1.1.2 in
+    let fresh = rw q.1.0.1 at at_copy_counts.copy_counts.ensures in
+    let told = rw at_n2.in-Bar.is at (at_elements.elements.ensures known vars (fresh_stands a.k q.0.0 a.text.now a.rest.now a.from known vars a.c a.s.now
+    a.names.now a.item.now a.in_head.now q.1.1.0 st at_copy_counts.copy_counts.new.table at_copy_counts.copy_counts.auto.table fresh)) in
+    (told.3.gave.stands.variables_in.size, rw q.1.0.1 (length-replicate {A = ℕ} 64 0))
 
 copy_counts-requires-in-Bar-2 : tie.Need-copy_counts-requires-in-Bar-2
 copy_counts-requires-in-Bar-2 c κs =
@@ -177,13 +177,13 @@ copy_counts-requires-in-Bar-2 c κs =
     let start = at_copy_counts.before.before.before.before.before.before.before.before.before.before in
     let a = start.args in
     let q = start.requires in
-    let known = q.stands.0 in
-    let vars = q.stands.1 in
-    let st = q.stands.2 in
-    let fresh = rw q.in_head_len.1 at at_copy_counts.copy_counts.ensures in
-    let told = rw at_n2.in-Bar.is at (at_elements.elements.ensures known vars (fresh_stands a.k q.k_bound.0 a.text.now a.rest.now a.from known vars a.c a.s.now
-    a.names.now a.item.now a.in_head.now q.by_index st at_copy_counts.copy_counts.new.table at_copy_counts.copy_counts.auto.table fresh)) in
-    (q.in_head_len.0, told.3.gave.stands.variables_in.size)
+    let known = q.1.1.1.0 in
+    let vars = q.1.1.1.1 in
+    let st = q.1.1.1.2 in
+    let fresh = rw q.1.0.1 at at_copy_counts.copy_counts.ensures in
+    let told = rw at_n2.in-Bar.is at (at_elements.elements.ensures known vars (fresh_stands a.k q.0.0 a.text.now a.rest.now a.from known vars a.c a.s.now
+    a.names.now a.item.now a.in_head.now q.1.1.0 st at_copy_counts.copy_counts.new.table at_copy_counts.copy_counts.auto.table fresh)) in
+    (q.1.0.0, told.3.gave.stands.variables_in.size)
 
 slice_bounds-tested-end : tie.Need-slice_bounds-tested-end
 slice_bounds-tested-end c = search rules
@@ -192,7 +192,7 @@ overflow_add-record-in-Bar : tie.Need-overflow_add-record-in-Bar
 overflow_add-record-in-Bar c =
     let start = c.before.before.before.before.before.before.before.before.before.before.before.before.before.before.before.before.before.before.before.before.before.before.before.before.before.before.before.before.before.before.before.before.before.before.before in
     let a = start.args in
-    let q = start.pre in
+    let q = start.requires in
     omega (arith, q.0.0)
 
 tested-found-requires : tie.Need-tested-found-requires
@@ -203,20 +203,20 @@ tested-found-requires c κs =
     let start = at_copy_counts.before.before.before.before.before.before.before.before.before.before in
     let a = start.args in
     let q = start.requires in
-    let known = q.stands.0 in
-    let vars = q.stands.1 in
-    let st = q.stands.2 in
-    let fresh = rw q.in_head_len.1 at at_copy_counts.copy_counts.ensures in
-    let told = rw at_n2.in-Bar.is at (at_elements.elements.ensures known vars (fresh_stands a.k q.k_bound.0 a.text.now a.rest.now a.from known vars a.c a.s.now
-    a.names.now a.item.now a.in_head.now q.by_index st at_copy_counts.copy_counts.new.table at_copy_counts.copy_counts.auto.table fresh)) in (
-      (q.in_head_len.2, omega (arith, q.k_bound.2, at_elements.elements.auto.s)),
+    let known = q.1.1.1.0 in
+    let vars = q.1.1.1.1 in
+    let st = q.1.1.1.2 in
+    let fresh = rw q.1.0.1 at at_copy_counts.copy_counts.ensures in
+    let told = rw at_n2.in-Bar.is at (at_elements.elements.ensures known vars (fresh_stands a.k q.0.0 a.text.now a.rest.now a.from known vars a.c a.s.now
+    a.names.now a.item.now a.in_head.now q.1.1.0 st at_copy_counts.copy_counts.new.table at_copy_counts.copy_counts.auto.table fresh)) in (
+      (q.1.0.2, omega (arith, q.0.2, at_elements.elements.auto.s)),
       (
         names_over told.1 known,
         told.0,
-        listed a.k q.k_bound.0 a.text.now a.rest.now a.from
-            known vars a.c a.s.now a.names.now a.item.now a.in_head.now q.by_index st at_copy_counts.copy_counts.new.table at_copy_counts.copy_counts.auto.table
+        listed a.k q.0.0 a.text.now a.rest.now a.from
+            known vars a.c a.s.now a.names.now a.item.now a.in_head.now q.1.1.0 st at_copy_counts.copy_counts.new.table at_copy_counts.copy_counts.auto.table
             fresh (replicate 8 0) at_elements.elements.new.s at_elements.elements.new.names at_elements.elements.new.item
-            at_elements.elements.new.words at_n2.in-Bar.n at_n2.in-Bar.d told.0 told.1 told.2 told.3 q.k_bound.1
+            at_elements.elements.new.words at_n2.in-Bar.n at_n2.in-Bar.d told.0 told.1 told.2 told.3 q.0.1
             (omega (arith, at_elements.elements.auto.words, length-replicate {A = ℕ} 8 0)),
       ),
     )
@@ -232,28 +232,28 @@ guarded-requires c κs =
     let start = at_copy_counts.before.before.before.before.before.before.before.before.before.before in
     let a = start.args in
     let q = start.requires in
-    let known = q.stands.0 in
-    let vars = q.stands.1 in
-    let st = q.stands.2 in
-    let fresh = rw q.in_head_len.1 at at_copy_counts.copy_counts.ensures in
-    let told = rw at_n2.in-Bar.is at (at_elements.elements.ensures known vars (fresh_stands a.k q.k_bound.0 a.text.now a.rest.now a.from known vars a.c a.s.now
-    a.names.now a.item.now a.in_head.now q.by_index st at_copy_counts.copy_counts.new.table at_copy_counts.copy_counts.auto.table fresh)) in
-    let kept_guards = rw q.in_head_len.1 at at_copy_counts2.copy_counts-in-Bar.ensures in
-    let were : length a.in-guards.now ≡ 64 = rw q.in_head_len.1 (length-replicate {A = ℕ} 64 0) in
+    let known = q.1.1.1.0 in
+    let vars = q.1.1.1.1 in
+    let st = q.1.1.1.2 in
+    let fresh = rw q.1.0.1 at at_copy_counts.copy_counts.ensures in
+    let told = rw at_n2.in-Bar.is at (at_elements.elements.ensures known vars (fresh_stands a.k q.0.0 a.text.now a.rest.now a.from known vars a.c a.s.now
+    a.names.now a.item.now a.in_head.now q.1.1.0 st at_copy_counts.copy_counts.new.table at_copy_counts.copy_counts.auto.table fresh)) in
+    let kept_guards = rw q.1.0.1 at at_copy_counts2.copy_counts-in-Bar.ensures in
+    let were : length a.in_guards.now ≡ 64 = rw q.1.0.1 (length-replicate {A = ℕ} 64 0) in
     let size_g : length at_copy_counts2.copy_counts-in-Bar.new.table ≡ 64 = omega (arith, at_copy_counts2.copy_counts-in-Bar.auto.table, were) in (
       (
-        q.k_bound.0,
-        omega (arith, q.k_bound.1, at_elements.elements.auto.s, at_tested.tested-found.auto.s),
+        q.0.0,
+        omega (arith, q.0.1, at_elements.elements.auto.s, at_tested.tested-found.auto.s),
         omega
-            (arith, q.k_bound.2, at_elements.elements.auto.s, at_tested.tested-found.auto.s),
+            (arith, q.0.2, at_elements.elements.auto.s, at_tested.tested-found.auto.s),
       ),
       (
         names_over told.1 known,
         variables_over a.from told.1 vars,
-        bar_stands a.k q.k_bound.0 a.text.now a.rest.now a.from known vars a.c a.s.now
-            a.names.now a.item.now a.in_head.now q.by_index st at_copy_counts.copy_counts.new.table at_copy_counts.copy_counts.auto.table fresh (replicate 8 0)
+        bar_stands a.k q.0.0 a.text.now a.rest.now a.from known vars a.c a.s.now
+            a.names.now a.item.now a.in_head.now q.1.1.0 st at_copy_counts.copy_counts.new.table at_copy_counts.copy_counts.auto.table fresh (replicate 8 0)
             at_elements.elements.new.s at_elements.elements.new.names at_elements.elements.new.item
-            at_elements.elements.new.words at_n2.in-Bar.n at_n2.in-Bar.d told.0 told.1 told.2 told.3 q.k_bound.1
+            at_elements.elements.new.words at_n2.in-Bar.n at_n2.in-Bar.d told.0 told.1 told.2 told.3 q.0.1
             at_copy_counts2.copy_counts-in-Bar.new.table at_copy_counts3.copy_counts-in-Bar-2.new.table at_copy_counts3.copy_counts-in-Bar-2.new.table size_g kept_guards
             at_copy_counts3.copy_counts-in-Bar-2.auto.table at_copy_counts3.copy_counts-in-Bar-2.ensures,
       ),
@@ -289,32 +289,32 @@ returns-else-not-set_goals c =
     let a = start.args in
     let q = start.requires in
     λ known vars st.
-    let fresh = rw q.in_head_len.1 at at_copy_counts.copy_counts.ensures in
-    let told = rw at_n.in-Stop.is at (at_elements.elements.ensures known vars (fresh_stands a.k q.k_bound.0 a.text.now a.rest.now a.from known vars a.c a.s.now
-    a.names.now a.item.now a.in_head.now q.by_index st at_copy_counts.copy_counts.new.table at_copy_counts.copy_counts.auto.table fresh)) in
+    let fresh = rw q.1.0.1 at at_copy_counts.copy_counts.ensures in
+    let told = rw at_n.in-Stop.is at (at_elements.elements.ensures known vars (fresh_stands a.k q.0.0 a.text.now a.rest.now a.from known vars a.c a.s.now
+    a.names.now a.item.now a.in_head.now q.1.1.0 st at_copy_counts.copy_counts.new.table at_copy_counts.copy_counts.auto.table fresh)) in
     let set_told = rw (at_if1.if-not-set_goals.false) at (at_set_goals.set_goals.ensures (item_places (names_over told.1 known) (clause_base a.k))
-    told.0 (worded a.k q.k_bound.0 a.text.now a.rest.now a.from known vars a.c a.s.now a.names.now a.item.now a.in_head.now q.by_index st
+    told.0 (worded a.k q.0.0 a.text.now a.rest.now a.from known vars a.c a.s.now a.names.now a.item.now a.in_head.now q.1.1.0 st
     at_copy_counts.copy_counts.new.table at_copy_counts.copy_counts.auto.table fresh (replicate 8 0) at_elements.elements.new.s
     at_elements.elements.new.names at_elements.elements.new.item at_elements.elements.new.words at_n.in-Stop.n
     at_n.in-Stop.d told.0 told.1 told.2.gave)) in
-    stop_got a.k q.k_bound.0 a.text.now a.rest.now a.from known vars a.c a.s.now a.names.now a.item.now a.in_head.now q.by_index st
+    stop_got a.k q.0.0 a.text.now a.rest.now a.from known vars a.c a.s.now a.names.now a.item.now a.in_head.now q.1.1.0 st
     at_copy_counts.copy_counts.new.table at_copy_counts.copy_counts.auto.table fresh (replicate 8 0) at_elements.elements.new.s
     at_elements.elements.new.names at_elements.elements.new.item at_elements.elements.new.words at_n.in-Stop.n
-    at_n.in-Stop.d told.0 told.1 at_n.in-Stop.a told.2 at_set_goals.set_goals.new.s at_add_counts.add_counts.new.table a.in-guards.now
-    a.licensed.now c.word.result at_add_counts.add_counts.auto.table at_add_counts.add_counts.ensures c.word.ensures q.in_head_len.1 q.in_head_len.2 set_told
+    at_n.in-Stop.d told.0 told.1 at_n.in-Stop.a told.2 at_set_goals.set_goals.new.s at_add_counts.add_counts.new.table a.in_guards.now
+    a.licensed.now c.word.result at_add_counts.add_counts.auto.table at_add_counts.add_counts.ensures c.word.ensures q.1.0.1 q.1.0.2 set_told
 
 shape_of-s-in-Bar : tie.Need-shape_of-s-in-Bar
 shape_of-s-in-Bar c =
     let at_guarded = c.before.before.before.before.before.before in
     let at_tested = at_guarded.before.before.before.before.before.before.before.before in
     let at_elements = at_tested.before.before.before.before.before.before.before.before.before.before.before.before.before.before.before.before.before.before.before.before in
-    at_guarded.guarded.auto.s ∙ at_tested.tested-found.auto.s ∙ at_elements.elements.kept.1.1.1.0
+    at_guarded.guarded.auto.s ∙ at_tested.tested-found.auto.s ∙ at_elements.elements.auto.s
 
 shape_of-names-in-Bar : tie.Need-shape_of-names-in-Bar
 shape_of-names-in-Bar c =
     let at_guarded = c.before.before.before.before.before.before in
     let at_elements = at_guarded.before.before.before.before.before.before.before.before.before.before.before.before.before.before.before.before.before.before.before.before.before.before.before.before.before.before.before.before in
-    at_guarded.guarded.auto.names ∙ at_elements.elements.kept.1.1.1.1.0
+    at_guarded.guarded.auto.names ∙ at_elements.elements.auto.names
 
 shape_of-item-in-Bar : tie.Need-shape_of-item-in-Bar
 shape_of-item-in-Bar c =
@@ -343,29 +343,29 @@ returns-in-Bar c =
     let a = start.args in
     let q = start.requires in
     λ known vars st.
-    let fresh = rw q.in_head_len.1 at at_copy_counts.copy_counts.ensures in
-    let told = rw at_n2.in-Bar.is at (at_elements.elements.ensures known vars (fresh_stands a.k q.k_bound.0 a.text.now a.rest.now a.from known vars a.c a.s.now
-    a.names.now a.item.now a.in_head.now q.by_index st at_copy_counts.copy_counts.new.table at_copy_counts.copy_counts.auto.table fresh)) in
-    let kept_guards = rw q.in_head_len.1 at at_copy_counts2.copy_counts-in-Bar.ensures in
-    let were : length a.in-guards.now ≡ 64 = rw q.in_head_len.1 (length-replicate {A = ℕ} 64 0) in
+    let fresh = rw q.1.0.1 at at_copy_counts.copy_counts.ensures in
+    let told = rw at_n2.in-Bar.is at (at_elements.elements.ensures known vars (fresh_stands a.k q.0.0 a.text.now a.rest.now a.from known vars a.c a.s.now
+    a.names.now a.item.now a.in_head.now q.1.1.0 st at_copy_counts.copy_counts.new.table at_copy_counts.copy_counts.auto.table fresh)) in
+    let kept_guards = rw q.1.0.1 at at_copy_counts2.copy_counts-in-Bar.ensures in
+    let were : length a.in_guards.now ≡ 64 = rw q.1.0.1 (length-replicate {A = ℕ} 64 0) in
     let size_g : length at_copy_counts2.copy_counts-in-Bar.new.table ≡ 64 = omega (arith, at_copy_counts2.copy_counts-in-Bar.auto.table, were) in
     let many : 8 ≤ length at_elements.elements.new.words = omega (arith, at_elements.elements.auto.words, length-replicate {A = ℕ} 8 0) in
-    let tested_told = at_tested.tested-found.ensures (names_over told.1 known) told.0 (listed a.k q.k_bound.0 a.text.now a.rest.now a.from known vars a.c a.s.now
-    a.names.now a.item.now a.in_head.now q.by_index st at_copy_counts.copy_counts.new.table at_copy_counts.copy_counts.auto.table fresh (replicate 8 0)
+    let tested_told = at_tested.tested-found.ensures (names_over told.1 known) told.0 (listed a.k q.0.0 a.text.now a.rest.now a.from known vars a.c a.s.now
+    a.names.now a.item.now a.in_head.now q.1.1.0 st at_copy_counts.copy_counts.new.table at_copy_counts.copy_counts.auto.table fresh (replicate 8 0)
     at_elements.elements.new.s at_elements.elements.new.names at_elements.elements.new.item
-    at_elements.elements.new.words at_n2.in-Bar.n at_n2.in-Bar.d told.0 told.1 told.2 told.3 q.k_bound.1 many) in
-    at_bar a.k q.k_bound.0 a.text.now a.rest.now a.from known vars a.c a.s.now a.names.now a.item.now a.in_head.now q.by_index st
+    at_elements.elements.new.words at_n2.in-Bar.n at_n2.in-Bar.d told.0 told.1 told.2 told.3 q.0.1 many) in
+    at_bar a.k q.0.0 a.text.now a.rest.now a.from known vars a.c a.s.now a.names.now a.item.now a.in_head.now q.1.1.0 st
     at_copy_counts.copy_counts.new.table at_copy_counts.copy_counts.auto.table fresh (replicate 8 0) at_elements.elements.new.s
     at_elements.elements.new.names at_elements.elements.new.item at_elements.elements.new.words at_n2.in-Bar.n
-    at_n2.in-Bar.d told.0 told.1 told.2 told.3 q.k_bound.1 at_copy_counts2.copy_counts-in-Bar.new.table at_copy_counts3.copy_counts-in-Bar-2.new.table
+    at_n2.in-Bar.d told.0 told.1 told.2 told.3 q.0.1 at_copy_counts2.copy_counts-in-Bar.new.table at_copy_counts3.copy_counts-in-Bar-2.new.table
     at_copy_counts3.copy_counts-in-Bar-2.new.table size_g kept_guards at_copy_counts3.copy_counts-in-Bar-2.auto.table at_copy_counts3.copy_counts-in-Bar-2.ensures at_tested.tested-found.new.s
     at_tested.tested-found.new.licensed at_guarded.guarded.new.s at_guarded.guarded.new.names at_guarded.guarded.new.item
     at_tested.tested-found.result tested_told at_guarded.guarded.result
     (at_guarded.guarded.ensures (names_over told.1 known) (variables_over a.from told.1 vars)
-    (bar_stands a.k q.k_bound.0 a.text.now a.rest.now a.from known vars a.c a.s.now a.names.now a.item.now a.in_head.now q.by_index st
+    (bar_stands a.k q.0.0 a.text.now a.rest.now a.from known vars a.c a.s.now a.names.now a.item.now a.in_head.now q.1.1.0 st
     at_copy_counts.copy_counts.new.table at_copy_counts.copy_counts.auto.table fresh (replicate 8 0) at_elements.elements.new.s
     at_elements.elements.new.names at_elements.elements.new.item at_elements.elements.new.words at_n2.in-Bar.n
-    at_n2.in-Bar.d told.0 told.1 told.2 told.3 q.k_bound.1 at_copy_counts2.copy_counts-in-Bar.new.table at_copy_counts3.copy_counts-in-Bar-2.new.table
+    at_n2.in-Bar.d told.0 told.1 told.2 told.3 q.0.1 at_copy_counts2.copy_counts-in-Bar.new.table at_copy_counts3.copy_counts-in-Bar-2.new.table
     at_copy_counts3.copy_counts-in-Bar-2.new.table size_g kept_guards at_copy_counts3.copy_counts-in-Bar-2.auto.table at_copy_counts3.copy_counts-in-Bar-2.ensures))
 
 shape_of-s-in-Malformed : tie.Need-shape_of-s-in-Malformed
@@ -389,12 +389,12 @@ returns-in-Malformed c =
     let a = start.args in
     let q = start.requires in
     λ known vars st.
-    let fresh = rw q.in_head_len.1 at at_copy_counts.copy_counts.ensures in
-    let told = rw at_a.in-Malformed.is at (at_elements.elements.ensures known vars (fresh_stands a.k q.k_bound.0 a.text.now a.rest.now a.from known vars a.c a.s.now
-    a.names.now a.item.now a.in_head.now q.by_index st at_copy_counts.copy_counts.new.table at_copy_counts.copy_counts.auto.table fresh)) in
-    behind_malformed a.k q.k_bound.0 a.text.now a.rest.now a.from known vars a.c a.s.now a.names.now a.item.now a.in_head.now q.by_index st
+    let fresh = rw q.1.0.1 at at_copy_counts.copy_counts.ensures in
+    let told = rw at_a.in-Malformed.is at (at_elements.elements.ensures known vars (fresh_stands a.k q.0.0 a.text.now a.rest.now a.from known vars a.c a.s.now
+    a.names.now a.item.now a.in_head.now q.1.1.0 st at_copy_counts.copy_counts.new.table at_copy_counts.copy_counts.auto.table fresh)) in
+    behind_malformed a.k q.0.0 a.text.now a.rest.now a.from known vars a.c a.s.now a.names.now a.item.now a.in_head.now q.1.1.0 st
     at_copy_counts.copy_counts.new.table at_copy_counts.copy_counts.auto.table fresh at_elements.elements.new.s at_elements.elements.new.names
-    at_elements.elements.new.item a.in-guards.now a.licensed.now at_a.in-Malformed.a told.0 told.1 told.2
+    at_elements.elements.new.item a.in_guards.now a.licensed.now at_a.in-Malformed.a told.0 told.1 told.2
 
 shape_of-s-in-Exceeded : tie.Need-shape_of-s-in-Exceeded
 shape_of-s-in-Exceeded c = search rules
@@ -416,12 +416,12 @@ returns-in-Exceeded c =
     let a = start.args in
     let q = start.requires in
     λ known vars st.
-    let fresh = rw q.in_head_len.1 at at_copy_counts.copy_counts.ensures in
-    let told = rw c.in-Exceeded.is at (at_elements.elements.ensures known vars (fresh_stands a.k q.k_bound.0 a.text.now a.rest.now a.from known vars a.c a.s.now
-    a.names.now a.item.now a.in_head.now q.by_index st at_copy_counts.copy_counts.new.table at_copy_counts.copy_counts.auto.table fresh)) in
-    behind_passed a.k q.k_bound.0 a.text.now a.rest.now a.from known vars a.c a.s.now a.names.now a.item.now a.in_head.now q.by_index st
+    let fresh = rw q.1.0.1 at at_copy_counts.copy_counts.ensures in
+    let told = rw c.in-Exceeded.is at (at_elements.elements.ensures known vars (fresh_stands a.k q.0.0 a.text.now a.rest.now a.from known vars a.c a.s.now
+    a.names.now a.item.now a.in_head.now q.1.1.0 st at_copy_counts.copy_counts.new.table at_copy_counts.copy_counts.auto.table fresh)) in
+    behind_passed a.k q.0.0 a.text.now a.rest.now a.from known vars a.c a.s.now a.names.now a.item.now a.in_head.now q.1.1.0 st
     at_copy_counts.copy_counts.new.table at_copy_counts.copy_counts.auto.table fresh at_elements.elements.new.s at_elements.elements.new.names
-    at_elements.elements.new.item a.in-guards.now a.licensed.now told.0 told.1
+    at_elements.elements.new.item a.in_guards.now a.licensed.now told.0 told.1
 
 pub body_spec : {M : Type 1} → statement M
 body_spec =

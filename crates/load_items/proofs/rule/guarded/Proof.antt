@@ -45,8 +45,8 @@ enum_told-1 c = search rules
 goals-requires : tie.Need-goals-requires
 goals-requires c κs =
     let start = c.before.before.before.before.before.before.before.before.before.before in
-    let q = start.requires.k_bound in
-    ((omega (arith, q.0), omega (arith, q.0), q.1, q.2), start.requires.stands)
+    let q = start.requires.0 in
+    ((omega (arith, q.0), omega (arith, q.0), q.1, q.2), start.requires.1)
 
 enum_known-count : tie.Need-enum_known-count
 enum_known-count c = search rules

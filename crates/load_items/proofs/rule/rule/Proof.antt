@@ -45,11 +45,11 @@ copy_counts-requires c κs =
     let start = at_goal.before.before.before.before.before.before.before.before.before.before.before.before.before in
     let a = start.args in
     let q = start.requires in
-    let known = q.stands.0 in
-    let vars = q.stands.1 in
-    let st = q.stands.2 in
+    let known = q.1.1.0 in
+    let vars = q.1.1.1 in
+    let st = q.1.1.2 in
     let gave = rw at_e.in-Got.is at (at_goal.goal.ensures known vars st) in
-    (gave.2.stands.variables_in.size, q.in_head_len.0)
+    (gave.2.stands.variables_in.size, q.1.0.0)
 
 next_of-requires : tie.Need-next_of-requires
 next_of-requires c κs =
@@ -58,9 +58,9 @@ next_of-requires c κs =
     let start = at_goal.before.before.before.before.before.before.before.before.before.before.before.before.before in
     let a = start.args in
     let q = start.requires in
-    let known = q.stands.0 in
-    let vars = q.stands.1 in
-    let st = q.stands.2 in
+    let known = q.1.1.0 in
+    let vars = q.1.1.1 in
+    let st = q.1.1.2 in
     let gave = rw at_e.in-Got.is at (at_goal.goal.ensures known vars st) in
     gave.2.stands.inside
 
@@ -77,19 +77,19 @@ body-requires c κs =
     let start = at_goal.before.before.before.before.before.before.before.before.before.before.before.before.before in
     let a = start.args in
     let q = start.requires in
-    let known = q.stands.0 in
-    let vars = q.stands.1 in
-    let st = q.stands.2 in
+    let known = q.1.1.0 in
+    let vars = q.1.1.1 in
+    let st = q.1.1.2 in
     let gave = rw at_e.in-Got.is at (at_goal.goal.ensures known vars st) in
     let next = rw at_behind.in-First.is at at_next_of.next_of.ensures in (
-      (q.k_bound.0, omega (arith, q.k_bound.1, at_goal.goal.auto.s), omega (arith, q.k_bound.2, at_goal.goal.auto.s)),
+      (q.0.0, omega (arith, q.0.1, at_goal.goal.auto.s), omega (arith, q.0.2, at_goal.goal.auto.s)),
       (
-        (at_copy_counts.copy_counts.auto.table ∙ q.in_head_len.0, q.in_head_len.1, q.in_head_len.2),
+        (at_copy_counts.copy_counts.auto.table ∙ q.1.0.0, q.1.0.1, q.1.0.2),
         (
           same_counts a.k a.text.now a.rest.now a.from known vars a.c a.s.now
-              a.item.now a.heads.now q.k_bound.0 at_goal.goal.new.s at_goal.goal.new.names at_goal.goal.new.item at_e.in-Got.field-0
-              at_e.in-Got.e gave.0 gave.1 gave.2 q.k_bound.4 (omega (arith, q.k_bound.0, q.k_bound.1)) a.in_head.now at_copy_counts.copy_counts.new.table
-              (at_copy_counts.copy_counts.auto.table ∙ q.in_head_len.0) at_copy_counts.copy_counts.ensures,
+              a.item.now a.heads.now q.0.0 at_goal.goal.new.s at_goal.goal.new.names at_goal.goal.new.item at_e.in-Got.field-0
+              at_e.in-Got.e gave.0 gave.1 gave.2 q.0.4 (omega (arith, q.0.0, q.0.1)) a.in_head.now at_copy_counts.copy_counts.new.table
+              (at_copy_counts.copy_counts.auto.table ∙ q.1.0.0) at_copy_counts.copy_counts.ensures,
           (
             names_over gave.1 known,
             variables_over a.from gave.1 vars,
@@ -120,13 +120,13 @@ shape_of-s-in-First : tie.Need-shape_of-s-in-First
 shape_of-s-in-First c =
     let at_body = c.before.before.before.before.before.before.before.before.before.before in
     let at_goal = at_body.before.before.before.before.before.before.before.before.before.before.before.before.before.before.before.before.before.before.before.before in
-    at_body.body.auto.s ∙ at_goal.goal.kept.1.1.1.0
+    at_body.body.auto.s ∙ at_goal.goal.auto.s
 
 shape_of-names-in-First : tie.Need-shape_of-names-in-First
 shape_of-names-in-First c =
     let at_body = c.before.before.before.before.before.before.before.before.before.before in
     let at_goal = at_body.before.before.before.before.before.before.before.before.before.before.before.before.before.before.before.before.before.before.before.before in
-    at_body.body.auto.names ∙ at_goal.goal.kept.1.1.1.1.0
+    at_body.body.auto.names ∙ at_goal.goal.auto.names
 
 shape_of-item-in-First : tie.Need-shape_of-item-in-First
 shape_of-item-in-First c = search rules
@@ -157,9 +157,9 @@ returns-in-First c =
     λ known vars st.
     let gave = rw at_e.in-Got.is at (at_goal.goal.ensures known vars st) in
     let next = rw at_behind.in-First.is at at_next_of.next_of.ensures in
-    head_body a.k a.text.now a.rest.now a.from known vars a.c a.s.now a.item.now a.heads.now q.k_bound.0 at_goal.goal.new.s
-    at_goal.goal.new.names at_goal.goal.new.item at_e.in-Got.field-0 at_e.in-Got.e gave.0 gave.1 gave.2 q.k_bound.4
-    (omega (arith, q.k_bound.0, q.k_bound.1)) a.in_head.now at_copy_counts.copy_counts.new.table (at_copy_counts.copy_counts.auto.table ∙ q.in_head_len.0)
+    head_body a.k a.text.now a.rest.now a.from known vars a.c a.s.now a.item.now a.heads.now q.0.0 at_goal.goal.new.s
+    at_goal.goal.new.names at_goal.goal.new.item at_e.in-Got.field-0 at_e.in-Got.e gave.0 gave.1 gave.2 q.0.4
+    (omega (arith, q.0.0, q.0.1)) a.in_head.now at_copy_counts.copy_counts.new.table (at_copy_counts.copy_counts.auto.table ∙ q.1.0.0)
     at_copy_counts.copy_counts.ensures at_behind.in-First.behind next at_body.body.new.s at_body.body.new.names
     at_body.body.new.item at_body.body.new.in_guards at_body.body.new.licensed at_body.body.result
     (at_body.body.ensures (names_over gave.1 known) (variables_over a.from gave.1 vars) (stands_behind a.text.now a.rest.now a.from at_goal.goal.new.names
@@ -194,10 +194,10 @@ returns-in-Second c =
     λ known vars st.
     let gave = rw at_e.in-Got.is at (at_goal.goal.ensures known vars st) in
     let next = rw at_behind2.in-Second.is at at_next_of.next_of.ensures in
-    head_stop a.k a.text.now a.rest.now a.from known vars a.c a.s.now a.item.now a.heads.now q.k_bound.0 at_goal.goal.new.s
-    at_goal.goal.new.names at_goal.goal.new.item at_e.in-Got.field-0 at_e.in-Got.e gave.0 gave.1 gave.2 q.k_bound.4
-    (omega (arith, q.k_bound.0, q.k_bound.1)) a.in_head.now at_copy_counts.copy_counts.new.table (at_copy_counts.copy_counts.auto.table ∙ q.in_head_len.0)
-    at_copy_counts.copy_counts.ensures a.in-guards.now a.licensed.now q.in_head_len.1 q.in_head_len.2 at_behind2.in-Second.behind next.1
+    head_stop a.k a.text.now a.rest.now a.from known vars a.c a.s.now a.item.now a.heads.now q.0.0 at_goal.goal.new.s
+    at_goal.goal.new.names at_goal.goal.new.item at_e.in-Got.field-0 at_e.in-Got.e gave.0 gave.1 gave.2 q.0.4
+    (omega (arith, q.0.0, q.0.1)) a.in_head.now at_copy_counts.copy_counts.new.table (at_copy_counts.copy_counts.auto.table ∙ q.1.0.0)
+    at_copy_counts.copy_counts.ensures a.in_guards.now a.licensed.now q.1.0.1 q.1.0.2 at_behind2.in-Second.behind next.1
 
 shape_of-s-in-Third : tie.Need-shape_of-s-in-Third
 shape_of-s-in-Third c = search rules
@@ -256,10 +256,10 @@ returns-in-Other c =
     λ known vars st.
     let gave = rw at_e.in-Got.is at (at_goal.goal.ensures known vars st) in
     let next = rw at_a2.in-Other.is at at_next_of.next_of.ensures in
-    head_other a.k a.text.now a.rest.now a.from known vars a.c a.s.now a.item.now a.heads.now q.k_bound.0 at_goal.goal.new.s
-    at_goal.goal.new.names at_goal.goal.new.item at_e.in-Got.field-0 at_e.in-Got.e gave.0 gave.1 gave.2 q.k_bound.4
-    (omega (arith, q.k_bound.0, q.k_bound.1)) a.in_head.now at_copy_counts.copy_counts.new.table (at_copy_counts.copy_counts.auto.table ∙ q.in_head_len.0)
-    at_copy_counts.copy_counts.ensures a.in-guards.now a.licensed.now at_a2.in-Other.a (next.1 a.from) next.0
+    head_other a.k a.text.now a.rest.now a.from known vars a.c a.s.now a.item.now a.heads.now q.0.0 at_goal.goal.new.s
+    at_goal.goal.new.names at_goal.goal.new.item at_e.in-Got.field-0 at_e.in-Got.e gave.0 gave.1 gave.2 q.0.4
+    (omega (arith, q.0.0, q.0.1)) a.in_head.now at_copy_counts.copy_counts.new.table (at_copy_counts.copy_counts.auto.table ∙ q.1.0.0)
+    at_copy_counts.copy_counts.ensures a.in_guards.now a.licensed.now at_a2.in-Other.a (next.1 a.from) next.0
 
 shape_of-s-in-Malformed : tie.Need-shape_of-s-in-Malformed
 shape_of-s-in-Malformed c = search rules
@@ -279,8 +279,8 @@ returns-in-Malformed c =
     let q = start.requires in
     λ known vars st.
     let bad = rw at_a3.in-Malformed.is at (at_goal.goal.ensures known vars st) in
-    head_malformed a.k a.text.now a.rest.now a.from known vars a.c a.s.now a.item.now a.heads.now q.k_bound.0 at_goal.goal.new.s
-    at_goal.goal.new.names at_goal.goal.new.item a.heads.now a.in_head.now a.in-guards.now a.licensed.now at_a3.in-Malformed.a
+    head_malformed a.k a.text.now a.rest.now a.from known vars a.c a.s.now a.item.now a.heads.now q.0.0 at_goal.goal.new.s
+    at_goal.goal.new.names at_goal.goal.new.item a.heads.now a.in_head.now a.in_guards.now a.licensed.now at_a3.in-Malformed.a
     bad.0 bad.1 bad.2
 
 shape_of-s-in-Exceeded : tie.Need-shape_of-s-in-Exceeded
@@ -300,8 +300,8 @@ returns-in-Exceeded c =
     let q = start.requires in
     λ known vars st.
     let bad = rw c.in-Exceeded.is at (at_goal.goal.ensures known vars st) in
-    head_passed a.k a.text.now a.rest.now a.from known vars a.c a.s.now a.item.now a.heads.now q.k_bound.0 at_goal.goal.new.s
-    at_goal.goal.new.names at_goal.goal.new.item a.heads.now a.in_head.now a.in-guards.now a.licensed.now bad.0 bad.1
+    head_passed a.k a.text.now a.rest.now a.from known vars a.c a.s.now a.item.now a.heads.now q.0.0 at_goal.goal.new.s
+    at_goal.goal.new.names at_goal.goal.new.item a.heads.now a.in_head.now a.in_guards.now a.licensed.now bad.0 bad.1
 
 pub rule_spec : {M : Type 1} → statement M
 rule_spec =

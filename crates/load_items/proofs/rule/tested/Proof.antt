@@ -24,9 +24,9 @@ licences-requires : tie.Need-licences-requires
 licences-requires c κs =
     let resolve = c.before.before.before.before.resolve in
     let start = c.before.before.before.before.before.before.before.before.before.before.before in
-    let (known, es, listed) = start.requires.listed in
+    let (known, es, listed) = start.requires.1 in
     let found = rw (c.before.if-not-resolve.false) at (resolve.ensures known es listed) in
-    ((start.requires.licensed_value.0, omega (arith, start.requires.licensed_value.1, resolve.auto.s)), (start.args.base, known, found.0, found.1.tests))
+    ((start.requires.0.0, omega (arith, start.requires.0.1, resolve.auto.s)), (start.args.base, known, found.0, found.1.tests))
 
 shape_of-s : tie.Need-shape_of-s
 shape_of-s c = search rules

@@ -30,7 +30,7 @@ decreases-loop-at text s₀ names₀ heads₀ from₀ clauses₀ queries₀ know
 loop-at-init : tie.Need-loop-at-init invariant-loop-at decreases-loop-at
 loop-at-init c =
     let a = c.before.before.before.before.args in
-    (([], [], reached_none a.text.now a.s.now a.names.now a.heads.now c.before.before.before.before.requires.names_value c.before.before.before.before.requires.lent.heads_size), refl, refl, refl)
+    (([], [], reached_none a.text.now a.s.now a.names.now a.heads.now c.before.before.before.before.requires.1 c.before.before.before.before.requires.0.heads_size), refl, refl, refl)
 
 item_at-requires : tie.Need-item_at-requires invariant-loop-at decreases-loop-at
 item_at-requires c κs =
@@ -39,7 +39,7 @@ item_at-requires c κs =
     let r = l.invariant.0.2 in
     let places = l.invariant.0.0 in
     let done = l.invariant.0.1 in
-    let q = c.before.before.before.before.before.before.before.before.requires.lent in
+    let q = c.before.before.before.before.before.before.before.before.requires.0 in
     (record { enough = omega (arith, q.enough, l.invariant.1); fits = omega (arith, q.fits, l.invariant.1); heads_size = r.heads_size }, (places, r.inside, r.names_table, r.count_is))
 
 enum_known-at : tie.Need-enum_known-at invariant-loop-at decreases-loop-at

@@ -25,8 +25,8 @@ next_item-requires : tie.Need-next_item-requires
 next_item-requires c κs =
     let a = c.before.before.before.before.before.before.before.before.before.args in
     let rest : take (length a.text.now - a.from) (drop a.from a.text.now) ≡ drop a.from a.text.now = take_all (length a.text.now - a.from) (drop a.from a.text.now) (omega (arith, length-drop a.from a.text.now)) in
-    let p = c.before.before.before.before.before.before.before.before.before.requires.from_in_bounds in
-    (c.before.before.before.before.before.before.before.before.before.requires.lent, (p.0, record { part = (p.1, rest); names_in = p.2; count_is = p.3; empty = refl }))
+    let p = c.before.before.before.before.before.before.before.before.before.requires.1 in
+    (c.before.before.before.before.before.before.before.before.before.requires.0, (p.0, record { part = (p.1, rest); names_in = p.2; count_is = p.3; empty = refl }))
 
 shape_of-s : tie.Need-shape_of-s
 shape_of-s c = c.before.before.before.before.before.before.before.next_item.auto.s
