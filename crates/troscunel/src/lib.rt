@@ -1,4 +1,4 @@
-// The call for hosts: one exported function, with the number as its result and line, length and offset through references.
+// The call for hosts: one function, with the number as its result and line, length and offset through references. Crate `troscunel_c` exports it for C.
 // `troscunel_call` requires nothing and promises number, line, length and offset of the definition's answer, and both buffers; proofs/OneAnswer has that two
 // answers to one call are equal.
 // Read specs/Exported for the contract, include/troscunel.h for what a host has to know.
@@ -87,8 +87,7 @@ fn length_of(a: Answer) -> usize
 }
 
 // Text, budget, room figures, scratch in 64-bit words, report buffer; a slice is a pointer and a length.
-#[unsafe(no_mangle)]
-pub extern "C" fn troscunel_call(
+pub fn troscunel_call(
     text: &[u8],
     budget: usize,
     pairs: usize,
