@@ -14,8 +14,8 @@ import sys
 
 NAME = re.compile(r"[^\s(){}\[\].,;:`\"]+")
 DASHED = re.compile(r"^[^\W\d_][\w'₀₁₂₃₄₅₆₇₈₉]*(-[\w'₀₁₂₃₄₅₆₇₈₉]+)+$")
-# Words of tactics, which no definition may have.
-TACTICS = {"ground": "a_ground"}
+# Words of tactics, which no definition may have; and the library's own `if`, which has another definition than ours.
+TACTICS = {"ground": "a_ground", "if": "when", "if◌then◌else◌": "when◌then◌else◌"}
 MADE = re.compile(r"^(Need|invariant|decreases)-")
 MARKS = r"(?:(?:unfoldable|abbrev|pub|pattern|irrelevant)\s+)*"
 KIT = ("Prim.", "mathlib.", "lib.", "native.", "base.", "borrow.", "contract.", "denote.", "ghost.", "mir.", "prog.", "seplogic.", "sound.", "store.",
@@ -111,7 +111,7 @@ def main():
 
         def turn(m, code):
             word, before = m.group(), m.string[: m.start()]
-            if code and word in TACTICS:
+            if code and word in TACTICS and (antt or word != "if" or re.search(r"\bthen\b", m.string[m.end() :])):
                 return TACTICS[word]
             if not DASHED.match(word):
                 return word
