@@ -8,7 +8,7 @@ use lib.Dec.{leb, ltb}
 use lib.ListN.{length, get_or, drop, replicate, length-drop}
 use lib.Seq.{get_or-drop, ext_get_or}
 use borrow.Author.Tests.{le-leb, lt-leb, lt-ltb, le-ltb, leb-true}
-use Rattle.meaning.specs.Bytes.{Bytes, if◌then◌else◌}
+use Rattle.meaning.specs.Bytes.{Bytes, when◌then◌else◌}
 use Rattle.meaning.specs.Terms.{Job}
 use Rattle.meaning.specs.Items.{Refusal, job, refused, reading}
 use Rattle.meaning.specs.State.{Room}
@@ -106,15 +106,15 @@ and_false false = refl
 
 module _ (n size long : ℕ) (e : n ≡ min long 16777217) where
   pub too_long_for_buffer : size < n → report_long n ≡ told long size
-  unfolding told if◌then◌else◌
+  unfolding told when◌then◌else◌
   too_long_for_buffer h = rw (lt-leb long size (omega arith)) (ap report_long e)
 
   pub too_long : 16777216 < n → report_long n ≡ told long size
-  unfolding told if◌then◌else◌
+  unfolding told when◌then◌else◌
   too_long h = rw (lt-leb long 16777216 (omega arith), and_false (leb long size)) (ap report_long e)
 
   pub fits : n ≤ size → n ≤ 16777216 → ran n ≡ told long size
-  unfolding told if◌then◌else◌
+  unfolding told when◌then◌else◌
   fits h i =
       let same : n ≡ long = omega arith in
       rw (le-leb long size (omega arith), le-leb long 16777216 (omega arith)) (ap ran same)
@@ -135,14 +135,14 @@ cleared_by need words s t e size h v = rw (v, e) (cleared_same need s t size h)
 
 -- A report delivered.
 join : (t : Bool) (x y : Answer) (u v : Bytes) (w : List ℕ)
-    → made (if t then x else y) (if t then u else v) w ≡ (if t then made x u w else made y v w)
-unfolding if◌then◌else◌
+    → made (when t then x else y) (when t then u else v) w ≡ (when t then made x u w else made y v w)
+unfolding when◌then◌else◌
 join true x y u v w = refl
 join false x y u v w = refl
 
 module _ (need : ℕ) (text : Bytes) (limit : ℕ) (figures : Room) where
   pub delivered_is : (written : Bytes) (s : List ℕ) (b : Bytes) {s' : List ℕ} {b' : Bytes} {a : Answer} → a ≡ told (length written) (length b)
-      → b' ≡ (if leb (length written) (length b) && leb (length written) 16777216 then written ++ drop (length written) b else b)
+      → b' ≡ (when leb (length written) (length b) && leb (length written) 16777216 then written ++ drop (length written) b else b)
       → s' ≡ cleared need s → made a b' s' ≡ delivered need written (given text limit figures s b)
   unfolding delivered reports refuses told
   delivered_is written s b ha hb hs =
@@ -162,12 +162,12 @@ module _ (need : ℕ) (text : Bytes) (limit : ℕ) (figures : Room) where
 
   pub ran_is : (j : Job) (s t : List ℕ) (b : Bytes) {o : Outcome} → queries_fit figures j.queries ≡ true → cleared need t ≡ cleared need s
       → o ≡ delivered need (report j.queries (run j limit figures)) (given text limit figures t b) → o ≡ runs need j (given text limit figures s b)
-  unfolding runs if◌then◌else◌
+  unfolding runs when◌then◌else◌
   ran_is j s t b f k e = rw f (e ∙ delivered_scratch (report j.queries (run j limit figures)) s t b k)
 
   pub passed_is : (j : Job) (s : List ℕ) (b : Bytes) {u : List ℕ} → queries_fit figures j.queries ≡ false → u ≡ cleared need s
       → made queries_pass_room b u ≡ runs need j (given text limit figures s b)
-  unfolding runs refuses if◌then◌else◌
+  unfolding runs refuses when◌then◌else◌
   passed_is j s b f e = rw (f, e)
 
   pub taken_job : (j : Job) (s t : List ℕ) (b : Bytes) {o : Outcome} → reading text ≡ job j → cleared need t ≡ cleared need s
@@ -183,19 +183,19 @@ module _ (need : ℕ) (text : Bytes) (limit : ℕ) (figures : Room) where
 -- 1, 2, 3, and then the text.
 module _ (text : Bytes) (limit : ℕ) (figures : Room) (s : List ℕ) (b : Bytes) where
   pub call_1 : in_range limit figures ≡ false → made out_of_range b s ≡ call need_of (given text limit figures s b)
-  unfolding call untouched if◌then◌else◌
+  unfolding call untouched when◌then◌else◌
   call_1 h = rw h
 
   pub call_2 : in_range limit figures ≡ true → length s < need_of figures → made scratch_short b s ≡ call need_of (given text limit figures s b)
-  unfolding call untouched if◌then◌else◌
+  unfolding call untouched when◌then◌else◌
   call_2 h i = rw (h, lt-ltb (length s) (need_of figures) i)
 
   pub call_3 : in_range limit figures ≡ true → need_of figures ≤ length s → 16384 < length text
       → made text_long b s ≡ call need_of (given text limit figures s b)
-  unfolding call untouched if◌then◌else◌
+  unfolding call untouched when◌then◌else◌
   call_3 h i j = rw (h, le-ltb (length s) (need_of figures) i, lt-ltb 16384 (length text) j)
 
   pub call_4 : {o : Outcome} → in_range limit figures ≡ true → need_of figures ≤ length s → length text ≤ 16384
       → o ≡ taken (need_of figures) (reading text) (given text limit figures s b) → o ≡ call need_of (given text limit figures s b)
-  unfolding call if◌then◌else◌
+  unfolding call when◌then◌else◌
   call_4 h i j e = rw (h, le-ltb (length s) (need_of figures) i, le-ltb 16384 (length text) j) e

@@ -8,7 +8,7 @@ use native.Mathlib.Omega.{arith}
 use lib.Dec.{leb, ltb}
 use lib.ListN.{length, take}
 use borrow.Author.Tests.{leb-true, le-leb, ltb-false, le-ltb, not-false}
-use Rattle.meaning.specs.Bytes.{Bytes, if◌then◌else◌}
+use Rattle.meaning.specs.Bytes.{Bytes, when◌then◌else◌}
 use Rattle.meaning.specs.Terms.{Job}
 use Rattle.meaning.specs.Items.{job, reading}
 use Rattle.meaning.specs.Run.{run, queries_fit}
@@ -113,13 +113,13 @@ pub record Accepted (g : Given) : Type 0 where
   pub below_ceiling : length (report_for g read) ≤ 16777216
 
 -- Of two ways, one of which never gives this answer.
-not_first : {n : ℕ} (b : Bool) (x y : Outcome) → (x.answer ≡ ran n → ⊥) → (if b then x else y).answer ≡ ran n → (b ≡ false) × (y.answer ≡ ran n)
-unfolding if◌then◌else◌
+not_first : {n : ℕ} (b : Bool) (x y : Outcome) → (x.answer ≡ ran n → ⊥) → (when b then x else y).answer ≡ ran n → (b ≡ false) × (y.answer ≡ ran n)
+unfolding when◌then◌else◌
 not_first true x y h r = absurd (h r)
 not_first false x y h r = (refl, r)
 
-is_first : {n : ℕ} (b : Bool) (x y : Outcome) → (y.answer ≡ ran n → ⊥) → (if b then x else y).answer ≡ ran n → (b ≡ true) × (x.answer ≡ ran n)
-unfolding if◌then◌else◌
+is_first : {n : ℕ} (b : Bool) (x y : Outcome) → (y.answer ≡ ran n → ⊥) → (when b then x else y).answer ≡ ran n → (b ≡ true) × (x.answer ≡ ran n)
+unfolding when◌then◌else◌
 is_first true x y h r = (refl, r)
 is_first false x y h r = absurd (h r)
 
@@ -145,7 +145,7 @@ ran_accepted g n r =
     }
 
 pub accepted_ran : (g : Given) (a : Accepted g) → (call need_of g).answer ≡ ran (length (report_for g a.read))
-unfolding call taken runs delivered reports report_for if◌then◌else◌
+unfolding call taken runs delivered reports report_for when◌then◌else◌
 accepted_ran g a =
     let long = length (report a.read.queries (run a.read g.budget g.room)) in
     rw (

@@ -1,6 +1,6 @@
 -- The call's contract: its answer and both buffers at exit are the definition's.
 use Rattle.std.specs.Prelude.{ℕ, min, ◌≤◌, ◌≡◌, Bool, ◌&&◌, List, leb, length}
-use Rattle.meaning.specs.Bytes.{Bytes, if◌then◌else◌}
+use Rattle.meaning.specs.Bytes.{Bytes, when◌then◌else◌}
 use Rattle.meaning.specs.State.{Room}
 use Rattle.meaning.specs.Call.{
   Given,
@@ -49,7 +49,7 @@ outcome r buffer scratch = record { answer = answer_of r; buffer = buffer; scrat
 
 -- A report of so many bytes, told for a buffer of so many.
 unfoldable pub told : ℕ → ℕ → Told
-told n size = if leb n size && leb n 16777216 then ran n else report_long (min n 16777217)
+told n size = when leb n size && leb n 16777216 then ran n else report_long (min n 16777217)
 
 -- The call's contract, as the laws of proofs/Promise.antt take it.
 abbrev pub Called : Given → Answer → Bytes → List ℕ → Type 0

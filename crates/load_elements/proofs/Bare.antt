@@ -6,7 +6,7 @@ use mathlib.Core.List.{[], ◌∷◌, ◌++◌}
 use native.Mathlib.Omega.{arith}
 use lib.Dec.{ltb, eqb}
 use lib.ListN.{length}
-use Rattle.meaning.specs.Bytes.{Bytes, same, any, byte, if◌then◌else◌}
+use Rattle.meaning.specs.Bytes.{Bytes, same, any, byte, when◌then◌else◌}
 use Rattle.meaning.specs.Terms.{Half, Integer, Constant, empty, Functor, cell, Term, Terms, end, more, Named, as_term}
 use Rattle.meaning.specs.Tokens.{Token, name, variable, integer, sign, bad, Tokens, ends, token}
 use Rattle.meaning.specs.Items.{
@@ -77,11 +77,11 @@ module _ (k : ℕ) (f : Bytes) where
       (λ tail c₄ vs₄. no_compound n cell (more t (more tail end)) c₄ vs₄))))
 
   no_list : (left : ℕ) (c : Counted) (vs : Tokens) → Counts k f (list_of (term left) c vs)
-  unfolding list_of if_next give if◌then◌else◌
+  unfolding list_of if_next give when◌then◌else◌
   no_list left c (ends p) = no_cells (term left) 31 c (ends p)
   no_list left c (token p t vs) = by (is "]" t)
     where
-      by : (b : Bool) → Counts k f ((if b then give (Term.constant empty) c vs else elements (term left) 32 c (token p t vs)))
+      by : (b : Bool) → Counts k f ((when b then give (Term.constant empty) c vs else elements (term left) 32 c (token p t vs)))
       by true = no_empty c vs
       by false = no_cells (term left) 31 c (token p t vs)
 
@@ -100,17 +100,17 @@ module _ (f g : Bytes) (left : ℕ) where
   round = compound_of (term left) g >>= λ (x : Named). give (as_term x)
 
   name_then : (c : Counted) (vs : Tokens) → Counts c.compounds f (if_next "(" round (give (Term.constant (Constant.name g))) c vs)
-  unfolding if_next give if◌then◌else◌
+  unfolding if_next give when◌then◌else◌
   name_then c (ends p) = plain_name c (ends p)
   name_then c (token p t vs) = by (is "(" t)
     where
-      by : (b : Bool) → Counts c.compounds f ((if b then round c vs else give (Term.constant (Constant.name g)) c (token p t vs)))
+      by : (b : Bool) → Counts c.compounds f ((when b then round c vs else give (Term.constant (Constant.name g)) c (token p t vs)))
       by true = no_round c.compounds f left g c vs
       by false = plain_name c (token p t vs)
 
   counted_then : (c : Counted) (vs : Tokens) (a b : Bool) → any (same g) c.names ≡ a → ltb (length c.names) 256 ≡ b
       → Counts c.compounds f ((count_name g >> if_next "(" round (give (Term.constant (Constant.name g)))) c vs)
-  unfolding count_name ◌>>◌ read_on if◌then◌else◌
+  unfolding count_name ◌>>◌ read_on when◌then◌else◌
   counted_then c vs true b h i = rw h (name_then c vs)
   counted_then c vs false true h i =
       rw (h, i) (name_then (record { names = c.names ++ (g ∷ []); variables = c.variables; compounds = c.compounds }) vs)
@@ -118,13 +118,13 @@ module _ (f g : Bytes) (left : ℕ) where
 
 module _ (f : Bytes) (left : ℕ) where
   by_token : (c : Counted) (p : ℕ) (t : Token) (vs : Tokens) → Counts c.compounds f (term (suc left) c (token p t vs))
-  unfolding term next term_from ◌>>=◌ give if◌then◌else◌ cannot_stand
+  unfolding term next term_from ◌>>=◌ give when◌then◌else◌ cannot_stand
   by_token c p (name g) vs = counted_then f g left c vs (any (same g) c.names) (ltb (length c.names) 256) refl refl
   by_token c p (variable h x) vs = then_counts c.compounds f (count_variable x c vs) _ (λ n c₁ vs₁. no_variable c.compounds f h n c₁ vs₁)
   by_token c p (integer i) vs = no_integer c.compounds f i c vs
   by_token c p (sign b) vs = square (eqb b (byte "["))
     where
-      square : (x : Bool) → Counts c.compounds f ((if x then list_of (term left) else cannot_stand p) c vs)
+      square : (x : Bool) → Counts c.compounds f ((when x then list_of (term left) else cannot_stand p) c vs)
       square true = no_list c.compounds f left c vs
       square false = no_malformed c.compounds f p
   by_token c p bad vs = no_malformed c.compounds f p

@@ -4,7 +4,7 @@ use mathlib.Core.Path.{◌≡◌, refl, ap}
 use mathlib.Core.Bool.{Bool, true, false, ◌||◌}
 use mathlib.Core.List.{List, [], ◌∷◌, ◌++◌}
 use lib.Dec.{eqb}
-use Rattle.meaning.specs.Bytes.{byte, if◌then◌else◌}
+use Rattle.meaning.specs.Bytes.{byte, when◌then◌else◌}
 use Rattle.meaning.specs.Terms.{Constant, cell, named, Term}
 use Rattle.meaning.specs.Tokens.{Token, name, variable, integer, sign, bad, Tokens, ends, token}
 use Rattle.meaning.specs.Table.{Element, equals, as_goals}
@@ -49,7 +49,7 @@ or_parts false false c h = (refl, refl, h)
 -- No `==` comes next.
 no_equals : {A : Type 0} (first second : Reader A) (place : ℕ) (counted : Counted) (ts : Tokens) → Stops (one_of 61 61 61) place ts
     → if_next "=" first second counted ts ≡ second counted ts
-unfolding if_next one_of is byte if◌then◌else◌
+unfolding if_next one_of is byte when◌then◌else◌
 no_equals first second place counted (ends p) h = refl
 no_equals first second place counted (token p (name f) ts) h = refl
 no_equals first second place counted (token p (variable g f) ts) h = refl
@@ -68,7 +68,7 @@ module _ (counted : Counted) (ts : Tokens) where
 
   pub element_equals : (t : Term) (counted' : Counted) (p : ℕ) (behind : Tokens) → term 16 counted ts ≡ read t counted' (token p (sign 61) behind)
       → element_behind counted ts ≡ equals_behind t counted' behind
-  unfolding element_behind ◌>>=◌ read_on if_next is byte if◌then◌else◌
+  unfolding element_behind ◌>>=◌ read_on if_next is byte when◌then◌else◌
   element_equals t counted' p behind e = rw e
 
   pub element_other : (t : Term) (counted' : Counted) (place : ℕ) (behind : Tokens) → term 16 counted ts ≡ read t counted' behind
@@ -127,22 +127,22 @@ module _ (left : ℕ) (es : List Element) (counted : Counted) (ts : Tokens) wher
   module _ (e : Element) (counted' : Counted) where
     pub body_comma : (p : ℕ) (behind : Tokens) → element_behind counted ts ≡ read e counted' (token p (sign 44) behind)
         → body (suc left) es counted ts ≡ body left (es ++ (e ∷ [])) counted' behind
-    unfolding body ◌>>=◌ read_on next behind_element is byte if◌then◌else◌
+    unfolding body ◌>>=◌ read_on next behind_element is byte when◌then◌else◌
     body_comma p behind h = rw h
 
     pub body_bar : (p : ℕ) (behind : Tokens) → element_behind counted ts ≡ read e counted' (token p (sign 124) behind)
         → body (suc left) es counted ts ≡ guarded (es ++ (e ∷ [])) counted' behind
-    unfolding body ◌>>=◌ read_on next behind_element is byte if◌then◌else◌
+    unfolding body ◌>>=◌ read_on next behind_element is byte when◌then◌else◌
     body_bar p behind h = rw h
 
     pub body_stop : (p : ℕ) (behind : Tokens) → element_behind counted ts ≡ read e counted' (token p (sign 46) behind)
         → body (suc left) es counted ts ≡ unguarded p (as_goals (es ++ (e ∷ []))) counted' behind
-    unfolding body ◌>>=◌ read_on next behind_element is byte if◌then◌else◌
+    unfolding body ◌>>=◌ read_on next behind_element is byte when◌then◌else◌
     body_stop p behind h = rw h
 
     none_of : (place : ℕ) (us : Tokens) → Stops (one_of 44 124 46) place us
         → next (behind_element (body left) (es ++ (e ∷ []))) counted' us ≡ malformed place
-    unfolding next behind_element one_of is cannot_stand byte if◌then◌else◌
+    unfolding next behind_element one_of is cannot_stand byte when◌then◌else◌
     none_of place (ends p) h = ap malformed h
     none_of place (token p (name f) us) h = ap malformed h.0
     none_of place (token p (variable g f) us) h = ap malformed h.0

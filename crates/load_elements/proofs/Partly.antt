@@ -5,7 +5,7 @@ use mathlib.Core.List.{List, [], ◌∷◌, ◌++◌, map}
 use native.Mathlib.Omega.{arith}
 use lib.ListN.{length, get_or, set}
 use lib.Seq.{get_or-set_other}
-use Rattle.meaning.specs.Bytes.{Bytes, byte, if◌then◌else◌}
+use Rattle.meaning.specs.Bytes.{Bytes, byte, when◌then◌else◌}
 use Rattle.meaning.specs.Terms.{Half}
 use Rattle.meaning.specs.Tokens.{sign, Tokens, ends, token}
 use Rattle.meaning.specs.Table.{Element}
@@ -232,7 +232,7 @@ module _ (text rest : Bytes) (from base : ℕ) (known vars : List Place) (c : Cu
 
         -- The full stop: they are the goals, if all of them can be.
         stop_place : (b : ℕ) (next : SignAt rest e.at 46 b) → b ≡ next.place + 1
-        unfolding behind double_sign byte if◌then◌else◌
+        unfolding behind double_sign byte when◌then◌else◌
         stop_place b next = next.ends_at
 
         piece_there : (b : ℕ) (next : SignAt rest e.at 46 b)

@@ -9,7 +9,7 @@ use mathlib.Core.Option.{Option, none, some}
 use native.Mathlib.Omega.{arith}
 use lib.Dec.{ltb, eqb}
 use lib.ListN.{length}
-use Rattle.meaning.specs.Bytes.{Bytes, byte, same, any, if◌then◌else◌}
+use Rattle.meaning.specs.Bytes.{Bytes, byte, same, any, when◌then◌else◌}
 use Rattle.meaning.specs.Terms.{Half, writer, reader, same_half, Constant, empty, Term, Terms, cell, named, compound, end, more, Named, as_term}
 use Rattle.meaning.specs.Tokens.{Token, name, variable, integer, sign, bad, Tokens, ends, token}
 use Rattle.meaning.specs.Table.{Element, whole, bare, equals, as_goals}
@@ -95,8 +95,8 @@ weaken m s (read a d rest) g h = λ k. g (h k)
 weaken m s (malformed place) g h = tt
 weaken m s passed g h = tt
 
-if_fits : {A : Type 0} (s : Tokens) (b : Bool) (x y : Read A) → Fits s x → Fits s y → Fits s (if b then x else y)
-unfolding if◌then◌else◌
+if_fits : {A : Type 0} (s : Tokens) (b : Bool) (x y : Read A) → Fits s x → Fits s y → Fits s (when b then x else y)
+unfolding when◌then◌else◌
 if_fits s true x y h k = h
 if_fits s false x y h k = k
 
@@ -117,13 +117,13 @@ module _ {A : Type 0} where
   unfolding passes Fits
   passes_keeps = record { keep = λ c s. tt }
 
-  if_keeps : (b : Bool) {r q : Reader A} → Keeps r → Keeps q → Keeps (if b then r else q)
-  unfolding if◌then◌else◌
+  if_keeps : (b : Bool) {r q : Reader A} → Keeps r → Keeps q → Keeps (when b then r else q)
+  unfolding when◌then◌else◌
   if_keeps true h k = h
   if_keeps false h k = k
 
-  if_behind : (b : Bool) (t : Token) {r q : Reader A} → (b ≡ true → KeepsBehind t r) → (b ≡ false → KeepsBehind t q) → KeepsBehind t (if b then r else q)
-  unfolding if◌then◌else◌
+  if_behind : (b : Bool) (t : Token) {r q : Reader A} → (b ≡ true → KeepsBehind t r) → (b ≡ false → KeepsBehind t q) → KeepsBehind t (when b then r else q)
+  unfolding when◌then◌else◌
   if_behind true t h k = h refl
   if_behind false t h k = k refl
 
@@ -140,7 +140,7 @@ module _ {A : Type 0} where
       go c (token place t s) = (h place t).keep place c s
 
   if_next_keeps : (c : Char) {r q : Reader A} → ((t : Token) → is c t ≡ true → KeepsBehind t r) → Keeps q → Keeps (if_next c r q)
-  unfolding if_next if◌then◌else◌
+  unfolding if_next when◌then◌else◌
   if_next_keeps c {r} {q} h k = record { keep = go }
     where
       go : (d : Counted) (s : Tokens) → Fits s (if_next c r q d s)
@@ -357,12 +357,12 @@ sound_among s (ends place) h m = tt
 sound_among s (token place t rest) h m = (good_there place t s h (m place t (inl (refl, refl))), sound_among s rest h (λ p u k. m p u (inr k)))
 
 occurs_here : (place : ℕ) (h : Half) (x : Bytes) (rest : Tokens) → length (occurs_at h x (token place (variable h x) rest)) ≡ 0 → ⊥
-unfolding occurs_at is_half same_half if◌then◌else◌
+unfolding occurs_at is_half same_half when◌then◌else◌
 occurs_here place writer x rest e = let e' : length (place ∷ occurs_at writer x rest) ≡ 0 = rw (same_refl x) at e in omega arith
 occurs_here place reader x rest e = let e' : length (place ∷ occurs_at reader x rest) ≡ 0 = rw (same_refl x) at e in omega arith
 
 occurs_later : (g : Half) (x : Bytes) (place : ℕ) (t : Token) (rest : Tokens) → length (occurs_at g x (token place t rest)) ≡ 0 → length (occurs_at g x rest) ≡ 0
-unfolding occurs_at if◌then◌else◌
+unfolding occurs_at when◌then◌else◌
 occurs_later g x place t rest e = go (is_half g x t) refl
   where
     go : (b : Bool) → is_half g x t ≡ b → length (occurs_at g x rest) ≡ 0

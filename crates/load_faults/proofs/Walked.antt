@@ -10,7 +10,7 @@ use lib.Dec.{eqb}
 use lib.ListN.{length, get_or, set, replicate, length-replicate, get_or-replicate, length-set}
 use lib.Seq.{get_or-set_same, get_or-set_other}
 use borrow.Author.Tests.{eq-eqb, ne_eqb, eqb-true, eqb-false}
-use Rattle.meaning.specs.Bytes.{Bytes, byte, same, if◌then◌else◌}
+use Rattle.meaning.specs.Bytes.{Bytes, byte, same, when◌then◌else◌}
 use Rattle.meaning.specs.Terms.{Half, writer, reader, Integer, same_half}
 use Rattle.meaning.specs.Tokens.{Token, name, variable, integer, sign, bad, Tokens, ends, token}
 use Rattle.meaning.specs.Faults.{Broken, twice, Fault, is_half, occurs_at, up_to_implied, pairing}
@@ -77,14 +77,14 @@ left_at false after ts = pairing after ts
 
 pub open_token : (implied : Bool) (after : Option Tokens) (p : ℕ) (t : Token) (ts : Tokens) → is "." t ≡ false → is ":" t ≡ false
     → left_at implied after (piece (token p t ts)) ≡ token p t (left_at implied after (piece ts))
-unfolding left_at pairing up_to_implied if◌then◌else◌
+unfolding left_at pairing up_to_implied when◌then◌else◌
 open_token true after p t ts e n = piece_open p t ts e
 open_token false none p t ts e n = piece_open p t ts e
 open_token false (some ahead) p t ts e n = rw (piece_open p t ts e, n) refl
 
 stop_token : (implied : Bool) (after : Option Tokens) (p : ℕ) (t : Token) (ts : Tokens) → is "." t ≡ true → is ":" t ≡ false
     → left_at implied after (piece (token p t ts)) ≡ token p t (ends p)
-unfolding left_at pairing up_to_implied if◌then◌else◌
+unfolding left_at pairing up_to_implied when◌then◌else◌
 stop_token true after p t ts e n = piece_stop p t ts e
 stop_token false none p t ts e n = piece_stop p t ts e
 stop_token false (some ahead) p t ts e n = rw (piece_stop p t ts e, n) refl
@@ -93,7 +93,7 @@ stop_token false (some ahead) p t ts e n = rw (piece_stop p t ts e, n) refl
 neck_token : (rest : Bytes) (from bar p c a : ℕ) (implied : Bool) (after : Option Tokens) → is ":" (sign c) ≡ true → is "." (sign c) ≡ false → BarIs rest from bar after
     → left_at implied after (piece (token p (sign c) (tokens_in from rest (behind c a))))
     ≡ token p (sign c) (left_at true after (piece (tokens_in from rest (on_at c a implied bar))))
-unfolding left_at pairing up_to_implied if◌then◌else◌ jumps_so on_at is
+unfolding left_at pairing up_to_implied when◌then◌else◌ jumps_so on_at is
 neck_token rest from bar p c a true after n e b = rw (n, piece_open p (sign c) (tokens_in from rest (behind c a)) e) refl
 neck_token rest from bar p c a false none n e b = rw (n, eq-eqb bar 0 b, piece_open p (sign c) (tokens_in from rest (behind c a)) e) refl
 neck_token rest from bar p c a false (some ahead) n e b =
@@ -101,7 +101,7 @@ neck_token rest from bar p c a false (some ahead) n e b =
 
 -- Any other sign leaves the walk as it is.
 other_sign : (c a bar : ℕ) (implied : Bool) → is ":" (sign c) ≡ false → on_at c a implied bar ≡ behind c a
-unfolding jumps_so on_at is if◌then◌else◌
+unfolding jumps_so on_at is when◌then◌else◌
 other_sign c a bar implied n = rw n refl
 
 neck_no_stop : (c : ℕ) → is ":" (sign c) ≡ true → is "." (sign c) ≡ false
@@ -223,7 +223,7 @@ module _ (both : Bool) (places : List Place) (free : Bytes → Bool) (whole : To
         seen_before = rw (r.noted h x n here, ne_eqb (get_or seen (half_from h + n) 0) 0 again) refl
 
         pub second_time : (pardons implied h && not (eqb (get_or licensed n 0) 0)) ≡ false → f ≡ record { rule = twice; offset = p }
-        unfolding first_from broken_by here_or if◌then◌else◌
+        unfolding first_from broken_by here_or when◌then◌else◌
         second_time e =
             let strict : (implied && pardoned free h x) ≡ false = sym pardoned_is ∙ e in
             let q : some (record { rule = twice; offset = p }) ≡ some f = rw (seen_before, strict) at r.finds in
@@ -243,7 +243,7 @@ module _ (both : Bool) (places : List Place) (free : Bytes → Bool) (whole : To
             go false q = rw q (r.noted k y m there)
 
         pub seen_again : (pardons implied h && not (eqb (get_or licensed n 0) 0)) ≡ true → Reached both places free whole implied seen s f
-        unfolding first_from broken_by here_or if◌then◌else◌ with_seen Walkable is
+        unfolding first_from broken_by here_or when◌then◌else◌ with_seen Walkable is
         seen_again e =
             let pardon : (implied && pardoned free h x) ≡ true = sym pardoned_is ∙ e in
             record {
@@ -262,7 +262,7 @@ module _ (both : Bool) (places : List Place) (free : Bytes → Bool) (whole : To
         unseen = rw (r.noted h x n here, first) refl
 
         pub is_lone : (both && eqb (get_or item (48 - half_from h + n) 0) 0) ≡ true → f ≡ record { rule = alone h; offset = p }
-        unfolding first_from broken_by here_or if◌then◌else◌
+        unfolding first_from broken_by here_or when◌then◌else◌
         is_lone e =
             let q : some (record { rule = alone h; offset = p }) ≡ some f = rw (unseen, missing, e) at r.finds in
             cc
@@ -293,7 +293,7 @@ module _ (both : Bool) (places : List Place) (free : Bytes → Bool) (whole : To
 
         pub noted_on : (both && eqb (get_or item (48 - half_from h + n) 0) 0) ≡ false
             → Reached both places free whole implied (set seen (half_from h + n) 1) s f
-        unfolding first_from broken_by here_or if◌then◌else◌ with_seen Walkable is
+        unfolding first_from broken_by here_or when◌then◌else◌ with_seen Walkable is
         noted_on e =
             record {
               size = length-set seen (half_from h + n) 1 ∙ r.size;
@@ -309,10 +309,10 @@ says b from a size f l e = rw e (refl, refl, l)
 
 -- A sign ends behind where it begins.
 pub behind_more : (c a : ℕ) → a + 1 ≤ behind c a
-unfolding behind if◌then◌else◌
+unfolding behind when◌then◌else◌
 behind_more c a = go (double_sign c)
   where
-    go : (b : Bool) → a + 1 ≤ (if b then a + 2 else a + 1)
+    go : (b : Bool) → a + 1 ≤ (when b then a + 2 else a + 1)
     go true = omega arith
     go false = omega arith
 
@@ -327,10 +327,10 @@ bar_inside rest from bar (some ahead) b = b.2
 
 module _ (size c a bar : ℕ) (implied : Bool) where
   pub sign_inside : behind c a ≤ size → bar ≤ size → on_at c a implied bar ≤ size
-  unfolding on_at if◌then◌else◌
+  unfolding on_at when◌then◌else◌
   sign_inside h l = go (jumps_so c implied bar)
     where
-      go : (b : Bool) → (if b then bar else behind c a) ≤ size
+      go : (b : Bool) → (when b then bar else behind c a) ≤ size
       go true = l
       go false = h
 
@@ -342,7 +342,7 @@ lighter false false size = omega arith
 
 pub sign_less : (size at c a bar : ℕ) (implied : Bool) → at ≤ a → behind c a ≤ size → bar ≤ size
     → weight (implied || eqb c (byte ":")) size + (size - on_at c a implied bar) < weight implied size + (size - at)
-unfolding weight on_at jumps_so if◌then◌else◌
+unfolding weight on_at jumps_so when◌then◌else◌
 sign_less size at c a bar true forward h l =
     let k = behind_more c a in
     rw (and_false (eqb c (byte ":"))) (omega arith)
@@ -351,7 +351,7 @@ sign_less size at c a bar false forward h l = go (eqb c (byte ":")) (not (eqb ba
     k : a + 1 ≤ behind c a
     k = behind_more c a
 
-    go : (n b : Bool) → weight n size + (size - (if n && b then bar else behind c a)) < size + 1 + (size - at)
+    go : (n b : Bool) → weight n size + (size - (when n && b then bar else behind c a)) < size + 1 + (size - at)
     go true true = omega arith
     go true false = omega arith
     go false b = omega (arith, k)

@@ -1,7 +1,7 @@
 -- What is known of an item in which a fault is looked for, how far the walk has come, and what it finds.
 use Rattle.std.specs.Prelude.{ℕ, ◌+◌, ◌≤◌, ◌<◌, min, ◌≡◌, Bool, true, false, not, ◌&&◌, List, [], ◌∷◌, eqb, length, get_or}
 use Rattle.std.proofs.Math.Option.{Option, none, some}
-use Rattle.meaning.specs.Bytes.{Bytes, byte, if◌then◌else◌}
+use Rattle.meaning.specs.Bytes.{Bytes, byte, when◌then◌else◌}
 use Rattle.meaning.specs.Terms.{Half, writer, reader}
 use Rattle.meaning.specs.Tokens.{Token, name, variable, integer, sign, bad, Tokens, ends, token}
 use Rattle.meaning.specs.Faults.{twice, writer_alone, reader_alone, Broken as Rule, Fault, occurs_at, pairing}
@@ -81,7 +81,7 @@ unfoldable pub jumps_so : ℕ → Bool → ℕ → Bool
 jumps_so c implied bar = eqb c (byte ":") && (not implied && not (eqb bar 0))
 
 unfoldable pub on_at : ℕ → ℕ → Bool → ℕ → ℕ
-on_at c a implied bar = if jumps_so c implied bar then bar else behind c a
+on_at c a implied bar = when jumps_so c implied bar then bar else behind c a
 
 -- Whether a half is pardoned where the walk stands: no writer is.
 unfoldable pub pardons : Bool → Half → Bool

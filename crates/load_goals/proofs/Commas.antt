@@ -5,7 +5,7 @@ use mathlib.Core.Bool.{Bool, true, false}
 use mathlib.Core.List.{List, [], ◌∷◌, ◌++◌, append_assoc}
 use native.Mathlib.Omega.{arith}
 use lib.ListN.{length}
-use Rattle.meaning.specs.Bytes.{byte, if◌then◌else◌}
+use Rattle.meaning.specs.Bytes.{byte, when◌then◌else◌}
 use Rattle.meaning.specs.Terms.{Named}
 use Rattle.meaning.specs.Tokens.{Token, sign, Tokens, ends, token}
 use Rattle.meaning.specs.Items.{
@@ -30,14 +30,14 @@ use Rattle.load_openings.proofs.Expected.{piece_open, piece_stop, either_first, 
 
 goals_suc : (left : ℕ) (counted counted' : Counted) (ts us : Tokens) (g : Named) → goal counted ts ≡ read g counted' us
     → goals (suc left) counted ts
-    ≡ read_on (either "," "." counted' us) (λ another. if another then (goals left >>= λ gs. give (g ∷ gs)) else give (g ∷ []))
+    ≡ read_on (either "," "." counted' us) (λ another. when another then (goals left >>= λ gs. give (g ∷ gs)) else give (g ∷ []))
 unfolding goals ◌>>=◌ read_on
 goals_suc left counted counted' ts us g h = rw h
 
 module _ (left : ℕ) (counted counted' : Counted) (ts us : Tokens) (g : Named) (h : goal counted ts ≡ read g counted' (piece us)) where
   pub goals_comma : (p : ℕ) (vs : Tokens) → us ≡ token p (sign 44) vs
       → goals (suc left) counted ts ≡ read_on (goals left counted' (piece vs)) (λ gs. give (g ∷ gs))
-  unfolding read_on is byte if◌then◌else◌ ◌>>=◌
+  unfolding read_on is byte when◌then◌else◌ ◌>>=◌
   goals_comma p vs e =
       rw (
         goals_suc left counted counted' ts (piece us) g h,
@@ -47,7 +47,7 @@ module _ (left : ℕ) (counted counted' : Counted) (ts us : Tokens) (g : Named) 
       )
 
   pub goals_stop : (p : ℕ) (vs : Tokens) → us ≡ token p (sign 46) vs → goals (suc left) counted ts ≡ read (g ∷ []) counted' (ends p)
-  unfolding read_on is byte if◌then◌else◌ give
+  unfolding read_on is byte when◌then◌else◌ give
   goals_stop p vs e =
       rw (
         goals_suc left counted counted' ts (piece us) g h,

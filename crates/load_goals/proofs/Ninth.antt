@@ -6,7 +6,7 @@ use mathlib.Core.List.{List, [], ◌∷◌, ◌++◌}
 use native.Mathlib.Omega.{arith}
 use lib.ListN.{length, get_or}
 use lib.Seq.{slice}
-use Rattle.meaning.specs.Bytes.{Bytes, if◌then◌else◌}
+use Rattle.meaning.specs.Bytes.{Bytes, when◌then◌else◌}
 use Rattle.meaning.specs.Terms.{Half, writer, reader, Named, goals_occurrences}
 use Rattle.meaning.specs.Tokens.{Token, name, variable, integer, sign, bad, Tokens, ends, token}
 use Rattle.meaning.specs.Items.{Counted, Read, read, malformed, passed, read_on, give, ◌>>◌, passes, standing, is_name, goals}
@@ -57,11 +57,11 @@ partly_none text rest from base place known vars c s names item st = record {
 module _ (rest : Bytes) (at : ℕ) where
   ninth_token : (from : ℕ) (counted : Counted) (p : ℕ) (t : Token) (ts : Tokens) → tokens_in from rest at ≡ token p t ts → is_name t ≡ false
       → goals 0 counted (piece (tokens_in from rest at)) ≡ malformed p
-  unfolding goals ◌>>◌ read_on standing piece if◌then◌else◌
+  unfolding goals ◌>>◌ read_on standing piece when◌then◌else◌
   ninth_token from counted p t ts e h = rw (e, h)
 
   pub ninth_name : (a e : ℕ) → FrontIs rest at (Name a e) → NinthIs rest at Exceeded
-  unfolding goals ◌>>◌ read_on standing piece is_name if◌then◌else◌ passes
+  unfolding goals ◌>>◌ read_on standing piece is_name when◌then◌else◌ passes
   ninth_name a e h from counted = rw (h.4 from)
 
   pub ninth_writer : (a e : ℕ) → FrontIs rest at (Writer a e) → NinthIs rest at (Malformed a)

@@ -6,7 +6,7 @@ use mathlib.Core.Option.{Option, none, some}
 use native.Mathlib.Omega.{arith}
 use lib.ListN.{length, get_or, set, length-set}
 use lib.Seq.{get_or-set_same}
-use Rattle.meaning.specs.Bytes.{Bytes, same, any, if◌then◌else◌}
+use Rattle.meaning.specs.Bytes.{Bytes, same, any, when◌then◌else◌}
 use Rattle.meaning.specs.Terms.{Term, Terms, end, more, equal, Named, Guard, count, as_term}
 use Rattle.meaning.specs.Table.{Element, whole, bare, equals, as_guard, as_guards, with_guard}
 use Rattle.laws.proofs.Lists.Tests.{differ}

@@ -9,7 +9,7 @@ use lib.Dec.{leb, eqb}
 use lib.ListN.{length, get_or, set, replicate, length-set, length-append, length-replicate, get_or-replicate}
 use lib.Seq.{get_or-set_same, get_or-set_other}
 use borrow.Author.Tests.{eqb-true, eqb-false, ne_eqb, leb-true, leb-false}
-use Rattle.meaning.specs.Bytes.{any, if◌then◌else◌}
+use Rattle.meaning.specs.Bytes.{any, when◌then◌else◌}
 use Rattle.meaning.specs.Terms.{Guard}
 use Rattle.meaning.specs.Table.{is_reader, licensed}
 use Rattle.term.specs.Guards.{guard_word, HoldsGuards}
@@ -34,10 +34,10 @@ licensed_more (h ∷ gs) g m = rw (licensed_more gs g m) (or_assoc (licenses h m
     or_assoc false b c = refl
 
 pub marked_length : (table : List ℕ) (m : ℕ) → length (marked table m) ≡ length table
-unfolding marked if◌then◌else◌
+unfolding marked when◌then◌else◌
 marked_length table m = go (leb 16 m)
   where
-    go : (b : Bool) → length (if b then table else set table m 1) ≡ length table
+    go : (b : Bool) → length (when b then table else set table m 1) ≡ length table
     go true = refl
     go false = length-set table m 1
 
@@ -52,7 +52,7 @@ pub record Licensing (s : List ℕ) (place base : ℕ) (known : List Place) (gs 
 
 module _ (s : List ℕ) (place n base : ℕ) (known : List Place) (gs : List Guard) (t : Tests s place n base known gs) where
   pub none_yet : Licensing s place base known gs 0 (replicate 16 0)
-  unfolding licensed any if◌then◌else◌
+  unfolding licensed any when◌then◌else◌
   none_yet =
       record {
         done = [];
@@ -112,7 +112,7 @@ module _ (s : List ℕ) (place n base : ℕ) (known : List Place) (gs : List Gua
         told_now b m l e = licensed_more p.done first.0 m ∙ rw (says m l, e) refl
 
         one_more : r < 16 → Licensing s place base known gs (i + 1) (set table r 1)
-        unfolding if◌then◌else◌
+        unfolding when◌then◌else◌
         one_more few = goes_on (set table r 1) (record { size = length-set table r 1 ∙ p.told.size; licences = λ m l. go m l (eqb m r) refl })
           where
             or_true : (b : Bool) → (b || true) ≡ true
@@ -123,7 +123,7 @@ module _ (s : List ℕ) (place n base : ℕ) (known : List Place) (gs : List Gua
             or_false true = refl
             or_false false = refl
 
-            go : (m : ℕ) → m < 16 → (b : Bool) → eqb m r ≡ b → get_or (set table r 1) m 0 ≡ (if licensed (p.done ++ (first.0 ∷ [])) m then 1 else 0)
+            go : (m : ℕ) → m < 16 → (b : Bool) → eqb m r ≡ b → get_or (set table r 1) m 0 ≡ (when licensed (p.done ++ (first.0 ∷ [])) m then 1 else 0)
             go m l true e =
                 let here : m ≡ r = eqb-true m r e in
                 rw (told_now true m l e, or_true (licensed p.done m), here) (get_or-set_same table r 1 0 (omega (arith, p.told.size)))
@@ -138,13 +138,13 @@ module _ (s : List ℕ) (place n base : ℕ) (known : List Place) (gs : List Gua
             or_false true = refl
             or_false false = refl
 
-            go : (m : ℕ) → m < 16 → get_or table m 0 ≡ (if licensed (p.done ++ (first.0 ∷ [])) m then 1 else 0)
+            go : (m : ℕ) → m < 16 → get_or table m 0 ≡ (when licensed (p.done ++ (first.0 ∷ [])) m then 1 else 0)
             go m l = rw (told_now false m l (ne_eqb m r (λ q. omega arith)), or_false (licensed p.done m)) (p.told.licences m l)
 
         pub marked_on : Licensing s place base known gs (i + 1) (marked table r)
-        unfolding marked if◌then◌else◌
+        unfolding marked when◌then◌else◌
         marked_on = go (leb 16 r) refl
           where
-            go : (b : Bool) → leb 16 r ≡ b → Licensing s place base known gs (i + 1) (if b then table else set table r 1)
+            go : (b : Bool) → leb 16 r ≡ b → Licensing s place base known gs (i + 1) (when b then table else set table r 1)
             go true e = no_more (leb-true 16 r e)
             go false e = one_more (leb-false 16 r e)

@@ -8,7 +8,7 @@ use mathlib.Core.Option.{Option, none, some}
 use native.Mathlib.Omega.{arith}
 use lib.Dec.{eqb}
 use lib.ListN.{length, get_or, set, length-append}
-use Rattle.meaning.specs.Bytes.{Bytes, if◌then◌else◌}
+use Rattle.meaning.specs.Bytes.{Bytes, when◌then◌else◌}
 use Rattle.meaning.specs.Terms.{Guard}
 use Rattle.meaning.specs.Table.{Element, as_guard, as_guards, with_guard}
 use Rattle.term.specs.Frames.{Only}
@@ -147,7 +147,7 @@ module _ (text : Bytes) (names s₀ words : List ℕ) (n base place : ℕ) (know
               let number : 7 ≡ test_number g.row.test = rw q at h in
               absurd (omega (arith, (in_table (as_is first.0 g q)).number_few))
 
-      pub goes_on : (row w : ℕ) → row ≡ row_number (as_guard first.0) → row ≢ 7 → w ≡ row + 8 * (if eqb row 6 then 8 * base else get_or words i 0 / 8)
+      pub goes_on : (row w : ℕ) → row ≡ row_number (as_guard first.0) → row ≢ 7 → w ≡ row + 8 * (when eqb row 6 then 8 * base else get_or words i 0 / 8)
           → Progress base place l.to_number known es (i + 1) s₀ (set s (place + i) w)
       unfolding row_number as_guards HoldsElements ElementsKnown ElementsNumbered
       goes_on row w r h v = go (as_guard first.0) refl

@@ -10,7 +10,7 @@ use native.Mathlib.Omega.{arith}
 use lib.Dec.{eqb, ltb}
 use lib.ListN.{length}
 use borrow.Author.Tests.{eqb-true, eqb-false, eq-eqb, ne_eqb, ltb-true, ltb-false}
-use Rattle.meaning.specs.Bytes.{Bytes, bytes_words, bytes, same, all, if◌then◌else◌}
+use Rattle.meaning.specs.Bytes.{Bytes, bytes_words, bytes, same, all, when◌then◌else◌}
 use Rattle.meaning.specs.Terms.{Term, Terms, end, more, Named, Row, Guard, count, as_term, terms_words}
 use Rattle.meaning.specs.Table.{Element, whole, bare, equals, rows_before, rows_between, rows_alone, guard_table, in_rows, as_guard, table_words}
 use Rattle.laws.proofs.Lists.Tests.{differ, and_left, and_right, false_not_true}
@@ -25,7 +25,7 @@ use Rattle.load_guards.specs.Judged.{row_number, InTable}
 -- The rows before others: the first that fits is found among them, or none of them fits.
 in_front : (rows others : List Row) (f : Bytes) (n : ℕ) (ts : Terms) → row_of (rows ++ others) f (count ts) < length rows
     → in_rows rows f n ts ≡ some (record { row = row_at (rows ++ others) (row_of (rows ++ others) f (count ts)); number = n; arguments = ts })
-unfolding in_rows row_of row_at if◌then◌else◌
+unfolding in_rows row_of row_at when◌then◌else◌
 in_front [] others f n ts h = absurd (omega arith)
 in_front (r ∷ rows) others f n ts h = go (row_is r f (count ts)) refl (λ l. in_front rows others f n ts l)
   where
@@ -38,7 +38,7 @@ in_front (r ∷ rows) others f n ts h = go (row_is r f (count ts)) refl (λ l. i
     go false e further = let below : suc (row_of (rows ++ others) f (count ts)) < suc (length rows) = rw e at h in rw (e, in_rows) (further (omega arith))
 
 none_in_front : (rows others : List Row) (f : Bytes) (n : ℕ) (ts : Terms) → length rows ≤ row_of (rows ++ others) f (count ts) → in_rows rows f n ts ≡ none
-unfolding in_rows row_of if◌then◌else◌
+unfolding in_rows row_of when◌then◌else◌
 none_in_front [] others f n ts h = refl
 none_in_front (r ∷ rows) others f n ts h = go (row_is r f (count ts)) refl (λ l. none_in_front rows others f n ts l)
   where
@@ -48,7 +48,7 @@ none_in_front (r ∷ rows) others f n ts h = go (row_is r f (count ts)) refl (λ
 
 -- The row that is found has so many arguments.
 found_count : (rows : List Row) (f : Bytes) (k : ℕ) → row_of rows f k < length rows → (row_at rows (row_of rows f k)).count ≡ k
-unfolding row_of row_at if◌then◌else◌
+unfolding row_of row_at when◌then◌else◌
 found_count [] f k h = absurd (omega arith)
 found_count (r ∷ rows) f k h = go (row_is r f k) refl (λ l. found_count rows f k l)
   where
@@ -58,7 +58,7 @@ found_count (r ∷ rows) f k h = go (row_is r f k) refl (λ l. found_count rows 
 
 -- Rows with another number of arguments are passed over.
 passed_over : (rows others : List Row) (f : Bytes) (k : ℕ) → all (λ r. not (eqb r.count k)) rows ≡ true → row_of (rows ++ others) f k ≡ length rows + row_of others f k
-unfolding row_of all if◌then◌else◌
+unfolding row_of all when◌then◌else◌
 passed_over [] others f k e = sym (zero-add (row_of others f k))
 passed_over (r ∷ rows) others f k e =
     let other : r.count ≢ k = λ q. false_not_true (not (eqb r.count k)) (rw (eq-eqb r.count k q) refl) (and_left (not (eqb r.count k)) (all (λ r. not (eqb r.count k)) rows) e) in
@@ -186,8 +186,8 @@ tag_off tag n h = omega arith
 
 pub guard_word_is : (known : List Place) (base : ℕ) {e : Element} {g : Guard} → AsIs e g
     → guard_word (item_places known base) g
-    ≡ test_number g.row.test + 8 * (if eqb (test_number g.row.test) 6 then 8 * base else element_word (item_places known base) e / 8)
-unfolding element_word item_places if◌then◌else◌ as_term
+    ≡ test_number g.row.test + 8 * (when eqb (test_number g.row.test) 6 then 8 * base else element_word (item_places known base) e / 8)
+unfolding element_word item_places when◌then◌else◌ as_term
 guard_word_is known base (as_whole g r h c) =
     let test = row_tests r (omega arith) in
     rw (test, ne_eqb r 6 (λ q. omega arith), tag_off 6 (item_place base g.number) (omega arith)) refl

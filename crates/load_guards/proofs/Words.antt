@@ -8,7 +8,7 @@ use native.Mathlib.Omega.{arith}
 use lib.Dec.{eqb}
 use lib.ListN.{length, get_or}
 use borrow.Author.Tests.{ne_eqb}
-use Rattle.meaning.specs.Bytes.{Bytes, same, any, if◌then◌else◌}
+use Rattle.meaning.specs.Bytes.{Bytes, same, any, when◌then◌else◌}
 use Rattle.meaning.specs.Terms.{Half, writer, reader, Constant, cell, named, Term, Terms, end, more, Named, Guard, count, as_term}
 use Rattle.meaning.specs.Table.{Element, whole, bare, equals, guard_table, as_guard, is_reader, table_words}
 use Rattle.laws.proofs.Lists.Tests.{same_true, false_not_true}
@@ -32,7 +32,7 @@ rest_of tag n h = omega arith
 -- A name that is known stands at its number.
 number_at : (f : Bytes) (known : List Place) → KnownName (spellings known) f
     → (number_of f (spellings known) < length known) × ((get_or known (number_of f (spellings known)) no_place).spelling ≡ f)
-unfolding spellings number_of any if◌then◌else◌
+unfolding spellings number_of any when◌then◌else◌
 number_at f [] h = absurd (false_not_true false refl h)
 number_at f (p ∷ known) h = go (same f p.spelling) refl (number_at f known)
   where

@@ -1,7 +1,7 @@
 -- A clause's guards: what stands in the scratch of the elements before its bar, the words that are set for them, and what is told of them.
 use Rattle.std.specs.Prelude.{ℕ, ◌+◌, ◌-◌, ◌/◌, ◌%◌, ◌≤◌, ◌<◌, min, ◌≡◌, Bool, true, false, List, [], ◌∷◌, map, leb, length, get_or, set}
 use Rattle.std.proofs.Math.Option.{Option, none, some}
-use Rattle.meaning.specs.Bytes.{Bytes, if◌then◌else◌}
+use Rattle.meaning.specs.Bytes.{Bytes, when◌then◌else◌}
 use Rattle.meaning.specs.Terms.{Half, writer, reader, end, more, Named, Guard, count, as_term, all_occurrences}
 use Rattle.meaning.specs.Table.{Element, whole, bare, equals, guard_table, as_guard, as_guards, licensed}
 use Rattle.term.specs.Cells.{Places as CellPlaces}
@@ -101,12 +101,12 @@ ResolvedIs s s' n base place known es false = (as_guards es ≡ none) × Only pl
 
 -- A reader's number is marked, if it is one of 16.
 unfoldable pub marked : List ℕ → ℕ → List ℕ
-marked table m = if leb 16 m then table else set table m 1
+marked table m = when leb 16 m then table else set table m 1
 
 -- The readers that these guards license, by their numbers.
 pub record Licences (table : List ℕ) (gs : List Guard) : Type 0 where
   pub size : length table ≡ 16
-  pub licences : (m : ℕ) → m < 16 → get_or table m 0 ≡ (if licensed gs m then 1 else 0)
+  pub licences : (m : ℕ) → m < 16 → get_or table m 0 ≡ (when licensed gs m then 1 else 0)
 
 -- Where the head's halves are counted: writers from 0 on, readers from 16 on.
 unfoldable pub head_place : Half → ℕ → ℕ

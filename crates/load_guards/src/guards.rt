@@ -1,7 +1,7 @@
 // A clause's guards, behind its full stop: "11 for a guard not in the table or with another variable", and the readers that they license.
 ghost use Rattle.std.specs.Prelude.{◌≡◌, not, ◌&&◌, List, ℕ, ◌+◌, ◌*◌, ◌%◌, ◌/◌, ◌≤◌, ◌<◌, eqb, length, get_or, set, replicate};
 ghost use Rattle.std.proofs.Math.Option.{some};
-ghost use Rattle.meaning.specs.Bytes.{Bytes, all, if◌then◌else◌};
+ghost use Rattle.meaning.specs.Bytes.{Bytes, all, when◌then◌else◌};
 ghost use Rattle.meaning.specs.Terms.{Named, Guard};
 ghost use Rattle.meaning.specs.Table.{Element, whole, bare, guard_table, as_guard, as_guards, of_the_head, is_reader};
 ghost use Rattle.term.specs.Guards.{row_of};
@@ -73,7 +73,7 @@ fn row_for(text: &[u8], names: &[u64], s: &[u64], w: u64) -> usize
 // A guard's word: its row and its compound's place, which an element's word has too. `otherwise` has no compound; it has the item's first place.
 fn test_word(row: usize, w: u64, base: usize) -> u64
     requires { (row ≤ 7) × (base < 144115188075855872) }
-    ensures { result ≡ row + 8 * (if eqb row 6 then 8 * base else w / 8) }
+    ensures { result ≡ row + 8 * (when eqb row 6 then 8 * base else w / 8) }
 {
     if row == index(OTHERWISE) {
         return word(row) + TAGS * word(COMPOUND_WORDS * base);

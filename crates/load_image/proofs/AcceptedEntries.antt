@@ -6,7 +6,7 @@ use mathlib.Core.Bool.{Bool, true, false}
 use mathlib.Core.List.{List, [], ◌∷◌, ◌++◌}
 use native.Mathlib.Omega.{arith}
 use lib.ListN.{length}
-use Rattle.meaning.specs.Bytes.{Bytes, same, any, if◌then◌else◌}
+use Rattle.meaning.specs.Bytes.{Bytes, same, any, when◌then◌else◌}
 use Rattle.meaning.specs.Terms.{Clause, Query, Job}
 use Rattle.meaning.specs.Tokens.{Token, name, variable, integer, sign, bad, Tokens, ends, token}
 use Rattle.meaning.specs.Items.{
@@ -50,11 +50,11 @@ use Rattle.load_image.proofs.ImageHolds.{job_of}
 
 -- Spellings of places, one more or not.
 with_place_spells : (at : ℕ) (f : Bytes) (known : List Place) → spellings (with_place at f known) ≡ added f (spellings known)
-unfolding with_place added if◌then◌else◌
+unfolding with_place added when◌then◌else◌
 with_place_spells at f known = by (any (same f) (spellings known))
   where
     by : (b : Bool)
-        → spellings (if b then known else known ++ (record { at = at; spelling = f } ∷ [])) ≡ (if b then spellings known else spellings known ++ (f ∷ []))
+        → spellings (when b then known else known ++ (record { at = at; spelling = f } ∷ [])) ≡ (when b then spellings known else spellings known ++ (f ∷ []))
     by true = refl
     by false = spellings_snoc known at f
 
@@ -96,10 +96,10 @@ names_in_end (token at t rest) known h = absurd h
 
 -- Known names stay known.
 added_wider : (f g : Bytes) (known : List Bytes) → KnownName known g → KnownName (added f known) g
-unfolding added if◌then◌else◌
+unfolding added when◌then◌else◌
 added_wider f g known h = by (any (same f) known)
   where
-    by : (b : Bool) → KnownName (if b then known else known ++ (f ∷ [])) g
+    by : (b : Bool) → KnownName (when b then known else known ++ (f ∷ [])) g
     by true = h
     by false = known_name_more g known (f ∷ []) h
 
@@ -271,8 +271,8 @@ unfolding Some onto names_all names_in
 onto_names place t [] known h = absurd h
 onto_names place t (p ∷ ps) known h = refl
 
-if_some : (b : Bool) (ps qs : List Tokens) → Some ps → Some qs → Some (if b then ps else qs)
-unfolding if◌then◌else◌
+if_some : (b : Bool) (ps qs : List Tokens) → Some ps → Some qs → Some (when b then ps else qs)
+unfolding when◌then◌else◌
 if_some true ps qs g h = g
 if_some false ps qs g h = h
 
@@ -283,21 +283,21 @@ pieces_some (token place t rest) =
     if_some (is "." t) (token place t (ends place) ∷ pieces rest) (onto place t (pieces rest)) tt (onto_some place t (pieces rest) (pieces_some rest))
 
 pub pieces_cut : (ts : Tokens) → EachCut (pieces ts)
-unfolding pieces EachCut Cut Ends if◌then◌else◌
+unfolding pieces EachCut Cut Ends when◌then◌else◌
 pieces_cut (ends place) = (tt, tt)
 pieces_cut (token place t rest) = by (is "." t) refl (pieces_cut rest)
   where
     by : (b : Bool) → is "." t ≡ b → EachCut (pieces rest)
-        → EachCut (if b then token place t (ends place) ∷ pieces rest else onto place t (pieces rest))
+        → EachCut (when b then token place t (ends place) ∷ pieces rest else onto place t (pieces rest))
     by true e c = ((λ h. tt, tt), c)
     by false e c = onto_cut place t (pieces rest) e c
 
 pub pieces_names : (ts : Tokens) (known : List Place) → names_all (pieces ts) known ≡ names_in ts known
-unfolding pieces names_all names_in if◌then◌else◌
+unfolding pieces names_all names_in when◌then◌else◌
 pieces_names (ends place) known = refl
 pieces_names (token place t rest) known = by (is "." t) (pieces_names rest (with_name place t known))
   where
     by : (b : Bool) → names_all (pieces rest) (with_name place t known) ≡ names_in rest (with_name place t known)
-        → names_all (if b then token place t (ends place) ∷ pieces rest else onto place t (pieces rest)) known ≡ names_in rest (with_name place t known)
+        → names_all (when b then token place t (ends place) ∷ pieces rest else onto place t (pieces rest)) known ≡ names_in rest (with_name place t known)
     by true e = e
     by false e = onto_names place t (pieces rest) known (pieces_some rest) ∙ e

@@ -8,7 +8,7 @@ use native.Mathlib.Omega.{arith}
 use lib.Dec.{ltb}
 use lib.ListN.{length}
 use borrow.Author.Tests.{ltb-true}
-use Rattle.meaning.specs.Bytes.{Bytes, if◌then◌else◌, all}
+use Rattle.meaning.specs.Bytes.{Bytes, when◌then◌else◌, all}
 use Rattle.meaning.specs.Terms.{Named, Guard, Clause, Query, as_term}
 use Rattle.meaning.specs.Tokens.{Token, name, variable, integer, sign, bad, Tokens, ends, token}
 use Rattle.meaning.specs.Faults.{Fault, pairing, clause_faults, query_faults, least}
@@ -234,7 +234,7 @@ pub record RuleLaid (from : ℕ) (d : Counted) (r : Rule) : Type 0 where
 
 behind_steps_of : (implied : Bool) (c : Counted) (ts : Tokens) → (implied ≡ false → Ends ts)
     → StepsFrom c ts (λ d s b. BodyLaid c.compounds d b × Ends s)
-    (if implied then body 8 [] else give (record { guards = []; goals = []; behind = none }))
+    (when implied then body 8 [] else give (record { guards = []; goals = []; behind = none }))
 unfolding GoalsNumbered GoalsKnown ElementsNumbered ElementsKnown
 behind_steps_of implied c ts stops =
     if_steps implied (λ test. body_steps 8 c.compounds [] c ts (record { numbered = refl; known = tt }) (omega arith))
@@ -324,7 +324,7 @@ module _ (known : List Bytes) (k q : ℕ) (begins : ℕ) (piece : Tokens) (few :
       }
 
   clause_laid_is : PieceIs piece known k q (with_guards (k + 1) begins piece r d gs)
-  unfolding with_guards the_clause unless_broken PieceIs if◌then◌else◌ fresh
+  unfolding with_guards the_clause unless_broken PieceIs when◌then◌else◌ fresh
   clause_laid_is = by (all (of_the_head (length d.variables) r.head) gs)
     where
       judged : (o : Option Fault) → PieceIs piece known k q (unless_broken begins o (clause the_clause d.names))
@@ -338,7 +338,7 @@ module _ (known : List Bytes) (k q : ℕ) (begins : ℕ) (piece : Tokens) (few :
       judged (some f) = tt
 
       by : (b : Bool) → PieceIs piece known k q
-          (if b then unless_broken begins (least (clause_faults (free gs d.variables) (pairing r.body.behind piece) d.variables)) (clause the_clause d.names)
+          (when b then unless_broken begins (least (clause_faults (free gs d.variables) (pairing r.body.behind piece) d.variables)) (clause the_clause d.names)
           else refused (guard_rule begins))
       by true = judged (least (clause_faults (free gs d.variables) (pairing r.body.behind piece) d.variables))
       by false = tt
@@ -383,27 +383,27 @@ module _ (known : List Bytes) (k q : ℕ) (begins : ℕ) where
 -- The item that a piece holds.
 module _ (known : List Bytes) (k q : ℕ) where
   clause_from_is : (begins : ℕ) (piece : Tokens) → Cut piece → (b : Bool) → ltb k 128 ≡ b
-      → PieceIs piece known k q (if b then clause_piece (k + 1) begins piece (rule (fresh known) piece) else refused (figure begins))
-  unfolding if◌then◌else◌ PieceIs fresh
+      → PieceIs piece known k q (when b then clause_piece (k + 1) begins piece (rule (fresh known) piece) else refused (figure begins))
+  unfolding when◌then◌else◌ PieceIs fresh
   clause_from_is begins piece cut true h =
       clause_piece_is known k q begins piece (ltb-true k 128 h) (rule (fresh known) piece) ((rule_steps (fresh known) piece).go cut)
   clause_from_is begins piece cut false h = tt
 
   query_from_is : (begins : ℕ) (t : Token) (behind : Tokens) → is "?" t ≡ true → Cut behind → (b : Bool) → ltb q 8 ≡ b
-      → PieceIs (token begins t behind) known k q (if b then query_piece begins behind (goals 8 (fresh known) behind) else refused (figure begins))
-  unfolding if◌then◌else◌ PieceIs fresh
+      → PieceIs (token begins t behind) known k q (when b then query_piece begins behind (goals 8 (fresh known) behind) else refused (figure begins))
+  unfolding when◌then◌else◌ PieceIs fresh
   query_from_is begins t behind asks cut true h =
       query_piece_is known k q begins begins t behind asks (ltb-true q 8 h) (goals 8 (fresh known) behind) ((goals_steps 8 (fresh known) behind).go cut)
   query_from_is begins t behind asks cut false h = tt
 
   pub item_is : (piece : Tokens) → Cut piece → PieceIs piece known k q (item (record { names = known; clauses = k; queries = q }) piece)
-  unfolding item item_from clause_from query_from PieceIs Cut Ends if◌then◌else◌
+  unfolding item item_from clause_from query_from PieceIs Cut Ends when◌then◌else◌
   item_is (ends place) cut = tt
   item_is (token begins t rest) cut = by (is_name t) (is "?" t) refl
     where
       by : (a b : Bool) → is "?" t ≡ b → PieceIs (token begins t rest) known k q
-          (if a then clause_from (record { names = known; clauses = k; queries = q }) begins (token begins t rest)
-          else if b then query_from (record { names = known; clauses = k; queries = q }) begins rest
+          (when a then clause_from (record { names = known; clauses = k; queries = q }) begins (token begins t rest)
+          else when b then query_from (record { names = known; clauses = k; queries = q }) begins rest
           else refused (no_item begins))
       by true b h = clause_from_is begins (token begins t rest) cut (ltb k 128) refl
       by false true h = query_from_is begins t rest h cut.1 (ltb q 8) refl

@@ -10,7 +10,7 @@ use native.Mathlib.Nat.{eq-or-lt_of_le}
 use lib.Dec.{leb}
 use lib.ListN.{length, get_or, length-append, get_or-append}
 use lib.Seq.{get_or-append_seam}
-use Rattle.meaning.specs.Bytes.{Bytes, same, any, if◌then◌else◌}
+use Rattle.meaning.specs.Bytes.{Bytes, same, any, when◌then◌else◌}
 use Rattle.meaning.specs.Terms.{Job}
 use Rattle.meaning.specs.Tokens.{Token, name, variable, integer, sign, bad, Tokens, ends, token, tokens}
 use Rattle.meaning.specs.Items.{pieces, no_query, Reading, job, refused, items, asked, reading}
@@ -47,10 +47,10 @@ distinct_last f known h d i j order below =
     (eq-or-lt_of_le inside)
 
 distinct_added : (f : Bytes) (known : List Bytes) → Distinct known → Distinct (added f known)
-unfolding added if◌then◌else◌
+unfolding added when◌then◌else◌
 distinct_added f known d = by (any (same f) known) refl
   where
-    by : (b : Bool) → any (same f) known ≡ b → Distinct (if b then known else known ++ (f ∷ []))
+    by : (b : Bool) → any (same f) known ≡ b → Distinct (when b then known else known ++ (f ∷ []))
     by true e = d
     by false e = distinct_last f known e d
 
@@ -73,11 +73,11 @@ text_names_distinct text = rw (names_in_spells (tokens text) []) (distinct_after
 
 -- "Then no query": the items are the job's all the same.
 asked_job : (x : Reading) (j : Job) → asked x ≡ job j → x ≡ job j
-unfolding asked if◌then◌else◌
+unfolding asked when◌then◌else◌
 asked_job (refused r) j h = h
 asked_job (job i) j h = by (leb 1 (length i.queries)) refl h
   where
-    by : (b : Bool) → leb 1 (length i.queries) ≡ b → (if b then job i else refused no_query) ≡ job j → job i ≡ job j
+    by : (b : Bool) → leb 1 (length i.queries) ≡ b → (when b then job i else refused no_query) ≡ job j → job i ≡ job j
     by true e h = h
     by false e h = let z : ◌≡◌ {A = ℕ} 0 1 = cc in absurd (omega arith)
 

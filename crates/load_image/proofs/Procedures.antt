@@ -10,7 +10,7 @@ use lib.Dec.{eqb}
 use lib.ListN.{length, get_or, set, length-set}
 use lib.Seq.{get_or-set_same, get_or-set_other}
 use borrow.Author.Tests.{eqb-true, eqb-false}
-use Rattle.meaning.specs.Bytes.{Bytes, same, those, if◌then◌else◌}
+use Rattle.meaning.specs.Bytes.{Bytes, same, those, when◌then◌else◌}
 use Rattle.meaning.specs.Terms.{Named, Clause, count, as_term}
 use Rattle.meaning.specs.Trial.{procedure}
 use Rattle.term.specs.Cells.{number_of, KnownName, Known, Numbered}
@@ -58,11 +58,11 @@ module _ (names : List Bytes) (g : Named) (h : Headed names g) (few : length nam
 
 -- One clause more: where it is one of the goal's, and where it is not.
 procedure_with : (c : Clause) (cs : List Clause) (goal : Named) → alike c.head goal ≡ true → procedure (c ∷ cs) goal ≡ c ∷ procedure cs goal
-unfolding procedure those alike if◌then◌else◌
+unfolding procedure those alike when◌then◌else◌
 procedure_with c cs goal h = rw h
 
 procedure_without : (c : Clause) (cs : List Clause) (goal : Named) → alike c.head goal ≡ false → procedure (c ∷ cs) goal ≡ procedure cs goal
-unfolding procedure those alike if◌then◌else◌
+unfolding procedure those alike when◌then◌else◌
 procedure_without c cs goal h = rw h
 
 procedure_none : (goal : Named) → procedure [] goal ≡ []

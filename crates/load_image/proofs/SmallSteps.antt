@@ -9,7 +9,7 @@ use native.Mathlib.Omega.{arith}
 use lib.Dec.{ltb}
 use lib.ListN.{length, length-append}
 use borrow.Author.Tests.{ltb-true}
-use Rattle.meaning.specs.Bytes.{Bytes, same, any, if◌then◌else◌}
+use Rattle.meaning.specs.Bytes.{Bytes, same, any, when◌then◌else◌}
 use Rattle.meaning.specs.Tokens.{Token, Tokens, ends, token}
 use Rattle.meaning.specs.Items.{
   Counted,
@@ -37,11 +37,11 @@ use Rattle.load_image.proofs.Steps.{added, Ends, Cut, Onward, Good, Steps, Steps
 -- The small readers.
 module _ (c : Counted) (ts : Tokens) where
   pub standing_steps : (can : Token → Bool) → StepsFrom c ts (λ d s u. d ≡ c) (standing can)
-  unfolding standing if◌then◌else◌ Good
+  unfolding standing when◌then◌else◌ Good
   standing_steps can = record { go = by ts }
     where
       test : (place : ℕ) (t : Token) (s : Tokens) → Cut (token place t s) → (b : Bool)
-          → Good (λ a d u. Onward c.names c.variables c (token place t s) d u × (d ≡ c)) (if b then read (tt {0}) c (token place t s) else malformed place)
+          → Good (λ a d u. Onward c.names c.variables c (token place t s) d u × (d ≡ c)) (when b then read (tt {0}) c (token place t s) else malformed place)
       test place t s cut true = (onward_same c (token place t s) cut, refl)
       test place t s cut false = tt
 
@@ -50,11 +50,11 @@ module _ (c : Counted) (ts : Tokens) where
       by (token place t s) cut = test place t s cut (can t)
 
   pub expect_steps : (ch : Char) → StepsFrom c ts (λ d s u. d ≡ c) (expect ch)
-  unfolding expect next give cannot_stand if◌then◌else◌ Good Cut
+  unfolding expect next give cannot_stand when◌then◌else◌ Good Cut
   expect_steps ch = record { go = by ts }
     where
       test : (place : ℕ) (t : Token) (s : Tokens) → Cut (token place t s) → (b : Bool) → is ch t ≡ b
-          → Good (λ a d u. Onward c.names c.variables c (token place t s) d u × (d ≡ c)) ((if b then give (tt {0}) else cannot_stand place) c s)
+          → Good (λ a d u. Onward c.names c.variables c (token place t s) d u × (d ≡ c)) ((when b then give (tt {0}) else cannot_stand place) c s)
       test place t s cut true h = (onward_sign ch c place t s h cut.1, refl)
       test place t s cut false h = tt
 
@@ -65,7 +65,7 @@ module _ (c : Counted) (ts : Tokens) where
   -- Behind a full stop nothing comes.
   pub either_steps : (ch dh : Char)
       → StepsFrom c ts (λ d s b. (d ≡ c) × (b ≡ false → ((t : Token) → is dh t ≡ true → is "." t ≡ true) → Ends s)) (either ch dh)
-  unfolding either next give cannot_stand if◌then◌else◌ Good Cut
+  unfolding either next give cannot_stand when◌then◌else◌ Good Cut
   either_steps ch dh = record { go = by ts }
     where
       Q : Tokens → Bool → Counted → Tokens → Type 0
@@ -73,12 +73,12 @@ module _ (c : Counted) (ts : Tokens) where
           Onward c.names c.variables c ts d u × ((d ≡ c) × (b ≡ false → ((t : Token) → is dh t ≡ true → is "." t ≡ true) → Ends u))
 
       second : (place : ℕ) (t : Token) (s : Tokens) → Cut (token place t s) → (b : Bool) → is dh t ≡ b
-          → Good (Q (token place t s)) ((if b then give false else cannot_stand place) c s)
+          → Good (Q (token place t s)) ((when b then give false else cannot_stand place) c s)
       second place t s cut true h = (onward_sign dh c place t s h cut.1, (refl, λ e stop. cut.0 (stop t h)))
       second place t s cut false h = tt
 
       test : (place : ℕ) (t : Token) (s : Tokens) → Cut (token place t s) → (b : Bool) → is ch t ≡ b
-          → Good (Q (token place t s)) ((if b then give true else if is dh t then give false else cannot_stand place) c s)
+          → Good (Q (token place t s)) ((when b then give true else when is dh t then give false else cannot_stand place) c s)
       test place t s cut true h = (onward_sign ch c place t s h cut.1, (refl, λ e stop. let z : ◌≡◌ {A = ℕ} 0 1 = cc in absurd (omega arith)))
       test place t s cut false h = second place t s cut (is dh t) refl
 
@@ -88,12 +88,12 @@ module _ (c : Counted) (ts : Tokens) where
 
   -- A compound's number is its place.
   pub count_compound_steps : StepsFrom c ts (λ d s n. (n ≡ c.compounds) × (d.compounds ≡ c.compounds + 1)) count_compound
-  unfolding count_compound if◌then◌else◌ Good
+  unfolding count_compound when◌then◌else◌ Good
   count_compound_steps = record { go = λ cut. by cut (ltb c.compounds 32) refl }
     where
       by : Cut ts → (b : Bool) → ltb c.compounds 32 ≡ b
           → Good (λ n d s. Onward c.names c.variables c ts d s × ((n ≡ c.compounds) × (d.compounds ≡ c.compounds + 1)))
-          (if b then read c.compounds (record { names = c.names; variables = c.variables; compounds = c.compounds + 1 }) ts else passed)
+          (when b then read c.compounds (record { names = c.names; variables = c.variables; compounds = c.compounds + 1 }) ts else passed)
       by cut true h = (
         record {
           names = refl;
@@ -121,7 +121,7 @@ known_last f (g ∷ known) = rw (known_last f known) (or_true (same f g))
 
 module _ (f : Bytes) (c : Counted) (ts : Tokens) where
   pub count_name_steps : Steps (added f c.names) c.variables c ts (λ d s u. KnownName d.names f × (d.compounds ≡ c.compounds)) (count_name f)
-  unfolding count_name added if◌then◌else◌ Good
+  unfolding count_name added when◌then◌else◌ Good
   count_name_steps = record { go = λ cut. known cut (any (same f) c.names) refl }
     where
       Q : List Bytes → Unit {0} → Counted → Tokens → Type 0
@@ -131,7 +131,7 @@ module _ (f : Bytes) (c : Counted) (ts : Tokens) where
       more = record { names = c.names ++ (f ∷ []); variables = c.variables; compounds = c.compounds }
 
       room : Cut ts → any (same f) c.names ≡ false → (b : Bool) → ltb (length c.names) 256 ≡ b
-          → Good (Q (c.names ++ (f ∷ []))) (if b then read (tt {0}) more ts else passed)
+          → Good (Q (c.names ++ (f ∷ []))) (when b then read (tt {0}) more ts else passed)
       room cut e true h = (
         record {
           names = refl;
@@ -148,8 +148,8 @@ module _ (f : Bytes) (c : Counted) (ts : Tokens) where
       room cut e false h = tt
 
       known : Cut ts → (b : Bool) → any (same f) c.names ≡ b
-          → Good (Q (if b then c.names else c.names ++ (f ∷ [])))
-          (if b then read (tt {0}) c ts else if ltb (length c.names) 256 then read (tt {0}) more ts else passed)
+          → Good (Q (when b then c.names else c.names ++ (f ∷ [])))
+          (when b then read (tt {0}) c ts else when ltb (length c.names) 256 then read (tt {0}) more ts else passed)
       known cut true e = (onward_same c ts cut, (e, refl))
       known cut false e = room cut e (ltb (length c.names) 256) refl
 
@@ -172,7 +172,7 @@ place_any x (y ∷ known) = place_step (same x y) (any (same x) known) (place_of
 
 module _ (x : Bytes) (c : Counted) (ts : Tokens) where
   pub count_variable_steps : Steps c.names (added x c.variables) c ts (λ d s n. d.compounds ≡ c.compounds) (count_variable x)
-  unfolding count_variable new_variable added if◌then◌else◌ Good is_some
+  unfolding count_variable new_variable added when◌then◌else◌ Good is_some
   count_variable_steps =
       record { go = λ cut. known cut (place_of x c.variables) (any (same x) c.variables) refl (place_any x c.variables) }
     where
@@ -183,7 +183,7 @@ module _ (x : Bytes) (c : Counted) (ts : Tokens) where
       more = record { names = c.names; variables = c.variables ++ (x ∷ []); compounds = c.compounds }
 
       room : Cut ts → (b : Bool) → ltb (length c.variables) 16 ≡ b
-          → Good (Q (c.variables ++ (x ∷ []))) (if b then read (length c.variables) more ts else passed)
+          → Good (Q (c.variables ++ (x ∷ []))) (when b then read (length c.variables) more ts else passed)
       room cut true h = (
         record {
           names = refl;
@@ -200,7 +200,7 @@ module _ (x : Bytes) (c : Counted) (ts : Tokens) where
       room cut false h = tt
 
       known : Cut ts → (o : Option ℕ) (b : Bool) → any (same x) c.variables ≡ b → any (same x) c.variables ≡ is_some o
-          → Good (Q (if b then c.variables else c.variables ++ (x ∷ []))) (new_variable x o c ts)
+          → Good (Q (when b then c.variables else c.variables ++ (x ∷ []))) (new_variable x o c ts)
       known cut (some n) true e h = (onward_same c ts cut, refl)
       known cut none false e h = room cut (ltb (length c.variables) 16) refl
       known cut (some n) false e h = let z : ◌≡◌ {A = ℕ} 0 1 = cc in absurd (omega arith)

@@ -7,7 +7,7 @@ use mathlib.Core.Bool.{Bool, true, false}
 use mathlib.Core.List.{List, [], ◌∷◌, ◌++◌}
 use native.Mathlib.Omega.{arith}
 use lib.ListN.{length}
-use Rattle.meaning.specs.Bytes.{Bytes, same, any, if◌then◌else◌}
+use Rattle.meaning.specs.Bytes.{Bytes, same, any, when◌then◌else◌}
 use Rattle.meaning.specs.Tokens.{Token, name, variable, integer, sign, bad, Tokens, ends, token}
 use Rattle.meaning.specs.Items.{
   Counted,
@@ -31,7 +31,7 @@ use Rattle.term.specs.Cells.{KnownName}
 
 -- A spelling more, unless it is known; the names and the variables over some tokens.
 unfoldable pub added : Bytes → List Bytes → List Bytes
-added f known = if any (same f) known then known else known ++ (f ∷ [])
+added f known = when any (same f) known then known else known ++ (f ∷ [])
 
 unfoldable pub name_added : Token → List Bytes → List Bytes
 name_added (name f) known = added f known
@@ -207,8 +207,8 @@ module _ {A : Type 0} {n v : List Bytes} {c : Counted} {ts : Tokens} {P : Counte
   cannot_stand_steps place = record { go = λ cut. tt }
 
   pub if_steps : {r₁ r₂ : Reader A} (b : Bool) → (b ≡ true → Steps n v c ts P r₁) → (b ≡ false → Steps n v c ts P r₂)
-      → Steps n v c ts P (if b then r₁ else r₂)
-  unfolding if◌then◌else◌
+      → Steps n v c ts P (when b then r₁ else r₂)
+  unfolding when◌then◌else◌
   if_steps true a b = a refl
   if_steps false a b = b refl
 
@@ -243,11 +243,11 @@ sign_steps {c = c} ch t h steps = rw ((sign_adds ch t c.names h).0, (sign_adds c
 module _ {A : Type 0} {c : Counted} {ts : Tokens} {P : Counted → Tokens → A → Type 0} where
   pub if_next_steps : (ch : Char) {first second : Reader A} → ((s : Tokens) → StepsFrom c s P first) → StepsFrom c ts P second
       → StepsFrom c ts P (if_next ch first second)
-  unfolding if_next if◌then◌else◌ Good Cut
+  unfolding if_next when◌then◌else◌ Good Cut
   if_next_steps ch {first} {second} taken left = record { go = by ts left }
     where
       test : (place : ℕ) (t : Token) (s : Tokens) → StepsFrom c (token place t s) P second → Cut (token place t s) → (b : Bool) → is ch t ≡ b
-          → Good (λ a d u. Onward c.names c.variables c (token place t s) d u × P d u a) (if b then first c s else second c (token place t s))
+          → Good (λ a d u. Onward c.names c.variables c (token place t s) d u × P d u a) (when b then first c s else second c (token place t s))
       test place t s left cut true h =
           good_map (λ a d u. Onward c.names c.variables c s d u × P d u a)
           (λ a d u. Onward c.names c.variables c (token place t s) d u × P d u a) (first c s)
@@ -262,11 +262,11 @@ module _ {A : Type 0} {c : Counted} {ts : Tokens} {P : Counted → Tokens → A 
   -- The same of a full stop, behind which nothing comes.
   pub if_stop_steps : {first second : Reader A} → ((s : Tokens) → Ends s → StepsFrom c s P first) → StepsFrom c ts P second
       → StepsFrom c ts P (if_next "." first second)
-  unfolding if_next if◌then◌else◌ Good Cut
+  unfolding if_next when◌then◌else◌ Good Cut
   if_stop_steps {first} {second} taken left = record { go = by ts left }
     where
       test : (place : ℕ) (t : Token) (s : Tokens) → StepsFrom c (token place t s) P second → Cut (token place t s) → (b : Bool) → is "." t ≡ b
-          → Good (λ a d u. Onward c.names c.variables c (token place t s) d u × P d u a) (if b then first c s else second c (token place t s))
+          → Good (λ a d u. Onward c.names c.variables c (token place t s) d u × P d u a) (when b then first c s else second c (token place t s))
       test place t s left cut true h =
           good_map (λ a d u. Onward c.names c.variables c s d u × P d u a)
           (λ a d u. Onward c.names c.variables c (token place t s) d u × P d u a) (first c s)

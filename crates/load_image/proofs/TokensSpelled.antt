@@ -8,7 +8,7 @@ use native.Mathlib.Omega.{arith}
 use lib.Dec.{eqb, leb}
 use lib.ListN.{length, drop, length-append}
 use lib.Seq.{take-append-add, take-append_seam, drop-append_seam}
-use Rattle.meaning.specs.Bytes.{Bytes, byte, bytes, same, any, if◌then◌else◌}
+use Rattle.meaning.specs.Bytes.{Bytes, byte, bytes, same, any, when◌then◌else◌}
 use Rattle.meaning.specs.Terms.{reader, writer, plus, minus}
 use Rattle.meaning.specs.Tokens.{
   Token,
@@ -88,13 +88,13 @@ FrontSpelled text at (blank n) = Unit {0}
 FrontSpelled text at (Front.token n t) = TokenSpelled text at t
 
 module _ (text : Bytes) (at : ℕ) where
-  if_token : (b : Bool) (t u : Token) → TokenSpelled text at t → TokenSpelled text at u → TokenSpelled text at (if b then t else u)
-  unfolding if◌then◌else◌
+  if_token : (b : Bool) (t u : Token) → TokenSpelled text at t → TokenSpelled text at u → TokenSpelled text at (when b then t else u)
+  unfolding when◌then◌else◌
   if_token true t u g h = g
   if_token false t u g h = h
 
-  if_front : (b : Bool) (f g : Front) → FrontSpelled text at f → FrontSpelled text at g → FrontSpelled text at (if b then f else g)
-  unfolding if◌then◌else◌
+  if_front : (b : Bool) (f g : Front) → FrontSpelled text at f → FrontSpelled text at g → FrontSpelled text at (when b then f else g)
+  unfolding when◌then◌else◌
   if_front true f g x y = x
   if_front false f g x y = y
 
@@ -154,10 +154,10 @@ placed_last text (p ∷ ps) at f h s = (h.0, placed_last text ps at f h.1 s)
 
 with_place_placed : (text : Bytes) (at : ℕ) (f : Bytes) (ps : List Place) → SpelledAt text at (length f) f → AllPlaced text ps
     → AllPlaced text (with_place at f ps)
-unfolding with_place if◌then◌else◌
+unfolding with_place when◌then◌else◌
 with_place_placed text at f ps s h = by (any (same f) (spellings ps))
   where
-    by : (b : Bool) → AllPlaced text (if b then ps else ps ++ (record { at = at; spelling = f } ∷ []))
+    by : (b : Bool) → AllPlaced text (when b then ps else ps ++ (record { at = at; spelling = f } ∷ []))
     by true = h
     by false = placed_last text ps at f h s
 
@@ -200,11 +200,11 @@ onto_spelled text place t [] s h = tt
 onto_spelled text place t (p ∷ ps) s h = ((s, h.0), h.1)
 
 pub pieces_spelled : (text : Bytes) (ts : Tokens) → TokensSpelled text ts → EachSpelled text (pieces ts)
-unfolding pieces EachSpelled TokensSpelled if◌then◌else◌
+unfolding pieces EachSpelled TokensSpelled when◌then◌else◌
 pieces_spelled text (ends place) h = (tt, tt)
 pieces_spelled text (token place t rest) h = by (is "." t) (pieces_spelled text rest h.1)
   where
     by : (b : Bool) → EachSpelled text (pieces rest)
-        → EachSpelled text (if b then token place t (ends place) ∷ pieces rest else onto place t (pieces rest))
+        → EachSpelled text (when b then token place t (ends place) ∷ pieces rest else onto place t (pieces rest))
     by true g = ((h.0, tt), g)
     by false g = onto_spelled text place t (pieces rest) h.0 g

@@ -6,7 +6,7 @@ use mathlib.Core.List.{List, [], ◌∷◌}
 use native.Mathlib.Omega.{arith}
 use lib.Dec.{eqb}
 use lib.ListN.{length, get_or}
-use Rattle.meaning.specs.Bytes.{Bytes, byte, if◌then◌else◌}
+use Rattle.meaning.specs.Bytes.{Bytes, byte, when◌then◌else◌}
 use Rattle.meaning.specs.Terms.{Half, Named, goals_occurrences}
 use Rattle.meaning.specs.Tokens.{Token, name, variable, integer, sign, bad, Tokens, ends, token}
 use Rattle.meaning.specs.Items.{Counted, Reader, read, malformed, passed, give, is, if_next, goals}
@@ -30,7 +30,7 @@ use Rattle.load_items.specs.Rules.{perhaps_goals, GuardedIs}
 use Rattle.load_items.specs.declared.rule.Ruled.TheVariants.{Got, Unknown, Malformed, Exceeded}
 
 perhaps_stop : (counted : Counted) (p : ℕ) (ts us : Tokens) → ts ≡ token p (sign 46) us → perhaps_goals counted (piece ts) ≡ read [] counted (ends p)
-unfolding perhaps_goals if_next is byte if◌then◌else◌ give
+unfolding perhaps_goals if_next is byte when◌then◌else◌ give
 perhaps_stop counted p ts us e = rw (e, piece_stop p (sign 46) us refl)
 
 or_left : (a b : Bool) → (a || b) ≡ false → a ≡ false
@@ -38,7 +38,7 @@ or_left false b h = refl
 or_left true b h = h
 
 perhaps_other : (counted : Counted) (place : ℕ) (ts : Tokens) → Stops (one_of 46 46 46) place ts → perhaps_goals counted (piece ts) ≡ goals 8 counted (piece ts)
-unfolding perhaps_goals if_next piece is byte if◌then◌else◌ one_of
+unfolding perhaps_goals if_next piece is byte when◌then◌else◌ one_of
 perhaps_other counted place (ends p) h = refl
 perhaps_other counted place (token p (name f) ts) h = refl
 perhaps_other counted place (token p (variable k x) ts) h = refl

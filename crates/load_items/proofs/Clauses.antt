@@ -8,7 +8,7 @@ use native.Mathlib.Omega.{arith}
 use lib.Dec.{eqb}
 use lib.ListN.{length, get_or, set, take, drop, length-drop}
 use lib.Seq.{get_or-drop, take_all}
-use Rattle.meaning.specs.Bytes.{Bytes, all, if◌then◌else◌}
+use Rattle.meaning.specs.Bytes.{Bytes, all, when◌then◌else◌}
 use Rattle.meaning.specs.Terms.{Half, writer, reader, Guard, Clause, all_occurrences, goals_occurrences}
 use Rattle.meaning.specs.Tokens.{name, Tokens, ends, token}
 use Rattle.meaning.specs.Faults.{Fault, occurs_at, pairing, head_tokens, clause_faults, least}
@@ -77,7 +77,7 @@ module _ (nth p : ℕ) (whole : Tokens) (r : Rule) (names vars : List Place) (co
   module _ (gs : List Guard) (known : as_guards r.body.guards ≡ some gs) where
     judged_strange : all (of_the_head (length vars) r.head) gs ≡ false
         → clause_piece nth p whole (read r (counted_at names vars compounds) ts) ≡ refused (guard_rule p)
-    unfolding clause_piece unless_unknown with_guards counted_at if◌then◌else◌
+    unfolding clause_piece unless_unknown with_guards counted_at when◌then◌else◌
     judged_strange h = rw (known, spellings_length vars, h)
 
     abbrev faults : List Fault
@@ -86,12 +86,12 @@ module _ (nth p : ℕ) (whole : Tokens) (r : Rule) (names vars : List Place) (co
     judged_kept : all (of_the_head (length vars) r.head) gs ≡ true → least faults ≡ none
         → clause_piece nth p whole (read r (counted_at names vars compounds) ts)
         ≡ clause (record { place = nth; head = r.head; guards = gs; body = r.body.goals; pairs = length vars; compounds = compounds }) (spellings names)
-    unfolding clause_piece unless_unknown with_guards counted_at unless_broken if◌then◌else◌
+    unfolding clause_piece unless_unknown with_guards counted_at unless_broken when◌then◌else◌
     judged_kept h k = rw (known, spellings_length vars, h, k)
 
     judged_broken : all (of_the_head (length vars) r.head) gs ≡ true → (f : Fault) → least faults ≡ some f
         → clause_piece nth p whole (read r (counted_at names vars compounds) ts) ≡ refused (occurrence_rule p f)
-    unfolding clause_piece unless_unknown with_guards counted_at unless_broken if◌then◌else◌
+    unfolding clause_piece unless_unknown with_guards counted_at unless_broken when◌then◌else◌
     judged_broken h f k = rw (known, spellings_length vars, h, k)
 
 -- By what the reading of its head and body answered.
@@ -254,7 +254,7 @@ module _ (rest : Bytes) (s table in_head in_guards licences : List ℕ) (k begin
       pub broken : clause_kept table part licences c.variables ≡ false
           → (f : Fault) × (reading ≡ refused (occurrence_rule (from + begins) f))
           × Searches rest from table c.variables true 0 bar licences vars' freed r.body.behind f
-      unfolding whole if◌then◌else◌
+      unfolding whole when◌then◌else◌
       broken h =
           let (f, is_least, is_first) = clause_fault freed paired (spellings vars') r.head r.body.goals distinct rising counts head_tokens_so (licensed gs)
           (free_licensed gs (spellings vars')) (rw size (sym kept_is ∙ h)) in (
@@ -267,7 +267,7 @@ module _ (rest : Bytes) (s table in_head in_guards licences : List ℕ) (k begin
                 j.was_read.guards_are.licences.size frees true f is_first),
           )
         where
-          flag : (b : Bool) (x : ℕ) → x ≡ (if b then 1 else 0) → b ≡ not (eqb x 0)
+          flag : (b : Bool) (x : ℕ) → x ≡ (when b then 1 else 0) → b ≡ not (eqb x 0)
           flag true x q = rw q refl
           flag false x q = rw q refl
 

@@ -5,7 +5,7 @@ use mathlib.Core.List.{List, []}
 use mathlib.Core.Option.{none}
 use native.Mathlib.Omega.{arith}
 use lib.ListN.{length, get_or, replicate, length-replicate, get_or-replicate}
-use Rattle.meaning.specs.Bytes.{Bytes, any, if◌then◌else◌}
+use Rattle.meaning.specs.Bytes.{Bytes, any, when◌then◌else◌}
 use Rattle.meaning.specs.Terms.{Half, writer, reader}
 use Rattle.meaning.specs.Table.{as_guards, licensed}
 use Rattle.meaning.specs.Items.{Body}
@@ -60,7 +60,7 @@ none_at reader m l = get_or-replicate {A = ℕ} 64 (48 + m) 0 0 (omega arith)
 
 pub no_guards : (rest : Bytes) (from : ℕ) (names : List Bytes) (in_guards licensed : List ℕ) (b : Body) → in_guards ≡ replicate 64 0 → licensed ≡ replicate 16 0
     → b.guards ≡ [] → b.behind ≡ none → GuardsAre rest from names in_guards licensed 0 0 b []
-unfolding as_guards GuardsNamed elements_occurrences licensed any if◌then◌else◌
+unfolding as_guards GuardsNamed elements_occurrences licensed any when◌then◌else◌
 no_guards rest from names in_guards table b eg el ge be = record {
   in_table = rw ge refl;
   count_is = refl;

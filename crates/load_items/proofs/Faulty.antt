@@ -8,7 +8,7 @@ use mathlib.Core.Option.{Option, none, some}
 use native.Mathlib.Omega.{arith}
 use lib.Dec.{eqb}
 use lib.ListN.{length, get_or}
-use Rattle.meaning.specs.Bytes.{Bytes, same, any, if◌then◌else◌}
+use Rattle.meaning.specs.Bytes.{Bytes, same, any, when◌then◌else◌}
 use Rattle.meaning.specs.Terms.{Half, Named, all_occurrences, goals_occurrences}
 use Rattle.meaning.specs.Tokens.{Token, name, variable, integer, sign, bad, Tokens, ends, token}
 use Rattle.meaning.specs.Faults.{Fault, occurs_at, pairing, head_tokens, clause_faults, query_faults, least}
@@ -57,7 +57,7 @@ variables_distinct from (p ∷ ps) places d = variables_distinct from ps (with_v
 
 -- An item's tokens are cut behind its full stop, and their places rise.
 pub piece_cut : (ts : Tokens) → Cut (piece ts)
-unfolding Cut piece if◌then◌else◌
+unfolding Cut piece when◌then◌else◌
 piece_cut (ends p) = tt
 piece_cut (token p t ts) = go (is "." t) refl (piece_cut ts)
   where
@@ -66,11 +66,11 @@ piece_cut (token p t ts) = go (is "." t) refl (piece_cut ts)
     go false e h = rw e h
 
 piece_rising : (low : ℕ) (ts : Tokens) → Rising low ts → Rising low (piece ts)
-unfolding Rising piece if◌then◌else◌
+unfolding Rising piece when◌then◌else◌
 piece_rising low (ends p) h = tt
 piece_rising low (token p t ts) h = (h.0, go (is "." t) (piece_rising (p + 1) ts h.1))
   where
-    go : (b : Bool) → Rising (p + 1) (piece ts) → Rising (p + 1) (if b then ends p else piece ts)
+    go : (b : Bool) → Rising (p + 1) (piece ts) → Rising (p + 1) (when b then ends p else piece ts)
     go true r = tt
     go false r = r
 

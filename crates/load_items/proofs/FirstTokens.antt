@@ -8,7 +8,7 @@ use lib.Dec.{eqb}
 use lib.ListN.{length}
 use lib.Seq.{slice}
 use borrow.Author.Tests.{ne_eqb}
-use Rattle.meaning.specs.Bytes.{Bytes, byte, if◌then◌else◌}
+use Rattle.meaning.specs.Bytes.{Bytes, byte, when◌then◌else◌}
 use Rattle.meaning.specs.Terms.{writer, reader}
 use Rattle.meaning.specs.Tokens.{variable, integer, sign, bad, Tokens, ends, token}
 use Rattle.meaning.specs.Items.{is, is_name}
@@ -24,7 +24,7 @@ use Rattle.load_items.proofs.Starts.{starts_none}
 
 pub query_sign : (rest : Bytes) (from b a : ℕ) → b ≡ 63 → FrontIs rest 0 (Sign b a)
     → (a + 2 ≤ length rest) × (tokens_in from rest 0 ≡ token (from + a) (sign 63) (tokens_in from rest (a + 2)))
-unfolding behind byte if◌then◌else◌ double_sign
+unfolding behind byte when◌then◌else◌ double_sign
 query_sign rest from b a e h = let k = rw e at h in (k.1, k.2 from)
 
 module _ (text rest : Bytes) (from : ℕ) (known : List Place) (clauses queries : ℕ) (s heads names : List ℕ) where

@@ -7,7 +7,7 @@ use mathlib.Core.Option.{none}
 use native.Mathlib.Omega.{arith}
 use lib.ListN.{length, get_or, set, replicate}
 use lib.Seq.{get_or-set_same}
-use Rattle.meaning.specs.Bytes.{Bytes, byte, if◌then◌else◌}
+use Rattle.meaning.specs.Bytes.{Bytes, byte, when◌then◌else◌}
 use Rattle.meaning.specs.Terms.{Half, Named, Guard, named, as_term, count, goals_occurrences, occurrences, all_occurrences}
 use Rattle.meaning.specs.Tokens.{Token, sign, Tokens, ends, token}
 use Rattle.meaning.specs.Items.{Counted, Read, Body, Rule, read, malformed, passed, read_on, ◌>>=◌, give, is, either, goal, body, rule}
@@ -40,14 +40,14 @@ no_body = record { guards = []; goals = []; behind = none }
 
 rule_suc : (counted counted' : Counted) (ts us : Tokens) (g : Named) → goal counted ts ≡ read g counted' us
     → rule counted ts
-    ≡ read_on (either ":" "." counted' us) (λ implied. (if implied then body 8 [] else give no_body) >>= λ b. give (record { head = g; body = b }))
+    ≡ read_on (either ":" "." counted' us) (λ implied. (when implied then body 8 [] else give no_body) >>= λ b. give (record { head = g; body = b }))
 unfolding rule ◌>>=◌ read_on
 rule_suc counted counted' ts us g h = rw h
 
 module _ (counted counted' : Counted) (ts us : Tokens) (g : Named) (h : goal counted ts ≡ read g counted' (piece us)) where
   rule_body : (p : ℕ) (vs : Tokens) → us ≡ token p (sign 58) vs
       → rule counted ts ≡ read_on (body 8 [] counted' (piece vs)) (λ b. give (record { head = g; body = b }))
-  unfolding read_on is byte if◌then◌else◌ ◌>>=◌
+  unfolding read_on is byte when◌then◌else◌ ◌>>=◌
   rule_body p vs e =
       rw (
         rule_suc counted counted' ts (piece us) g h,
@@ -57,7 +57,7 @@ module _ (counted counted' : Counted) (ts us : Tokens) (g : Named) (h : goal cou
       )
 
   rule_fact : (p : ℕ) (vs : Tokens) → us ≡ token p (sign 46) vs → rule counted ts ≡ read (record { head = g; body = no_body }) counted' (ends p)
-  unfolding read_on is byte if◌then◌else◌ ◌>>=◌ give
+  unfolding read_on is byte when◌then◌else◌ ◌>>=◌ give
   rule_fact p vs e =
       rw (
         rule_suc counted counted' ts (piece us) g h,

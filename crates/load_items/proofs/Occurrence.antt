@@ -7,7 +7,7 @@ use native.Mathlib.Omega.{arith}
 use lib.Dec.{leb, eqb}
 use lib.ListN.{get_or}
 use borrow.Author.Tests.{leb-true, leb-false, le-leb, lt-leb}
-use Rattle.meaning.specs.Bytes.{all, up_to, if◌then◌else◌}
+use Rattle.meaning.specs.Bytes.{all, up_to, when◌then◌else◌}
 use Rattle.meaning.specs.Terms.{Half, writer, reader, Named, all_occurrences, goals_occurrences}
 use Rattle.laws.proofs.Reading.Rules.{nothing_twice, nothing_twice_but, both_halves}
 use Rattle.load_openings.specs.Reading.{half_place}
@@ -41,15 +41,15 @@ module _ (item : List ℕ) (gs : List Named) (pairs : ℕ) (few : pairs ≤ 16)
 two_one : (x : ℕ) → min 1 (min 2 x) ≡ min 1 x
 two_one x = omega arith
 
-flagged : (b : Bool) (x : ℕ) → x ≡ (if b then 1 else 0) → leb 1 x ≡ b
-unfolding if◌then◌else◌
+flagged : (b : Bool) (x : ℕ) → x ≡ (when b then 1 else 0) → leb 1 x ≡ b
+unfolding when◌then◌else◌
 flagged true x e = rw e refl
 flagged false x e = rw e refl
 
 module _ (item heads licensed : List ℕ) (head : Named) (gs : List Named) (licence : ℕ → Bool) (pairs : ℕ) (few : pairs ≤ 16)
     (halves : (h : Half) (n : ℕ) → n < 16 → get_or item (half_place h n) 0 ≡ min 2 (goals_occurrences h n (head ∷ gs)))
     (in_head : (h : Half) (n : ℕ) → n < 16 → get_or heads (head_place h n) 0 ≡ min 2 (all_occurrences h n head.arguments))
-    (licences : (n : ℕ) → n < 16 → get_or licensed n 0 ≡ (if licence n then 1 else 0)) where
+    (licences : (n : ℕ) → n < 16 → get_or licensed n 0 ≡ (when licence n then 1 else 0)) where
   head_is : all (once_in_head heads) (up_to pairs) ≡ nothing_twice pairs (head ∷ [])
   unfolding nothing_twice once_in_head head_place goals_occurrences
   head_is =

@@ -6,7 +6,7 @@ use mathlib.Core.List.{List, [], ◌∷◌}
 use native.Mathlib.Omega.{arith}
 use lib.ListN.{length, get_or, replicate, length-replicate, get_or-replicate}
 use borrow.Author.Tests.{lt-ltb, le-ltb}
-use Rattle.meaning.specs.Bytes.{Bytes, byte, if◌then◌else◌}
+use Rattle.meaning.specs.Bytes.{Bytes, byte, when◌then◌else◌}
 use Rattle.meaning.specs.Terms.{Half, writer, reader, Named, goals_occurrences}
 use Rattle.meaning.specs.Tokens.{Token, name, variable, integer, sign, bad, Tokens, ends, token}
 use Rattle.meaning.specs.Items.{
@@ -81,32 +81,32 @@ fresh_is known = refl
 module _ (known : List Place) (clauses queries : ℕ) (p : ℕ) (ts : Tokens) where
   starts_clause : (f : Bytes) → item (so_far known clauses queries) (piece (token p (name f) ts))
       ≡ clause_from (so_far known clauses queries) p (piece (token p (name f) ts))
-  unfolding item item_from is_name if◌then◌else◌ is
+  unfolding item item_from is_name when◌then◌else◌ is
   starts_clause f = rw (piece_open p (name f) ts refl)
 
   pub clause_many : (f : Bytes) → 128 ≤ clauses → item (so_far known clauses queries) (piece (token p (name f) ts)) ≡ refused (figure p)
-  unfolding clause_from so_far if◌then◌else◌
+  unfolding clause_from so_far when◌then◌else◌
   clause_many f h = rw (starts_clause f, le-ltb clauses 128 h)
 
   pub clause_reads : (f : Bytes) → clauses < 128
       → item (so_far known clauses queries) (piece (token p (name f) ts))
       ≡ clause_piece (clauses + 1) p (piece (token p (name f) ts)) (rule (counted_at known [] 0) (piece (token p (name f) ts)))
-  unfolding clause_from so_far if◌then◌else◌
+  unfolding clause_from so_far when◌then◌else◌
   clause_reads f h = rw (starts_clause f, lt-ltb clauses 128 h, fresh_is known)
 
   starts_query : item (so_far known clauses queries) (piece (token p (sign 63) ts)) ≡ query_from (so_far known clauses queries) p (piece ts)
-  unfolding item item_from is_name if◌then◌else◌ is byte
+  unfolding item item_from is_name when◌then◌else◌ is byte
   starts_query = rw (piece_open p (sign 63) ts refl)
 
   pub query_many : 8 ≤ queries → item (so_far known clauses queries) (piece (token p (sign 63) ts)) ≡ refused (figure p)
-  unfolding query_from so_far if◌then◌else◌
+  unfolding query_from so_far when◌then◌else◌
   query_many h = rw (starts_query, le-ltb queries 8 h)
 
   pub query_reads : queries < 8
       → item (so_far known clauses queries) (piece (token p (sign 63) ts)) ≡ query_piece p (piece ts) (goals 8 (counted_at known [] 0) (piece ts))
-  unfolding query_from so_far if◌then◌else◌
+  unfolding query_from so_far when◌then◌else◌
   query_reads h = rw (starts_query, lt-ltb queries 8 h, fresh_is known)
 
   pub starts_none : (t : Token) → is_name t ≡ false → is "?" t ≡ false → item (so_far known clauses queries) (piece (token p t ts)) ≡ refused (no_item p)
-  unfolding item item_from piece if◌then◌else◌
+  unfolding item item_from piece when◌then◌else◌
   starts_none t h k = rw (h, k)

@@ -11,7 +11,7 @@ use lib.Dec.{eqb, ltb}
 use borrow.Author.Tests.{eqb-true, eqb-false, ltb-true, ltb-false, eq-eqb, ne_eqb}
 use lib.ListN.{length, get_or, get_or-append}
 use lib.Seq.{slice, slice-cons, slice_empty}
-use Rattle.meaning.specs.Bytes.{Bytes, same, if◌then◌else◌}
+use Rattle.meaning.specs.Bytes.{Bytes, same, when◌then◌else◌}
 use Rattle.meaning.specs.Items.{place_of}
 use Rattle.laws.proofs.Lists.Tests.{same_true}
 use Rattle.load_names.specs.Places.{Place, spellings}
@@ -36,12 +36,12 @@ hash_ends rest h i e all = rw (all, slice_empty e rest)
 -- The last place of a hash among the first ones, by the last of these.
 module _ (h : ℕ) (places : List Place) where
   pub last_hit : (n : ℕ) → hash_of (get_or places n no_place).spelling ≡ h → last_with h places (suc n) ≡ suc n
-  unfolding last_with if◌then◌else◌
-  last_hit n e = rw (eq-eqb (hash_of (get_or places n no_place).spelling) h e, if◌then◌else◌)
+  unfolding last_with when◌then◌else◌
+  last_hit n e = rw (eq-eqb (hash_of (get_or places n no_place).spelling) h e, when◌then◌else◌)
 
   pub last_miss : (n : ℕ) → (hash_of (get_or places n no_place).spelling ≡ h → ⊥) → last_with h places (suc n) ≡ last_with h places n
-  unfolding last_with if◌then◌else◌
-  last_miss n e = rw (ne_eqb (hash_of (get_or places n no_place).spelling) h e, if◌then◌else◌)
+  unfolding last_with when◌then◌else◌
+  last_miss n e = rw (ne_eqb (hash_of (get_or places n no_place).spelling) h e, when◌then◌else◌)
 
   -- A place with this hash, or 0, and no place with it from there on.
   record Last (m next : ℕ) : Type 0 where

@@ -8,7 +8,7 @@ use native.Mathlib.Omega.{arith}
 use lib.Dec.{eqb}
 use borrow.Author.Tests.{eq-eqb}
 use lib.ListN.{length, length-map}
-use Rattle.meaning.specs.Bytes.{Bytes, same, any, if◌then◌else◌}
+use Rattle.meaning.specs.Bytes.{Bytes, same, any, when◌then◌else◌}
 use Rattle.meaning.specs.Items.{place_of}
 use Rattle.term.specs.Cells.{number_of}
 use Rattle.load_names.specs.Places.{Place, spellings, with_place}
@@ -70,7 +70,7 @@ pub record PlacedAt (x : Bytes) (ys : List Bytes) (n : ℕ) : Type 0 where
 
 placed_cons : (x y : Bytes) (ys : List Bytes) (n : ℕ) (b : Bool) → same x y ≡ b → one_behind b (place_of x ys) ≡ some n
     → ((m : ℕ) → place_of x ys ≡ some m → PlacedAt x ys m) → PlacedAt x (y ∷ ys) n
-unfolding any number_of if◌then◌else◌
+unfolding any number_of when◌then◌else◌
 placed_cons x y ys n true e h next =
     let z : n ≡ 0 = cc in
     record { among = rw e; number = rw (e, z); below = omega arith }
@@ -99,15 +99,15 @@ spellings_length a = length-map a (λ p. p.spelling)
 
 -- One place more, or the same places.
 with_place_is : (at : ℕ) (f : Bytes) (a : List Place) (b : Bool) → any (same f) (spellings a) ≡ b
-    → with_place at f a ≡ (if b then a else a ++ (record { at = at; spelling = f } ∷ []))
+    → with_place at f a ≡ (when b then a else a ++ (record { at = at; spelling = f } ∷ []))
 unfolding with_place
 with_place_is at f a b e = rw e
 
 pub with_known : (at : ℕ) (f : Bytes) (a : List Place) → any (same f) (spellings a) ≡ true → with_place at f a ≡ a
-unfolding if◌then◌else◌
+unfolding when◌then◌else◌
 with_known at f a e = with_place_is at f a true e
 
 pub with_new : (at : ℕ) (f : Bytes) (a : List Place) → any (same f) (spellings a) ≡ false
     → with_place at f a ≡ a ++ (record { at = at; spelling = f } ∷ [])
-unfolding if◌then◌else◌
+unfolding when◌then◌else◌
 with_new at f a e = with_place_is at f a false e

@@ -10,7 +10,7 @@ use lib.Dec.{eqb}
 use borrow.Author.Tests.{eqb-true, eq-eqb, ne_eqb}
 use lib.ListN.{length, get_or, length-map}
 use lib.Seq.{slice, slice-cons, slice_empty, length-slice}
-use Rattle.meaning.specs.Bytes.{Bytes, same, any, if◌then◌else◌}
+use Rattle.meaning.specs.Bytes.{Bytes, same, any, when◌then◌else◌}
 use Rattle.meaning.specs.Items.{place_of}
 use Rattle.laws.proofs.Lists.Tests.{same_refl, same_true}
 use Rattle.term.proofs.Compared.{same_false}
@@ -122,15 +122,15 @@ module _ (f : Bytes) (places : List Place) where
   has_place n h = rw as_many at (known f (spellings places) n h).0
 
   pub with_known : (n at : ℕ) → place_of f (spellings places) ≡ some n → with_place at f places ≡ places
-  unfolding with_place if◌then◌else◌
-  with_known n at h = rw ((known f (spellings places) n h).1, if◌then◌else◌)
+  unfolding with_place when◌then◌else◌
+  with_known n at h = rw ((known f (spellings places) n h).1, when◌then◌else◌)
 
   pub not_known : place_of f (spellings places) ≡ none → any (same f) (spellings places) ≡ false
   not_known h = unknown f (spellings places) h
 
   pub with_new : (at : ℕ) → place_of f (spellings places) ≡ none → with_place at f places ≡ places ++ (record { at = at; spelling = f } ∷ [])
-  unfolding with_place if◌then◌else◌
-  with_new at h = rw (not_known h, if◌then◌else◌)
+  unfolding with_place when◌then◌else◌
+  with_new at h = rw (not_known h, when◌then◌else◌)
 
   pub new_place : (at : ℕ) → place_of f (spellings places) ≡ none
       → place_of f (spellings (places ++ (record { at = at; spelling = f } ∷ []))) ≡ some (length places)

@@ -1,6 +1,6 @@
 -- Where the names of a text and the variables of an item first stand.
 use Rattle.std.specs.Prelude.{ℕ, ◌+◌, ◌*◌, ◌-◌, Bool, true, false, List, [], ◌∷◌, ◌++◌, map}
-use Rattle.meaning.specs.Bytes.{Bytes, same, any, if◌then◌else◌}
+use Rattle.meaning.specs.Bytes.{Bytes, same, any, when◌then◌else◌}
 use Rattle.meaning.specs.Tokens.{Token, Tokens, ends, token, name, variable, integer, sign, bad}
 use Rattle.term.specs.Cells.{Places as CellPlaces}
 use Rattle.term.specs.Layout.{item_place}
@@ -16,7 +16,7 @@ spellings places = map (λ p. p.spelling) places
 -- One place more, unless the spelling is known.
 unfoldable pub with_place : ℕ → Bytes → List Place → List Place
 with_place at f places =
-    if any (same f) (spellings places) then places else places ++ (record { at = at; spelling = f } ∷ [])
+    when any (same f) (spellings places) then places else places ++ (record { at = at; spelling = f } ∷ [])
 
 -- A name's token adds its spelling, and no other.
 unfoldable pub with_name : ℕ → Token → List Place → List Place

@@ -1,7 +1,7 @@
 -- The tables in which the loader keeps the names of the text and the variables of an item while it reads.
 use Rattle.std.specs.Prelude.{ℕ, zero, suc, ◌+◌, ◌*◌, ◌%◌, ◌≤◌, ◌<◌, min, ◌≡◌, Bool, true, false, List, [], ◌∷◌, eqb, length, get_or, set}
 use Rattle.std.proofs.Math.Seq.{slice}
-use Rattle.meaning.specs.Bytes.{Bytes, if◌then◌else◌}
+use Rattle.meaning.specs.Bytes.{Bytes, when◌then◌else◌}
 use Rattle.load_names.specs.Places.{Place}
 
 -- The hash of a spelling.
@@ -19,7 +19,7 @@ no_place = record { at = 0; spelling = [] }
 unfoldable pub last_with : ℕ → List Place → ℕ → ℕ
 last_with h places zero = 0
 last_with h places (suc n) =
-    if eqb (hash_of (get_or places n no_place).spelling) h then suc n else last_with h places n
+    when eqb (hash_of (get_or places n no_place).spelling) h then suc n else last_with h places n
 
 -- The place of this number in a table is one of the text, spelled so.
 pub record StandsAt (text : Bytes) (table : List ℕ) (n : ℕ) (f : Bytes) : Type 0 where

@@ -3,7 +3,7 @@ use Prim.Native.Nat.{ℕ, zero, suc, ◌-◌}
 use mathlib.Core.Path.{◌≡◌, refl, ◌∙◌}
 use mathlib.Core.Bool.{false}
 use lib.Dec.{eqb}
-use Rattle.meaning.specs.Bytes.{Bytes, byte, if◌then◌else◌}
+use Rattle.meaning.specs.Bytes.{Bytes, byte, when◌then◌else◌}
 use Rattle.meaning.specs.Terms.{Half, Integer, Constant, empty, Term}
 use Rattle.meaning.specs.Tokens.{Tokens, ends, token, name, variable, integer, sign, bad}
 use Rattle.meaning.specs.Items.{Counted, Reader, read, malformed, passed, read_on, ◌>>=◌, ◌>>◌, give, cannot_stand, passes, next, is, if_next, count_name, count_variable, elements, list_of, term_from, term}
@@ -35,9 +35,9 @@ module _ (left : ℕ) (counted : Counted) (p : ℕ) where
   term_bad behind = term_is left counted (token p bad behind)
 
   pub term_sign : (b : ℕ) (behind : Tokens) → eqb b 91 ≡ false → term left counted (token p (sign b) behind) ≡ malformed p
-  unfolding next term_from cannot_stand byte if◌then◌else◌
+  unfolding next term_from cannot_stand byte when◌then◌else◌
   term_sign b behind e =
-      let at : (if eqb b 91 then square left else cannot_stand p) counted behind ≡ malformed p = rw e in
+      let at : (when eqb b 91 then square left else cannot_stand p) counted behind ≡ malformed p = rw e in
       term_is left counted (token p (sign b) behind) ∙ at
 
   pub term_integer : (i : Integer) (behind : Tokens)
@@ -71,7 +71,7 @@ module _ (left : ℕ) (counted : Counted) (p : ℕ) where
   module _ (f : Bytes) (q : ℕ) (behind : Tokens) (counted' : Counted)
       (e : count_name f counted (token q (sign 40) behind) ≡ read tt counted' (token q (sign 40) behind)) where
     term_open : term left counted (token p (name f) (token q (sign 40) behind)) ≡ round left f counted' behind
-    unfolding next term_from ◌>>◌ read_on if_next is byte if◌then◌else◌
+    unfolding next term_from ◌>>◌ read_on if_next is byte when◌then◌else◌
     term_open = term_is left counted (token p (name f) (token q (sign 40) behind)) ∙ rw e
 
     pub term_round_passed : left ≡ 0 → term left counted (token p (name f) (token q (sign 40) behind)) ≡ passed
@@ -84,7 +84,7 @@ module _ (left : ℕ) (counted : Counted) (p : ℕ) where
   -- A square bracket.
   module _ (behind : Tokens) where
     term_list : term left counted (token p (sign 91) behind) ≡ square left counted behind
-    unfolding next term_from byte if◌then◌else◌
+    unfolding next term_from byte when◌then◌else◌
     term_list = term_is left counted (token p (sign 91) behind)
 
     pub term_square_passed : left ≡ 0 → term left counted (token p (sign 91) behind) ≡ passed
@@ -99,5 +99,5 @@ module _ (left : ℕ) (counted : Counted) (p : ℕ) where
 
   pub term_empty : (l q : ℕ) (behind : Tokens) → left ≡ suc l
       → term left counted (token p (sign 91) (token q (sign 93) behind)) ≡ read (Term.constant empty) counted behind
-  unfolding list_of if_next is byte if◌then◌else◌ give
+  unfolding list_of if_next is byte when◌then◌else◌ give
   term_empty l q behind z = term_list (token q (sign 93) behind) ∙ rw z

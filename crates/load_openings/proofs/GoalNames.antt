@@ -7,7 +7,7 @@ use native.Mathlib.Omega.{arith}
 use lib.Dec.{eqb}
 use lib.ListN.{length}
 use lib.Seq.{slice}
-use Rattle.meaning.specs.Bytes.{Bytes, byte, same, any, if◌then◌else◌}
+use Rattle.meaning.specs.Bytes.{Bytes, byte, same, any, when◌then◌else◌}
 use Rattle.meaning.specs.Terms.{Half, writer, reader, Integer, as_term}
 use Rattle.meaning.specs.Tokens.{Token, name, variable, integer, sign, bad, Tokens, ends, token}
 use Rattle.meaning.specs.Items.{
@@ -95,9 +95,9 @@ unfolding goal next piece
 goal_ends counted n = refl
 
 pub behind_after : (b a : ℕ) → a ≤ behind b a
-unfolding behind if◌then◌else◌
+unfolding behind when◌then◌else◌
 behind_after b a = after (double_sign b) where
-  after : (t : Bool) → a ≤ (if t then a + 2 else a + 1)
+  after : (t : Bool) → a ≤ (when t then a + 2 else a + 1)
   after true = omega arith
   after false = omega arith
 

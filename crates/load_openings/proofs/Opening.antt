@@ -9,7 +9,7 @@ use lib.ListN.{length, get_or}
 use lib.Seq.{slice}
 use mathlib.Core.Logic.{◌≢◌}
 use borrow.Author.Tests.{eqb-true, eqb-false}
-use Rattle.meaning.specs.Bytes.{Bytes, same, any, byte, if◌then◌else◌}
+use Rattle.meaning.specs.Bytes.{Bytes, same, any, byte, when◌then◌else◌}
 use Rattle.meaning.specs.Terms.{Half, writer, reader, Integer, plus, minus, Constant, empty, Term, occurrences, same_half}
 use Rattle.meaning.specs.Tokens.{Tokens, ends, token, name, variable, integer, sign}
 use Rattle.meaning.specs.Items.{Counted, read, is, count_name, term}
@@ -66,8 +66,8 @@ occurs_same : (at m n : ℕ) (b : Bool) (item item' : List ℕ) → eqb m n ≡ 
     → get_or item' (at + n) 0 ≡ min 2 (get_or item (at + n) 0 + 1)
     → ((j : ℕ) → 32 ≤ j → j ≢ at + n → get_or item' j 0 ≡ get_or item j 0)
     → 32 ≤ at → get_or item (at + m) 0 ≤ 2
-    → get_or item' (at + m) 0 ≡ min 2 (get_or item (at + m) 0 + (if eqb m n then 1 else 0))
-unfolding if◌then◌else◌
+    → get_or item' (at + m) 0 ≡ min 2 (get_or item (at + m) 0 + (when eqb m n then 1 else 0))
+unfolding when◌then◌else◌
 occurs_same at m n true item item' e up kept high small =
     let one : m ≡ n = eqb-true m n e in
     rw (e, one) up
@@ -80,7 +80,7 @@ occurs : (h k : Half) (n m : ℕ) (item item' : List ℕ) → n < 16 → m < 16
     → ((j : ℕ) → 32 ≤ j → j ≢ half_place h n → get_or item' j 0 ≡ get_or item j 0)
     → get_or item (half_place k m) 0 ≤ 2
     → get_or item' (half_place k m) 0 ≡ min 2 (get_or item (half_place k m) 0 + occurrences k m (Term.variable h n))
-unfolding half_place occurrences same_half if◌then◌else◌
+unfolding half_place occurrences same_half when◌then◌else◌
 occurs writer writer n m item item' few small up kept twice = occurs_same 32 m n (eqb m n) item item' refl up kept (omega arith) twice
 occurs writer reader n m item item' few small up kept twice =
     kept (48 + m) (omega arith) (λ s. omega arith) ∙ once (get_or item (48 + m) 0) twice
@@ -102,7 +102,7 @@ module _ (left : ℕ) (text rest : Bytes) (from : ℕ) (known vars : List Place)
   begun_end f = (ap (λ ts. term left so_far (piece ts)) (f from) ∙ term_end left so_far (from + length rest), omega arith)
 
   pub begun_bad : (a : ℕ) → FrontIs rest c.at (Bad a) → BegunIs left text rest from known vars c item names item (Malformed a)
-  unfolding piece is if◌then◌else◌
+  unfolding piece is when◌then◌else◌
   begun_bad a f =
       let o = f.2 from in
       (ap (λ ts. term left so_far (piece ts)) o.1 ∙ term_bad left so_far (from + a) (piece o.0), omega (arith, f.1))
@@ -113,7 +113,7 @@ module _ (left : ℕ) (text rest : Bytes) (from : ℕ) (known vars : List Place)
   begun_sign b a f e =
       let behind_it = tokens_in from rest (behind b a) in (
         ap (λ ts. term left so_far (piece ts)) (f.2 from)
-            ∙ term_sign left so_far (from + a) b (if is "." (sign b) then ends (from + a) else piece behind_it) e,
+            ∙ term_sign left so_far (from + a) b (when is "." (sign b) then ends (from + a) else piece behind_it) e,
         omega (arith, f.1, behind_past b a),
       )
 
@@ -291,11 +291,11 @@ module _ (left : ℕ) (text rest : Bytes) (from : ℕ) (known vars : List Place)
   -- A list.
   module _ (b a : ℕ) (front : FrontIs rest c.at (Sign b a)) (square : b ≡ 91) where
     follows : tokens_in from rest c.at ≡ token (from + a) (sign 91) (tokens_in from rest (a + 1))
-    unfolding behind double_sign byte if◌then◌else◌
+    unfolding behind double_sign byte when◌then◌else◌
     follows = rw square at (front.2 from)
 
     inside : a + 1 ≤ length rest
-    unfolding behind double_sign byte if◌then◌else◌
+    unfolding behind double_sign byte when◌then◌else◌
     inside = rw square at front.1
 
     bracket : here ≡ token (from + a) (sign 91) (piece (tokens_in from rest (a + 1)))

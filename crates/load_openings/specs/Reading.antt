@@ -1,7 +1,7 @@
 -- What reading a term, a compound's arguments or a list's elements answers, against the definitions' readers.
 use Rattle.std.specs.Prelude.{ℕ, ◌+◌, ◌*◌, ◌-◌, ◌≤◌, ◌<◌, min, ◌≡◌, Bool, true, false, List, [], ◌∷◌, length, get_or, drop}
 use Rattle.std.proofs.Math.Option.{some}
-use Rattle.meaning.specs.Bytes.{Bytes, if◌then◌else◌}
+use Rattle.meaning.specs.Bytes.{Bytes, when◌then◌else◌}
 use Rattle.meaning.specs.Terms.{Half, writer, reader, Term, Terms, count, as_term, occurrences, all_occurrences}
 use Rattle.meaning.specs.Tokens.{Tokens, ends, token}
 use Rattle.meaning.specs.Items.{
@@ -41,7 +41,7 @@ use Rattle.load_openings.specs.declared.begin.Begun.TheVariants.{
 -- The tokens up to and with the first full stop: the piece that an item is read from.
 unfoldable pub piece : Tokens → Tokens
 piece (ends n) = ends n
-piece (token at t rest) = token at t (if is "." t then ends at else piece rest)
+piece (token at t rest) = token at t (when is "." t then ends at else piece rest)
 
 -- What has been counted, by the places of names and variables.
 unfoldable pub counted_at : List Place → List Place → ℕ → Counted

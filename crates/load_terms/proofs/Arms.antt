@@ -3,7 +3,7 @@ use Prim.Native.Nat.{ℕ, suc, ◌+◌, ◌-◌, ◌≤◌, ◌<◌}
 use mathlib.Core.Path.{◌≡◌, refl, ap, sym, ◌∙◌}
 use mathlib.Core.Bool.{Bool, true, false}
 use mathlib.Core.List.{List}
-use Rattle.meaning.specs.Bytes.{Bytes, byte, if◌then◌else◌}
+use Rattle.meaning.specs.Bytes.{Bytes, byte, when◌then◌else◌}
 use Rattle.meaning.specs.Terms.{empty, cell, Term, Terms, compound, end, more}
 use Rattle.meaning.specs.Tokens.{Token, Tokens, ends, token, name, variable, integer, sign, bad}
 use Rattle.meaning.specs.Items.{Counted, Read, Reader, read, malformed, passed, read_on, ◌>>=◌, ◌>>◌, give, passes, next, is, begins_term, expect, either, arguments, compound_of, tail_of, elements, term}
@@ -34,13 +34,13 @@ module _ (argument : Reader Term) (left : ℕ) (counted : Counted) (ts : Tokens)
   pub arguments_more : (t : Term) (counted' : Counted) (p : ℕ) (behind : Tokens)
       → argument counted ts ≡ read t counted' (token p (sign 44) behind)
       → arguments argument (suc left) counted ts ≡ read_on (arguments argument left counted' behind) (λ (others : Terms). give (more t others))
-  unfolding arguments ◌>>=◌ read_on either next is byte if◌then◌else◌ give
+  unfolding arguments ◌>>=◌ read_on either next is byte when◌then◌else◌ give
   arguments_more t counted' p behind e = rw e
 
   pub arguments_last : (t : Term) (counted' : Counted) (p : ℕ) (behind : Tokens)
       → argument counted ts ≡ read t counted' (token p (sign 41) behind)
       → arguments argument (suc left) counted ts ≡ read (more t end) counted' behind
-  unfolding arguments ◌>>=◌ read_on either next is byte if◌then◌else◌ give
+  unfolding arguments ◌>>=◌ read_on either next is byte when◌then◌else◌ give
   arguments_last t counted' p behind e = rw e
 
   pub arguments_stop : (t : Term) (counted' : Counted) (place : ℕ) (behind : Tokens) → argument counted ts ≡ read t counted' behind
@@ -129,15 +129,15 @@ elements_none element counted ts h = rw (standing_goes counted ts h)
 -- The tail behind an element.
 module _ (element others : Reader Term) (counted : Counted) (p : ℕ) (behind : Tokens) where
   pub tail_more : next (tail_of element others) counted (token p (sign 44) behind) ≡ others counted behind
-  unfolding next tail_of is byte if◌then◌else◌
+  unfolding next tail_of is byte when◌then◌else◌
   tail_more = refl
 
   pub tail_closed : next (tail_of element others) counted (token p (sign 124) behind) ≡ closed element counted behind
-  unfolding next tail_of is byte if◌then◌else◌ closed
+  unfolding next tail_of is byte when◌then◌else◌ closed
   tail_closed = refl
 
   pub tail_empty : next (tail_of element others) counted (token p (sign 93) behind) ≡ read (Term.constant empty) counted behind
-  unfolding next tail_of is byte if◌then◌else◌ give
+  unfolding next tail_of is byte when◌then◌else◌ give
   tail_empty = refl
 
 module _ (element : Reader Term) (counted : Counted) (ts : Tokens) where
@@ -151,7 +151,7 @@ module _ (element : Reader Term) (counted : Counted) (ts : Tokens) where
 
   pub closed_read : (t : Term) (counted' : Counted) (p : ℕ) (behind : Tokens) → element counted ts ≡ read t counted' (token p (sign 93) behind)
       → closed element counted ts ≡ read t counted' behind
-  unfolding closed ◌>>=◌ ◌>>◌ read_on expect next is byte if◌then◌else◌ give
+  unfolding closed ◌>>=◌ ◌>>◌ read_on expect next is byte when◌then◌else◌ give
   closed_read t counted' p behind e = rw e
 
   pub closed_stop : (t : Term) (counted' : Counted) (place : ℕ) (behind : Tokens) → element counted ts ≡ read t counted' behind

@@ -6,18 +6,18 @@ use mathlib.Core.Bool.{true, false}
 use native.Mathlib.Omega.{arith}
 use lib.Dec.{eqb}
 use lib.ListN.{length, drop, get_or}
-use Rattle.meaning.specs.Bytes.{Bytes, byte, if◌then◌else◌}
+use Rattle.meaning.specs.Bytes.{Bytes, byte, when◌then◌else◌}
 use Rattle.meaning.specs.Tokens.{blank, separates, remark, front}
 use Rattle.load_tokens.specs.Fronts.{tokens_in}
 use Rattle.load_tokens.specs.Ends.{end_of_remark}
 use Rattle.load_tokens.proofs.TokensIn.{blank_in_front}
 
 separator_front : (c : ℕ) (cs : Bytes) → separates c ≡ true → front c cs ≡ blank 0
-unfolding front if◌then◌else◌
+unfolding front when◌then◌else◌
 separator_front c cs e = rw e
 
 remark_front : (c : ℕ) (cs : Bytes) → separates c ≡ false → eqb c (byte "%") ≡ true → front c cs ≡ blank (remark cs)
-unfolding front if◌then◌else◌
+unfolding front when◌then◌else◌
 remark_front c cs e f = rw (e, f)
 
 module _ (rest : Bytes) (i : ℕ) (h : i < length rest) where

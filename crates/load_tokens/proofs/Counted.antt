@@ -7,15 +7,15 @@ use native.Mathlib.Omega.{arith}
 use native.Mathlib.Numerals.{add-one}
 use lib.ListN.{length, get_or, take, length-append}
 use lib.Seq.{take-suc}
-use Rattle.meaning.specs.Bytes.{those, if◌then◌else◌}
+use Rattle.meaning.specs.Bytes.{those, when◌then◌else◌}
 use Rattle.laws.proofs.Lists.Filters.{those_append}
 
 those_one : (test : ℕ → Bool) (x : ℕ) → test x ≡ true → length (those test (x ∷ [])) ≡ 1
-unfolding those if◌then◌else◌
+unfolding those when◌then◌else◌
 those_one test x h = rw h
 
 those_no_one : (test : ℕ → Bool) (x : ℕ) → test x ≡ false → length (those test (x ∷ [])) ≡ 0
-unfolding those if◌then◌else◌
+unfolding those when◌then◌else◌
 those_no_one test x h = rw h
 
 module _ (test : ℕ → Bool) (l : List ℕ) (i : ℕ) (inside : i < length l) where

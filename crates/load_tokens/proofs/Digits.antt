@@ -10,7 +10,7 @@ use lib.Dec.{leb}
 use lib.ListN.{length, get_or}
 use lib.Seq.{slice}
 use borrow.Author.Tests.{le-leb, lt-leb, ne_eqb}
-use Rattle.meaning.specs.Bytes.{Bytes, byte, bytes, same, all, if◌then◌else◌}
+use Rattle.meaning.specs.Bytes.{Bytes, byte, bytes, same, all, when◌then◌else◌}
 use Rattle.meaning.specs.Terms.{plus, minus}
 use Rattle.meaning.specs.Tokens.{tokens_words, integer, bad, digit, value, no_leading_zero, unsigned, negative}
 use Rattle.load_tokens.proofs.Parts.{slice_next}
@@ -59,10 +59,10 @@ module _ (rest : Bytes) (i e : ℕ) (h : i < e) (k : e ≤ length rest) where
 
 -- What the code reads.
 abbrev pub reading : Bytes → ℕ
-reading cs = if all digit cs then value 0 cs else 9999999999
+reading cs = when all digit cs then value 0 cs else 9999999999
 
 read_within : (cs : Bytes) (v : ℕ) → v ≡ reading cs → v < 9999999999 → (b : Bool) → all digit cs ≡ b → (all digit cs ≡ true) × (v ≡ value 0 cs)
-unfolding if◌then◌else◌
+unfolding when◌then◌else◌
 read_within cs v q h true e = (e, rw e at q)
 read_within cs v q h false e =
     let large : v ≡ 9999999999 = rw e at q in
@@ -72,7 +72,7 @@ pub within : (cs : Bytes) (v : ℕ) → v ≡ reading cs → v < 9999999999 → 
 within cs v q h = read_within cs v q h (all digit cs) refl
 
 read_beyond : (cs : Bytes) (v limit : ℕ) → v ≡ reading cs → limit < v → (b : Bool) → all digit cs ≡ b → (all digit cs && leb (value 0 cs) limit) ≡ false
-unfolding if◌then◌else◌
+unfolding when◌then◌else◌
 read_beyond cs v limit q h true e =
     let whole : v ≡ value 0 cs = rw e at q in
     rw (e, lt-leb (value 0 cs) limit (omega arith))
@@ -92,19 +92,19 @@ module _ (c : ℕ) (cs : Bytes) (nonzero : c ≡ 48 → ⊥) where
   not_zero = rw (ne_eqb c 48 nonzero)
 
   pub unsigned_good : all digit (c ∷ cs) ≡ true → value 0 (c ∷ cs) ≤ 2147483647 → unsigned (c ∷ cs) ≡ integer (plus (value 0 (c ∷ cs)))
-  unfolding unsigned if◌then◌else◌
+  unfolding unsigned when◌then◌else◌
   unsigned_good d h = rw (not_zero, no_zero_leads, d, le-leb (value 0 (c ∷ cs)) 2147483647 h)
 
   pub unsigned_bad : (all digit (c ∷ cs) && leb (value 0 (c ∷ cs)) 2147483647) ≡ false → unsigned (c ∷ cs) ≡ bad
-  unfolding unsigned if◌then◌else◌
+  unfolding unsigned when◌then◌else◌
   unsigned_bad h = rw (not_zero, no_zero_leads, h)
 
   pub negative_good : all digit (c ∷ cs) ≡ true → value 0 (c ∷ cs) ≤ 2147483648 → negative (c ∷ cs) ≡ integer (minus (value 0 (c ∷ cs)))
-  unfolding negative if◌then◌else◌
+  unfolding negative when◌then◌else◌
   negative_good d h = rw (no_zero_leads, d, le-leb (value 0 (c ∷ cs)) 2147483648 h)
 
   pub negative_bad : (all digit (c ∷ cs) && leb (value 0 (c ∷ cs)) 2147483648) ≡ false → negative (c ∷ cs) ≡ bad
-  unfolding negative if◌then◌else◌
+  unfolding negative when◌then◌else◌
   negative_bad h = rw (no_zero_leads, h)
 
   -- More than ten digits.
@@ -121,10 +121,10 @@ unfolding tokens_words
 zero_led cs = and-false (all digit (48 ∷ cs))
 
 pub unsigned_zero_led : (cs : Bytes) → 0 < length cs → unsigned (48 ∷ cs) ≡ bad
-unfolding unsigned if◌then◌else◌ same bytes
+unfolding unsigned when◌then◌else◌ same bytes
 unsigned_zero_led [] h = absurd (omega arith)
 unsigned_zero_led (d ∷ cs) h = rw (zero_led (d ∷ cs))
 
 pub negative_zero_led : (cs : Bytes) → negative (48 ∷ cs) ≡ bad
-unfolding negative if◌then◌else◌
+unfolding negative when◌then◌else◌
 negative_zero_led cs = rw (zero_led cs)

@@ -8,7 +8,7 @@ use lib.Dec.{eqb}
 use lib.ListN.{length}
 use mathlib.Core.Bool.{◌||◌}
 use borrow.Author.Tests.{eq-eqb, ne_eqb}
-use Rattle.meaning.specs.Bytes.{Bytes, byte, if◌then◌else◌}
+use Rattle.meaning.specs.Bytes.{Bytes, byte, when◌then◌else◌}
 use Rattle.meaning.specs.Tokens.{token, sign}
 use Rattle.meaning.specs.Items.{begins_term}
 use Rattle.load_tokens.specs.Fronts.{tokens_in, double_sign, behind, FrontIs}
@@ -20,8 +20,8 @@ use denote.Enum.Declared.{tag_of}
 use types.Run.{OneOf, miss}
 use Rattle.load_tokens.specs.declared.token.Token.TheVariants.{End, Name, Writer, Reader, Integer, Sign, Bad}
 
-if_past : (b : Bool) (a : ℕ) → a < (if b then a + 2 else a + 1)
-unfolding if◌then◌else◌
+if_past : (b : Bool) (a : ℕ) → a < (when b then a + 2 else a + 1)
+unfolding when◌then◌else◌
 if_past true a = omega arith
 if_past false a = omega arith
 

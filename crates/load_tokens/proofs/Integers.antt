@@ -7,7 +7,7 @@ use mathlib.Core.List.{◌∷◌}
 use native.Mathlib.Omega.{arith}
 use lib.ListN.{length, drop, get_or}
 use lib.Seq.{slice}
-use Rattle.meaning.specs.Bytes.{Bytes, byte, if◌then◌else◌}
+use Rattle.meaning.specs.Bytes.{Bytes, byte, when◌then◌else◌}
 use Rattle.meaning.specs.Terms.{plus, minus}
 use Rattle.meaning.specs.Tokens.{Token, Front, integer, bad, digit, run, unsigned, negative, minus_front, front}
 use Rattle.load_tokens.specs.Fronts.{FrontIs}
@@ -73,7 +73,7 @@ module _ (rest : Bytes) (a e : ℕ) (h : a + 1 < length rest) (q : e ≡ end_of_
 
   minus_digits : (t : Token) → negative (get_or rest (a + 1) 0 ∷ run (drop (a + 1 + 1) rest)) ≡ t
       → front (get_or rest a 0) (drop (a + 1) rest) ≡ Front.token (length (run (drop (a + 1) rest))) t
-  unfolding minus_front if◌then◌else◌
+  unfolding minus_front when◌then◌else◌
   minus_digits t n =
       let first : Rattle.meaning.specs.Tokens.next_is digit (drop (a + 1) rest) ≡ true = next_in digit rest (a + 1) h ∙ d in
       let same : negative (run (drop (a + 1) rest)) ≡ t = rw digits_behind n in

@@ -8,7 +8,7 @@ use lib.Dec.{eqb}
 use lib.ListN.{length, drop, get_or, length-drop, drop_of_length-le}
 use mathlib.Core.List.{[], ◌∷◌}
 use borrow.Author.Tests.{eqb-true}
-use Rattle.meaning.specs.Bytes.{Bytes, byte, if◌then◌else◌}
+use Rattle.meaning.specs.Bytes.{Bytes, byte, when◌then◌else◌}
 use Rattle.meaning.specs.Tokens.{tokens_words, Front, bad, sign, lowercase, uppercase, digit, underscore, separates, single_sign, in_run, run, next_is, unsigned, name_front, variable_front, minus_front, front}
 use Rattle.laws.proofs.Reading.NameBytes.{row_is_the_former_test}
 use Rattle.load_tokens.proofs.Parts.{drop_next}
@@ -37,19 +37,19 @@ next_inside test rest i e = omega (arith, some test (drop i rest) e, length-drop
 
 module _ (c : ℕ) (cs : Bytes) where
   pub name_leads : lowercase c ≡ true → front c cs ≡ name_front (c ∷ run cs)
-  unfolding front if◌then◌else◌
+  unfolding front when◌then◌else◌
   name_leads e =
       let within = lowercase_bytes c e in
       rw (not_separates c (omega arith), not_remark c (omega arith), e)
 
   pub variable_leads : uppercase c ≡ true → front c cs ≡ variable_front (c ∷ run cs) (drop (length (run cs)) cs)
-  unfolding front if◌then◌else◌
+  unfolding front when◌then◌else◌
   variable_leads e =
       let within = uppercase_bytes c e in
       rw (not_separates c (omega arith), not_remark c (omega arith), not_lowercase c (omega arith), e)
 
   pub digit_leads : digit c ≡ true → front c cs ≡ Front.token (length (run cs)) (unsigned (c ∷ run cs))
-  unfolding front if◌then◌else◌
+  unfolding front when◌then◌else◌
   digit_leads e =
       let within = digit_bytes c e in
       rw (not_separates c (omega arith), not_remark c (omega arith), not_lowercase c (omega arith), not_uppercase c (omega arith), e)
@@ -60,7 +60,7 @@ module _ (c : ℕ) (cs : Bytes) where
 
   -- What a sign of two bytes is by the byte behind its first.
   abbrev pub by_second : Front
-  by_second = if next_is (λ d. eqb d (second c)) cs then Front.token 1 (sign c) else Front.token 0 bad
+  by_second = when next_is (λ d. eqb d (second c)) cs then Front.token 1 (sign c) else Front.token 0 bad
 
   double_by : double_sign c ≡ true → (b d : Bool) → eqb c (byte ":") ≡ b → eqb c (byte "?") ≡ d → front c cs ≡ by_second
   unfolding tokens_words double_sign second
@@ -92,7 +92,7 @@ module _ (c : ℕ) (cs : Bytes) where
 
   module _ (o : Nothing) where
     bad_by : (b : Bool) → double_sign c ≡ b → front c cs ≡ Front.token 0 bad
-    unfolding front if◌then◌else◌ double_sign begins_sign
+    unfolding front when◌then◌else◌ double_sign begins_sign
     bad_by true t =
         let other = (either (single_sign c) _ o.no_sign).1 in
         let behind : next_is (λ d. eqb d (second c)) cs ≡ false = rw t at other in

@@ -7,7 +7,7 @@ use mathlib.Core.List.{◌∷◌}
 use lib.Dec.{leb, eqb}
 use lib.ListN.{length, drop, get_or}
 use borrow.Author.Tests.{eqb-true}
-use Rattle.meaning.specs.Bytes.{Bytes, byte, bytes, same, if◌then◌else◌}
+use Rattle.meaning.specs.Bytes.{Bytes, byte, bytes, same, when◌then◌else◌}
 use Rattle.meaning.specs.Terms.{writer, reader, plus, minus}
 use Rattle.meaning.specs.Tokens.{Token, name, variable, integer, bad, Front, lowercase, uppercase, digit, underscore, separates, run, next_is, unless_overlong, value, no_leading_zero, unsigned, negative, name_front, variable_front, minus_front, front}
 use Rattle.laws.proofs.Reading.NameBytes.{row_is_the_former_test}
@@ -24,8 +24,8 @@ record NoSign (x y z : ℕ) (f : Front) : Type 0 where
   none : one_of x y z kind ≡ false
 
 module _ (x y z : ℕ) where
-  unless : (b : Bool) (t : Token) → one_of x y z t ≡ false → one_of x y z (if b then t else bad) ≡ false
-  unfolding one_of if◌then◌else◌
+  unless : (b : Bool) (t : Token) → one_of x y z t ≡ false → one_of x y z (when b then t else bad) ≡ false
+  unfolding one_of when◌then◌else◌
   unless true t e = e
   unless false t e = refl
 
@@ -36,8 +36,8 @@ module _ (x y z : ℕ) where
   unfolding name_front unless_overlong one_of
   a_name cs = plain _ _ (unless (leb (length cs) 31) (name cs) refl)
 
-  variable_by : (cs : Bytes) (b : Bool) → NoSign x y z (if b then Front.token (length cs) (unless_overlong cs (variable reader cs)) else Front.token (length cs - 1) (unless_overlong cs (variable writer cs)))
-  unfolding if◌then◌else◌ unless_overlong one_of
+  variable_by : (cs : Bytes) (b : Bool) → NoSign x y z (when b then Front.token (length cs) (unless_overlong cs (variable reader cs)) else Front.token (length cs - 1) (unless_overlong cs (variable writer cs)))
+  unfolding when◌then◌else◌ unless_overlong one_of
   variable_by cs true = plain _ _ (unless (leb (length cs) 31) (variable reader cs) refl)
   variable_by cs false = plain _ _ (unless (leb (length cs) 31) (variable writer cs) refl)
 
@@ -49,8 +49,8 @@ module _ (x y z : ℕ) where
   unfolding unsigned one_of
   a_number n cs = plain n _ (unless (same cs (bytes "0") || no_leading_zero cs && leb (value 0 cs) 2147483647) (integer (plus (value 0 cs))) refl)
 
-  minus_by : (cs : Bytes) (b : Bool) → NoSign x y z (if b then Front.token (length (run cs)) (negative (run cs)) else Front.token 0 bad)
-  unfolding if◌then◌else◌ negative one_of
+  minus_by : (cs : Bytes) (b : Bool) → NoSign x y z (when b then Front.token (length (run cs)) (negative (run cs)) else Front.token 0 bad)
+  unfolding when◌then◌else◌ negative one_of
   minus_by cs true = plain _ _ (unless (no_leading_zero (run cs) && leb (value 0 (run cs)) 2147483648) (integer (minus (value 0 (run cs)))) refl)
   minus_by cs false = plain 0 bad refl
 

@@ -6,7 +6,7 @@ use mathlib.Core.Bool.{Bool, true, false, ◌&&◌, ◌||◌}
 use native.Mathlib.Omega.{arith}
 use lib.Dec.{eqb}
 use lib.ListN.{length, drop, get_or}
-use Rattle.meaning.specs.Bytes.{Bytes, byte, if◌then◌else◌}
+use Rattle.meaning.specs.Bytes.{Bytes, byte, when◌then◌else◌}
 use Rattle.meaning.specs.Tokens.{Front, sign, single_sign, digit, next_is, minus_front, front}
 use Rattle.load_tokens.specs.Fronts.{FrontIs, double_sign, second, begins_sign, behind}
 use Rattle.load_tokens.specs.declared.token.Token.TheVariants.{Sign, Bad}
@@ -15,11 +15,11 @@ use Rattle.load_tokens.proofs.Classes.{of_signs}
 use Rattle.load_tokens.proofs.Leads.{next_in, next_out, next_inside, sign_leads, double_leads, minus_leads}
 
 pub behind_double : (c a : ℕ) → double_sign c ≡ true → behind c a ≡ a + 2
-unfolding behind if◌then◌else◌
+unfolding behind when◌then◌else◌
 behind_double c a e = rw e
 
 pub behind_single : (c a : ℕ) → double_sign c ≡ false → behind c a ≡ a + 1
-unfolding behind if◌then◌else◌
+unfolding behind when◌then◌else◌
 behind_single c a e = rw e
 
 module _ (rest : Bytes) (a : ℕ) (h : a < length rest) where
@@ -34,7 +34,7 @@ module _ (rest : Bytes) (a : ℕ) (h : a < length rest) where
       (omega arith, inside, token_in_front rest a h 0 (behind c a) (sign c) leads (omega arith) inside)
 
   double_is : (c : ℕ) → c ≡ get_or rest a 0 → double_sign c ≡ true → next_is (λ d. eqb d (second c)) (drop (a + 1) rest) ≡ true → FrontIs rest a (Sign c a)
-  unfolding if◌then◌else◌
+  unfolding when◌then◌else◌
   double_is c q t other =
       let place : behind c a ≡ a + 2 = behind_double c a t in
       let more : a + 1 < length rest = next_inside _ rest (a + 1) other in
@@ -56,7 +56,7 @@ module _ (rest : Bytes) (a : ℕ) (h : a < length rest) where
 
 module _ (rest : Bytes) (a : ℕ) (h : a < length rest) (q : get_or rest a 0 ≡ byte "-") where
   no_minus : next_is digit (drop (a + 1) rest) ≡ false → FrontIs rest a (Bad a)
-  unfolding minus_front if◌then◌else◌
+  unfolding minus_front when◌then◌else◌
   no_minus fails = bad_in_front rest a h 0 (minus_leads (get_or rest a 0) (drop (a + 1) rest) q ∙ rw fails)
 
   pub last_minus_is : length rest ≤ a + 1 → FrontIs rest a (Bad a)

@@ -9,7 +9,7 @@ use lib.Dec.{leb, eqb}
 use lib.ListN.{length, drop, get_or}
 use lib.Seq.{slice, drop-drop}
 use borrow.Author.Tests.{le-leb, lt-leb, leb-true, leb-false}
-use Rattle.meaning.specs.Bytes.{Bytes, byte, if◌then◌else◌}
+use Rattle.meaning.specs.Bytes.{Bytes, byte, when◌then◌else◌}
 use Rattle.meaning.specs.Terms.{writer, reader}
 use Rattle.meaning.specs.Tokens.{Token, Front, name, variable, bad, lowercase, uppercase, run, next_is, unless_overlong, name_front, variable_front}
 use Rattle.load_tokens.specs.Fronts.{FrontIs}
@@ -24,11 +24,11 @@ module _ (c : ℕ) (cs : Bytes) where
   one_less = omega arith
 
   short : (t : Token) → length (c ∷ cs) ≤ 31 → unless_overlong (c ∷ cs) t ≡ t
-  unfolding unless_overlong if◌then◌else◌
+  unfolding unless_overlong when◌then◌else◌
   short t h = rw (le-leb (length (c ∷ cs)) 31 h)
 
   long : (t : Token) → 31 < length (c ∷ cs) → unless_overlong (c ∷ cs) t ≡ bad
-  unfolding unless_overlong if◌then◌else◌
+  unfolding unless_overlong when◌then◌else◌
   long t h = rw (lt-leb (length (c ∷ cs)) 31 h)
 
   short_name : length (c ∷ cs) ≤ 31 → name_front (c ∷ cs) ≡ Front.token (length cs) (name (c ∷ cs))
@@ -41,15 +41,15 @@ module _ (c : ℕ) (cs : Bytes) where
 
   module _ (behind : Bytes) where
     short_reader : length (c ∷ cs) ≤ 31 → next_is (λ d. eqb d (byte "?")) behind ≡ true → variable_front (c ∷ cs) behind ≡ Front.token (suc (length cs)) (variable reader (c ∷ cs))
-    unfolding variable_front if◌then◌else◌
+    unfolding variable_front when◌then◌else◌
     short_reader h e = rw (e, short (variable reader (c ∷ cs)) h)
 
     short_writer : length (c ∷ cs) ≤ 31 → next_is (λ d. eqb d (byte "?")) behind ≡ false → variable_front (c ∷ cs) behind ≡ Front.token (length cs) (variable writer (c ∷ cs))
-    unfolding variable_front if◌then◌else◌
+    unfolding variable_front when◌then◌else◌
     short_writer h e = rw (e, short (variable writer (c ∷ cs)) h, one_less)
 
     long_by : 31 < length (c ∷ cs) → (b : Bool) → next_is (λ d. eqb d (byte "?")) behind ≡ b → (n : ℕ) × (variable_front (c ∷ cs) behind ≡ Front.token n bad)
-    unfolding variable_front if◌then◌else◌
+    unfolding variable_front when◌then◌else◌
     long_by h true e = (length (c ∷ cs), rw (e, long (variable reader (c ∷ cs)) h))
     long_by h false e = (length (c ∷ cs) - 1, rw (e, long (variable writer (c ∷ cs)) h))
 
@@ -72,12 +72,12 @@ module _ (rest : Bytes) (a e : ℕ) (h : a < length rest) (q : e ≡ end_of_run 
       let cs = run (drop (a + 1) rest) in
       bad_in_front rest a h (length cs) (name_leads (get_or rest a 0) (drop (a + 1) rest) l ∙ long_name (get_or rest a 0) cs (omega arith))
 
-  name_by : lowercase (get_or rest a 0) ≡ true → (b : Bool) → leb (e - a) 31 ≡ b → FrontIs rest a (if b then Name a e else Bad a)
-  unfolding if◌then◌else◌
+  name_by : lowercase (get_or rest a 0) ≡ true → (b : Bool) → leb (e - a) 31 ≡ b → FrontIs rest a (when b then Name a e else Bad a)
+  unfolding when◌then◌else◌
   name_by l true k = name_is l (leb-true _ _ k)
   name_by l false k = long_name_is l (leb-false _ _ k)
 
-  pub named : lowercase (get_or rest a 0) ≡ true → FrontIs rest a (if leb (e - a) 31 then Name a e else Bad a)
+  pub named : lowercase (get_or rest a 0) ≡ true → FrontIs rest a (when leb (e - a) 31 then Name a e else Bad a)
   named l = name_by l (leb (e - a) 31) refl
 
   module _ (u : uppercase (get_or rest a 0) ≡ true) where

@@ -1,7 +1,7 @@
 -- The token in front, as the code has it and as document 01 has it.
 use Rattle.std.specs.Prelude.{ℕ, ◌+◌, ◌-◌, ◌≤◌, ◌<◌, ◌≡◌, Bool, true, false, ◌&&◌, ◌||◌, eqb, length, drop}
 use Rattle.std.proofs.Math.Seq.{slice}
-use Rattle.meaning.specs.Bytes.{Bytes, byte, if◌then◌else◌}
+use Rattle.meaning.specs.Bytes.{Bytes, byte, when◌then◌else◌}
 use Rattle.meaning.specs.Terms.{Half, writer, reader, Integer, plus, minus}
 use Rattle.meaning.specs.Tokens.{Tokens, ends, token, name, variable, integer, sign, bad, single_sign, next_is, tokens_from}
 use Rattle.load_tokens.specs.declared.token.Token.{Token}
@@ -25,11 +25,11 @@ unfoldable pub double_sign : ℕ → Bool
 double_sign c = eqb c (byte ":") || eqb c (byte "?") || eqb c (byte "=")
 
 unfoldable pub second : ℕ → ℕ
-second c = if eqb c (byte "=") then byte "=" else byte "-"
+second c = when eqb c (byte "=") then byte "=" else byte "-"
 
 -- The first byte behind a sign.
 unfoldable pub behind : ℕ → ℕ → ℕ
-behind c a = if double_sign c then a + 2 else a + 1
+behind c a = when double_sign c then a + 2 else a + 1
 
 -- A byte begins a sign: one of a single byte, or of two, whose second is the next byte.
 unfoldable pub begins_sign : ℕ → Bytes → Bool

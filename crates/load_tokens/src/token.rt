@@ -2,7 +2,7 @@
 
 ghost use Rattle.std.specs.Prelude.{◌≡◌, true, ◌+◌, ◌-◌, ◌≤◌, ◌<◌, leb, eqb, length, drop, get_or};
 ghost use Rattle.std.proofs.Math.Seq.{slice};
-ghost use Rattle.meaning.specs.Bytes.{byte, if◌then◌else◌, all};
+ghost use Rattle.meaning.specs.Bytes.{byte, when◌then◌else◌, all};
 ghost use Rattle.meaning.specs.Tokens.{value, next_is};
 ghost use Rattle.meaning.specs.Tokens as tokens;
 ghost use Rattle.load_tokens.specs.Ends.{Skipped, end_of_run, end_of_remark};
@@ -155,7 +155,7 @@ fn run_end(rest: &[u8], at: usize) -> usize
 // The value of the decimal digits from a to e, at most ten of them; or 9,999,999,999 where one is no digit.
 fn digits_value(rest: &[u8], a: usize, e: usize) -> u64
     requires { (a ≤ e) × (e ≤ length rest.now) × (e ≤ a + 10) }
-    ensures { result ≡ if all tokens.digit (slice a e rest.now) then value 0 (slice a e rest.now) else 9999999999 }
+    ensures { result ≡ when all tokens.digit (slice a e rest.now) then value 0 (slice a e rest.now) else 9999999999 }
 {
     let mut v: u64 = 0;
     let mut i = a;
@@ -214,7 +214,7 @@ fn negative(rest: &[u8], a: usize, e: usize) -> Token
 // A run led by a lowercase letter: a name, or bad if it is overlong.
 fn name(a: usize, e: usize) -> Token
     requires { a ≤ e }
-    ensures { result ≡ if leb (e - a) 31 then Token.Name a e else Token.Bad a }
+    ensures { result ≡ when leb (e - a) 31 then Token.Name a e else Token.Bad a }
 {
     if e - a <= 31 {
         Token::Name(a, e)

@@ -7,7 +7,7 @@ use native.Mathlib.Omega.{arith}
 use lib.ListN.{length, get_or, take, drop, replicate, length-drop, length-take, length-map}
 use lib.Seq.{ext_get_or, get_or-drop, get_or-take}
 use borrow.Author.Tests.{le-leb}
-use Rattle.meaning.specs.Bytes.{Bytes, same, any, if◌then◌else◌}
+use Rattle.meaning.specs.Bytes.{Bytes, same, any, when◌then◌else◌}
 use Rattle.meaning.specs.Terms.{Clause, Job, count, named}
 use Rattle.meaning.specs.Tokens.{Tokens, ends, token, tokens}
 use Rattle.meaning.specs.Items.{Refusal, no_query, Reading, job, refused, item, items, pieces, asked, reading}
@@ -58,8 +58,8 @@ cleared_again need s s₀ t h p o =
     ap (λ l. replicate need 0 ++ l) (only_drop trial_region need s₀ t h o ∙ only_drop need need s s₀ (omega arith) p)
 
 -- A name's number is below how many there are.
-number_by : (b t : Bool) (m n : ℕ) → (t ≡ true → m < n) → (b || t) ≡ true → (if b then 0 else suc m) < suc n
-unfolding if◌then◌else◌
+number_by : (b t : Bool) (m n : ℕ) → (t ≡ true → m < n) → (b || t) ≡ true → (when b then 0 else suc m) < suc n
+unfolding when◌then◌else◌
 number_by true t m n h k = omega arith
 number_by false t m n h k = omega (arith, h k)
 
@@ -114,13 +114,13 @@ module _ (text : Bytes) (s₀ s names heads : List ℕ) (from clauses queries kn
       ∙ ap (with_entries done) (items_end places clauses queries n) ∙ with_all done)
 
   pub no_queries : queries ≡ 0 → reading text ≡ refused no_query
-  unfolding asked the_job if◌then◌else◌
+  unfolding asked the_job when◌then◌else◌
   no_queries e =
       let none : length (queries_of done) ≡ 0 = sym r.queries_are ∙ e in
       all_read ∙ (rw none)
 
   pub some_queries : (queries ≡ 0 → ⊥) → reading text ≡ job the_job
-  unfolding asked the_job if◌then◌else◌
+  unfolding asked the_job when◌then◌else◌
   some_queries e =
       let some : 1 ≤ length (queries_of done) = omega (arith, r.queries_are, e) in
       all_read ∙ (rw (le-leb 1 (length (queries_of done)) some))

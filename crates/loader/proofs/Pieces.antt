@@ -6,7 +6,7 @@ use mathlib.Core.List.{List, [], ◌∷◌, ◌++◌, map, map-append}
 use native.Mathlib.Omega.{arith}
 use lib.ListN.{length, drop}
 use lib.Seq.{drop-drop}
-use Rattle.meaning.specs.Bytes.{Bytes, byte, same, any, if◌then◌else◌}
+use Rattle.meaning.specs.Bytes.{Bytes, byte, same, any, when◌then◌else◌}
 use Rattle.meaning.specs.Tokens.{Token, name, variable, integer, sign, bad, Tokens, ends, token, Front, blank, placed, front, tokens_from}
 use Rattle.meaning.specs.Items.{is, onto, pieces}
 use Rattle.load_tokens.specs.Fronts.{tokens_at, tokens_in}
@@ -19,13 +19,13 @@ abbrev stopped : ℕ → Tokens
 stopped stop = token stop (sign 46) (ends stop)
 
 pub piece_is : (ps : List Placed) (stop : ℕ) (ts : Tokens) → Open ps → piece (before ps (token stop (sign 46) ts)) ≡ before ps (token stop (sign 46) (ends stop))
-unfolding piece before Open is byte if◌then◌else◌
+unfolding piece before Open is byte when◌then◌else◌
 piece_is [] stop ts o = refl
 piece_is (p ∷ ps) stop ts o = rw o.0 (ap (λ us. token p.at p.token us) (piece_is ps stop ts o.1))
 
 pub pieces_cut : (ps : List Placed) (stop : ℕ) (ts : Tokens) → Open ps
     → pieces (before ps (token stop (sign 46) ts)) ≡ before ps (token stop (sign 46) (ends stop)) ∷ pieces ts
-unfolding pieces before Open is byte if◌then◌else◌ onto
+unfolding pieces before Open is byte when◌then◌else◌ onto
 pieces_cut [] stop ts o = refl
 pieces_cut (p ∷ ps) stop ts o = rw (o.0, pieces_cut ps stop ts o.1)
 
@@ -68,9 +68,9 @@ shifted_spellings from [] = refl
 shifted_spellings from (v ∷ vs) = ap (λ l. v.spelling ∷ l) (shifted_spellings from vs)
 
 shifted_by : (from at : ℕ) (x : Bytes) (vars : List Place) (b : Bool) → from ≤ at
-    → (if b then map (shifted from) vars else map (shifted from) vars ++ (record { at = at; spelling = x } ∷ []))
-    ≡ map (shifted from) (if b then vars else vars ++ (record { at = at - from; spelling = x } ∷ []))
-unfolding if◌then◌else◌ shifted
+    → (when b then map (shifted from) vars else map (shifted from) vars ++ (record { at = at; spelling = x } ∷ []))
+    ≡ map (shifted from) (when b then vars else vars ++ (record { at = at - from; spelling = x } ∷ []))
+unfolding when◌then◌else◌ shifted
 shifted_by from at x vars true l = refl
 shifted_by from at x vars false l =
     let e : from + (at - from) ≡ at = omega arith in

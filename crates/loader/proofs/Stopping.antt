@@ -5,7 +5,7 @@ use mathlib.Core.Bool.{Bool, true, false}
 use mathlib.Core.List.{List, [], ◌∷◌, ◌++◌}
 use native.Mathlib.Omega.{arith}
 use lib.ListN.{length, drop}
-use Rattle.meaning.specs.Bytes.{Bytes, if◌then◌else◌}
+use Rattle.meaning.specs.Bytes.{Bytes, when◌then◌else◌}
 use Rattle.meaning.specs.Tokens.{Token, Tokens, ends, token, tokens}
 use Rattle.meaning.specs.Items.{Piece, Refusal, Reading, job, refused, is, onto, item, items, pieces, asked, reading}
 use Rattle.load_tokens.specs.Fronts.{tokens_at, tokens_in}
@@ -18,7 +18,7 @@ use Rattle.loader.proofs.Reaching.{items_refused, here}
 
 first_by : (at : ℕ) (t : Token) (ts : Tokens) (b : Bool) → is "." t ≡ b → (others : List Tokens) → pieces ts ≡ piece ts ∷ others
     → (more : List Tokens) × (pieces (token at t ts) ≡ piece (token at t ts) ∷ more)
-unfolding pieces piece if◌then◌else◌ onto
+unfolding pieces piece when◌then◌else◌ onto
 first_by at t ts true h others e = (pieces ts, rw h)
 first_by at t ts false h others e = (others, rw (h, e))
 

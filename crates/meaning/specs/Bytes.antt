@@ -15,10 +15,10 @@ unfoldable pub bytes : String → Bytes
 bytes String.[] = []
 bytes (String.◌∷◌ c s) = code c ∷ bytes s
 
-infix 10 if◌then◌else◌
-unfoldable pub if◌then◌else◌ {ℓ} : {A : Type ℓ} → Bool → A → A → A
-if true then a else b = a
-if false then a else b = b
+infix 10 when◌then◌else◌
+unfoldable pub when◌then◌else◌ {ℓ} : {A : Type ℓ} → Bool → A → A → A
+when true then a else b = a
+when false then a else b = b
 
 -- Two spellings are the same.
 unfoldable pub same : Bytes → Bytes → Bool
@@ -44,7 +44,7 @@ any test (a ∷ rest) = test a || any test rest
 -- Those of a list that pass a test, in order.
 unfoldable pub those : {A : Type 0} → (A → Bool) → List A → List A
 those test [] = []
-those test (a ∷ rest) = if test a then a ∷ those test rest else those test rest
+those test (a ∷ rest) = when test a then a ∷ those test rest else those test rest
 
 -- Those numbers that are not among the seen ones, each once, in order of first occurrence.
 unfoldable pub each_once : List ℕ → List ℕ → List ℕ
@@ -73,5 +73,5 @@ decimal n = digits n n []
 
 -- Everything above, for a statement that computes.
 unfoldable pub bytes_words : Unit {0}
-unfolding byte bytes if◌then◌else◌ same among all any those each_once up_to joined digits decimal
+unfolding byte bytes when◌then◌else◌ same among all any those each_once up_to joined digits decimal
 bytes_words = tt

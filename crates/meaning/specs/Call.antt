@@ -1,6 +1,6 @@
 -- Document 01, 'What the caller gets back', and document 02, T-01: the call, its numbers in their order, and both buffers when it ends.
 use Rattle.std.specs.Prelude.{ℕ, zero, suc, ◌+◌, min, Bool, true, false, not, ◌&&◌, List, [], ◌∷◌, ◌++◌, leb, ltb, length, drop, replicate}
-use Rattle.meaning.specs.Bytes.{Bytes, if◌then◌else◌}
+use Rattle.meaning.specs.Bytes.{Bytes, when◌then◌else◌}
 use Rattle.meaning.specs.Terms.{Job}
 use Rattle.meaning.specs.Faults.{Broken, twice, writer_alone, reader_alone}
 use Rattle.meaning.specs.Items.{Refusal, no_item, guard_rule, occurrence_rule, figure, no_query, Reading, job, refused, reading, line, items_words}
@@ -127,14 +127,14 @@ reports need written given =
 -- "The report is longer than its buffer or than 16,777,216 bytes; the smaller of its length and 16,777,217 is returned."
 unfoldable pub delivered : ℕ → Bytes → Given → Outcome
 delivered need written given =
-    if leb (length written) (length given.buffer) && leb (length written) 16777216
+    when leb (length written) (length given.buffer) && leb (length written) 16777216
     then reports need written given
     else refuses need (report_long (min (length written) 16777217)) given
 
 -- "Then 7; then 8."
 unfoldable pub runs : ℕ → Job → Given → Outcome
 runs need j given =
-    if queries_fit given.room j.queries
+    when queries_fit given.room j.queries
     then delivered need (report j.queries (run j given.budget given.room)) given
     else refuses need queries_pass_room given
 
@@ -145,9 +145,9 @@ taken need (refused r) given = refuses need (refusal given.text r) given
 -- "Order: 1, 2, 3; then the text item by item; then no query; then 7; then 8." The need is a formula over the room figures.
 unfoldable pub call : (Room → ℕ) → Given → Outcome
 call need given =
-    if not (in_range given.budget given.room) then untouched out_of_range given
-    else if ltb (length given.scratch) (need given.room) then untouched scratch_short given
-    else if ltb 16384 (length given.text) then untouched text_long given
+    when not (in_range given.budget given.room) then untouched out_of_range given
+    else when ltb (length given.scratch) (need given.room) then untouched scratch_short given
+    else when ltb 16384 (length given.text) then untouched text_long given
     else taken (need given.room) (reading given.text) given
 
 -- Every definition of document 01, for a statement that computes.

@@ -1,7 +1,7 @@
 -- Document 01, 'One step', with document 02, T-03: following a goal's term, and the table by which a head is compared with a goal.
 use Rattle.std.specs.Prelude.{ℕ, zero, suc, Bool, true, false, ◌&&◌, List, [], ◌∷◌, ◌++◌, eqb}
 use Rattle.std.proofs.Math.Option.{Option, none, some}
-use Rattle.meaning.specs.Bytes.{if◌then◌else◌}
+use Rattle.meaning.specs.Bytes.{when◌then◌else◌}
 use Rattle.meaning.specs.Terms.{
   Half,
   writer,
@@ -76,13 +76,13 @@ unfoldable mutual
   place look (variable reader x) (compound n f ts) = fails
   place look (constant c) (variable writer z) = gives z (constant c)
   place look (constant c) (variable reader z) = waits_on z
-  place look (constant c) (constant k) = if same_constant c k then succeeds [] else fails
+  place look (constant c) (constant k) = when same_constant c k then succeeds [] else fails
   place look (constant c) (compound n f ts) = fails
   place look (compound m g us) (variable writer z) = gives z (compound m g us)
   place look (compound m g us) (variable reader z) = waits_on z
   place look (compound m g us) (constant k) = fails
   place look (compound m g us) (compound n f ts) =
-      if same_functor g f && eqb (count us) (count ts) then places look us ts else fails
+      when same_functor g f && eqb (count us) (count ts) then places look us ts else fails
 
   -- "From left to right and depth first."
   pub places : (Term → Term) → Terms → Terms → Result

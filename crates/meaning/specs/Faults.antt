@@ -2,7 +2,7 @@
 -- with T-02, what a clause's guards change in them.
 use Rattle.std.specs.Prelude.{ℕ, Bool, false, ◌&&◌, List, [], ◌∷◌, ◌++◌, leb}
 use Rattle.std.proofs.Math.Option.{Option, none, some}
-use Rattle.meaning.specs.Bytes.{Bytes, same, if◌then◌else◌}
+use Rattle.meaning.specs.Bytes.{Bytes, same, when◌then◌else◌}
 use Rattle.meaning.specs.Terms.{Half, writer, reader, same_half, terms_words}
 use Rattle.meaning.specs.Tokens.{Token, name, variable, integer, sign, bad, Tokens, ends, token, is, tokens_words}
 
@@ -26,7 +26,7 @@ is_half h x bad = false
 -- Where this half of this variable occurs among these tokens: the places of its tokens, in text order.
 unfoldable pub occurs_at : Half → Bytes → Tokens → List ℕ
 occurs_at h x (ends place) = []
-occurs_at h x (token place t rest) = if is_half h x t then place ∷ occurs_at h x rest else occurs_at h x rest
+occurs_at h x (token place t rest) = when is_half h x t then place ∷ occurs_at h x rest else occurs_at h x rest
 
 -- "For 5 the second occurrence": of a half that occurs at these places; a third one plays no part.
 unfoldable pub twice_faults : List ℕ → List Fault
@@ -53,7 +53,7 @@ alone_of piece x =
 -- A clause's tokens up to its `:-`, and behind that sign others.
 unfoldable pub up_to_implied : Tokens → Tokens → Tokens
 up_to_implied (ends place) behind = ends place
-up_to_implied (token place t rest) behind = token place t (if is ":" t then behind else up_to_implied rest behind)
+up_to_implied (token place t rest) behind = token place t (when is ":" t then behind else up_to_implied rest behind)
 
 -- "Occurrences in guards don't count for the pairing" (T-02): the tokens that count, of a clause without a bar, and of one with these behind its bar.
 unfoldable pub pairing : Option Tokens → Tokens → Tokens
@@ -68,7 +68,7 @@ head_tokens piece = up_to_implied piece (ends 0)
 -- well" (T-02): of a reader that is free so, only the head's occurrences are judged.
 unfoldable pub twice_in_clause : Bool → Tokens → Bytes → List Fault
 twice_in_clause free piece x =
-    twice_faults (occurs_at writer x piece) ++ twice_faults (occurs_at reader x (if free then head_tokens piece else piece))
+    twice_faults (occurs_at writer x piece) ++ twice_faults (occurs_at reader x (when free then head_tokens piece else piece))
 
 -- In a clause both rules hold, of each of its variables, of which some have readers that are free.
 unfoldable pub clause_faults : (Bytes → Bool) → Tokens → List Bytes → List Fault
@@ -83,7 +83,7 @@ query_faults piece (x ∷ variables) = twice_of piece x ++ query_faults piece va
 -- "Where several apply to an item, the smallest offset decides."
 unfoldable pub smaller : Fault → Option Fault → Fault
 smaller f none = f
-smaller f (some g) = if leb f.offset g.offset then f else g
+smaller f (some g) = when leb f.offset g.offset then f else g
 
 unfoldable pub least : List Fault → Option Fault
 least [] = none

@@ -1,6 +1,6 @@
 -- Document 02, T-02: what each guard answers, over its arguments written out. "Each guard in order succeeds, waits on the readers it needs, or fails."
 use Rattle.std.specs.Prelude.{ℕ, zero, suc, ◌+◌, Bool, true, false, ◌&&◌, List, [], ◌∷◌, eqb, length}
-use Rattle.meaning.specs.Bytes.{if◌then◌else◌}
+use Rattle.meaning.specs.Bytes.{when◌then◌else◌}
 use Rattle.meaning.specs.Terms.{
   Half,
   writer,
@@ -48,7 +48,7 @@ first_of (waits readers) others = waits readers
 first_of fails others = fails
 
 unfoldable pub succeeds_if : Bool → Result
-succeeds_if b = if b then succeeds [] else fails
+succeeds_if b = when b then succeeds [] else fails
 
 -- "A reader waits and a writer fails."
 unfoldable pub unassigned : Half → ℕ → Result

@@ -3,7 +3,7 @@
 use Rattle.std.specs.Prelude.{ℕ, zero, suc, ◌+◌, ◌-◌, min, Bool, true, false, not, ◌&&◌, ◌||◌, List, [], ◌∷◌, ◌++◌, leb, ltb, eqb, length, take}
 use Prim.Native.Char.{Char}
 use Rattle.std.proofs.Math.Option.{Option, none, some}
-use Rattle.meaning.specs.Bytes.{Bytes, bytes_words, byte, same, if◌then◌else◌, all, any, those}
+use Rattle.meaning.specs.Bytes.{Bytes, bytes_words, byte, same, when◌then◌else◌, all, any, those}
 use Rattle.meaning.specs.Terms.{
   Constant,
   empty,
@@ -90,27 +90,27 @@ begins_term bad = false
 -- The next token can stand here at all, or it is 4; it is not taken.
 unfoldable pub standing : (Token → Bool) → Reader (Unit {0})
 standing can counted (ends place) = malformed place
-standing can counted (token place t rest) = if can t then read tt counted (token place t rest) else malformed place
+standing can counted (token place t rest) = when can t then read tt counted (token place t rest) else malformed place
 
 -- This sign comes next.
 unfoldable pub expect : Char → Reader (Unit {0})
-expect c = next (λ place t. if is c t then give tt else cannot_stand place)
+expect c = next (λ place t. when is c t then give tt else cannot_stand place)
 
 -- One of two signs comes next: whether it is the first.
 unfoldable pub either : Char → Char → Reader Bool
-either c d = next (λ place t. if is c t then give true else if is d t then give false else cannot_stand place)
+either c d = next (λ place t. when is c t then give true else when is d t then give false else cannot_stand place)
 
 -- If this sign comes next it is taken and the first reads on, else the second.
 unfoldable pub if_next : {A : Type 0} → Char → Reader A → Reader A → Reader A
 if_next c first second counted (ends place) = second counted (ends place)
 if_next c first second counted (token place t rest) =
-    if is c t then first counted rest else second counted (token place t rest)
+    when is c t then first counted rest else second counted (token place t rest)
 
 -- "256 distinct names, told apart by spelling alone."
 unfoldable pub count_name : Bytes → Reader (Unit {0})
 count_name f counted rest =
-    if any (same f) counted.names then read tt counted rest
-    else if ltb (length counted.names) 256
+    when any (same f) counted.names then read tt counted rest
+    else when ltb (length counted.names) 256
     then read tt (record { names = counted.names ++ (f ∷ []); variables = counted.variables; compounds = counted.compounds }) rest
     else passed
 
@@ -123,7 +123,7 @@ place_of x (y ∷ ys) = elim (same x y) [ true ↦ some 0 | false ↦ elim (plac
 unfoldable pub new_variable : Bytes → Option ℕ → Reader ℕ
 new_variable x (some n) counted rest = read n counted rest
 new_variable x none counted rest =
-    if ltb (length counted.variables) 16
+    when ltb (length counted.variables) 16
     then read (length counted.variables) (record { names = counted.names; variables = counted.variables ++ (x ∷ []); compounds = counted.compounds }) rest
     else passed
 
@@ -133,7 +133,7 @@ count_variable x counted rest = new_variable x (place_of x counted.variables) co
 -- "32 compounds (head, goals and list cells counted)": a compound's number is its place.
 unfoldable pub count_compound : Reader ℕ
 count_compound counted rest =
-    if ltb counted.compounds 32
+    when ltb counted.compounds 32
     then read counted.compounds (record { names = counted.names; variables = counted.variables; compounds = counted.compounds + 1 }) rest
     else passed
 
@@ -143,7 +143,7 @@ arguments argument zero = standing begins_term >> passes
 arguments argument (suc left) = do
   t ← argument
   another ← either "," ")"
-  if another then (arguments argument left >>= λ ts. give (more t ts)) else give (more t end)
+  when another then (arguments argument left >>= λ ts. give (more t ts)) else give (more t end)
 
 -- A compound behind its opening parenthesis.
 unfoldable pub compound_of : Reader Term → Bytes → Reader Named
@@ -155,9 +155,9 @@ compound_of argument f = do
 -- The tail behind an element: more elements, the term behind a `|`, or `[]`.
 unfoldable pub tail_of : Reader Term → Reader Term → ℕ → Token → Reader Term
 tail_of element elements place t =
-    if is "," t then elements
-    else if is "|" t then (element >>= λ tail. expect "]" >> give tail)
-    else if is "]" t then give (Term.constant empty)
+    when is "," t then elements
+    else when is "|" t then (element >>= λ tail. expect "]" >> give tail)
+    else when is "]" t then give (Term.constant empty)
     else cannot_stand place
 
 -- "Each element of a list makes one list cell", counted at its first token; an item has no more than 32 of them.
@@ -179,7 +179,7 @@ unfoldable pub term_from : (Bytes → Reader Term) → Reader Term → ℕ → T
 term_from round square place (name f) = count_name f >> if_next "(" (round f) (give (Term.constant (Constant.name f)))
 term_from round square place (variable h x) = count_variable x >>= λ n. give (Term.variable h n)
 term_from round square place (integer i) = give (Term.constant (Constant.integer i))
-term_from round square place (sign b) = if eqb b (byte "[") then square else cannot_stand place
+term_from round square place (sign b) = when eqb b (byte "[") then square else cannot_stand place
 term_from round square place bad = cannot_stand place
 
 -- "16 brackets open at once, round and square together": a term inside which so many more may open.
@@ -204,7 +204,7 @@ goals zero = standing is_name >> passes
 goals (suc left) = do
   g ← goal
   another ← either "," "."
-  if another then (goals left >>= λ gs. give (g ∷ gs)) else give (g ∷ [])
+  when another then (goals left >>= λ gs. give (g ∷ gs)) else give (g ∷ [])
 
 -- "A clause may read `head :- guard,..,guard | goal,..,goal.`" (02, T-02). A term that no `==` follows is an element only if it begins with a name; behind any
 -- other the next token cannot stand.
@@ -253,9 +253,9 @@ guarded es = do
 
 unfoldable pub behind_element : (List Element → Reader Body) → List Element → ℕ → Token → Reader Body
 behind_element further es place t =
-    if is "," t then further es
-    else if is "|" t then guarded es
-    else if is "." t then unguarded place (as_goals es)
+    when is "," t then further es
+    else when is "|" t then guarded es
+    else when is "." t then unguarded place (as_goals es)
     else cannot_stand place
 
 -- "With 1 to 8 guards", or 8 body goals: "a ninth guard is 6", at its first token. `before` are the elements so far.
@@ -274,7 +274,7 @@ unfoldable pub rule : Reader Rule
 rule = do
   head ← goal
   implied ← either ":" "."
-  behind ← if implied then body 8 [] else give (record { guards = []; goals = []; behind = none })
+  behind ← when implied then body 8 [] else give (record { guards = []; goals = []; behind = none })
   give (record { head = head; body = behind })
 
 -- Why a text is refused, with the place from which the line is computed: the token for 4, where the item begins for 5, 9, 10, 6 and 11.
@@ -311,7 +311,7 @@ free guards variables x = elim (place_of x variables) [ none ↦ false | some n 
 -- A clause whose guards the table has: "11 with another variable, judged after the item's full stop and before 5". It is the nth of the text.
 unfoldable pub with_guards : ℕ → ℕ → Tokens → Rule → Counted → List Guard → Piece
 with_guards nth begins piece r counted guards =
-    if all (of_the_head (length counted.variables) r.head) guards
+    when all (of_the_head (length counted.variables) r.head) guards
     then unless_broken begins (least (clause_faults (free guards counted.variables) (pairing r.body.behind piece) counted.variables))
     (clause (record { place = nth; head = r.head; guards = guards; body = r.body.goals; pairs = length counted.variables; compounds = counted.compounds }) counted.names)
     else refused (guard_rule begins)
@@ -342,17 +342,17 @@ fresh names = record { names = names; variables = []; compounds = 0 }
 -- "128 clauses; 1 to 8 queries": the first token of the 129th clause or ninth query passes the figure.
 unfoldable pub clause_from : SoFar → ℕ → Tokens → Piece
 clause_from so_far begins piece =
-    if ltb so_far.clauses 128 then clause_piece (so_far.clauses + 1) begins piece (rule (fresh so_far.names) piece) else refused (figure begins)
+    when ltb so_far.clauses 128 then clause_piece (so_far.clauses + 1) begins piece (rule (fresh so_far.names) piece) else refused (figure begins)
 
 unfoldable pub query_from : SoFar → ℕ → Tokens → Piece
 query_from so_far begins behind =
-    if ltb so_far.queries 8 then query_piece begins behind (goals 8 (fresh so_far.names) behind) else refused (figure begins)
+    when ltb so_far.queries 8 then query_piece begins behind (goals 8 (fresh so_far.names) behind) else refused (figure begins)
 
 -- A clause begins with a name, a query with `?-`.
 unfoldable pub item_from : SoFar → ℕ → Token → Tokens → Piece
 item_from so_far begins t rest =
-    if is_name t then clause_from so_far begins (token begins t rest)
-    else if is "?" t then query_from so_far begins rest
+    when is_name t then clause_from so_far begins (token begins t rest)
+    else when is "?" t then query_from so_far begins rest
     else refused (no_item begins)
 
 -- The item that a piece of the text holds: "an item begins at its first token".
@@ -368,7 +368,7 @@ onto place t (piece ∷ pieces) = token place t piece ∷ pieces
 unfoldable pub pieces : Tokens → List Tokens
 pieces (ends place) = ends place ∷ []
 pieces (token place t rest) =
-    if is "." t then token place t (ends place) ∷ pieces rest else onto place t (pieces rest)
+    when is "." t then token place t (ends place) ∷ pieces rest else onto place t (pieces rest)
 
 -- A text read: a job, or refused.
 pub data Reading : Type 0 where
@@ -396,7 +396,7 @@ items so_far (piece ∷ pieces) =
 
 -- "Then no query."
 unfoldable pub asked : Reading → Reading
-asked (job j) = if leb 1 (length j.queries) then job j else refused no_query
+asked (job j) = when leb 1 (length j.queries) then job j else refused no_query
 asked (refused r) = refused r
 
 unfoldable pub reading : Bytes → Reading

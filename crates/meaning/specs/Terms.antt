@@ -1,6 +1,6 @@
 -- Document 01, 'Job text', with document 02, T-02: what a term, a guard, a clause, a query and a job are.
 use Rattle.std.specs.Prelude.{ℕ, zero, suc, ◌+◌, Bool, true, false, ◌&&◌, ◌||◌, List, [], ◌∷◌, eqb}
-use Rattle.meaning.specs.Bytes.{Bytes, bytes_words, same, if◌then◌else◌}
+use Rattle.meaning.specs.Bytes.{Bytes, bytes_words, same, when◌then◌else◌}
 
 -- A variable is one of the two halves of a pair.
 pub data Half : Type 0 where
@@ -129,7 +129,7 @@ renamed_goal p c g = record { number = c + g.number; name = g.name; arguments = 
 -- How often one half of pair n occurs.
 unfoldable mutual
   pub occurrences : Half → ℕ → Term → ℕ
-  occurrences h n (variable k m) = if same_half h k && eqb n m then 1 else 0
+  occurrences h n (variable k m) = when same_half h k && eqb n m then 1 else 0
   occurrences h n (constant k) = 0
   occurrences h n (compound m f ts) = all_occurrences h n ts
 

@@ -1,7 +1,7 @@
 -- Document 01, 'Job text', first paragraph, with `==` of document 02, T-02: the text as tokens, each with the offset at which it begins.
 use Rattle.std.specs.Prelude.{ℕ, zero, suc, ◌+◌, ◌*◌, ◌-◌, Bool, true, false, not, ◌&&◌, ◌||◌, List, [], ◌∷◌, leb, eqb, length, drop}
 use Prim.Native.Char.{Char}
-use Rattle.meaning.specs.Bytes.{Bytes, bytes_words, byte, bytes, same, if◌then◌else◌, all}
+use Rattle.meaning.specs.Bytes.{Bytes, bytes_words, byte, bytes, same, when◌then◌else◌, all}
 use Rattle.meaning.specs.Terms.{Half, writer, reader, Integer, plus, minus}
 
 -- A sign is known by its first byte: `:` is `:-`, `?` is `?-`, `=` is `==`.
@@ -63,7 +63,7 @@ next_is test (c ∷ cs) = test c
 
 -- A name or a variable has 1 to 31 bytes, the `?` not counted; an overlong one is one bad token.
 unfoldable pub unless_overlong : Bytes → Token → Token
-unless_overlong spelling t = if leb (length spelling) 31 then t else bad
+unless_overlong spelling t = when leb (length spelling) 31 then t else bad
 
 -- The value of decimal digits.
 unfoldable pub value : ℕ → Bytes → ℕ
@@ -77,10 +77,10 @@ no_leading_zero cs = all digit cs && not (next_is (λ c. eqb c (byte "0")) cs)
 -- "An integer is `0`, or an optional `-` and digits without a leading zero, from -2147483648 to 2147483647."
 unfoldable pub unsigned : Bytes → Token
 unsigned cs =
-    if same cs (bytes "0") || no_leading_zero cs && leb (value 0 cs) 2147483647 then integer (plus (value 0 cs)) else bad
+    when same cs (bytes "0") || no_leading_zero cs && leb (value 0 cs) 2147483647 then integer (plus (value 0 cs)) else bad
 
 unfoldable pub negative : Bytes → Token
-negative cs = if no_leading_zero cs && leb (value 0 cs) 2147483648 then integer (minus (value 0 cs)) else bad
+negative cs = when no_leading_zero cs && leb (value 0 cs) 2147483648 then integer (minus (value 0 cs)) else bad
 
 -- What stands in front: bytes between tokens, or a token; with how many bytes it has behind its first.
 pub data Front : Type 0 where
@@ -94,31 +94,31 @@ name_front cs = token (length cs - 1) (unless_overlong cs (name cs))
 -- A run led by an uppercase letter is a writer, "a reader is a writer with `?` directly after it".
 unfoldable pub variable_front : Bytes → Bytes → Front
 variable_front cs behind =
-    if next_is (λ c. eqb c (byte "?")) behind
+    when next_is (λ c. eqb c (byte "?")) behind
     then token (length cs) (unless_overlong cs (variable reader cs))
     else token (length cs - 1) (unless_overlong cs (variable writer cs))
 
 -- Signs of two bytes: `:-`, `?-` and `==`, by the second.
 unfoldable pub double_front : Char → ℕ → Bytes → Front
-double_front second c cs = if next_is (λ d. eqb d (byte second)) cs then token 1 (sign c) else token 0 bad
+double_front second c cs = when next_is (λ d. eqb d (byte second)) cs then token 1 (sign c) else token 0 bad
 
 -- "A `-` right before a first digit" belongs to the run.
 unfoldable pub minus_front : Bytes → Front
-minus_front cs = if next_is digit cs then token (length (run cs)) (negative (run cs)) else token 0 bad
+minus_front cs = when next_is digit cs then token (length (run cs)) (negative (run cs)) else token 0 bad
 
 -- "A token is the longest run ..., `:-`, `?-`, or one of the signs used below; a run led by `_` and any other byte are bad tokens."
 unfoldable pub front : ℕ → Bytes → Front
 front c cs =
-    if separates c then blank 0
-    else if eqb c (byte "%") then blank (remark cs)
-    else if lowercase c then name_front (c ∷ run cs)
-    else if uppercase c then variable_front (c ∷ run cs) (drop (length (run cs)) cs)
-    else if digit c then token (length (run cs)) (unsigned (c ∷ run cs))
-    else if underscore c then token (length (run cs)) bad
-    else if eqb c (byte "-") then minus_front cs
-    else if eqb c (byte ":") || eqb c (byte "?") then double_front "-" c cs
-    else if eqb c (byte "=") then double_front "=" c cs
-    else if single_sign c then token 0 (sign c)
+    when separates c then blank 0
+    else when eqb c (byte "%") then blank (remark cs)
+    else when lowercase c then name_front (c ∷ run cs)
+    else when uppercase c then variable_front (c ∷ run cs) (drop (length (run cs)) cs)
+    else when digit c then token (length (run cs)) (unsigned (c ∷ run cs))
+    else when underscore c then token (length (run cs)) bad
+    else when eqb c (byte "-") then minus_front cs
+    else when eqb c (byte ":") || eqb c (byte "?") then double_front "-" c cs
+    else when eqb c (byte "=") then double_front "=" c cs
+    else when single_sign c then token 0 (sign c)
     else token 0 bad
 
 -- What stands in front at an offset, with the tokens that follow behind so many more bytes.

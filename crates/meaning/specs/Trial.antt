@@ -1,7 +1,7 @@
 -- Document 01, 'One step', with document 02's guards: the trial of a clause, and the choice of a clause.
 use Rattle.std.specs.Prelude.{ℕ, zero, suc, ◌+◌, Bool, true, false, ◌&&◌, List, [], ◌∷◌, ◌++◌, eqb, length, set, replicate}
 use Rattle.std.proofs.Math.Option.{Option, none, some}
-use Rattle.meaning.specs.Bytes.{same, if◌then◌else◌, those}
+use Rattle.meaning.specs.Bytes.{same, when◌then◌else◌, those}
 use Rattle.meaning.specs.Terms.{Named, Clause, count, all_renamed}
 use Rattle.meaning.specs.State.{Values, QueryUnit}
 use Rattle.meaning.specs.Compare.{Assignment, Result, succeeds, waits, fails, followed, places, compare_words}
@@ -32,7 +32,7 @@ values_after clause given unit = assigned given (with_pairs clause.pairs unit.va
 
 -- "If all places agree, the circle test follows."
 unfoldable pub tested : Clause → QueryUnit → Result → Result
-tested clause unit (succeeds given) = if circle (values_after clause given unit) then fails else succeeds given
+tested clause unit (succeeds given) = when circle (values_after clause given unit) then fails else succeeds given
 tested clause unit (waits readers) = waits readers
 tested clause unit fails = fails
 

@@ -5,7 +5,7 @@ use mathlib.Core.List.{List, [], ◌∷◌, ◌++◌}
 use mathlib.Core.Option.{Option, none, some}
 use native.Mathlib.Omega.{arith}
 use lib.ListN.{length, get_or}
-use Rattle.meaning.specs.Bytes.{Bytes, if◌then◌else◌}
+use Rattle.meaning.specs.Bytes.{Bytes, when◌then◌else◌}
 use Rattle.meaning.specs.Terms.{Term, as_term}
 use Rattle.meaning.specs.State.{Room, Goal, value}
 use Rattle.term.specs.Layout.{waiters_region, compounds_region, pairs_told, pair_facts, query_pairs_word, query_first_pair_word, query_tries_word, query_variables_from}
@@ -59,7 +59,7 @@ own_same : (s s' : List ℕ) (g : Group) (q : ℕ) → ((i : ℕ) → goal_in s'
 unfolding own_from
 own_same s s' g q same zero i = refl
 own_same s s' g q same (suc n) i =
-    ap₂ (λ (w : ℕ) (l : List ℕ). if own q w then w ∷ l else l) (same i) (own_same s s' g q same n (i + 1))
+    ap₂ (λ (w : ℕ) (l : List ℕ). when own q w then w ∷ l else l) (same i) (own_same s s' g q same n (i + 1))
 
 module _ (figures : Room) (s s' : List ℕ) (o : FactsOnly figures s s') where
   list_same : (g : Group) (q n : ℕ) → waiters_region figures + pair_facts * figures.pairs ≤ g.from → own_from s' g q 0 n ≡ own_from s g q 0 n

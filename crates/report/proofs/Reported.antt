@@ -9,7 +9,7 @@ use lib.Dec.{leb}
 use lib.ListN.{length, get_or, set, drop, length-set}
 use lib.Seq.{get_or-set_other}
 use borrow.Author.Tests.{le-leb, lt-leb}
-use Rattle.meaning.specs.Bytes.{Bytes, if◌then◌else◌}
+use Rattle.meaning.specs.Bytes.{Bytes, when◌then◌else◌}
 use Rattle.meaning.specs.Terms.{Job}
 use Rattle.meaning.specs.State.{Room}
 use Rattle.meaning.specs.Run.{run}
@@ -36,15 +36,15 @@ and_false true = refl
 and_false false = refl
 
 with_none : (bs buffer : Bytes) → length buffer < length bs → buffer ≡ with_report bs buffer
-unfolding with_report if◌then◌else◌
+unfolding with_report when◌then◌else◌
 with_none bs buffer h = rw (lt-leb (length bs) (length buffer) h)
 
 with_too_long : (bs buffer : Bytes) → 16777216 < length bs → buffer ≡ with_report bs buffer
-unfolding with_report if◌then◌else◌
+unfolding with_report when◌then◌else◌
 with_too_long bs buffer h = rw (lt-leb (length bs) 16777216 h, and_false (leb (length bs) (length buffer)))
 
 with_all : (bs buffer : Bytes) → length bs ≤ length buffer → length bs ≤ 16777216 → bs ++ drop (length bs) buffer ≡ with_report bs buffer
-unfolding with_report if◌then◌else◌
+unfolding with_report when◌then◌else◌
 with_all bs buffer h l = rw (le-leb (length bs) (length buffer) h, le-leb (length bs) 16777216 l)
 
 -- Before the counting: nothing is kept of the pairs from `facts` on, and the trial's second word is the room's pairs.

@@ -7,7 +7,7 @@ use mathlib.Core.Option.{Option, none, some}
 use native.Mathlib.Omega.{arith}
 use lib.ListN.{length, get_or, set, length-set, length-replicate}
 use lib.Seq.{get_or-set_same, get_or-set_other}
-use Rattle.meaning.specs.Bytes.{Bytes, if◌then◌else◌, those}
+use Rattle.meaning.specs.Bytes.{Bytes, when◌then◌else◌, those}
 use Rattle.meaning.specs.Terms.{Term, Query, Job, as_term}
 use Rattle.meaning.specs.State.{Room, QueryUnit, Goal, State, value, no_unit, unit_at, first_unit, start, of}
 use Rattle.meaning.specs.Trial.{Choice, reduces, joins_waiting, joins_failed}
@@ -154,7 +154,7 @@ module _ (figures : Room) (s s' : List ℕ) (b : Beside figures s s') (x : Setti
   unfolding own_from
   own_stays g q far zero i = refl
   own_stays g q far (suc n) i =
-      ap₂ (λ (w : ℕ) (l : List ℕ). if own q w then w ∷ l else l) (b.behind (goal_place g i) (omega arith)) (own_stays g q far n (i + 1))
+      ap₂ (λ (w : ℕ) (l : List ℕ). when own q w then w ∷ l else l) (b.behind (goal_place g i) (omega arith)) (own_stays g q far n (i + 1))
 
   pub listed_stays : (g : Group) (q : ℕ) (gs : List Goal) → Listed s x (waiters_region figures) g q gs → Listed s' x (waiters_region figures) g q gs
   listed_stays g q gs l =

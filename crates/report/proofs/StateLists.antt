@@ -7,7 +7,7 @@ use native.Mathlib.Omega.{arith}
 use lib.Dec.{eqb}
 use lib.ListN.{length}
 use borrow.Author.Tests.{eqb-true}
-use Rattle.meaning.specs.Bytes.{Bytes, if◌then◌else◌, those}
+use Rattle.meaning.specs.Bytes.{Bytes, when◌then◌else◌, those}
 use Rattle.meaning.specs.Terms.{Query, as_term}
 use Rattle.meaning.specs.State.{Room, QueryUnit, Goal, State, of}
 use Rattle.laws.proofs.Lists.EachOf.{Each, each_those}
@@ -32,7 +32,7 @@ own_word atlas q h = packed_goal q ((atlas q).compound h.goal.number) (origin_wo
 
 module _ (atlas : Atlas) (q : ℕ) where
   own_places : (gs : List Goal) → map (goal_word atlas) (those (of q) gs) ≡ map (own_word atlas q) (those (of q) gs)
-  unfolding those if◌then◌else◌
+  unfolding those when◌then◌else◌
   own_places [] = refl
   own_places (g ∷ gs) = go (of q g) refl (own_places gs)
     where
@@ -45,7 +45,7 @@ module _ (atlas : Atlas) (q : ℕ) where
 
   own_held : (s : List ℕ) (figures : Room) (units : List QueryUnit) (gs : List Goal) → AllStand s figures atlas units gs → Each (λ g. Sound (as_term g.goal)) gs
       → GoalsHeld s (setting_at figures atlas units q) (those (of q) gs)
-  unfolding those if◌then◌else◌
+  unfolding those when◌then◌else◌
   own_held s figures units [] all sound = tt
   own_held s figures units (g ∷ gs) all sound = go (of q g) refl (own_held s figures units gs all.1 sound.1)
     where

@@ -1,6 +1,6 @@
 -- What `report` tells: the definition's report, up to its ceiling, in the buffer if it fits.
 use Rattle.std.specs.Prelude.{ℕ, ◌+◌, ◌*◌, ◌≤◌, ◌<◌, min, ◌≡◌, ◌&&◌, List, ◌++◌, leb, length, get_or, drop}
-use Rattle.meaning.specs.Bytes.{Bytes, if◌then◌else◌}
+use Rattle.meaning.specs.Bytes.{Bytes, when◌then◌else◌}
 use Rattle.meaning.specs.Terms.{Job}
 use Rattle.meaning.specs.State.{Room}
 use Rattle.meaning.specs.Run.{run}
@@ -9,7 +9,7 @@ use Rattle.term.specs.Layout.{trial_region, pairs_told, waiters_region, pair_fac
 
 -- The report stands at the front of the buffer if it fits the buffer and the ceiling; else the buffer is as it was.
 unfoldable pub with_report : Bytes → Bytes → Bytes
-with_report bs buffer = if leb (length bs) (length buffer) && leb (length bs) 16777216 then bs ++ drop (length bs) buffer else buffer
+with_report bs buffer = when leb (length bs) (length buffer) && leb (length bs) 16777216 then bs ++ drop (length bs) buffer else buffer
 
 -- "The smaller of its length and 16,777,217". Of the scratch only the trial's first two words and what is kept of each pair, from the waiters on, have
 -- changed.

@@ -10,7 +10,7 @@ use lib.ListN.{length, length-append, get_or, set, length-set}
 use lib.Seq.{get_or-set_same, get_or-set_other}
 use lib.Dec.{eqb}
 use borrow.Author.Tests.{eqb-true, eqb-false, eq-eqb, ne_eqb}
-use Rattle.meaning.specs.Bytes.{Bytes, among, if◌then◌else◌}
+use Rattle.meaning.specs.Bytes.{Bytes, among, when◌then◌else◌}
 use Rattle.meaning.specs.Terms.{Half, Term}
 use Rattle.meaning.specs.State.{value}
 use Rattle.meaning.specs.Report.{alone, number_in}
@@ -35,18 +35,18 @@ number_positive n (m ∷ l) = go (eqb n m)
 
 -- Whether it was seen, by the number that it has.
 seen_by : (n : ℕ) (seen : List ℕ) (k : ℕ) → k ≡ number_seen n seen → k ≢ 0 → (among n seen ≡ true) × (k ≡ number_in n seen)
-unfolding if◌then◌else◌
+unfolding when◌then◌else◌
 seen_by n seen k e d = go (among n seen) refl e
   where
-    go : (b : Bool) → among n seen ≡ b → k ≡ (if b then number_in n seen else 0) → (b ≡ true) × (k ≡ number_in n seen)
+    go : (b : Bool) → among n seen ≡ b → k ≡ (when b then number_in n seen else 0) → (b ≡ true) × (k ≡ number_in n seen)
     go true q e = (refl, e)
     go false q e = absurd (d e)
 
 unseen_by : (n : ℕ) (seen : List ℕ) (k : ℕ) → k ≡ number_seen n seen → k ≡ 0 → among n seen ≡ false
-unfolding if◌then◌else◌
+unfolding when◌then◌else◌
 unseen_by n seen k e z = go (among n seen) refl e
   where
-    go : (b : Bool) → among n seen ≡ b → k ≡ (if b then number_in n seen else 0) → b ≡ false
+    go : (b : Bool) → among n seen ≡ b → k ≡ (when b then number_in n seen else 0) → b ≡ false
     go true q e = absurd (omega (arith, number_positive n seen))
     go false q e = refl
 
@@ -90,7 +90,7 @@ module _ (s : List ℕ) (text : Bytes) (x : Setting) (facts : ℕ) (r : Readable
   after_is h = seen_after_new seen h n new
 
   number_other : (m : ℕ) → m ≢ n → number_seen m seen ≡ number_seen m (seen ++ (n ∷ []))
-  unfolding among if◌then◌else◌
+  unfolding among when◌then◌else◌
   number_other m d = go (among m seen) refl
     where
       go : (t : Bool) → among m seen ≡ t → number_seen m seen ≡ number_seen m (seen ++ (n ∷ []))
@@ -98,7 +98,7 @@ module _ (s : List ℕ) (text : Bytes) (x : Setting) (facts : ℕ) (r : Readable
       go false q = rw (among_append m seen (n ∷ []), q, ne_eqb m n d)
 
   number_here : next ≡ number_seen n (seen ++ (n ∷ []))
-  unfolding among if◌then◌else◌
+  unfolding among when◌then◌else◌
   number_here = rw (among_append n seen (n ∷ []), new, eq-eqb n n refl) (rw (number_in_new n seen new) (omega arith))
 
   lengths_on : (m : ℕ) (v : Option Term) → get_or s₂ (fact_place x facts m + 1) 0 ≡ get_or s (fact_place x facts m + 1) 0

@@ -8,7 +8,7 @@ use native.Mathlib.Omega.{arith}
 use lib.ListN.{length, length-append, get_or}
 use lib.Seq.{slice}
 use mathlib.Core.Logic.{◌≢◌}
-use Rattle.meaning.specs.Bytes.{Bytes, bytes, decimal, same, any, if◌then◌else◌}
+use Rattle.meaning.specs.Bytes.{Bytes, bytes, decimal, same, any, when◌then◌else◌}
 use Rattle.meaning.specs.Terms.{Half, writer, reader, Integer, plus, minus, Constant, Functor, cell, named, Term, Terms}
 use Rattle.meaning.specs.State.{value}
 use Rattle.meaning.specs.Report.{alone, written, variable_bytes, number_in, integer_bytes, constant_bytes, behind_bar, empty_bytes}
@@ -28,12 +28,12 @@ use Rattle.report_pairs.proofs.Told.{seen, seen_term, writer_told, reader_told, 
 
 -- A known name stands where its number says.
 name_at : (f : Bytes) (names : List Bytes) → KnownName names f → get_or names (number_of f names) [] ≡ f
-unfolding number_of any if◌then◌else◌
+unfolding number_of any when◌then◌else◌
 name_at f [] h = let z : ◌≡◌ {A = ℕ} 0 1 = cc in absurd (omega arith)
 name_at f (g ∷ names) h = go (same f g) refl h (name_at f names)
   where
     go : (b : Bool) → same f g ≡ b → (b || any (same f) names) ≡ true → (KnownName names f → get_or names (number_of f names) [] ≡ f)
-        → get_or (g ∷ names) (if b then 0 else suc (number_of f names)) [] ≡ f
+        → get_or (g ∷ names) (when b then 0 else suc (number_of f names)) [] ≡ f
     go true e k further = sym (same_equal f g e)
     go false e k further = further k
 

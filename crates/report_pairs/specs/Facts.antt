@@ -3,7 +3,7 @@
 -- has how many numbers were given.
 use Rattle.std.specs.Prelude.{ℕ, ◌+◌, ◌-◌, ◌*◌, ◌≤◌, ◌<◌, ◌≡◌, false, ◌≢◌, List, length, get_or}
 use Rattle.std.proofs.Math.Option.{Option, none, some}
-use Rattle.meaning.specs.Bytes.{Bytes, among, if◌then◌else◌}
+use Rattle.meaning.specs.Bytes.{Bytes, among, when◌then◌else◌}
 use Rattle.meaning.specs.Terms.{Term}
 use Rattle.meaning.specs.State.{Values, value}
 use Rattle.meaning.specs.Circle.{circle}
@@ -80,7 +80,7 @@ LengthAt s x facts seen n (some u) = get_or s (fact_place x facts n + 1) 0 ≢ 0
 
 -- The section's pairs seen so far have their numbers, in order; the others have none.
 abbrev pub number_seen : ℕ → List ℕ → ℕ
-number_seen n seen = if among n seen then number_in n seen else 0
+number_seen n seen = when among n seen then number_in n seen else 0
 
 pub record Counting (s : List ℕ) (x : Setting) (facts : ℕ) (seen : List ℕ) : Type 0 where
   pub given : get_or s trial_region 0 ≡ length seen

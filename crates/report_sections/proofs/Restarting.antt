@@ -6,7 +6,7 @@ use mathlib.Core.Option.{Option, none, some}
 use native.Mathlib.Omega.{arith}
 use lib.ListN.{length, get_or, set, length-set}
 use lib.Seq.{get_or-set_same, get_or-set_other}
-use Rattle.meaning.specs.Bytes.{Bytes, among, if◌then◌else◌}
+use Rattle.meaning.specs.Bytes.{Bytes, among, when◌then◌else◌}
 use Rattle.meaning.specs.Terms.{Term}
 use Rattle.meaning.specs.State.{Room, Values, Goal, value}
 use Rattle.meaning.specs.Report.{alone, written}
@@ -102,7 +102,7 @@ module _ (s : List ℕ) (text : Bytes) (x : Setting) (figures : Room) (t : Stand
   no_length n (some w) e = λ d. absurd (d e)
 
   counting₀ : Counting s₀ x facts []
-  unfolding among if◌then◌else◌
+  unfolding among when◌then◌else◌
   counting₀ =
       record {
         given = get_or-set_same s trial_region 0 0 (omega (arith, long));

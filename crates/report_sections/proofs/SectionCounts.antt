@@ -4,7 +4,7 @@ use mathlib.Core.Path.{◌≡◌, refl, sym, ap, ap₂, ◌∙◌}
 use mathlib.Core.List.{List, [], ◌∷◌, ◌++◌, append_assoc}
 use native.Mathlib.Omega.{arith}
 use lib.ListN.{length, get_or}
-use Rattle.meaning.specs.Bytes.{Bytes, bytes, if◌then◌else◌}
+use Rattle.meaning.specs.Bytes.{Bytes, bytes, when◌then◌else◌}
 use Rattle.meaning.specs.Terms.{as_term}
 use Rattle.meaning.specs.State.{Room, Values, Goal}
 use Rattle.term.specs.Setting.{Setting}
@@ -25,7 +25,7 @@ own_kept : (s s' : List ℕ) (g : Group) (q : ℕ) → ((i : ℕ) → goal_in s'
 unfolding own_from
 own_kept s s' g q same zero i = refl
 own_kept s s' g q same (suc n) i =
-    ap₂ (λ (w : ℕ) (l : List ℕ). if own q w then w ∷ l else l) (same i) (own_kept s s' g q same n (i + 1))
+    ap₂ (λ (w : ℕ) (l : List ℕ). when own q w then w ∷ l else l) (same i) (own_kept s s' g q same n (i + 1))
 
 held_kept : (s s' : List ℕ) (text : Bytes) (x : Setting) (facts : ℕ) → Readable s text x facts → Changed s s' x facts → (gs : List Goal)
     → GoalsHeld s x gs → GoalsHeld s' x gs

@@ -5,7 +5,7 @@ use mathlib.Core.Bool.{Bool, true, false}
 use mathlib.Core.List.{List, [], ◌∷◌, ◌++◌, map, append_assoc, append-nil}
 use native.Mathlib.Omega.{arith}
 use lib.ListN.{length, length-append}
-use Rattle.meaning.specs.Bytes.{Bytes, bytes, among, if◌then◌else◌}
+use Rattle.meaning.specs.Bytes.{Bytes, bytes, among, when◌then◌else◌}
 use Rattle.meaning.specs.Terms.{Term, as_term}
 use Rattle.meaning.specs.State.{Values, Goal}
 use Rattle.meaning.specs.Report.{alone, written, number_in, origin_bytes}
@@ -40,9 +40,9 @@ written_goals_append values order word (g ∷ gs) hs =
 -- Pairs that are among the order have their numbers in it.
 pub numbered_in : (s : List ℕ) (x : Setting) (facts : ℕ) (order : List ℕ) (t : Term) → Numbers s x facts order
     → ((n : ℕ) → Stands n t → among n order ≡ true) → Numbered s x facts order t
-unfolding if◌then◌else◌
+unfolding when◌then◌else◌
 numbered_in s x facts order t numbers all n h stands =
-    numbers n h ∙ ap (λ (b : Bool). if b then number_in n order else 0) (all n stands)
+    numbers n h ∙ ap (λ (b : Bool). when b then number_in n order else 0) (all n stands)
 
 -- The line of a goal, alone and in its list.
 abbrev pub goal_line : Values → List ℕ → Bytes → Goal → Bytes

@@ -7,18 +7,18 @@ use native.Mathlib.Omega.{arith}
 use lib.Dec.{eqb, ltb}
 use lib.ListN.{length, get_or}
 use borrow.Author.Tests.{le-leb, leb-true, eq-eqb, ne_eqb}
-use Rattle.meaning.specs.Bytes.{if◌then◌else◌}
+use Rattle.meaning.specs.Bytes.{when◌then◌else◌}
 use Rattle.term.specs.States.{round, standing}
 use Rattle.term.specs.Words.{tag_in}
 use Rattle.report_tallies.specs.Groups.{goal_place, goal_in, GroupInside, own, own_from}
 use Rattle.report_tallies.specs.declared.groups.Group.{Group}
 
 pub round_below : (size at : ℕ) → at < size → round size at ≡ at
-unfolding round if◌then◌else◌
+unfolding round when◌then◌else◌
 round_below size at h = rw (le-leb (suc at) size h)
 
 pub round_beyond : (size at : ℕ) → size ≤ at → round size at ≡ at - size
-unfolding round if◌then◌else◌
+unfolding round when◌then◌else◌
 round_beyond size at h = go (ltb at size) refl
   where
     go : (b : Bool) → ltb at size ≡ b → round size at ≡ at - size
@@ -43,11 +43,11 @@ goal_beyond s g i k = ap (λ (n : ℕ). get_or s (g.from + g.step * n) 0) (sym (
 
 -- A word is a query's.
 pub own_none : (q w : ℕ) → w ≡ 0 → own q w ≡ false
-unfolding own if◌then◌else◌
+unfolding own when◌then◌else◌
 own_none q w e = rw (eq-eqb w 0 e)
 
 pub own_some : (q w : ℕ) → (w ≡ 0 → ⊥) → own q w ≡ eqb (tag_in w) q
-unfolding own if◌then◌else◌
+unfolding own when◌then◌else◌
 own_some q w d = rw (ne_eqb w 0 d)
 
 -- One place more of a list, whose word is the query's or is not.
@@ -55,11 +55,11 @@ suc_less : (i n : ℕ) → i < n → n - i ≡ suc (n - (i + 1))
 suc_less i n h = omega arith
 
 own_in_one : (s : List ℕ) (g : Group) (q i m : ℕ) → own q (goal_in s g i) ≡ true → own_from s g q i (suc m) ≡ goal_in s g i ∷ own_from s g q (i + 1) m
-unfolding own_from if◌then◌else◌
+unfolding own_from when◌then◌else◌
 own_in_one s g q i m e = rw e
 
 own_out_one : (s : List ℕ) (g : Group) (q i m : ℕ) → own q (goal_in s g i) ≡ false → own_from s g q i (suc m) ≡ own_from s g q (i + 1) m
-unfolding own_from if◌then◌else◌
+unfolding own_from when◌then◌else◌
 own_out_one s g q i m e = rw e
 
 pub own_in : (s : List ℕ) (g : Group) (q i n : ℕ) → i < n → own q (goal_in s g i) ≡ true

@@ -8,7 +8,7 @@ use native.Mathlib.Omega.{arith}
 use lib.Dec.{eqb, ltb}
 use lib.ListN.{length, get_or}
 use borrow.Author.Tests.{le-leb, leb-true, eq-eqb, ne_eqb}
-use Rattle.meaning.specs.Bytes.{Bytes, if◌then◌else◌, those}
+use Rattle.meaning.specs.Bytes.{Bytes, when◌then◌else◌, those}
 use Rattle.meaning.specs.Terms.{Query, as_term}
 use Rattle.meaning.specs.State.{Room, QueryUnit, Goal, Waiting, State, unit_at, number_of, of}
 use Rattle.laws.proofs.Lists.EachOf.{Each, each_append, each_split, each_map}
@@ -41,12 +41,12 @@ abbrev rests : ℕ → ℕ → Bool
 rests q w = eqb (tag_in w) q
 
 -- A query's goals from a place on are those of the goals there.
-own_one : (q w : ℕ) (l : List ℕ) → (if own q w then w ∷ l else l) ≡ those (rests q) (standing w) ++ l
-unfolding own if◌then◌else◌ those
+own_one : (q w : ℕ) (l : List ℕ) → (when own q w then w ∷ l else l) ≡ those (rests q) (standing w) ++ l
+unfolding own when◌then◌else◌ those
 own_one q zero l = refl
 own_one q (suc w) l = go (rests q (suc w)) refl
   where
-    go : (b : Bool) → rests q (suc w) ≡ b → (if own q (suc w) then suc w ∷ l else l) ≡ those (rests q) (standing (suc w)) ++ l
+    go : (b : Bool) → rests q (suc w) ≡ b → (when own q (suc w) then suc w ∷ l else l) ≡ those (rests q) (standing (suc w)) ++ l
     go true e = rw (ne_eqb (suc w) 0 (λ z. omega arith), e)
     go false e = rw (ne_eqb (suc w) 0 (λ z. omega arith), e)
 
@@ -54,7 +54,7 @@ pub own_those : (s : List ℕ) (g : Group) (q i n : ℕ) → own_from s g q i n 
 unfolding own_from goals_from those
 own_those s g q i zero = refl
 own_those s g q i (suc n) =
-    ap (λ (l : List ℕ). if own q (goal_in s g i) then goal_in s g i ∷ l else l) (own_those s g q (i + 1) n)
+    ap (λ (l : List ℕ). when own q (goal_in s g i) then goal_in s g i ∷ l else l) (own_those s g q (i + 1) n)
     ∙ own_one q (goal_in s g i) (those (rests q) (goals_from s g (i + 1) n))
     ∙ sym (those_append (rests q) (standing (goal_in s g i)) (goals_from s g (i + 1) n))
 
@@ -138,7 +138,7 @@ module _ (s : List ℕ) (names : List Bytes) (figures : Room) (atlas : Atlas) (u
 
   pub own_words : (q : ℕ) (gs : List Goal) → AllStand s figures atlas units gs
       → those (rests q) (map (goal_word atlas) gs) ≡ map (goal_word atlas) (those (of q) gs)
-  unfolding those if◌then◌else◌ of
+  unfolding those when◌then◌else◌ of
   own_words q [] all = refl
   own_words q (g ∷ gs) all = go (of q g) refl (own_words q gs all.1)
     where

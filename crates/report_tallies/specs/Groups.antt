@@ -1,6 +1,6 @@
 -- The goals of one of the three lists, as words of the scratch: one by one, and those of a query.
 use Rattle.std.specs.Prelude.{ℕ, zero, suc, ◌+◌, ◌*◌, ◌%◌, ◌≤◌, ◌<◌, Bool, true, false, List, [], ◌∷◌, ◌++◌, eqb, length, get_or}
-use Rattle.meaning.specs.Bytes.{if◌then◌else◌}
+use Rattle.meaning.specs.Bytes.{when◌then◌else◌}
 use Rattle.meaning.specs.State.{Room}
 use Rattle.term.specs.States.{round, standing}
 use Rattle.term.specs.Layout.{queue_region, waiting_region, failed_region}
@@ -22,7 +22,7 @@ pub record GroupInside (s : List ℕ) (g : Group) : Type 0 where
 
 -- A goal's word has its query's place for a remainder by 8; 0 is no goal.
 unfoldable pub own : ℕ → ℕ → Bool
-own q w = if eqb w 0 then false else eqb (tag_in w) q
+own q w = when eqb w 0 then false else eqb (tag_in w) q
 
 -- The goals of so many places from the i-th on, and those of them that are a query's.
 unfoldable pub goals_from : List ℕ → Group → ℕ → ℕ → List ℕ
@@ -31,7 +31,7 @@ goals_from s g i (suc n) = standing (goal_in s g i) ++ goals_from s g (i + 1) n
 
 unfoldable pub own_from : List ℕ → Group → ℕ → ℕ → ℕ → List ℕ
 own_from s g q i zero = []
-own_from s g q i (suc n) = if own q (goal_in s g i) then goal_in s g i ∷ own_from s g q (i + 1) n else own_from s g q (i + 1) n
+own_from s g q i (suc n) = when own q (goal_in s g i) then goal_in s g i ∷ own_from s g q (i + 1) n else own_from s g q (i + 1) n
 
 -- The three lists.
 abbrev pub active_group : Room → Standing → Group

@@ -4,7 +4,7 @@ use mathlib.Core.Path.{◌≡◌, refl, ap, ◌∙◌}
 use native.Mathlib.Omega.{arith}
 use lib.Dec.{ltb}
 use borrow.Author.Tests.{eq-eqb, ne_eqb}
-use Rattle.meaning.specs.Bytes.{if◌then◌else◌}
+use Rattle.meaning.specs.Bytes.{when◌then◌else◌}
 use Rattle.term.specs.Cells.{Places}
 use Rattle.term.specs.States.{Atlas}
 use Rattle.term.specs.Layout.{compounds_region, compound_words}
@@ -42,13 +42,13 @@ module _ (places : Places) (p c pair : ℕ) (y : Copies) where
         width_at = λ n h. behind n y.width places.width;
       }
     where
-      behind : (n : ℕ) (f g : ℕ → ℕ) → (if ltb (c + n) c then g (c + n) else f (c + n - c)) ≡ f n
+      behind : (n : ℕ) (f g : ℕ → ℕ) → (when ltb (c + n) c then g (c + n) else f (c + n - c)) ≡ f n
       behind n f g = if_beyond (c + n) c (g (c + n)) (f (c + n - c)) (omega arith) ∙ ap f (omega arith)
 
 pub replaced_there : (atlas : Atlas) (q : ℕ) (places : Places) → replaced_at atlas q places q ≡ places
-unfolding if◌then◌else◌
+unfolding when◌then◌else◌
 replaced_there atlas q places = rw (eq-eqb q q refl)
 
 pub replaced_elsewhere : (atlas : Atlas) (q k : ℕ) (places : Places) → (k ≡ q → ⊥) → replaced_at atlas q places k ≡ atlas k
-unfolding if◌then◌else◌
+unfolding when◌then◌else◌
 replaced_elsewhere atlas q k places other = rw (ne_eqb k q other)

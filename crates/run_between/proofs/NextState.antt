@@ -6,7 +6,7 @@ use mathlib.Core.List.{List, [], ◌∷◌, ◌++◌, map}
 use mathlib.Core.Option.{some}
 use native.Mathlib.Omega.{arith}
 use lib.ListN.{length, get_or, length-append, length-map}
-use Rattle.meaning.specs.Bytes.{Bytes, those, if◌then◌else◌}
+use Rattle.meaning.specs.Bytes.{Bytes, those, when◌then◌else◌}
 use Rattle.meaning.specs.Terms.{Term, Clause, Job}
 use Rattle.meaning.specs.State.{Room, QueryUnit, Goal, Waiting, State, value, unit_at, number_of, goals_at}
 use Rattle.meaning.specs.Compare.{Assignment}
@@ -98,12 +98,12 @@ length_emptied zs [] = refl
 length_emptied zs (v ∷ slots) = ap suc (length_emptied zs slots)
 
 length_hits : (zs : List ℕ) (i : ℕ) (slots : List Slot) → length (hits zs i slots) ≡ length (woken zs slots)
-unfolding hits woken if◌then◌else◌
+unfolding hits woken when◌then◌else◌
 length_hits zs i [] = refl
 length_hits zs i (v ∷ slots) = go (hit zs v) (length_hits zs (i + 1) slots)
   where
     go : (b : Bool) → length (hits zs (i + 1) slots) ≡ length (woken zs slots)
-        → length (if b then i ∷ hits zs (i + 1) slots else hits zs (i + 1) slots) ≡ length (if b then goal_in v ∷ woken zs slots else woken zs slots)
+        → length (when b then i ∷ hits zs (i + 1) slots else hits zs (i + 1) slots) ≡ length (when b then goal_in v ∷ woken zs slots else woken zs slots)
     go true e = ap suc e
     go false e = e
 
@@ -114,12 +114,12 @@ module _ (s : List ℕ) (figures : Room) (atlas : Atlas) (units : List QueryUnit
 
   all_those : (test : Waiting → Bool) (ws : List Waiting) → AllStand s figures atlas units (map (λ w. w.goal) ws)
       → AllStand s figures atlas units (map (λ w. w.goal) (those test ws))
-  unfolding those if◌then◌else◌
+  unfolding those when◌then◌else◌
   all_those test [] a = tt
   all_those test (w ∷ ws) a = go (test w) (all_those test ws a.1)
     where
       go : (b : Bool) → AllStand s figures atlas units (map (λ w. w.goal) (those test ws))
-          → AllStand s figures atlas units (map (λ w. w.goal) (if b then w ∷ those test ws else those test ws))
+          → AllStand s figures atlas units (map (λ w. w.goal) (when b then w ∷ those test ws else those test ws))
       go true later = (a.0, later)
       go false later = later
 

@@ -6,7 +6,7 @@ use mathlib.Core.List.{List, [], ◌∷◌, map}
 use native.Mathlib.Omega.{arith}
 use lib.ListN.{length}
 use borrow.Author.Tests.{eq-eqb}
-use Rattle.meaning.specs.Bytes.{Bytes, those, if◌then◌else◌}
+use Rattle.meaning.specs.Bytes.{Bytes, those, when◌then◌else◌}
 use Rattle.meaning.specs.Terms.{Clause, Job}
 use Rattle.meaning.specs.Items.{job, reading}
 use Rattle.meaning.specs.State.{Room, QueryUnit, Goal, Waiting, State, unit_at, of, goals_of, part_of}

@@ -8,7 +8,7 @@ use native.Mathlib.Numerals.{add-one}
 use lib.Dec.{eqb}
 use lib.ListN.{length}
 use borrow.Author.Tests.{eqb-true, eq-eqb}
-use Rattle.meaning.specs.Bytes.{among, any, those, if◌then◌else◌}
+use Rattle.meaning.specs.Bytes.{among, any, those, when◌then◌else◌}
 use Rattle.meaning.specs.State.{QueryUnit, Waiting, unit_at, of}
 use Rattle.meaning.specs.Compare.{Assignment}
 use Rattle.meaning.specs.Step.{wakes}
@@ -52,38 +52,38 @@ emptied_length zs (v ∷ vs) = ap suc (emptied_length zs vs)
 
 module _ (zs : List ℕ) where
   woken_in : (vs : List Slot) → woken zs vs ≡ map goal_in (those (hit zs) (goals_in vs))
-  unfolding woken those goals_in if◌then◌else◌
+  unfolding woken those goals_in when◌then◌else◌
   woken_in [] = refl
   woken_in (gone ∷ vs) = rw (hit_gone zs) (woken_in vs)
   woken_in (waits g ps ∷ vs) = go (hit zs (waits g ps)) (woken_in vs)
     where
       go : (b : Bool) → woken zs vs ≡ map goal_in (those (hit zs) (goals_in vs))
-          → (if b then g ∷ woken zs vs else woken zs vs)
-          ≡ map goal_in (if b then waits g ps ∷ those (hit zs) (goals_in vs) else those (hit zs) (goals_in vs))
+          → (when b then g ∷ woken zs vs else woken zs vs)
+          ≡ map goal_in (when b then waits g ps ∷ those (hit zs) (goals_in vs) else those (hit zs) (goals_in vs))
       go true later = ap (λ l. g ∷ l) later
       go false later = later
 
   emptied_in : (vs : List Slot) → goals_in (emptied zs vs) ≡ those (λ v. not (hit zs v)) (goals_in vs)
-  unfolding emptied those goals_in if◌then◌else◌
+  unfolding emptied those goals_in when◌then◌else◌
   emptied_in [] = refl
   emptied_in (gone ∷ vs) = rw (hit_gone zs) (emptied_in vs)
   emptied_in (waits g ps ∷ vs) = go (hit zs (waits g ps)) (emptied_in vs)
     where
       go : (b : Bool) → goals_in (emptied zs vs) ≡ those (λ v. not (hit zs v)) (goals_in vs)
-          → goal_of (if b then gone else waits g ps) ++ goals_in (emptied zs vs)
-          ≡ (if not b then waits g ps ∷ those (λ v. not (hit zs v)) (goals_in vs) else those (λ v. not (hit zs v)) (goals_in vs))
+          → goal_of (when b then gone else waits g ps) ++ goals_in (emptied zs vs)
+          ≡ (when not b then waits g ps ∷ those (λ v. not (hit zs v)) (goals_in vs) else those (λ v. not (hit zs v)) (goals_in vs))
       go true later = later
       go false later = ap (λ l. waits g ps ∷ l) later
 
   hits_in : (b : ℕ) (vs : List Slot) → length (hits zs b vs) ≡ length (those (hit zs) (goals_in vs))
-  unfolding hits those goals_in if◌then◌else◌
+  unfolding hits those goals_in when◌then◌else◌
   hits_in b [] = refl
   hits_in b (gone ∷ vs) = rw (hit_gone zs) (hits_in (b + 1) vs)
   hits_in b (waits g ps ∷ vs) = go (hit zs (waits g ps)) (hits_in (b + 1) vs)
     where
       go : (t : Bool) → length (hits zs (b + 1) vs) ≡ length (those (hit zs) (goals_in vs))
-          → length (if t then b ∷ hits zs (b + 1) vs else hits zs (b + 1) vs)
-          ≡ length (if t then waits g ps ∷ those (hit zs) (goals_in vs) else those (hit zs) (goals_in vs))
+          → length (when t then b ∷ hits zs (b + 1) vs else hits zs (b + 1) vs)
+          ≡ length (when t then waits g ps ∷ those (hit zs) (goals_in vs) else those (hit zs) (goals_in vs))
       go true later = ap suc later
       go false later = later
 

@@ -9,7 +9,7 @@ use native.Mathlib.Omega.{arith}
 use lib.Dec.{eqb}
 use lib.ListN.{length, get_or}
 use borrow.Author.Tests.{eq-eqb, ne_eqb}
-use Rattle.meaning.specs.Bytes.{if◌then◌else◌}
+use Rattle.meaning.specs.Bytes.{when◌then◌else◌}
 use Rattle.meaning.specs.Terms.{Half, writer, reader, Constant, Term, Terms, end, more, count}
 use Rattle.laws.proofs.Lists.Among.{In, in_cons_cases, in_none}
 use Rattle.laws.proofs.Lists.Pigeonhole.{Distinct, pigeonhole}
@@ -36,7 +36,7 @@ highest of front at (suc k) = max (of (get_or front at 0)) (highest of front (at
 unfoldable pub height : ℕ → List ℕ → ℕ → ℕ
 height zero front w = 0
 height (suc f) front w =
-    if eqb (tag_in w) 6 then suc (highest (height f front) front (rest_in w + 1) (tag_in (get_or front (rest_in w) 0))) else 0
+    when eqb (tag_in w) 6 then suc (highest (height f front) front (rest_in w + 1) (tag_in (get_or front (rest_in w) 0))) else 0
 
 highest_within : (of : ℕ → ℕ) (m : ℕ) → ((w : ℕ) → of w ≤ m) → (front : List ℕ) (at k : ℕ) → highest of front at k ≤ m
 unfolding highest
@@ -44,24 +44,24 @@ highest_within of m le front at zero = omega arith
 highest_within of m le front at (suc k) = omega (arith, le (get_or front at 0), highest_within of m le front (at + 1) k)
 
 pub height_within : (f : ℕ) (front : List ℕ) (w : ℕ) → height f front w ≤ f
-unfolding height if◌then◌else◌
+unfolding height when◌then◌else◌
 height_within zero front w = omega arith
 height_within (suc f) front w = go (eqb (tag_in w) 6) (height_within f front)
   where
     go : (b : Bool) → ((u : ℕ) → height f front u ≤ f)
-        → (if b then suc (highest (height f front) front (rest_in w + 1) (tag_in (get_or front (rest_in w) 0))) else 0) ≤ suc f
+        → (when b then suc (highest (height f front) front (rest_in w + 1) (tag_in (get_or front (rest_in w) 0))) else 0) ≤ suc f
     go true le =
         omega (arith, highest_within (height f front) f le front (rest_in w + 1) (tag_in (get_or front (rest_in w) 0)))
     go false le = omega arith
 
 pub flat : (f : ℕ) (front : List ℕ) (w : ℕ) → (tag_in w ≡ 6 → ⊥) → height f front w ≡ 0
-unfolding height if◌then◌else◌
+unfolding height when◌then◌else◌
 flat zero front w d = refl
 flat (suc f) front w d = rw (ne_eqb (tag_in w) 6 d) refl
 
 tall : (f : ℕ) (front : List ℕ) (w : ℕ) → tag_in w ≡ 6
     → height (suc f) front w ≡ suc (highest (height f front) front (rest_in w + 1) (tag_in (get_or front (rest_in w) 0)))
-unfolding height if◌then◌else◌
+unfolding height when◌then◌else◌
 tall f front w e = rw (eq-eqb (tag_in w) 6 e) refl
 
 constant_flat : (places : Places) (k : Constant) → tag_in (word (constant_content places k)) ≡ 6 → ⊥

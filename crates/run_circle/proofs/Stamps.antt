@@ -11,7 +11,7 @@ use lib.Dec.{eqb}
 use lib.ListN.{length, get_or, set, take, replicate, length-set, length-append, length-replicate, get_or-replicate, get_or-append}
 use lib.Seq.{get_or-set_same, get_or-set_other, get_or-append-add, take-set-le, get_or-take, length-take-le}
 use borrow.Author.Tests.{eq-eqb, ne_eqb}
-use Rattle.meaning.specs.Bytes.{if◌then◌else◌}
+use Rattle.meaning.specs.Bytes.{when◌then◌else◌}
 use Rattle.laws.proofs.Circle.Leaning.{Leans}
 use Rattle.run_circle.specs.Ground.{stamp_in, Tells, IsSo}
 use Rattle.run_circle.specs.Search.{Scene, whole, Searching, visited, Visited, Stamped, Marked, Seen, Closed}
@@ -19,19 +19,19 @@ use Rattle.run_circle.proofs.Grounds.{new_none, new_then, grounds_on}
 
 -- The marks of visited pairs.
 pub visited_stamp : (stamp m : ℕ) → stamp_in m ≡ stamp → Visited stamp m
-unfolding visited if◌then◌else◌
+unfolding visited when◌then◌else◌
 visited_stamp stamp m e = go (eqb m 1)
   where
-    go : (b : Bool) → (if b then true else eqb (stamp_in m) stamp) ≡ true
+    go : (b : Bool) → (when b then true else eqb (stamp_in m) stamp) ≡ true
     go true = refl
     go false = eq-eqb (stamp_in m) stamp e
 
 pub visited_ground : (stamp : ℕ) → Visited stamp 1
-unfolding visited if◌then◌else◌
+unfolding visited when◌then◌else◌
 visited_ground stamp = refl
 
 pub not_visited : (stamp m : ℕ) → (m ≡ 1 → ⊥) → (stamp_in m ≡ stamp → ⊥) → visited stamp m ≡ false
-unfolding visited if◌then◌else◌
+unfolding visited when◌then◌else◌
 not_visited stamp m d e = rw (ne_eqb m 1 d) (ne_eqb (stamp_in m) stamp e)
 
 pub visited_below : (stamp m : ℕ) → stamp_in m < stamp → Visited stamp m → m ≡ 1

@@ -6,24 +6,24 @@ use mathlib.Core.List.{List, [], ◌∷◌}
 use native.Mathlib.Omega.{arith}
 use lib.ListN.{length, get_or, set, length-set}
 use lib.Seq.{get_or-set_other}
-use Rattle.meaning.specs.Bytes.{if◌then◌else◌}
+use Rattle.meaning.specs.Bytes.{when◌then◌else◌}
 
 unfoldable pub unseen : (ℕ → Bool) → List ℕ → ℕ
 unseen marked [] = 0
-unseen marked (n ∷ ns) = (if marked n then 0 else 1) + unseen marked ns
+unseen marked (n ∷ ns) = (when marked n then 0 else 1) + unseen marked ns
 
 pub unseen_set : (marked : ℕ → Bool) (s : List ℕ) (i w : ℕ) → i < length s → marked (get_or s i 0) ≡ false → marked w ≡ true
     → unseen marked (set s i w) + 1 ≤ unseen marked s
-unfolding unseen if◌then◌else◌
+unfolding unseen when◌then◌else◌
 unseen_set marked [] i w h d e = absurd (omega arith)
 unseen_set marked (n ∷ ns) zero w h d e = rw (d, e) (omega arith)
 unseen_set marked (n ∷ ns) (suc i) w h d e = omega (arith, unseen_set marked ns i w (omega arith) d e)
 
-one_seen : (marked : ℕ → Bool) (m n : ℕ) → ((marked m ≡ true → ⊥) → m ≡ n) → (if marked m then 0 else 1) ≤ (if marked n then 0 else 1)
-unfolding if◌then◌else◌
+one_seen : (marked : ℕ → Bool) (m n : ℕ) → ((marked m ≡ true → ⊥) → m ≡ n) → (when marked m then 0 else 1) ≤ (when marked n then 0 else 1)
+unfolding when◌then◌else◌
 one_seen marked m n others = go (marked m) refl
   where
-    go : (b : Bool) → marked m ≡ b → (if b then 0 else 1) ≤ (if marked n then 0 else 1)
+    go : (b : Bool) → marked m ≡ b → (when b then 0 else 1) ≤ (when marked n then 0 else 1)
     go true e = omega arith
     go false e =
         let same : m ≡ n = others (λ f. true≢false (sym f ∙ e)) in

@@ -2,7 +2,7 @@
 -- Two sides: the unit's pairs, numbered below `old`, and the clause's, from there on; the false side and the true side.
 use Rattle.std.specs.Prelude.{ℕ, ◌+◌, ◌*◌, ◌-◌, ◌/◌, ◌%◌, ◌≤◌, ◌<◌, ◌≡◌, ◌⊎◌, Bool, true, false, List, ◌++◌, eqb, ltb, length, get_or, take, replicate}
 use Rattle.std.proofs.Math.Option.{Option, none, some}
-use Rattle.meaning.specs.Bytes.{if◌then◌else◌}
+use Rattle.meaning.specs.Bytes.{when◌then◌else◌}
 use Rattle.meaning.specs.Terms.{Term}
 use Rattle.meaning.specs.State.{Values, value}
 use Rattle.laws.proofs.Terms.Standing.{Stands}
@@ -99,7 +99,7 @@ pub record Searching (s : List ℕ) (x : Scene) (values marks place stamp z : �
 
 -- A mark of a visited pair: the search's stamp, or that of a ground pair, which no search enters.
 unfoldable pub visited : ℕ → ℕ → Bool
-visited stamp m = if eqb m 1 then true else eqb (stamp_in m) stamp
+visited stamp m = when eqb m 1 then true else eqb (stamp_in m) stamp
 
 abbrev pub Visited : ℕ → ℕ → Type 0
 Visited stamp m = visited stamp m ≡ true

@@ -7,7 +7,7 @@ use native.Mathlib.Omega.{arith}
 use lib.Dec.{eqb}
 use lib.ListN.{length, get_or}
 use borrow.Author.Tests.{eqb-true}
-use Rattle.meaning.specs.Bytes.{if◌then◌else◌}
+use Rattle.meaning.specs.Bytes.{when◌then◌else◌}
 use Rattle.meaning.specs.Terms.{Functor, Term, Terms, end, more, count, renamed, all_renamed, same_functor}
 use Rattle.meaning.specs.Compare.{Result, fails, place}
 use Rattle.laws.proofs.Lists.Tests.{and_right}
@@ -65,13 +65,13 @@ module _ (s : List ℕ) (x : Setting) (y : Template) (from lo hi h w n links m :
       (functors_equal x.places (item x y) refl g f (count us) (count ts) k.head.held.0.few k.goal.held.0.few
       k.head.known.0 k.goal.of.known.0)
 
-  tested : place_outcome x links (Term.compound m g us) (Term.compound l f ts) ≡ (if test then places_outcome x links us ts else fails)
+  tested : place_outcome x links (Term.compound m g us) (Term.compound l f ts) ≡ (when test then places_outcome x links us ts else fails)
   unfolding place renamed test
   tested = rw (count_renamed (length x.values) x.compounds us)
 
   pub differing : (b : Bool) → b ≡ not (eqb (get_or s (item_place (clause_base y.number) m) 0) (get_or s (x.places.compound l) 0)) → b ≡ true
       → place_outcome x links (Term.compound m g us) (Term.compound l f ts) ≡ fails
-  unfolding if◌then◌else◌
+  unfolding when◌then◌else◌
   differing b e c = go test refl
     where
       go : (a : Bool) → test ≡ a → place_outcome x links (Term.compound m g us) (Term.compound l f ts) ≡ fails
@@ -126,7 +126,7 @@ module _ (s : List ℕ) (x : Setting) (y : Template) (from lo hi h w n links m :
   pub deeper_answers : (b : Bool) → b ≡ not (eqb (get_or s (item_place (clause_base y.number) m) 0) (get_or s (x.places.compound l) 0)) → b ≡ false
       → (s' : List ℕ) (r : CompareResult) → Answers s s' x y n (lo + 1) hi (count us) (places_outcome x links us ts) r
       → Answers s s' x y n lo hi 1 (place_outcome x links (Term.compound m g us) (Term.compound l f ts)) r
-  unfolding Holds if◌then◌else◌
+  unfolding Holds when◌then◌else◌
   deeper_answers b e c s' r a =
       answers_as s s' x y n (lo + 1) hi (count us) lo 1 (places_outcome x links us ts)
       (place_outcome x links (Term.compound m g us) (Term.compound l f ts)) r

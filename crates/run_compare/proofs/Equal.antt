@@ -7,7 +7,7 @@ use mathlib.Core.List.{List, [], ◌∷◌}
 use native.Mathlib.Omega.{arith}
 use lib.Dec.{eqb}
 use borrow.Author.Tests.{eqb-true, eq-eqb, ne_eqb}
-use Rattle.meaning.specs.Bytes.{Bytes, same, any, if◌then◌else◌}
+use Rattle.meaning.specs.Bytes.{Bytes, same, any, when◌then◌else◌}
 use Rattle.meaning.specs.Terms.{Integer, plus, minus, Constant, Functor, cell, named, Term, same_integer, same_constant, same_functor}
 use Rattle.laws.proofs.Lists.Tests.{same_answer, and_left, and_right, same_refl}
 use Rattle.term.specs.Cells.{Places, bits, number_of, term_word, functor_word, KnownName, KnownConstant, KnownFunctor}
@@ -27,9 +27,9 @@ same_true (b ∷ bs) (c ∷ cs) e =
 
 alike : (f g n : Bytes) (ns : List Bytes) (a b : Bool) → same f n ≡ a → same g n ≡ b
     → (a || any (same f) ns) ≡ true → (b || any (same g) ns) ≡ true
-    → (if a then 0 else suc (number_of f ns)) ≡ (if b then 0 else suc (number_of g ns))
+    → (when a then 0 else suc (number_of f ns)) ≡ (when b then 0 else suc (number_of g ns))
     → (KnownName ns f → KnownName ns g → number_of f ns ≡ number_of g ns → same f g ≡ true) → same f g ≡ true
-unfolding if◌then◌else◌
+unfolding when◌then◌else◌
 alike f g n ns true true p q k l e further =
     let one : f ≡ g = same_true f n p ∙ sym (same_true g n q) in
     rw one (same_refl g)

@@ -10,7 +10,7 @@ use lib.Dec.{eqb}
 use lib.ListN.{length, get_or, set, replicate, length-set, length-append, length-replicate, get_or-replicate}
 use lib.Seq.{get_or-set_same, get_or-set_other, get_or-append-add}
 use borrow.Author.Tests.{eqb-true, eqb-false}
-use Rattle.meaning.specs.Bytes.{any, if◌then◌else◌}
+use Rattle.meaning.specs.Bytes.{any, when◌then◌else◌}
 use Rattle.meaning.specs.Terms.{Functor, Term, Terms, Named, Clause, count, renamed}
 use Rattle.meaning.specs.State.{Values, value, QueryUnit}
 use Rattle.meaning.specs.Compare.{Assignment, Result, succeeds}
@@ -70,11 +70,11 @@ module _ (item unit : Places) where
 
   one_head : (s : List ℕ) (a n : ℕ) (u : Term) (o : Option Term) → a < 16 → n < 16 → woken_part ≤ length s
       → get_or s (trial_region + a) 0 ≡ value_word unit o
-      → get_or (head_written n (term_word unit u) s) (trial_region + a) 0 ≡ value_word unit (if eqb a n then some u else o)
-  unfolding if◌then◌else◌
+      → get_or (head_written n (term_word unit u) s) (trial_region + a) 0 ≡ value_word unit (when eqb a n then some u else o)
+  unfolding when◌then◌else◌
   one_head s a n u o small few large e = go (eqb a n) refl
     where
-      go : (b : Bool) → eqb a n ≡ b → get_or (head_written n (term_word unit u) s) (trial_region + a) 0 ≡ value_word unit (if b then some u else o)
+      go : (b : Bool) → eqb a n ≡ b → get_or (head_written n (term_word unit u) s) (trial_region + a) 0 ≡ value_word unit (when b then some u else o)
       go true q =
           let same : a ≡ n = eqb-true a n q in
           rw same (get_or-set_same s (trial_region + n) (term_word unit u) 0 (omega arith))
@@ -88,7 +88,7 @@ module _ (item unit : Places) where
   unfolding recorded AllGiven head_gift
   head_word_at [] s x y lo hi n a o s₀ few g large small e = e
   head_word_at (to_head b u ∷ gs) s x y lo hi n a o s₀ few g large small e =
-      head_word_at gs (head_written b (term_word unit u) s) x y lo hi n a (if eqb a b then some u else o) s₀ few g.1
+      head_word_at gs (head_written b (term_word unit u) s) x y lo hi n a (when eqb a b then some u else o) s₀ few g.1
       (omega (arith, length-set s (trial_region + b) (term_word unit u))) small
       (one_head s a b u o small (omega (arith, g.0.0)) large e)
   head_word_at (to_goal z t ∷ gs) s x y lo hi n a o s₀ few g large small e =
@@ -108,11 +108,11 @@ not_eqb a b h = go (eqb a b) refl
     go true e = absurd (h (eqb-true a b e))
     go false e = refl
 
-set_value : (vs : Values) (i z : ℕ) (t : Term) → i < length vs → value (set vs i (some t)) z ≡ (if eqb z i then some t else value vs z)
-unfolding value if◌then◌else◌
+set_value : (vs : Values) (i z : ℕ) (t : Term) → i < length vs → value (set vs i (some t)) z ≡ (when eqb z i then some t else value vs z)
+unfolding value when◌then◌else◌
 set_value vs i z t h = go (eqb z i) refl
   where
-    go : (b : Bool) → eqb z i ≡ b → get_or (set vs i (some t)) z none ≡ (if b then some t else get_or vs z none)
+    go : (b : Bool) → eqb z i ≡ b → get_or (set vs i (some t)) z none ≡ (when b then some t else get_or vs z none)
     go true q =
         let same : z ≡ i = eqb-true z i q in
         rw same (get_or-set_same vs i (some t) none h)
@@ -132,7 +132,7 @@ module _ (p c : ℕ) where
   head_value (to_head n u ∷ gs) vs a s₀ x y lo hi g e long =
       let next = set vs (p + n) (some u) in
       head_value gs next a s₀ x y lo hi g.1 e (omega (arith, length-set vs (p + n) (some u)))
-      ∙ ap (head_gift gs a) (set_value vs (p + n) (p + a) u (omega (arith, g.0.0)) ∙ ap (λ b. if b then some u else value vs (p + a)) (eqb_raised p a n))
+      ∙ ap (head_gift gs a) (set_value vs (p + n) (p + a) u (omega (arith, g.0.0)) ∙ ap (λ b. when b then some u else value vs (p + a)) (eqb_raised p a n))
   head_value (to_goal z t ∷ gs) vs a s₀ x y lo hi g e long =
       let next = set vs z (some (renamed p c t)) in
       head_value gs next a s₀ x y g.2 hi g.5 e (omega (arith, length-set vs z (some (renamed p c t))))
@@ -155,7 +155,7 @@ module _ (p c : ℕ) where
       (omega (arith, length-set vs j (some v)))
       (omega (arith, length-set ws j (some v)))
       (λ i q.
-      set_value vs j i v (omega (arith, g.0)) ∙ ap (λ o. if eqb i j then some v else o) (alike i q)
+      set_value vs j i v (omega (arith, g.0)) ∙ ap (λ o. when eqb i j then some v else o) (alike i q)
       ∙ sym (set_value ws j i v (omega (arith, g.0))))
       z h
 

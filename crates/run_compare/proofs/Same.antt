@@ -11,7 +11,7 @@ use lib.ListN.{get_or}
 use borrow.Author.Tests.{eqb-true, eq-eqb, ne_eqb}
 use denote.Enum.Declared.{tag_of}
 use types.Run.{OneOf, miss}
-use Rattle.meaning.specs.Bytes.{if◌then◌else◌}
+use Rattle.meaning.specs.Bytes.{when◌then◌else◌}
 use Rattle.meaning.specs.Terms.{writer, reader, Constant, Term, Terms, end, more, count, renamed, all_renamed, same_constant}
 use Rattle.meaning.specs.State.{Values}
 use Rattle.meaning.specs.Compare.{succeeds, followed, with_assignments, and_then, place, places}
@@ -96,7 +96,7 @@ module _ (x : Setting) (y : Template) (links : ℕ) where
   constants_agree : (c k : Constant) → Known x.places.names (Term.constant c) → Known x.places.names (Term.constant k)
       → Ranged (Term.constant c) → Ranged (Term.constant k) → term_word (item x y) (Term.constant c) ≡ term_word x.places (Term.constant k)
       → place_outcome x links (Term.constant c) (followed links x.values (Term.constant k)) ≡ succeeds []
-  unfolding Known Ranged place renamed if◌then◌else◌
+  unfolding Known Ranged place renamed when◌then◌else◌
   constants_agree c k known goal_known ranged goal_ranged e =
       let same : same_constant c k ≡ true =
       sym (constants_equal x.places (item x y) refl c k known goal_known ranged goal_ranged)

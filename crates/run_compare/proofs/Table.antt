@@ -6,7 +6,7 @@ use mathlib.Core.List.{List, [], ◌∷◌}
 use native.Mathlib.Omega.{arith}
 use lib.Dec.{eqb}
 use lib.ListN.{length}
-use Rattle.meaning.specs.Bytes.{if◌then◌else◌}
+use Rattle.meaning.specs.Bytes.{when◌then◌else◌}
 use Rattle.meaning.specs.Terms.{writer, reader, Constant, Functor, Term, Terms, renamed, same_constant}
 use Rattle.meaning.specs.Compare.{Result, succeeds, gives, waits_on, fails, place}
 use Rattle.term.specs.Words.{view_of}
@@ -174,8 +174,8 @@ module _ (s s' : List ℕ) (x : Setting) (y : Template) (n lo hi : ℕ) (order :
   unfolding answer behind
   fails_found d e = rw (d.answers, d.scratch) (only_same trial_region woken_part s, e)
 
-  equal_found : (same : Bool) → Done s s' n h w (equal_row same) met → o ≡ (if same then succeeds [] else fails) → Found s s' x y n lo hi o t u met
-  unfolding equal_row if◌then◌else◌
+  equal_found : (same : Bool) → Done s s' n h w (equal_row same) met → o ≡ (when same then succeeds [] else fails) → Found s s' x y n lo hi o t u met
+  unfolding equal_row when◌then◌else◌
   equal_found true d e = none_given d e
   equal_found false d e = fails_found d e
 
@@ -203,7 +203,7 @@ module _ (s s' : List ℕ) (x : Setting) (y : Template) (from links lo hi n h w 
 
   by_terms : (t u : Term) → Against s x y from links lo hi t u h w n → Done s s' n h w (RowOf x y t u) met
       → Found s s' x y n lo hi (ResultOf t u) t u met
-  unfolding place renamed row writer_row reader_row constant_row compound_row Within Known Ranged if◌then◌else◌
+  unfolding place renamed row writer_row reader_row constant_row compound_row Within Known Ranged when◌then◌else◌
   by_terms (Term.variable writer a) (Term.variable writer z) k d = fails_found s s' x y n lo hi (in_order k) h w _ _ met _ d refl
   by_terms (Term.variable writer a) (Term.variable reader z) k d =
       head_given s s' x y n lo hi (in_order k) h w _ _ met _ a d k.head.within k.trial.pairs k.goal k.goal_word refl

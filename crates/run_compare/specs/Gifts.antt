@@ -2,7 +2,7 @@
 -- the goal's pairs that are given a term of the head, by the pair's place and the head term's own word, not yet renamed.
 use Rattle.std.specs.Prelude.{ℕ, ◌+◌, ◌*◌, ◌≡◌, List, [], ◌∷◌, eqb, get_or}
 use Rattle.std.proofs.Math.Option.{Option, some}
-use Rattle.meaning.specs.Bytes.{if◌then◌else◌}
+use Rattle.meaning.specs.Bytes.{when◌then◌else◌}
 use Rattle.meaning.specs.Terms.{Term, renamed}
 use Rattle.meaning.specs.Compare.{Assignment}
 use Rattle.term.specs.Cells.{Places, term_word}
@@ -58,5 +58,5 @@ renamed_entries p c (e ∷ es) = record { pair = e.pair; value = renamed p c e.t
 -- What the head's writer a was given, if anything, o being what it had before.
 unfoldable pub head_gift : List Gift → ℕ → Option Term → Option Term
 head_gift [] a o = o
-head_gift (to_head n u ∷ gs) a o = head_gift gs a (if eqb a n then some u else o)
+head_gift (to_head n u ∷ gs) a o = head_gift gs a (when eqb a n then some u else o)
 head_gift (to_goal z t ∷ gs) a o = head_gift gs a o

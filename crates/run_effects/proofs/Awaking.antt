@@ -7,7 +7,7 @@ use mathlib.Core.List.{List, [], ◌∷◌, ◌++◌}
 use native.Mathlib.Omega.{arith}
 use native.Mathlib.Numerals.{add-one}
 use lib.ListN.{length, get_or, set}
-use Rattle.meaning.specs.Bytes.{among, any, if◌then◌else◌}
+use Rattle.meaning.specs.Bytes.{among, any, when◌then◌else◌}
 use Rattle.term.specs.States.{listed}
 use Rattle.term.specs.Layout.{gift_pair, woken_part, followed_part}
 use Rattle.run_queues.specs.Log.{Slot, gone, waits, pairs_in, slot, LogOk, LogOnly, At, LogNow}
@@ -35,12 +35,12 @@ pub record Awake (s₀ s : List ℕ) (log waiters sets pairs : ℕ) (slots : Lis
   pub kept : KeptWhere (Elsewhere log waiters sets pairs slots) s₀ s
 
 quieted_none : (vs : List Slot) → quieted [] vs ≡ vs
-unfolding quieted hit any if◌then◌else◌
+unfolding quieted hit any when◌then◌else◌
 quieted_none [] = refl
 quieted_none (v ∷ vs) = ap (λ l. v ∷ l) (quieted_none vs)
 
 hits_none : (b : ℕ) (vs : List Slot) → hits [] b vs ≡ []
-unfolding hits hit any if◌then◌else◌
+unfolding hits hit any when◌then◌else◌
 hits_none b [] = refl
 hits_none b (v ∷ vs) = hits_none (b + 1) vs
 

@@ -8,7 +8,7 @@ use native.Mathlib.Omega.{arith}
 use native.Mathlib.Numerals.{add-one}
 use lib.ListN.{length, get_or, set, take}
 use lib.Seq.{take-suc, take_all}
-use Rattle.meaning.specs.Bytes.{if◌then◌else◌}
+use Rattle.meaning.specs.Bytes.{when◌then◌else◌}
 use Rattle.term.specs.States.{ring}
 use Rattle.term.specs.Layout.{woken_part}
 use Rattle.run_queues.specs.Ring.{RingOk, Pushed}
@@ -25,40 +25,40 @@ use Rattle.run_effects.proofs.Awaking.{log_only_kept}
 unfoldable pub partly : List ℕ → ℕ → List Slot → List Slot
 partly zs zero vs = quieted zs vs
 partly zs (suc i) [] = []
-partly zs (suc i) (v ∷ vs) = if hit zs v then gone ∷ partly zs i vs else v ∷ partly zs (suc i) vs
+partly zs (suc i) (v ∷ vs) = when hit zs v then gone ∷ partly zs i vs else v ∷ partly zs (suc i) vs
 
 module _ (zs : List ℕ) where
   partly_here : (i : ℕ) (v : Slot) (vs : List Slot) → hit zs v ≡ true → partly zs (suc i) (v ∷ vs) ≡ gone ∷ partly zs i vs
-  unfolding partly if◌then◌else◌
+  unfolding partly when◌then◌else◌
   partly_here i v vs e = rw e
 
   partly_over : (i : ℕ) (v : Slot) (vs : List Slot) → hit zs v ≡ false → partly zs i (v ∷ vs) ≡ v ∷ partly zs i vs
-  unfolding partly quieted if◌then◌else◌
+  unfolding partly quieted when◌then◌else◌
   partly_over zero v vs e = rw e
   partly_over (suc i) v vs e = rw e
 
   hits_here : (b : ℕ) (v : Slot) (vs : List Slot) → hit zs v ≡ true → hits zs b (v ∷ vs) ≡ b ∷ hits zs (b + 1) vs
-  unfolding hits if◌then◌else◌
+  unfolding hits when◌then◌else◌
   hits_here b v vs e = rw e
 
   hits_over : (b : ℕ) (v : Slot) (vs : List Slot) → hit zs v ≡ false → hits zs b (v ∷ vs) ≡ hits zs (b + 1) vs
-  unfolding hits if◌then◌else◌
+  unfolding hits when◌then◌else◌
   hits_over b v vs e = rw e
 
   woken_here : (v : Slot) (vs : List Slot) → hit zs v ≡ true → woken zs (v ∷ vs) ≡ goal_in v ∷ woken zs vs
-  unfolding woken if◌then◌else◌
+  unfolding woken when◌then◌else◌
   woken_here v vs e = rw e
 
   woken_over : (v : Slot) (vs : List Slot) → hit zs v ≡ false → woken zs (v ∷ vs) ≡ woken zs vs
-  unfolding woken if◌then◌else◌
+  unfolding woken when◌then◌else◌
   woken_over v vs e = rw e
 
   emptied_here : (v : Slot) (vs : List Slot) → hit zs v ≡ true → emptied zs (v ∷ vs) ≡ gone ∷ emptied zs vs
-  unfolding emptied if◌then◌else◌
+  unfolding emptied when◌then◌else◌
   emptied_here v vs e = rw e
 
   emptied_over : (v : Slot) (vs : List Slot) → hit zs v ≡ false → emptied zs (v ∷ vs) ≡ v ∷ emptied zs vs
-  unfolding emptied if◌then◌else◌
+  unfolding emptied when◌then◌else◌
   emptied_over v vs e = rw e
 
   -- A slot that is hit has a goal.
@@ -125,13 +125,13 @@ module _ (zs : List ℕ) where
     pub after : set (partly zs i vs) j gone ≡ partly zs (suc i) vs
 
   next_first : (v : Slot) (vs : List Slot) (b : ℕ) → hit zs v ≡ true → NextAt (v ∷ vs) b 0 0
-  unfolding partly quieted if◌then◌else◌
+  unfolding partly quieted when◌then◌else◌
   next_first v vs b e =
       record {
         at = ap (λ l. get_or l 0 0) (hits_here b v vs e) ∙ omega arith;
         here = omega arith;
         it =
-            ap (λ t. if t then quiet v else v) e
+            ap (λ t. when t then quiet v else v) e
             ∙ quiet_goal v e
             ∙ ap (λ l. waits (get_or l 0 0) []) (sym (woken_here v vs e));
         after = sym (partly_here 0 v vs e);

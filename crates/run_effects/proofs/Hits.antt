@@ -5,7 +5,7 @@ use mathlib.Core.Bool.{Bool, true, false, ◌||◌, true≢false}
 use mathlib.Core.List.{List, [], ◌∷◌, ◌++◌}
 use native.Mathlib.Omega.{arith}
 use lib.ListN.{length, get_or, set}
-use Rattle.meaning.specs.Bytes.{among, any, if◌then◌else◌}
+use Rattle.meaning.specs.Bytes.{among, any, when◌then◌else◌}
 use Rattle.term.specs.States.{listed}
 use Rattle.run_queues.specs.Log.{Slot, gone, waits, pairs_in, slot}
 use Rattle.run_effects.specs.Reducing.{hit, hits, quiet, quieted, inserted, Rises}
@@ -13,7 +13,7 @@ use Rattle.run_effects.proofs.Inserting.{inserted_first, inserted_behind, listed
 
 -- A slot that waits on nothing any more if it was hit.
 abbrev pub calmed : List ℕ → Slot → Slot
-calmed zs v = if hit zs v then quiet v else v
+calmed zs v = when hit zs v then quiet v else v
 
 pub quieted_length : (zs : List ℕ) (vs : List Slot) → length (quieted zs vs) ≡ length vs
 unfolding quieted
@@ -45,32 +45,32 @@ module _ (zs : List ℕ) (z : ℕ) where
 
   -- The new pair is none of the slot's that are left: the slot is hit if it was.
   hit_same : (v : Slot) → among z (pairs_in (calmed zs v)) ≡ false → hit zs+ v ≡ hit zs v
-  unfolding if◌then◌else◌
+  unfolding when◌then◌else◌
   hit_same v h = hit_more zs z v ∙ go (hit zs v) h
     where
-      go : (b : Bool) → among z (pairs_in (if b then quiet v else v)) ≡ false → (b || among z (pairs_in v)) ≡ b
+      go : (b : Bool) → among z (pairs_in (when b then quiet v else v)) ≡ false → (b || among z (pairs_in v)) ≡ b
       go true h = refl
       go false h = h
 
   -- It is one of them: the slot was not hit.
   hit_first : (v : Slot) → among z (pairs_in (calmed zs v)) ≡ true → hit zs v ≡ false
-  unfolding if◌then◌else◌
+  unfolding when◌then◌else◌
   hit_first v h = go (hit zs v) h
     where
-      go : (b : Bool) → among z (pairs_in (if b then quiet v else v)) ≡ true → b ≡ false
+      go : (b : Bool) → among z (pairs_in (when b then quiet v else v)) ≡ true → b ≡ false
       go true h = absurd (true≢false (sym h ∙ quiet_none z v))
       go false h = refl
 
   hit_now : (v : Slot) → among z (pairs_in (calmed zs v)) ≡ true → hit zs+ v ≡ true
-  unfolding if◌then◌else◌
+  unfolding when◌then◌else◌
   hit_now v h = hit_more zs z v ∙ go (hit zs v) h
     where
-      go : (b : Bool) → among z (pairs_in (if b then quiet v else v)) ≡ true → (b || among z (pairs_in v)) ≡ true
+      go : (b : Bool) → among z (pairs_in (when b then quiet v else v)) ≡ true → (b || among z (pairs_in v)) ≡ true
       go true h = refl
       go false h = h
 
   calmed_first : (v : Slot) → hit zs v ≡ false → calmed zs v ≡ v
-  unfolding if◌then◌else◌
+  unfolding when◌then◌else◌
   calmed_first v h = rw h
 
   abbrev pub Untouched : List Slot → Type 0
@@ -116,7 +116,7 @@ module _ (zs : List ℕ) (z : ℕ) where
 
   pub touched_quieted : (vs : List Slot) (j goal : ℕ) (ps : List ℕ) → Touched vs j goal ps
       → set (quieted zs vs) j (waits goal []) ≡ quieted zs+ vs
-  unfolding quieted if◌then◌else◌
+  unfolding quieted when◌then◌else◌
   touched_quieted [] j goal ps t = absurd (omega (arith, t.here))
   touched_quieted (v ∷ vs) zero goal ps t =
       rw (hit_now v (head_has v vs goal ps t), head_quiet v vs goal ps t, untouched_quieted vs (touched_rest v vs goal ps t))
@@ -126,26 +126,26 @@ module _ (zs : List ℕ) (z : ℕ) where
 -- Places from b on, rising.
 module _ (zs : List ℕ) where
   pub hits_above : (b : ℕ) (vs : List Slot) (k : ℕ) → k < length (hits zs b vs) → b ≤ get_or (hits zs b vs) k 0
-  unfolding hits if◌then◌else◌
+  unfolding hits when◌then◌else◌
   hits_above b [] k h = absurd (omega arith)
   hits_above b (v ∷ vs) k h = go (hit zs v) k h (λ m. hits_above (b + 1) vs m)
     where
-      go : (t : Bool) (k : ℕ) → k < length (if t then b ∷ hits zs (b + 1) vs else hits zs (b + 1) vs)
+      go : (t : Bool) (k : ℕ) → k < length (when t then b ∷ hits zs (b + 1) vs else hits zs (b + 1) vs)
           → ((m : ℕ) → m < length (hits zs (b + 1) vs) → b + 1 ≤ get_or (hits zs (b + 1) vs) m 0)
-          → b ≤ get_or (if t then b ∷ hits zs (b + 1) vs else hits zs (b + 1) vs) k 0
+          → b ≤ get_or (when t then b ∷ hits zs (b + 1) vs else hits zs (b + 1) vs) k 0
       go true zero h later = omega arith
       go true (suc k) h later = omega (arith, later k (omega arith))
       go false k h later = omega (arith, later k h)
 
   pub hits_rise : (b : ℕ) (vs : List Slot) (i k : ℕ) → i < k → k < length (hits zs b vs) → get_or (hits zs b vs) i 0 < get_or (hits zs b vs) k 0
-  unfolding hits if◌then◌else◌
+  unfolding hits when◌then◌else◌
   hits_rise b [] i k l h = absurd (omega arith)
   hits_rise b (v ∷ vs) i k l h = go (hit zs v) i k l h (λ m n. hits_rise (b + 1) vs m n)
     where
-      go : (t : Bool) (i k : ℕ) → i < k → k < length (if t then b ∷ hits zs (b + 1) vs else hits zs (b + 1) vs)
+      go : (t : Bool) (i k : ℕ) → i < k → k < length (when t then b ∷ hits zs (b + 1) vs else hits zs (b + 1) vs)
           → ((m n : ℕ) → m < n → n < length (hits zs (b + 1) vs) → get_or (hits zs (b + 1) vs) m 0 < get_or (hits zs (b + 1) vs) n 0)
-          → get_or (if t then b ∷ hits zs (b + 1) vs else hits zs (b + 1) vs) i 0
-          < get_or (if t then b ∷ hits zs (b + 1) vs else hits zs (b + 1) vs) k 0
+          → get_or (when t then b ∷ hits zs (b + 1) vs else hits zs (b + 1) vs) i 0
+          < get_or (when t then b ∷ hits zs (b + 1) vs else hits zs (b + 1) vs) k 0
       go true i zero l h later = absurd (omega arith)
       go true zero (suc k) l h later = omega (arith, hits_above (b + 1) vs k (omega arith))
       go true (suc i) (suc k) l h later = later i k (omega arith) (omega arith)
@@ -161,7 +161,7 @@ module _ (zs : List ℕ) where
 module _ (zs : List ℕ) (z : ℕ) where
   pub touched_hits : (b : ℕ) (vs : List Slot) (j goal : ℕ) (ps : List ℕ) → Touched zs z vs j goal ps
       → inserted (b + j) (hits zs b vs) ≡ hits (zs ++ (z ∷ [])) b vs
-  unfolding hits quieted if◌then◌else◌
+  unfolding hits quieted when◌then◌else◌
   touched_hits b [] j goal ps t = absurd (omega (arith, t.here))
   touched_hits b (v ∷ vs) zero goal ps t =
       let has = head_has zs z v vs goal ps t in
@@ -176,8 +176,8 @@ module _ (zs : List ℕ) (z : ℕ) where
       more = omega arith
 
       go : (u : Bool) → inserted (b + 1 + j) (hits zs (b + 1) vs) ≡ hits (zs ++ (z ∷ [])) (b + 1) vs
-          → inserted (b + suc j) (if u then b ∷ hits zs (b + 1) vs else hits zs (b + 1) vs)
-          ≡ (if u then b ∷ hits (zs ++ (z ∷ [])) (b + 1) vs else hits (zs ++ (z ∷ [])) (b + 1) vs)
+          → inserted (b + suc j) (when u then b ∷ hits zs (b + 1) vs else hits zs (b + 1) vs)
+          ≡ (when u then b ∷ hits (zs ++ (z ∷ [])) (b + 1) vs else hits (zs ++ (z ∷ [])) (b + 1) vs)
       go true later =
           inserted_behind b (b + suc j) (hits zs (b + 1) vs) (omega arith) ∙ ap (λ l. b ∷ l) (ap (λ p. inserted p (hits zs (b + 1) vs)) more ∙ later)
       go false later = ap (λ p. inserted p (hits zs (b + 1) vs)) more ∙ later

@@ -8,7 +8,7 @@ use native.Mathlib.Omega.{arith}
 use lib.Dec.{ltb}
 use lib.ListN.{length, get_or}
 use borrow.Author.Tests.{lt-ltb, le-ltb}
-use Rattle.meaning.specs.Bytes.{if◌then◌else◌}
+use Rattle.meaning.specs.Bytes.{when◌then◌else◌}
 use Rattle.meaning.specs.Terms.{Term, Terms, Named, variable, constant, compound, end, more, count, renamed, all_renamed, as_term}
 use Rattle.term.specs.Cells.{Places, Numbered, AllNumbered}
 use Rattle.term.specs.Every.{Every, EveryOf}
@@ -115,16 +115,16 @@ list_spread_alike y z lo hi to (t ∷ ts) same (a, b, l, n, k) d =
 -- Copies by two: of numbers below one the first's, of the others the second's.
 joined : ℕ → Copies → Copies → Copies
 joined mid y z = record {
-  at = λ n. if ltb n mid then y.at n else z.at n;
-  width = λ n. if ltb n mid then y.width n else z.width n;
+  at = λ n. when ltb n mid then y.at n else z.at n;
+  width = λ n. when ltb n mid then y.width n else z.width n;
 }
 
 joined_first : (mid lo : ℕ) (y z : Copies) → Alike y (joined mid y z) lo mid
-unfolding Alike joined if◌then◌else◌
+unfolding Alike joined when◌then◌else◌
 joined_first mid lo y z n l h = let test : ltb n mid ≡ true = lt-ltb n mid h in (rw test refl, rw test refl)
 
 joined_second : (mid hi : ℕ) (y z : Copies) → Alike z (joined mid y z) mid hi
-unfolding Alike joined if◌then◌else◌
+unfolding Alike joined when◌then◌else◌
 joined_second mid hi y z n l h = let test : ltb n mid ≡ false = le-ltb n mid l in (rw test refl, rw test refl)
 
 -- All copies lie between two words.
@@ -132,10 +132,10 @@ abbrev pub Between : ℕ → ℕ → Copies → Type 0
 Between lo hi y = (n : ℕ) → (lo ≤ y.at n) × (y.at n + y.width n ≤ hi)
 
 joined_between : (mid lo hi : ℕ) (y z : Copies) → Between lo hi y → Between lo hi z → Between lo hi (joined mid y z)
-unfolding joined if◌then◌else◌
+unfolding joined when◌then◌else◌
 joined_between mid lo hi y z a b n = go (ltb n mid)
   where
-    go : (t : Bool) → (lo ≤ (if t then y.at n else z.at n)) × ((if t then y.at n else z.at n) + (if t then y.width n else z.width n) ≤ hi)
+    go : (t : Bool) → (lo ≤ (when t then y.at n else z.at n)) × ((when t then y.at n else z.at n) + (when t then y.width n else z.width n) ≤ hi)
     go true = a n
     go false = b n
 

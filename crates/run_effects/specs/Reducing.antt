@@ -1,6 +1,6 @@
 -- What the parts of a reduction ask and give: values assigned, goals copied into the queue, waiting goals woken.
 use Rattle.std.specs.Prelude.{ℕ, zero, suc, ◌+◌, ◌*◌, ◌≤◌, ◌<◌, ◌≡◌, Bool, true, false, ◌⊎◌, List, [], ◌∷◌, ◌++◌, map, ltb, length, get_or}
-use Rattle.meaning.specs.Bytes.{among, any, if◌then◌else◌}
+use Rattle.meaning.specs.Bytes.{among, any, when◌then◌else◌}
 use Rattle.meaning.specs.Terms.{Term, Named, renamed, as_term}
 use Rattle.term.specs.Cells.{Places, term_word}
 use Rattle.term.specs.Holds.{Holds}
@@ -111,7 +111,7 @@ hit zs slot = any (λ z. among z (pairs_in slot)) zs
 -- Their places in the log, rising, the first of these slots being at place i; and their goals.
 unfoldable pub hits : List ℕ → ℕ → List Slot → List ℕ
 hits zs i [] = []
-hits zs i (slot ∷ slots) = if hit zs slot then i ∷ hits zs (i + 1) slots else hits zs (i + 1) slots
+hits zs i (slot ∷ slots) = when hit zs slot then i ∷ hits zs (i + 1) slots else hits zs (i + 1) slots
 
 abbrev pub goal_in : Slot → ℕ
 goal_in gone = 0
@@ -119,7 +119,7 @@ goal_in (waits goal ps) = goal
 
 unfoldable pub woken : List ℕ → List Slot → List ℕ
 woken zs [] = []
-woken zs (slot ∷ slots) = if hit zs slot then goal_in slot ∷ woken zs slots else woken zs slots
+woken zs (slot ∷ slots) = when hit zs slot then goal_in slot ∷ woken zs slots else woken zs slots
 
 -- A goal that waits on no pair any more; the log with those that are hit so, and with their places emptied.
 abbrev pub quiet : Slot → Slot
@@ -128,11 +128,11 @@ quiet (waits goal ps) = waits goal []
 
 unfoldable pub quieted : List ℕ → List Slot → List Slot
 quieted zs [] = []
-quieted zs (slot ∷ slots) = (if hit zs slot then quiet slot else slot) ∷ quieted zs slots
+quieted zs (slot ∷ slots) = (when hit zs slot then quiet slot else slot) ∷ quieted zs slots
 
 unfoldable pub emptied : List ℕ → List Slot → List Slot
 emptied zs [] = []
-emptied zs (slot ∷ slots) = (if hit zs slot then gone else slot) ∷ emptied zs slots
+emptied zs (slot ∷ slots) = (when hit zs slot then gone else slot) ∷ emptied zs slots
 
 -- None of the pairs' waiters and sets, nor of the log's places.
 abbrev pub NotLogged : ℕ → ℕ → ℕ → ℕ → ℕ → ℕ → Type 0
@@ -141,7 +141,7 @@ NotLogged log waiters sets pairs used k = Apart waiters (sets + pairs) k × Apar
 -- A place joins the list of the woken, before the first that is greater; the others keep their order.
 unfoldable pub inserted : ℕ → List ℕ → List ℕ
 inserted p [] = p ∷ []
-inserted p (q ∷ qs) = if ltb q p then q ∷ inserted p qs else p ∷ q ∷ qs
+inserted p (q ∷ qs) = when ltb q p then q ∷ inserted p qs else p ∷ q ∷ qs
 
 -- So many words from one on rise.
 abbrev pub Rises : List ℕ → ℕ → ℕ → Type 0

@@ -6,7 +6,7 @@ use mathlib.Core.List.{List, [], ◌∷◌}
 use native.Mathlib.Omega.{arith}
 use lib.Dec.{eqb}
 use lib.ListN.{length}
-use Rattle.meaning.specs.Bytes.{if◌then◌else◌}
+use Rattle.meaning.specs.Bytes.{when◌then◌else◌}
 use Rattle.meaning.specs.Terms.{
   writer,
   reader,
@@ -78,11 +78,11 @@ module _ (x : Setting) (w row : ℕ) (us : Terms) where
   shown_kind (compound n f ts) s h = rw s
 
 pub succeeds_true : (b : Bool) → b ≡ true → succeeds_if b ≡ succeeds []
-unfolding succeeds_if if◌then◌else◌
+unfolding succeeds_if when◌then◌else◌
 succeeds_true b e = rw e
 
 pub fails_false : (b : Bool) → b ≡ false → succeeds_if b ≡ fails
-unfolding succeeds_if if◌then◌else◌
+unfolding succeeds_if when◌then◌else◌
 fails_false b e = rw e
 
 -- Two tests of constants that agree.

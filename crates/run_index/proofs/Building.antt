@@ -9,7 +9,7 @@ use lib.Dec.{eqb}
 use lib.ListN.{get_or, set, length-set}
 use lib.Seq.{get_or-set_other}
 use borrow.Author.Tests.{eqb-true, eqb-false}
-use Rattle.meaning.specs.Bytes.{if◌then◌else◌}
+use Rattle.meaning.specs.Bytes.{when◌then◌else◌}
 use Rattle.term.specs.Words.{packed, tag_in, rest_in}
 use Rattle.term.specs.Layout.{index_from, clause_record, clause_head, procedure_slot, told_word}
 use Rattle.run_index.specs.Index.{kind_of, KindReads, functor_of, first_of, told_by, own_kind, own_key, IndexOnly}
@@ -42,14 +42,14 @@ kind_reads s w reads e = ((reads e).1, (reads e).2)
 
 -- The kind of a term stays where its functor stays.
 pub kind_kept : (s s' : List ℕ) (w : ℕ) → (tag_in w ≡ 6 → get_or s' (rest_in w) 0 ≡ get_or s (rest_in w) 0) → kind_of s' w ≡ kind_of s w
-unfolding if◌then◌else◌
+unfolding when◌then◌else◌
 kind_kept s s' w stays = go (eqb (tag_in w) 6) refl
   where
     otherwise : ℕ
-    otherwise = if eqb (tag_in w) 1 then 0 else (if eqb (tag_in w) 2 then 2 else w)
+    otherwise = when eqb (tag_in w) 1 then 0 else (when eqb (tag_in w) 2 then 2 else w)
 
     go : (b : Bool) → eqb (tag_in w) 6 ≡ b
-        → (if b then packed 6 (get_or s' (rest_in w) 0) else otherwise) ≡ (if b then packed 6 (get_or s (rest_in w) 0) else otherwise)
+        → (when b then packed 6 (get_or s' (rest_in w) 0) else otherwise) ≡ (when b then packed 6 (get_or s (rest_in w) 0) else otherwise)
     go true e = ap (λ n. packed 6 n) (stays (eqb-true (tag_in w) 6 e))
     go false e = refl
 
@@ -118,7 +118,7 @@ module _ {s s' : List ℕ} (only : IndexOnly s s') (told : (c : ℕ) → c < 128
   told_same k h = told_kept only k h (told (first_of s (functor_of s k)) h.first)
 
   own_kind_kept : (k : ℕ) → HeadReads s k → told_by s (functor_of s k) ≤ tag_in (functor_of s k) → own_kind s' k ≡ own_kind s k
-  unfolding if◌then◌else◌
+  unfolding when◌then◌else◌
   own_kind_kept k h fits = rw (told_same k h, argument_kept only k (told_by s (functor_of s k))) (go (eqb a 0) refl)
     where
       a : ℕ
@@ -127,7 +127,7 @@ module _ {s s' : List ℕ} (only : IndexOnly s s') (told : (c : ℕ) → c < 128
       w : ℕ
       w = get_or s (clause_head k + a) 0
 
-      go : (b : Bool) → eqb a 0 ≡ b → (if b then 0 else kind_of s' w) ≡ (if b then 0 else kind_of s w)
+      go : (b : Bool) → eqb a 0 ≡ b → (when b then 0 else kind_of s' w) ≡ (when b then 0 else kind_of s w)
       go true e = refl
       go false e =
           let some : a ≢ 0 = eqb-false a 0 e in

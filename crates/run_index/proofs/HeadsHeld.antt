@@ -6,7 +6,7 @@ use mathlib.Core.List.{List, [], ◌∷◌}
 use native.Mathlib.Omega.{arith}
 use lib.ListN.{length, get_or}
 use borrow.Author.Tests.{eq-eqb}
-use Rattle.meaning.specs.Bytes.{Bytes, those, if◌then◌else◌}
+use Rattle.meaning.specs.Bytes.{Bytes, those, when◌then◌else◌}
 use Rattle.meaning.specs.Terms.{writer, reader, Constant, Functor, cell, named, Term, Terms, end, more, Clause, Job, count, as_term}
 use Rattle.meaning.specs.Trial.{procedure}
 use Rattle.term.specs.Words.{tag_in, rest_in}
@@ -75,13 +75,13 @@ module _ (s : List ℕ) (names : List Bytes) (k : ℕ) (few_names : length names
 -- If one of a list passes a test, there is a first that does.
 one_passes : {A : Type 0} (test : A → Bool) (l : List A) (i : ℕ) (d : A) → i < length l → test (get_or l i d) ≡ true
     → (a : A) × (rest : List A) × (those test l ≡ a ∷ rest) × (test a ≡ true)
-unfolding those if◌then◌else◌
+unfolding those when◌then◌else◌
 one_passes test [] i d h e = absurd (omega arith)
 one_passes {A} test (a ∷ l) zero d h e = (a, those test l, rw e refl, e)
 one_passes {A} test (a ∷ l) (suc i) d h e = go (test a) refl (one_passes test l i d (omega arith) e)
   where
     go : (b : Bool) → test a ≡ b → (x : A) × (rest : List A) × (those test l ≡ x ∷ rest) × (test x ≡ true)
-        → (x : A) × (rest : List A) × ((if b then a ∷ those test l else those test l) ≡ x ∷ rest) × (test x ≡ true)
+        → (x : A) × (rest : List A) × ((when b then a ∷ those test l else those test l) ≡ x ∷ rest) × (test x ≡ true)
     go true f r = (a, those test l, refl, f)
     go false f r = r
 

@@ -8,7 +8,7 @@ use native.Mathlib.Omega.{arith}
 use lib.Dec.{eqb}
 use lib.ListN.{length, get_or}
 use borrow.Author.Tests.{eqb-true, eqb-false}
-use Rattle.meaning.specs.Bytes.{Bytes, if◌then◌else◌}
+use Rattle.meaning.specs.Bytes.{Bytes, when◌then◌else◌}
 use Rattle.meaning.specs.Terms.{Clause, Job, Terms, end, more, count, as_term}
 use Rattle.term.specs.Words.{tag_in}
 use Rattle.term.specs.Cells.{Places}
@@ -83,15 +83,15 @@ module _ (s s' : List ℕ) (names : List Bytes) (j : Job) (held : HoldsJob s nam
         ∙ same (told_word (first_of s (functor_of s k))) (omega (arith, reads.first))
 
     kind_same : (a : ℕ) → a ≤ tag_in (functor_of s k)
-        → (if eqb a 0 then 0 else kind_of s' (get_or s' (clause_head k + a) 0)) ≡ (if eqb a 0 then 0 else kind_of s (get_or s (clause_head k + a) 0))
-    unfolding if◌then◌else◌ Holds as_term
+        → (when eqb a 0 then 0 else kind_of s' (get_or s' (clause_head k + a) 0)) ≡ (when eqb a 0 then 0 else kind_of s (get_or s (clause_head k + a) 0))
+    unfolding when◌then◌else◌ Holds as_term
     kind_same a h = go (eqb a 0) refl
       where
         few : a ≤ count both.0.head.arguments
         few = omega (arith, head_functor s names k both.0 both.1, head_few s names k both.0 both.1)
 
         go : (r : Bool) → eqb a 0 ≡ r
-            → (if r then 0 else kind_of s' (get_or s' (clause_head k + a) 0)) ≡ (if r then 0 else kind_of s (get_or s (clause_head k + a) 0))
+            → (when r then 0 else kind_of s' (get_or s' (clause_head k + a) 0)) ≡ (when r then 0 else kind_of s (get_or s (clause_head k + a) 0))
         go true e = refl
         go false e =
             let c = both.0 in
@@ -102,7 +102,7 @@ module _ (s s' : List ℕ) (names : List Bytes) (j : Job) (held : HoldsJob s nam
 
     own_kind_same : told_by s (functor_of s k) ≤ tag_in (functor_of s k) → own_kind s' k ≡ own_kind s k
     own_kind_same h =
-        ap (λ a. if eqb a 0 then 0 else kind_of s' (get_or s' (clause_head k + a) 0)) told_same ∙ kind_same (told_by s (functor_of s k)) h
+        ap (λ a. when eqb a 0 then 0 else kind_of s' (get_or s' (clause_head k + a) 0)) told_same ∙ kind_same (told_by s (functor_of s k)) h
 
     own_key_same : told_by s (functor_of s k) ≤ tag_in (functor_of s k) → own_key s' k ≡ own_key s k
     unfolding own_key

@@ -8,7 +8,7 @@ use native.Mathlib.Decide.{ℕ_discrete}
 use native.Mathlib.Omega.{arith}
 use lib.ListN.{length, get_or}
 use borrow.Author.Tests.{ne_eqb}
-use Rattle.meaning.specs.Bytes.{Bytes, if◌then◌else◌}
+use Rattle.meaning.specs.Bytes.{Bytes, when◌then◌else◌}
 use Rattle.meaning.specs.Terms.{Named, named, Clause, count}
 use Rattle.meaning.specs.Trial.{procedure}
 use Rattle.term.specs.Words.{tag_in}
@@ -31,7 +31,7 @@ module _ (functor functor' kind kind' : ℕ) (same : key_of functor kind ≡ key
 -- The key of a clause whose procedure is told apart by an argument.
 module _ (s : List ℕ) (functor told k : ℕ) (by : told_by s functor ≡ told) (some : told ≢ 0) (same : functor_of s k ≡ functor) where
   told_key : own_key s k ≡ key_of functor (kind_of s (get_or s (clause_head k + told) 0))
-  unfolding own_key if◌then◌else◌
+  unfolding own_key when◌then◌else◌
   told_key = rw (same, by, ne_eqb told 0 some)
 
 -- A clause of another procedure has another key.

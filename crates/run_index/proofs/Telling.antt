@@ -8,7 +8,7 @@ use native.Mathlib.Omega.{arith}
 use lib.ListN.{length, get_or, set}
 use lib.Seq.{get_or-set_same, get_or-set_other}
 use borrow.Author.Tests.{eq-eqb, ne_eqb}
-use Rattle.meaning.specs.Bytes.{if◌then◌else◌}
+use Rattle.meaning.specs.Bytes.{when◌then◌else◌}
 use Rattle.term.specs.Words.{tag_in}
 use Rattle.term.specs.Layout.{compounds_region, index_from, clause_record, clause_head, bucket_word, told_word}
 use Rattle.run_index.specs.Index.{kind_of, KindReads, key_of, functor_of, first_of, told_by, own_key, IndexedFrom, IndexOnly}
@@ -130,11 +130,11 @@ module _ (s s' : List ℕ) (clauses : ℕ) (heads : HeadsRead s clauses) (fits :
 -- The key of a clause, by whether its procedure is told apart.
 module _ (s : List ℕ) (k a : ℕ) (is : a ≡ told_by s (functor_of s k)) where
   pub key_untold : a ≡ 0 → own_key s k ≡ key_of (functor_of s k) 0
-  unfolding own_key if◌then◌else◌
+  unfolding own_key when◌then◌else◌
   key_untold none = rw (sym is, eq-eqb a 0 none)
 
   pub key_told : a ≢ 0 → own_key s k ≡ key_of (functor_of s k) (kind_of s (get_or s (clause_head k + a) 0))
-  unfolding own_key if◌then◌else◌
+  unfolding own_key when◌then◌else◌
   key_told some = rw (sym is, ne_eqb a 0 some)
 
 -- The words of a clause that joins.

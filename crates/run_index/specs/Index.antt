@@ -1,7 +1,7 @@
 -- The index of the clauses: each clause has a key, the functor of its head and the kind of one argument, by which its procedure is told apart; clauses with
 -- the same key are chained, and all clauses are found by their keys' buckets.
 use Rattle.std.specs.Prelude.{ℕ, ◌+◌, ◌-◌, ◌*◌, ◌/◌, ◌%◌, ◌≤◌, ◌<◌, ◌≡◌, List, eqb, length, get_or}
-use Rattle.meaning.specs.Bytes.{if◌then◌else◌}
+use Rattle.meaning.specs.Bytes.{when◌then◌else◌}
 use Rattle.term.specs.Words.{packed, tag_in, rest_in}
 use Rattle.term.specs.Layout.{
   procedure_slot,
@@ -21,7 +21,7 @@ use Rattle.term.specs.Layout.{
 -- What tells a term apart from others at the same place, by its word: a constant's word, a compound's functor; 0 for a writer, 2 for a reader.
 abbrev pub kind_of : List ℕ → ℕ → ℕ
 kind_of s w =
-    if eqb (tag_in w) 6 then packed 6 (get_or s (rest_in w) 0) else (if eqb (tag_in w) 1 then 0 else (if eqb (tag_in w) 2 then 2 else w))
+    when eqb (tag_in w) 6 then packed 6 (get_or s (rest_in w) 0) else (when eqb (tag_in w) 1 then 0 else (when eqb (tag_in w) 2 then 2 else w))
 
 -- A compound's functor can be read at its place.
 abbrev pub KindReads : List ℕ → ℕ → Type 0
@@ -51,7 +51,7 @@ told_by s functor = get_or s (told_word (first_of s functor)) 0
 
 -- The kind of that argument in the head of clause k, and the clause's key.
 abbrev pub own_kind : List ℕ → ℕ → ℕ
-own_kind s k = if eqb (told_by s (functor_of s k)) 0 then 0 else kind_of s (get_or s (clause_head k + told_by s (functor_of s k)) 0)
+own_kind s k = when eqb (told_by s (functor_of s k)) 0 then 0 else kind_of s (get_or s (clause_head k + told_by s (functor_of s k)) 0)
 
 unfoldable pub own_key : List ℕ → ℕ → ℕ
 own_key s k = key_of (functor_of s k) (own_kind s k)

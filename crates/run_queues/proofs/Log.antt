@@ -9,7 +9,7 @@ use lib.Dec.{eqb}
 use lib.ListN.{length, get_or, set, length-set, length-append, get_or-append}
 use lib.Seq.{get_or-set_same, get_or-set_other, get_or_at}
 use borrow.Author.Tests.{eqb-true, eqb-false, eq-eqb}
-use Rattle.meaning.specs.Bytes.{among, if◌then◌else◌}
+use Rattle.meaning.specs.Bytes.{among, when◌then◌else◌}
 use Rattle.run_queues.specs.Log.{Slot, gone, waits, pairs_in, slot, link, Chain, SlotStands, LogOk, LogOnly, Unclaimed, joined}
 
 module _ (s s' : List ℕ) (log waiters sets pairs i : ℕ)

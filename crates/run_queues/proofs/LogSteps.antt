@@ -8,7 +8,7 @@ use native.Mathlib.Numerals.{add-one}
 use lib.Dec.{eqb}
 use lib.ListN.{length, get_or, set, length-set, length-append, get_or-append}
 use lib.Seq.{get_or-set_same, get_or-set_other, get_or_at, set-get_or, set-set, set_at}
-use Rattle.meaning.specs.Bytes.{among, if◌then◌else◌}
+use Rattle.meaning.specs.Bytes.{among, when◌then◌else◌}
 use Rattle.term.specs.States.{listed}
 use Rattle.run_queues.specs.Log.{
   Slot,
@@ -83,11 +83,11 @@ module _ (log waiters sets pairs : ℕ) where
       }
 
 joined_new : (p : ℕ) (ps : List ℕ) → among p ps ≡ false → joined p ps ≡ p ∷ ps
-unfolding joined if◌then◌else◌
+unfolding joined when◌then◌else◌
 joined_new p ps e = rw e
 
 pub joined_there : (p : ℕ) (ps : List ℕ) → among p ps ≡ true → joined p ps ≡ ps
-unfolding joined if◌then◌else◌
+unfolding joined when◌then◌else◌
 joined_there p ps e = rw e
 
 -- The set of the goal at a place stays.

@@ -8,7 +8,7 @@ use native.Mathlib.Omega.{arith}
 use lib.Dec.{eqb}
 use lib.ListN.{length, get_or, set}
 use borrow.Author.Tests.{eqb-true}
-use Rattle.meaning.specs.Bytes.{among, if◌then◌else◌}
+use Rattle.meaning.specs.Bytes.{among, when◌then◌else◌}
 use Rattle.term.specs.Frames.{Only}
 use Rattle.run_queues.specs.Log.{Slot, gone, waits, pairs_in, slot, link, Chain, SlotStands, LogOk, joined, gathered}
 use Rattle.term.specs.States.{listed}
@@ -61,10 +61,10 @@ or_same true b h = h refl
 or_same false b h = refl
 
 joined_among : (q p : ℕ) (ps : List ℕ) → among q (joined p ps) ≡ (eqb q p || among q ps)
-unfolding joined if◌then◌else◌ among
+unfolding joined when◌then◌else◌ among
 joined_among q p ps = go (among p ps) refl
   where
-    go : (b : Bool) → among p ps ≡ b → among q (if b then ps else p ∷ ps) ≡ (eqb q p || among q ps)
+    go : (b : Bool) → among p ps ≡ b → among q (when b then ps else p ∷ ps) ≡ (eqb q p || among q ps)
     go true e = or_same (eqb q p) (among q ps) (λ f. ap (λ x. among x ps) (eqb-true q p f) ∙ e)
     go false e = refl
 

@@ -2,7 +2,7 @@
 -- A place has two words: the goal, and the first pair of its set plus one. A pair's waiter is its goal's place plus one; the pairs of
 -- one goal's set are a chain. So a pair leads to the goal that waits on it, and pairs of different goals are different.
 use Rattle.std.specs.Prelude.{ℕ, zero, suc, ◌+◌, ◌*◌, ◌≤◌, ◌<◌, ◌≡◌, Bool, true, false, List, [], ◌∷◌, ◌++◌, length, get_or, set}
-use Rattle.meaning.specs.Bytes.{among, if◌then◌else◌}
+use Rattle.meaning.specs.Bytes.{among, when◌then◌else◌}
 use Rattle.term.specs.Frames.{Only}
 use Rattle.term.specs.States.{listed}
 
@@ -61,7 +61,7 @@ Unclaimed slots place p = (i : ℕ) → i < length slots → (i ≡ place → �
 
 -- A set with a pair more.
 unfoldable pub joined : ℕ → List ℕ → List ℕ
-joined p ps = if among p ps then ps else p ∷ ps
+joined p ps = when among p ps then ps else p ∷ ps
 
 -- A set with several pairs more.
 unfoldable pub gathered : List ℕ → List ℕ → List ℕ

@@ -7,7 +7,7 @@ use mathlib.Core.Logic.{◌⊎◌, inl, inr, ⊎_elim}
 use mathlib.Core.List.{List, [], ◌∷◌, ◌++◌}
 use native.Mathlib.Omega.{arith}
 use lib.ListN.{length, length-append}
-use Rattle.meaning.specs.Bytes.{among, if◌then◌else◌}
+use Rattle.meaning.specs.Bytes.{among, when◌then◌else◌}
 use Rattle.laws.proofs.Lists.Among.{
   In,
   here,
@@ -28,11 +28,11 @@ use Rattle.run_readers.specs.Readers.{is_some, met_with, all_met}
 
 -- A pair that is in the list, and one that is not.
 pub met_there : (ps : List ℕ) (p : ℕ) → among p ps ≡ true → met_with ps p ≡ ps
-unfolding met_with if◌then◌else◌
+unfolding met_with when◌then◌else◌
 met_there ps p e = rw e
 
 pub met_new : (ps : List ℕ) (p : ℕ) → among p ps ≡ false → met_with ps p ≡ ps ++ (p ∷ [])
-unfolding met_with if◌then◌else◌
+unfolding met_with when◌then◌else◌
 met_new ps p e = rw e
 
 -- What holds of the list whether the pair is new or not.

@@ -7,7 +7,7 @@ use mathlib.Core.Logic.{◌≢◌}
 use mathlib.Core.List.{List, [], ◌∷◌, map}
 use native.Mathlib.Omega.{arith}
 use lib.ListN.{length, get_or}
-use Rattle.meaning.specs.Bytes.{Bytes, if◌then◌else◌}
+use Rattle.meaning.specs.Bytes.{Bytes, when◌then◌else◌}
 use Rattle.meaning.specs.Terms.{Clause, Job}
 use Rattle.meaning.specs.State.{Room, Goal}
 use Rattle.meaning.specs.Compare.{waits, fails}
@@ -146,7 +146,7 @@ module _ {s s₁ : List ℕ} {text : Bytes} {names : List Bytes} {j : Job} {limi
 
     -- "If the circle test fails it": there is a circle.
     pub circle_fails : {earlier : List ℕ} → found ≡ true → TrialIs s s₃ j limit figures at g marks readers stamp k c earlier FailsAll
-    unfolding if◌then◌else◌ guarded
+    unfolding when◌then◌else◌ guarded
     circle_fails {earlier} e = record {
       only = trial_only_more (3 * figures.pairs) (omega arith) (trials.whole-frame t f m begun new fit cleared told none_asked answer);
       marks_now = λ a l h. omega (arith, trials.marks-after t f m begun new fit cleared told none_asked answer a l h);
@@ -180,7 +180,7 @@ module _ {s s₁ : List ℕ} {text : Bytes} {names : List Bytes} {j : Job} {limi
       by_guards : trial earlier c (unit_of j limit figures g) g.goal
           ≡ in_order earlier (trials.given t f m begun new fit cleared told none_asked) (unit_of j limit figures g).values
           (length (unit_of j limit figures g).values) c.guards
-      unfolding if◌then◌else◌ guarded next_pair
+      unfolding when◌then◌else◌ guarded next_pair
       by_guards = rw no_circle at (trials.tested-is t f m begun new fit cleared told none_asked answer earlier)
 
       joined : (ps : List ℕ) (l : ℕ) → Joined s₃ s₄ (marks + links) links readers ps l

@@ -10,7 +10,7 @@ use lib.Dec.{eqb}
 use lib.ListN.{length, get_or, set, length-set}
 use lib.Seq.{get_or-set_same, get_or-set_other}
 use borrow.Author.Tests.{eqb-true, eqb-false}
-use Rattle.meaning.specs.Bytes.{if◌then◌else◌}
+use Rattle.meaning.specs.Bytes.{when◌then◌else◌}
 use Rattle.laws.proofs.Lists.Among.{In, here, in_cons_cases, in_none, in_append_left, in_append_right}
 use Rattle.term.specs.Cells.{Places, term_word}
 use Rattle.term.specs.Setting.{Setting}
@@ -118,7 +118,7 @@ below_both n (r ∷ a) b h k = (h.0, below_both n a b h.1 k)
 
 -- A pair beside which no term stands is one of them.
 pub asked_at : (s : List ℕ) (n i : ℕ) → i < n → get_or s (gift_term i) 0 ≡ 0 → In (get_or s (gift_pair i) 0) (asked_in s n)
-unfolding asked_in if◌then◌else◌
+unfolding asked_in when◌then◌else◌
 asked_at s zero i h e = absurd (omega arith)
 asked_at s (suc n) i h e = go (eqb i n) refl (asked_at s n i)
   where

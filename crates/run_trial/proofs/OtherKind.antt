@@ -8,7 +8,7 @@ use native.Mathlib.Omega.{arith}
 use lib.Dec.{eqb}
 use lib.ListN.{get_or}
 use borrow.Author.Tests.{eqb-true, eqb-false, ne_eqb}
-use Rattle.meaning.specs.Bytes.{if◌then◌else◌}
+use Rattle.meaning.specs.Bytes.{when◌then◌else◌}
 use Rattle.meaning.specs.Terms.{
   writer,
   reader,
@@ -70,7 +70,7 @@ module _ (s : List ℕ) (item unit : Places) (one_names : item.names ≡ unit.na
       ∙ ne_eqb (functor_word item g (count us)) (functor_word unit f (count ts)) (λ e. o.other (ap (packed 6) e))
 
   pub other_fails : (look : Term → Term) (p c : ℕ) (u t : Term) → OtherKind s item unit u t → place look (renamed p c u) t ≡ fails
-  unfolding place renamed if◌then◌else◌
+  unfolding place renamed when◌then◌else◌
   other_fails look p c (Term.variable writer x) (Term.variable writer z) o = refl
   other_fails look p c (Term.variable writer x) (Term.variable reader z) o = absurd (o.no_writer refl)
   other_fails look p c (Term.variable writer x) (Term.constant k) o = absurd (o.no_writer refl)

@@ -8,7 +8,7 @@ use mathlib.Core.List.{List, [], map}
 use mathlib.Core.Option.{none, some}
 use native.Mathlib.Omega.{arith}
 use lib.ListN.{length, get_or}
-use Rattle.meaning.specs.Bytes.{Bytes, if◌then◌else◌}
+use Rattle.meaning.specs.Bytes.{Bytes, when◌then◌else◌}
 use Rattle.meaning.specs.Terms.{writer, Functor, Term, Terms, Clause, Job, count, named, renamed}
 use Rattle.meaning.specs.State.{Room, Goal, value}
 use Rattle.meaning.specs.Compare.{Assignment, succeeds, fails}
@@ -335,7 +335,7 @@ module _ {s s₁ : List ℕ} {text : Bytes} {names : List Bytes} {j : Job} {limi
       marks_after a l h = omega (arith, answer.stamps_new a l h, few_entries)
 
       pub tested_is : (earlier : List ℕ)
-          → trial earlier c (unit_of j limit figures g) g.goal ≡ guarded earlier c (unit_of j limit figures g) (if found then fails else succeeds given)
+          → trial earlier c (unit_of j limit figures g) g.goal ≡ guarded earlier c (unit_of j limit figures g) (when found then fails else succeeds given)
       unfolding trial tested
       tested_is earlier = rw (agrees, tested, answer.answer) refl
 

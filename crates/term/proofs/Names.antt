@@ -5,7 +5,7 @@ use mathlib.Core.Bool.{Bool, true, false, ◌||◌}
 use mathlib.Core.List.{List, [], ◌∷◌, ◌++◌}
 use native.Mathlib.Omega.{arith}
 use lib.ListN.{set}
-use Rattle.meaning.specs.Bytes.{Bytes, same, any, if◌then◌else◌}
+use Rattle.meaning.specs.Bytes.{Bytes, same, any, when◌then◌else◌}
 use Rattle.meaning.specs.Terms.{writer, reader, Constant, Functor, cell, named, Term, Terms, end, more, count}
 use Rattle.term.specs.Cells.{Places, number_of, term_word, functor_word, stored, arguments_stored, KnownName, KnownConstant, KnownFunctor, Known, AllKnown}
 
@@ -17,8 +17,8 @@ or_more : (a b c : Bool) → (b ≡ true → c ≡ true) → (a || b) ≡ true �
 or_more true b c h k = refl
 or_more false b c h k = h k
 
-if_more : (a b : Bool) (m n : ℕ) → (b ≡ true → m ≡ n) → (a || b) ≡ true → (if a then 0 else suc m) ≡ (if a then 0 else suc n)
-unfolding if◌then◌else◌
+if_more : (a b : Bool) (m n : ℕ) → (b ≡ true → m ≡ n) → (a || b) ≡ true → (when a then 0 else suc m) ≡ (when a then 0 else suc n)
+unfolding when◌then◌else◌
 if_more true b m n h k = refl
 if_more false b m n h k = ap suc (h k)
 

@@ -8,7 +8,7 @@ use native.Mathlib.Omega.{arith}
 use lib.Dec.{eqb}
 use lib.ListN.{length}
 use borrow.Author.Tests.{eqb-true, eq-eqb}
-use Rattle.meaning.specs.Bytes.{Bytes, same, any, if◌then◌else◌}
+use Rattle.meaning.specs.Bytes.{Bytes, same, any, when◌then◌else◌}
 use Rattle.term.specs.Cells.{number_of, KnownName}
 
 both_true : (a b : Bool) → (a && b) ≡ true → (a ≡ true) × (b ≡ true)
@@ -47,8 +47,8 @@ same_swap (b ∷ f) (c ∷ g) = rw (eqb_swap b c, same_swap f g)
         go false true d e = sym (rw (eqb-true n m e, eq-eqb m m refl) at d)
 
 -- A known name's number.
-below_step : (b known : Bool) (m n : ℕ) → (b || known) ≡ true → (known ≡ true → m < n) → (if b then 0 else suc m) < suc n
-unfolding if◌then◌else◌
+below_step : (b known : Bool) (m n : ℕ) → (b || known) ≡ true → (known ≡ true → m < n) → (when b then 0 else suc m) < suc n
+unfolding when◌then◌else◌
 below_step true known m n h k = omega arith
 below_step false known m n h k = omega (arith, k h)
 
@@ -59,8 +59,8 @@ number_below f (g ∷ names) h =
     below_step (same f g) (any (same f) names) (number_of f names) (length names) h (number_below f names)
 
 apart_step : (a b k l : Bool) (m n : ℕ) → (a || k) ≡ true → (b || l) ≡ true → (a ≡ true → b ≡ true → ⊥) → (k ≡ true → l ≡ true → m ≢ n)
-    → (if a then 0 else suc m) ≢ (if b then 0 else suc n)
-unfolding if◌then◌else◌
+    → (when a then 0 else suc m) ≢ (when b then 0 else suc n)
+unfolding when◌then◌else◌
 apart_step true true k l m n g h both rest e = both refl refl
 apart_step true false k l m n g h both rest e = omega arith
 apart_step false true k l m n g h both rest e = omega arith

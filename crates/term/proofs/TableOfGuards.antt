@@ -9,7 +9,7 @@ use lib.Dec.{leb, eqb}
 use borrow.Author.Tests.{leb-true, eqb-true, eqb-false, eq-eqb, ne_eqb}
 use lib.ListN.{length, get_or, replicate, take, length-append, length-replicate}
 use lib.Seq.{slice}
-use Rattle.meaning.specs.Bytes.{Bytes, bytes_words, same, all, if◌then◌else◌}
+use Rattle.meaning.specs.Bytes.{Bytes, bytes_words, same, all, when◌then◌else◌}
 use Rattle.meaning.specs.Terms.{Row}
 use Rattle.meaning.specs.Table.{rows_before, rows_between, rows_alone, guard_table, table_words}
 use Rattle.laws.proofs.Lists.Tests.{and_left, and_right}
@@ -53,14 +53,14 @@ NoneBefore rows f count n = (m : ℕ) → m < n → row_is (row_at rows m) f cou
 
 pub row_here : (rows : List Row) (f : Bytes) (count n : ℕ) → n < length rows → NoneBefore rows f count n → row_is (row_at rows n) f count ≡ true
     → row_of rows f count ≡ n
-unfolding row_of row_at if◌then◌else◌
+unfolding row_of row_at when◌then◌else◌
 row_here [] f count n h none e = absurd (omega arith)
 row_here (r ∷ rows) f count zero h none e = rw e
 row_here (r ∷ rows) f count (suc n) h none e =
     rw (none 0 (omega arith)) (ap suc (row_here rows f count n (omega arith) (λ m l. none (suc m) (omega arith)) e))
 
 pub row_nowhere : (rows : List Row) (f : Bytes) (count : ℕ) → NoneBefore rows f count (length rows) → row_of rows f count ≡ length rows
-unfolding row_of row_at if◌then◌else◌
+unfolding row_of row_at when◌then◌else◌
 row_nowhere [] f count none = refl
 row_nowhere (r ∷ rows) f count none =
     rw (none 0 (omega arith)) (ap suc (row_nowhere rows f count (λ m l. none (suc m) (omega arith))))

@@ -1,6 +1,6 @@
 -- Terms in the scratch: the word of a term, and its compounds, each from its place on: its functor, then its arguments.
 use Rattle.std.specs.Prelude.{ℕ, suc, ◌+◌, ◌*◌, ◌-◌, ◌≤◌, ◌≡◌, true, List, [], ◌∷◌, set}
-use Rattle.meaning.specs.Bytes.{Bytes, same, any, if◌then◌else◌}
+use Rattle.meaning.specs.Bytes.{Bytes, same, any, when◌then◌else◌}
 use Rattle.meaning.specs.Terms.{
   Integer,
   plus,
@@ -32,7 +32,7 @@ bits (minus n) = 4294967296 - n
 -- A name's number: its place among the names.
 unfoldable pub number_of : Bytes → List Bytes → ℕ
 number_of f [] = 0
-number_of f (g ∷ gs) = if same f g then 0 else suc (number_of f gs)
+number_of f (g ∷ gs) = when same f g then 0 else suc (number_of f gs)
 
 abbrev pub constant_content : Places → Constant → Content
 constant_content places (Constant.integer i) = Content.integer (bits i)

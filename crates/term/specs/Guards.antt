@@ -1,7 +1,7 @@
 -- The guards of a clause in the scratch: each is one word, the number of its row in the table of guards and eight times the place of its compound, whose
 -- arguments stand behind that place. `otherwise` has no compound; its word has the item's first place.
 use Rattle.std.specs.Prelude.{ℕ, zero, suc, ◌+◌, ◌-◌, ◌*◌, ◌≤◌, ◌<◌, ◌≡◌, Bool, false, ◌&&◌, List, [], ◌∷◌, ◌++◌, map, eqb, length, get_or, replicate}
-use Rattle.meaning.specs.Bytes.{Bytes, same, if◌then◌else◌}
+use Rattle.meaning.specs.Bytes.{Bytes, same, when◌then◌else◌}
 use Rattle.meaning.specs.Terms.{
   Test,
   an_integer,
@@ -77,7 +77,7 @@ row_is r f n = same r.name f && eqb r.count n
 -- The row of a name with so many arguments, by its number in the table; the number of rows if there is none.
 unfoldable pub row_of : List Row → Bytes → ℕ → ℕ
 row_of [] f n = 0
-row_of (r ∷ rows) f n = if row_is r f n then 0 else suc (row_of rows f n)
+row_of (r ∷ rows) f n = when row_is r f n then 0 else suc (row_of rows f n)
 
 -- The row of this number; one without a name for any beyond.
 unfoldable pub row_at : List Row → ℕ → Row

@@ -1,7 +1,7 @@
 -- What it is for the scratch to hold a state of a run: of each query the values of its pairs, its compounds and its tries; the queue, the waiting
 -- and the failed goals. Each part reads the words of its own region.
 use Rattle.std.specs.Prelude.{ℕ, zero, suc, ◌+◌, ◌-◌, ◌*◌, ◌≤◌, ◌<◌, ◌≡◌, true, ◌⊎◌, List, [], ◌∷◌, ◌++◌, map, ltb, length, get_or}
-use Rattle.meaning.specs.Bytes.{Bytes, if◌then◌else◌}
+use Rattle.meaning.specs.Bytes.{Bytes, when◌then◌else◌}
 use Rattle.meaning.specs.Terms.{Named, Query, Job, as_term}
 use Rattle.meaning.specs.Items.{job, reading}
 use Rattle.meaning.specs.State.{Room, QueryUnit, Goal, Waiting, Goals, State, unit_at, number_of}
@@ -80,7 +80,7 @@ AllStand s figures atlas units (g ∷ gs) = GoalStands s figures atlas units g �
 
 -- A place of the ring, counted past its end.
 unfoldable pub round : ℕ → ℕ → ℕ
-round size at = if ltb at size then at else at - size
+round size at = when ltb at size then at else at - size
 
 -- The queue in order: n words from a place of the ring on.
 unfoldable pub ring : List ℕ → ℕ → ℕ → ℕ → ℕ → List ℕ

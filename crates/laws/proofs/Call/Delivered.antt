@@ -7,7 +7,7 @@ use mathlib.Core.List.{List, [], ◌++◌}
 use lib.Dec.{ltb}
 use lib.ListN.{length, take, drop}
 use lib.Seq.{take_at}
-use Rattle.meaning.specs.Bytes.{Bytes, if◌then◌else◌, joined}
+use Rattle.meaning.specs.Bytes.{Bytes, when◌then◌else◌, joined}
 use Rattle.meaning.specs.Terms.{Job}
 use Rattle.meaning.specs.Items.{Refusal, no_item, guard_rule, occurrence_rule, figure, no_query, Reading, job, refused, reading}
 use Rattle.meaning.specs.State.{Room}
@@ -21,13 +21,13 @@ module _ (n : ℕ) where
   Gives : Outcome → Type 0
   Gives o = o.answer ≡ ran n
 
-  first_taken : (b : Bool) (x y : Outcome) → (Gives y → ⊥) → Gives (if b then x else y) → (if b then x else y) ≡ x
-  unfolding if◌then◌else◌
+  first_taken : (b : Bool) (x y : Outcome) → (Gives y → ⊥) → Gives (when b then x else y) → (when b then x else y) ≡ x
+  unfolding when◌then◌else◌
   first_taken true x y h r = refl
   first_taken false x y h r = absurd (h r)
 
-  second_taken : (b : Bool) (x y : Outcome) → (Gives x → ⊥) → Gives (if b then x else y) → (if b then x else y) ≡ y
-  unfolding if◌then◌else◌
+  second_taken : (b : Bool) (x y : Outcome) → (Gives x → ⊥) → Gives (when b then x else y) → (when b then x else y) ≡ y
+  unfolding when◌then◌else◌
   second_taken true x y h r = absurd (h r)
   second_taken false x y h r = refl
 

@@ -7,7 +7,7 @@ use mathlib.Core.List.{List}
 use lib.Dec.{leb, ltb}
 use lib.ListN.{length, length-replicate}
 use borrow.Author.Tests.{le-ltb}
-use Rattle.meaning.specs.Bytes.{Bytes, if◌then◌else◌}
+use Rattle.meaning.specs.Bytes.{Bytes, when◌then◌else◌}
 use Rattle.meaning.specs.Terms.{Job}
 use Rattle.meaning.specs.Items.{Reading, job, refused, reading}
 use Rattle.meaning.specs.State.{Room}
@@ -27,8 +27,8 @@ lending scratch given =
     record { text = given.text; budget = given.budget; room = given.room; scratch = scratch; buffer = given.buffer }
 
 -- Two choices by one test agree where their branches do.
-both_branches : (b : Bool) {x y x' y' : Outcome} → Agree x x' → Agree y y' → Agree (if b then x else y) (if b then x' else y')
-unfolding if◌then◌else◌
+both_branches : (b : Bool) {x y x' y' : Outcome} → Agree x x' → Agree y y' → Agree (when b then x else y) (when b then x' else y')
+unfolding when◌then◌else◌
 both_branches true first second = first
 both_branches false first second = second
 

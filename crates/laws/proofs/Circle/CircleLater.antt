@@ -10,7 +10,7 @@ use native.Mathlib.Omega.{arith}
 use lib.Dec.{ltb}
 use lib.ListN.{length}
 use borrow.Author.Tests.{lt-ltb, le-ltb}
-use Rattle.meaning.specs.Bytes.{if◌then◌else◌}
+use Rattle.meaning.specs.Bytes.{when◌then◌else◌}
 use Rattle.meaning.specs.Terms.{
   Half,
   writer,
@@ -147,14 +147,14 @@ module _ (unit later : QueryUnit) (goal : Named) (l : GoalLater unit later goal)
       (settles : Each (λ a. value (values_after clause given_later later) a.pair ≡ some a.value) given_later) where
     -- Where a pair is later: the clause's pairs come behind the others.
     moved : ℕ → ℕ
-    moved n = if ltb n (length values) then n else length after + (n - length values)
+    moved n = when ltb n (length values) then n else length after + (n - length values)
 
     moved_old : (n : ℕ) → n < length values → moved n ≡ n
-    unfolding moved if◌then◌else◌
+    unfolding moved when◌then◌else◌
     moved_old n below = rw (lt-ltb n (length values) below)
 
     moved_new : (x : ℕ) → moved (length values + x) ≡ length after + x
-    unfolding moved if◌then◌else◌
+    unfolding moved when◌then◌else◌
     moved_new x = rw (le-ltb (length values + x) (length values) (omega arith)) (omega arith)
 
     -- A pair that the trial would leave with a value.

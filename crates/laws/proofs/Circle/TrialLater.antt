@@ -6,7 +6,7 @@ use mathlib.Core.Bool.{Bool, true, false}
 use mathlib.Core.List.{List, [], ◌∷◌}
 use mathlib.Core.Option.{some}
 use lib.ListN.{length}
-use Rattle.meaning.specs.Bytes.{if◌then◌else◌}
+use Rattle.meaning.specs.Bytes.{when◌then◌else◌}
 use Rattle.meaning.specs.Terms.{Named, Clause}
 use Rattle.meaning.specs.State.{value, QueryUnit}
 use Rattle.meaning.specs.Compare.{Assignment, Result, succeeds, waits, fails}
@@ -29,7 +29,7 @@ module _ (unit later : QueryUnit) (goal : Named) where
     module _ (clause : Clause) (settles : Settles clause) (earlier earlier_then : List ℕ) (still : earlier ≡ [] → earlier_then ≡ []) where
       tested_later : (r : Result) → compared clause unit goal ≡ r → guarded earlier clause unit (tested clause unit r) ≡ fails
           → guarded earlier_then clause later (tested clause later (compared clause later goal)) ≡ fails
-      unfolding tested guarded if◌then◌else◌ next_pair
+      unfolding tested guarded when◌then◌else◌ next_pair
       tested_later fails e f = rw (compared_fails_later clause unit later goal l.grew l.still_open e)
       tested_later (waits readers) e f = absurd (fails_not_waits (sym f))
       tested_later (succeeds given) e f =

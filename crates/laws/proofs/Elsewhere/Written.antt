@@ -8,7 +8,7 @@ use mathlib.Core.Option.{none, some}
 use native.Mathlib.Decide.{dec_lt}
 use native.Mathlib.Omega.{arith}
 use lib.ListN.{length}
-use Rattle.meaning.specs.Bytes.{if◌then◌else◌}
+use Rattle.meaning.specs.Bytes.{when◌then◌else◌}
 use Rattle.meaning.specs.Terms.{
   Half,
   writer,
@@ -37,7 +37,7 @@ use Rattle.laws.proofs.Single.Chains.{Reaches, here, through, reaches_more, appl
 
 -- A half that occurs in a variable is that variable.
 occurs_same : (h k : Half) (n p : ℕ) → 1 ≤ occurrences h n (variable k p) → variable h n ≡ variable k p
-unfolding occurrences same_half if◌then◌else◌ Stands
+unfolding occurrences same_half when◌then◌else◌ Stands
 occurs_same h k n p o = go h k o (occurs_stands (variable k p) h n o)
   where
     go : (h k : Half) → 1 ≤ occurrences h n (variable k p) → n ≡ p → variable h n ≡ variable k p

@@ -11,7 +11,7 @@ use native.Mathlib.Omega.{arith}
 use lib.Dec.{eqb}
 use lib.ListN.{length, length-append}
 use borrow.Author.Tests.{eqb-true, eq-eqb}
-use Rattle.meaning.specs.Bytes.{among, any, those, each_once, up_to, if◌then◌else◌}
+use Rattle.meaning.specs.Bytes.{among, any, those, each_once, up_to, when◌then◌else◌}
 use Rattle.laws.proofs.Lists.Tests.{or_true, or_true_right}
 pub use mathlib.Core.List.Memᴰ.{append_cases as in_append_cases}
 pub use mathlib.Core.List.Memᴰ.{append_left as in_append_left}
@@ -107,11 +107,11 @@ any_append_last test l a e = in_any test (in_append_right l (here refl)) e
 
 -- Those of a list that pass a test.
 pub in_those : {A : Type 0} (test : A → Bool) {a : A} {l : List A} → In a l → test a ≡ true → In a (those test l)
-unfolding those if◌then◌else◌
+unfolding those when◌then◌else◌
 in_those test {a = a} (here {x = b} {xs = rest} e) q = rw (ap test (sym e) ∙ q) (here e)
 in_those {A} test {a = a} (there {x = b} {xs = rest} p) q = go (test b) (in_those test p q)
   where
-    go : (c : Bool) → In a (those test rest) → In a (if c then b ∷ those test rest else those test rest)
+    go : (c : Bool) → In a (those test rest) → In a (when c then b ∷ those test rest else those test rest)
     go true r = there r
     go false r = r
 

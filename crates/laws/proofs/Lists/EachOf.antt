@@ -6,7 +6,7 @@ use mathlib.Core.Bool.{Bool, true, false}
 use mathlib.Core.List.{List, [], ◌∷◌, ◌++◌, map}
 use native.Mathlib.Omega.{arith}
 use lib.ListN.{get_or, set, replicate}
-use Rattle.meaning.specs.Bytes.{if◌then◌else◌, those, among, all, up_to}
+use Rattle.meaning.specs.Bytes.{when◌then◌else◌, those, among, all, up_to}
 use Rattle.laws.proofs.Lists.Among.{In, here, there, among_in, below_in_up_to}
 use Rattle.laws.proofs.Lists.Sums.{sum, in_sum}
 use Rattle.laws.proofs.Lists.Tests.{and_left, and_right}
@@ -27,13 +27,13 @@ module _ {A : Type 0} where
 
   -- What holds of each holds of each of those that pass a test, for which moreover the test is passed.
   pub each_those : (P : A → Type 0) (test : A → Bool) (l : List A) → Each (λ a. test a ≡ true → P a) l → Each P (those test l)
-  unfolding those if◌then◌else◌
+  unfolding those when◌then◌else◌
   each_those P test [] ps = tt
   each_those P test (a ∷ l) ps = go (test a) refl (each_those P test l ps.1)
     where
       go : (b : Bool) → test a ≡ b → Each P (those test l) → Each P (those test (a ∷ l))
-      go true e further = rw (e, those, if◌then◌else◌) (ps.0 e, further)
-      go false e further = rw (e, those, if◌then◌else◌) further
+      go true e further = rw (e, those, when◌then◌else◌) (ps.0 e, further)
+      go false e further = rw (e, those, when◌then◌else◌) further
 
   pub each_of_those : (P : A → Type 0) (test : A → Bool) (l : List A) → Each P l → Each P (those test l)
   each_of_those P test l ps = each_those P test l (each_implies P _ (λ a p t. p) l ps)

@@ -6,20 +6,20 @@ use mathlib.Core.Bool.{Bool, true, false, not}
 use mathlib.Core.List.{List, [], ◌∷◌, ◌++◌, map, append-nil}
 use native.Mathlib.Omega.{arith}
 use lib.ListN.{length}
-use Rattle.meaning.specs.Bytes.{if◌then◌else◌, those}
+use Rattle.meaning.specs.Bytes.{when◌then◌else◌, those}
 use Rattle.laws.proofs.Lists.Tests.{false_not_true}
 
 module _ {A : Type 0} where
   pub those_in : (p : A → Bool) (a : A) (l : List A) → p a ≡ true → those p (a ∷ l) ≡ a ∷ those p l
-  unfolding those if◌then◌else◌
+  unfolding those when◌then◌else◌
   those_in p a l e = rw e
 
   pub those_out : (p : A → Bool) (a : A) (l : List A) → p a ≡ false → those p (a ∷ l) ≡ those p l
-  unfolding those if◌then◌else◌
+  unfolding those when◌then◌else◌
   those_out p a l e = rw e
 
   pub those_append : (p : A → Bool) (l m : List A) → those p (l ++ m) ≡ those p l ++ those p m
-  unfolding those if◌then◌else◌
+  unfolding those when◌then◌else◌
   those_append p [] m = refl
   those_append p (a ∷ l) m = go (p a) refl (those_append p l m)
     where
@@ -28,16 +28,16 @@ module _ {A : Type 0} where
       go false e further = rw (e, further)
 
   pub those_behind_in : (p : A → Bool) (l : List A) (a : A) → p a ≡ true → those p (l ++ (a ∷ [])) ≡ those p l ++ (a ∷ [])
-  unfolding those if◌then◌else◌
+  unfolding those when◌then◌else◌
   those_behind_in p l a e = those_append p l (a ∷ []) ∙ (rw e)
 
   pub those_behind_out : (p : A → Bool) (l : List A) (a : A) → p a ≡ false → those p (l ++ (a ∷ [])) ≡ those p l
-  unfolding those if◌then◌else◌
+  unfolding those when◌then◌else◌
   those_behind_out p l a e = those_append p l (a ∷ []) ∙ (rw (e, append-nil))
 
   -- Two filters commute.
   pub those_commute : (p q : A → Bool) (l : List A) → those p (those q l) ≡ those q (those p l)
-  unfolding those if◌then◌else◌
+  unfolding those when◌then◌else◌
   those_commute p q [] = refl
   those_commute p q (a ∷ l) = go (p a) (q a) refl refl (those_commute p q l)
     where
@@ -49,7 +49,7 @@ module _ {A : Type 0} where
 
   -- A filter that asks nothing new of the elements that pass the other, and one that none of them passes.
   pub those_implied : (p q : A → Bool) → ((a : A) → p a ≡ true → q a ≡ true) → (l : List A) → those p (those q l) ≡ those p l
-  unfolding those if◌then◌else◌
+  unfolding those when◌then◌else◌
   those_implied p q h [] = refl
   those_implied p q h (a ∷ l) = go (p a) (q a) refl refl (those_implied p q h l)
     where
@@ -60,7 +60,7 @@ module _ {A : Type 0} where
       go false false e f further = rw (e, f, further)
 
   pub those_excluded : (p q : A → Bool) → ((a : A) → q a ≡ true → p a ≡ false) → (l : List A) → those p (those q l) ≡ []
-  unfolding those if◌then◌else◌
+  unfolding those when◌then◌else◌
   those_excluded p q h [] = refl
   those_excluded p q h (a ∷ l) = go (q a) refl (those_excluded p q h l)
     where
@@ -69,18 +69,18 @@ module _ {A : Type 0} where
       go false f further = rw (f, further)
 
   pub those_all : (p : A → Bool) → ((a : A) → p a ≡ true) → (l : List A) → those p l ≡ l
-  unfolding those if◌then◌else◌
+  unfolding those when◌then◌else◌
   those_all p h [] = refl
   those_all p h (a ∷ l) = rw (h a, those_all p h l)
 
   pub those_none : (p : A → Bool) → ((a : A) → p a ≡ false) → (l : List A) → those p l ≡ []
-  unfolding those if◌then◌else◌
+  unfolding those when◌then◌else◌
   those_none p h [] = refl
   those_none p h (a ∷ l) = rw (h a, those_none p h l)
 
   -- What a filter keeps and what it leaves out are together as many as the list.
   pub length_those : (p : A → Bool) (l : List A) → length (those p l) + length (those (λ a. not (p a)) l) ≡ length l
-  unfolding those if◌then◌else◌
+  unfolding those when◌then◌else◌
   length_those p [] = refl
   length_those p (a ∷ l) = go (p a) refl (length_those p l)
     where
@@ -90,7 +90,7 @@ module _ {A : Type 0} where
       go false e further = rw e (omega arith)
 
 pub those_map : {A B : Type 0} (p : B → Bool) (f : A → B) (l : List A) → those p (map f l) ≡ map f (those (λ a. p (f a)) l)
-unfolding those if◌then◌else◌
+unfolding those when◌then◌else◌
 those_map p f [] = refl
 those_map p f (a ∷ l) = go (p (f a)) refl (those_map p f l)
   where

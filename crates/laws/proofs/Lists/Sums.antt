@@ -7,7 +7,7 @@ use mathlib.Core.List.{List, [], ◌∷◌, ◌++◌, map}
 use native.Mathlib.Nat.{not-suc-le-zero, le_of_suc-le-suc}
 use native.Mathlib.Omega.{arith}
 use lib.ListN.{length, get_or, set}
-use Rattle.meaning.specs.Bytes.{if◌then◌else◌, those}
+use Rattle.meaning.specs.Bytes.{when◌then◌else◌, those}
 use Rattle.laws.proofs.Lists.Among.{In, here, there}
 
 abbrev pub sum : {A : Type 0} → (A → ℕ) → List A → ℕ
@@ -21,25 +21,25 @@ module _ {A : Type 0} where
 
   -- Those that pass a test and those that do not are all.
   pub sum_parted : (f : A → ℕ) (test : A → Bool) (l : List A) → sum f (those test l) + sum f (those (λ a. not (test a)) l) ≡ sum f l
-  unfolding those if◌then◌else◌
+  unfolding those when◌then◌else◌
   sum_parted f test [] = refl
   sum_parted f test (a ∷ l) = go (test a) refl (sum_parted f test l)
     where
       go : (b : Bool) → test a ≡ b → sum f (those test l) + sum f (those (λ a. not (test a)) l) ≡ sum f l
           → sum f (those test (a ∷ l)) + sum f (those (λ a. not (test a)) (a ∷ l)) ≡ sum f (a ∷ l)
-      go true e further = rw (e, those, if◌then◌else◌) (omega arith)
-      go false e further = rw (e, those, if◌then◌else◌) (omega arith)
+      go true e further = rw (e, those, when◌then◌else◌) (omega arith)
+      go false e further = rw (e, those, when◌then◌else◌) (omega arith)
 
   -- A sum over those that pass a test.
-  pub sum_those : (f : A → ℕ) (test : A → Bool) (l : List A) → sum f (those test l) ≡ sum (λ a. if test a then f a else 0) l
-  unfolding those if◌then◌else◌
+  pub sum_those : (f : A → ℕ) (test : A → Bool) (l : List A) → sum f (those test l) ≡ sum (λ a. when test a then f a else 0) l
+  unfolding those when◌then◌else◌
   sum_those f test [] = refl
   sum_those f test (a ∷ l) = go (test a) refl (sum_those f test l)
     where
-      go : (b : Bool) → test a ≡ b → sum f (those test l) ≡ sum (λ a. if test a then f a else 0) l
-          → sum f (those test (a ∷ l)) ≡ sum (λ a. if test a then f a else 0) (a ∷ l)
-      go true e further = rw (e, those, if◌then◌else◌) (omega arith)
-      go false e further = rw (e, those, if◌then◌else◌) (omega arith)
+      go : (b : Bool) → test a ≡ b → sum f (those test l) ≡ sum (λ a. when test a then f a else 0) l
+          → sum f (those test (a ∷ l)) ≡ sum (λ a. when test a then f a else 0) (a ∷ l)
+      go true e further = rw (e, those, when◌then◌else◌) (omega arith)
+      go false e further = rw (e, those, when◌then◌else◌) (omega arith)
 
   -- Equal counts, and counts that are no greater.
   pub sum_same : (f g : A → ℕ) → ((a : A) → f a ≡ g a) → (l : List A) → sum f l ≡ sum g l

@@ -8,7 +8,7 @@ use mathlib.Core.List.{[], ◌∷◌}
 use native.Mathlib.Omega.{arith}
 use lib.Dec.{eqb}
 use borrow.Author.Tests.{eq-eqb, eqb-true, eqb-false, ne_eqb}
-use Rattle.meaning.specs.Bytes.{Bytes, same, if◌then◌else◌}
+use Rattle.meaning.specs.Bytes.{Bytes, same, when◌then◌else◌}
 
 -- Two constructors differ: `cc` proves 0 ≡ 1 from their equation.
 pub differ : ◌≡◌ {A = ℕ} 0 1 → ⊥
@@ -18,8 +18,8 @@ pub false_not_true : (b : Bool) → b ≡ false → b ≡ true → ⊥
 false_not_true b e f = differ (cc)
 
 -- What holds of both branches, each where it is taken, holds of the choice.
-pub if_holds {ℓ} : {A : Type ℓ} (P : A → Type 0) (b : Bool) (x y : A) → (b ≡ true → P x) → (b ≡ false → P y) → P (if b then x else y)
-unfolding if◌then◌else◌
+pub if_holds {ℓ} : {A : Type ℓ} (P : A → Type 0) (b : Bool) (x y : A) → (b ≡ true → P x) → (b ≡ false → P y) → P (when b then x else y)
+unfolding when◌then◌else◌
 if_holds P true x y p q = p refl
 if_holds P false x y p q = q refl
 

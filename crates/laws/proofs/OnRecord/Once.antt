@@ -10,7 +10,7 @@ use native.Mathlib.Omega.{arith}
 use lib.Dec.{eqb}
 use lib.ListN.{length}
 use borrow.Author.Tests.{eqb-true}
-use Rattle.meaning.specs.Bytes.{if◌then◌else◌}
+use Rattle.meaning.specs.Bytes.{when◌then◌else◌}
 use Rattle.meaning.specs.Terms.{writer, Term, variable, Clause, Job, same_half, occurrences}
 use Rattle.meaning.specs.State.{value, QueryUnit, Goal, State, unit_at}
 use Rattle.meaning.specs.Compare.{Assignment}
@@ -51,7 +51,7 @@ use Rattle.laws.proofs.OnRecord.Log.{Made, made_by}
 
 -- Whether it is the pair n of the query at place k that is assigned, as a number.
 abbrev pub assigns : ℕ → ℕ → Made → ℕ
-assigns k n m = if eqb m.query k && eqb n m.pair then 1 else 0
+assigns k n m = when eqb m.query k && eqb n m.pair then 1 else 0
 
 -- The value of that pair.
 abbrev pub value_of : State → ℕ → ℕ → Option Term
@@ -64,7 +64,7 @@ pub record AssignedOnceSoFar (state : State) (made : List Made) : Type 0 where
 
 -- An assignment of another pair.
 assigns_none : (k n : ℕ) (m : Made) → (m.query ≡ k → m.pair ≡ n → ⊥) → assigns k n m ≡ 0
-unfolding if◌then◌else◌
+unfolding when◌then◌else◌
 assigns_none k n m other = go (eqb m.query k && eqb n m.pair) refl
   where
     go : (b : Bool) → (eqb m.query k && eqb n m.pair) ≡ b → assigns k n m ≡ 0
@@ -75,7 +75,7 @@ assigns_none k n m other = go (eqb m.query k && eqb n m.pair) refl
 
 -- It is no more than the number of times that the pair's writer stands in what is assigned, by which reductions are counted.
 assigns_few : (k n : ℕ) (m : Made) → assigns k n m ≤ occurrences writer n (variable writer m.pair)
-unfolding if◌then◌else◌ occurrences same_half
+unfolding when◌then◌else◌ occurrences same_half
 assigns_few k n m = go (eqb m.query k) refl
   where
     go : (b : Bool) → eqb m.query k ≡ b → assigns k n m ≤ occurrences writer n (variable writer m.pair)

@@ -7,7 +7,7 @@ use mathlib.Core.List.{◌++◌, map}
 use native.Mathlib.Decide.{dec_lt}
 use native.Mathlib.Omega.{arith}
 use borrow.Author.Tests.{eqb-true, ne_eqb}
-use Rattle.meaning.specs.Bytes.{if◌then◌else◌}
+use Rattle.meaning.specs.Bytes.{when◌then◌else◌}
 use Rattle.meaning.specs.Terms.{Half, Term, occurrences, as_term}
 use Rattle.meaning.specs.State.{Goal, Waiting, Goals, State, of, goals_of, part_of}
 use Rattle.laws.proofs.Lists.{Each, each_append, each_map, each_implies, sum, sum_map, sum_those, sum_same, sum_of_none}
@@ -21,16 +21,16 @@ goal_written state g = written_out (part_of g.query state) (as_term g.goal)
 
 -- How often it holds a half of the pair n of the query at place k: pairs of two queries are two.
 abbrev pub times_in : State → ℕ → Half → ℕ → Goal → ℕ
-times_in state k h n g = if of k g then occurrences h n (goal_written state g) else 0
+times_in state k h n g = when of k g then occurrences h n (goal_written state g) else 0
 
 -- Of a query's goals as of all goals, of which only the query's count.
-sum_of_query : (f : Goal → ℕ) (k : ℕ) (goals : Goals) → sum f (together (goals_of k goals)) ≡ sum (λ g. if of k g then f g else 0) (together goals)
+sum_of_query : (f : Goal → ℕ) (k : ℕ) (goals : Goals) → sum f (together (goals_of k goals)) ≡ sum (λ g. when of k g then f g else 0) (together goals)
 unfolding goals_of
 sum_of_query f k goals =
     omega (
       arith,
       sum_together f (goals_of k goals),
-      sum_together (λ g. if of k g then f g else 0) goals,
+      sum_together (λ g. when of k g then f g else 0) goals,
       sum_those f (of k) goals.queue,
       sum_those (λ w. f w.goal) (λ w. of k w.goal) goals.waiting,
       sum_those f (of k) goals.failed,
@@ -45,12 +45,12 @@ placed_together number goals p =
 
 module _ (state : State) (k : ℕ) (h : Half) (n : ℕ) where
   -- Its own values are those of the query at its place.
-  times_own : (g : Goal) → times_in state k h n g ≡ (if of k g then occurrences h n (written_out (part_of k state) (as_term g.goal)) else 0)
-  unfolding of if◌then◌else◌
+  times_own : (g : Goal) → times_in state k h n g ≡ (when of k g then occurrences h n (written_out (part_of k state) (as_term g.goal)) else 0)
+  unfolding of when◌then◌else◌
   times_own g = go (of k g) refl
     where
       go : (b : Bool) → of k g ≡ b
-          → times_in state k h n g ≡ (if of k g then occurrences h n (written_out (part_of k state) (as_term g.goal)) else 0)
+          → times_in state k h n g ≡ (when of k g then occurrences h n (written_out (part_of k state) (as_term g.goal)) else 0)
       go true e = let same : g.query ≡ k = eqb-true g.query k e in rw same
       go false e = rw e
 
@@ -68,7 +68,7 @@ module _ (state : State) (k : ℕ) (h : Half) (n : ℕ) where
 
   -- Where there is no query, there is no goal of it.
   none_there : (number : ℕ) → Placed number state.goals → number ≤ k → sum (times_in state k h n) (together state.goals) ≡ 0
-  unfolding of if◌then◌else◌
+  unfolding of when◌then◌else◌
   none_there number p past =
       sum_of_none (times_in state k h n) (together state.goals)
       (each_implies (λ g. g.query < number) (λ g. times_in state k h n g ≡ 0)

@@ -7,7 +7,7 @@ use mathlib.Core.Path.{◌≡◌, refl}
 use mathlib.Core.Bool.{Bool, true, false}
 use mathlib.Core.List.{List, [], ◌∷◌}
 use lib.ListN.{length}
-use Rattle.meaning.specs.Bytes.{if◌then◌else◌}
+use Rattle.meaning.specs.Bytes.{when◌then◌else◌}
 use Rattle.meaning.specs.Tokens.{Token, Tokens, ends, token}
 use Rattle.meaning.specs.Items.{
   Counted,
@@ -131,8 +131,8 @@ module _ {A : Type 0} {c : Counted} {R : A → A → Type 0} {P : Counted → A 
       record { agree = λ c₂ s₁ s₂ b. record { value = r; onward = b; widens = widens_refl (bounds c); holds = p } }
 
   pub if_alike : (test : Bool) {r₁ r₂ r₃ r₄ : Reader A} → (test ≡ true → ReadAlikeBy c R P r₁ r₂) → (test ≡ false → ReadAlikeBy c R P r₃ r₄)
-      → ReadAlikeBy c R P (if test then r₁ else r₃) (if test then r₂ else r₄)
-  unfolding if◌then◌else◌
+      → ReadAlikeBy c R P (when test then r₁ else r₃) (when test then r₂ else r₄)
+  unfolding when◌then◌else◌
   if_alike true first second = first refl
   if_alike false first second = second refl
 
@@ -150,14 +150,14 @@ module _ {A : Type 0} {c : Counted} {R : A → A → Type 0} {P : Counted → A 
 
   module _ (sign : Char) {r₁ r₂ r₃ r₄ : Reader A} (first : ReadAlikeBy c R P r₁ r₂) (second : ReadAlikeBy c R P r₃ r₄) where
     if_next_agrees : (c₂ : Counted) (s₁ s₂ : Tokens) → Beside c c₂ s₁ s₂ → AgreeBy c R P (if_next sign r₁ r₃ c s₁) (if_next sign r₂ r₄ c₂ s₂)
-    unfolding if_next bare if◌then◌else◌
+    unfolding if_next bare when◌then◌else◌
     if_next_agrees c₂ (ends place₁) (ends place₂) b = second.agree c₂ (ends place₁) (ends place₂) b
     if_next_agrees c₂ (ends place₁) (token place₂ t₂ s₂) b = absurd (differ (cc b.tokens))
     if_next_agrees c₂ (token place₁ t₁ s₁) (ends place₂) b = absurd (differ (cc b.tokens))
     if_next_agrees c₂ (token place₁ t₁ s₁) (token place₂ t₂ s₂) b = rw (first_tokens b).0 (go (is sign t₁))
       where
         go : (test : Bool)
-            → AgreeBy c R P (if test then r₁ c s₁ else r₃ c (token place₁ t₁ s₁)) (if test then r₂ c₂ s₂ else r₄ c₂ (token place₂ t₁ s₂))
+            → AgreeBy c R P (when test then r₁ c s₁ else r₃ c (token place₁ t₁ s₁)) (when test then r₂ c₂ s₂ else r₄ c₂ (token place₂ t₁ s₂))
         go true = first.agree c₂ s₁ s₂ (first_tokens b).1
         go false = rw (first_tokens b).0 at (second.agree c₂ (token place₁ t₁ s₁) (token place₂ t₂ s₂) b)
 

@@ -7,7 +7,7 @@ use mathlib.Core.Bool.{Bool, true, false}
 use mathlib.Core.List.{List, [], ◌∷◌, ◌++◌}
 use mathlib.Core.Option.{Option, none, some}
 use native.Mathlib.Omega.{arith}
-use Rattle.meaning.specs.Bytes.{byte, if◌then◌else◌}
+use Rattle.meaning.specs.Bytes.{byte, when◌then◌else◌}
 use Rattle.meaning.specs.Terms.{Half, Constant, empty, cell, named, Term, compound, Named, occurrences, all_occurrences, goals_occurrences}
 use Rattle.meaning.specs.Tokens.{Token, Tokens, ends, token, is}
 use Rattle.meaning.specs.Table.{Element, whole, bare, equals, as_goals}
@@ -198,7 +198,7 @@ module _ (es : List Element) (c : Counted) (place : ℕ) (t : Token) (s : Tokens
 module _ (left : ℕ) (es : List Element) (others : CountsBody (elements_often es) (body left es)) where
   behind_counts : (c : Counted) (place : ℕ) (t : Token) (s : Tokens) (b : Body) (d : Counted) (rest : Tokens) → behind_element (body left) es place t c s ≡ read b d rest
       → OverBody (elements_often es) b.guards b.goals b.behind c (token place t s) d rest
-  unfolding behind_element if◌then◌else◌ cannot_stand byte
+  unfolding behind_element when◌then◌else◌ cannot_stand byte
   behind_counts c place t s b d rest q = go (is "," t) refl (is "|" t) refl (is "." t) refl
     where
       go : (comma : Bool) → is "," t ≡ comma → (bar : Bool) → is "|" t ≡ bar → (stop : Bool) → is "." t ≡ stop
@@ -256,9 +256,9 @@ module _ (c : Counted) (s : Tokens) (r : Rule) (d : Counted) (rest : Tokens) whe
   behind_sign : (head : Named) (mid : Counted) (place : ℕ) (t : Token) (left : Tokens)
       → Over (before_stop never) (goal_often head) c s mid (token place t left)
       → (implied : Bool) → ((implied ≡ true) × (is ":" t ≡ true)) ⊎ ((implied ≡ false) × (is "." t ≡ true))
-      → read_on ((if implied then body 8 [] else give (record { guards = []; goals = []; behind = none })) mid left) (λ b. give (record { head = head; body = b })) ≡ read r d rest
+      → read_on ((when implied then body 8 [] else give (record { guards = []; goals = []; behind = none })) mid left) (λ b. give (record { head = head; body = b })) ≡ read r d rest
       → OverRule c s r d rest
-  unfolding if◌then◌else◌ read_on give
+  unfolding when◌then◌else◌ read_on give
   behind_sign head mid place t left first true (inl (e, neck)) q = go (body 8 [] mid left) refl
     where
       go : (x : Read Body) → body 8 [] mid left ≡ x → OverRule c s r d rest
@@ -286,9 +286,9 @@ module _ (c : Counted) (s : Tokens) (r : Rule) (d : Counted) (rest : Tokens) whe
       rw (← r_is, ← d_is, ← rest_is) (record { counted = mid; place = place; sign = t; behind = left; head_over = first; body_over = inl (stop, refl, refl, refl) })
 
   behind_head : (head : Named) (mid : Counted) (left : Tokens) → Over (before_stop never) (goal_often head) c s mid left
-      → read_on (either ":" "." mid left) (λ implied. (if implied then body 8 [] else give (record { guards = []; goals = []; behind = none })) >>= λ b. give (record { head = head; body = b }))
+      → read_on (either ":" "." mid left) (λ implied. (when implied then body 8 [] else give (record { guards = []; goals = []; behind = none })) >>= λ b. give (record { head = head; body = b }))
       ≡ read r d rest → OverRule c s r d rest
-  unfolding either next read_on ◌>>=◌ give cannot_stand if◌then◌else◌
+  unfolding either next read_on ◌>>=◌ give cannot_stand when◌then◌else◌
   behind_head head mid (ends place) first q = absurd (differ (cc))
   behind_head head mid (token place t left) first q = go (is ":" t) refl (is "." t) refl
     where

@@ -7,7 +7,7 @@ use mathlib.Core.List.{List, [], ◌∷◌, ◌++◌}
 use mathlib.Core.Option.{Option, none, some}
 use native.Mathlib.Omega.{arith}
 use lib.ListN.{length, length-append}
-use Rattle.meaning.specs.Bytes.{if◌then◌else◌}
+use Rattle.meaning.specs.Bytes.{when◌then◌else◌}
 use Rattle.meaning.specs.Terms.{Constant, empty, cell, named, Term, compound, Named, as_term}
 use Rattle.meaning.specs.Tokens.{is}
 use Rattle.meaning.specs.Table.{Element, whole, bare, equals, as_goals}
@@ -259,8 +259,8 @@ unfolding GoalsNumbered
 no_goals e = refl
 
 behind_sign_alike : (implied : Bool) (e : Counted)
-    → ReadAlikeBy e BodyAlike (BodyFits e.compounds) (if implied then body 8 [] else give (record { guards = []; goals = []; behind = none }))
-    (if implied then body 8 [] else give (record { guards = []; goals = []; behind = none }))
+    → ReadAlikeBy e BodyAlike (BodyFits e.compounds) (when implied then body 8 [] else give (record { guards = []; goals = []; behind = none }))
+    (when implied then body 8 [] else give (record { guards = []; goals = []; behind = none }))
 behind_sign_alike implied e =
     if_alike implied (λ test. body_alike e.compounds 8 [] e refl tt (no_elements e))
     (λ test. give_alike_by (record { guards = []; goals = []; behind = none }) (record { guards = []; goals = []; behind = none }) (record { guards = refl; goals = refl }) (record {

@@ -9,7 +9,7 @@ use mathlib.Core.Option.{Option, none, some}
 use native.Mathlib.Omega.{arith}
 use lib.Dec.{leb}
 use borrow.Author.Tests.{leb-true, leb-false}
-use Rattle.meaning.specs.Bytes.{Bytes, if◌then◌else◌}
+use Rattle.meaning.specs.Bytes.{Bytes, when◌then◌else◌}
 use Rattle.meaning.specs.Terms.{Half, writer, reader}
 use Rattle.meaning.specs.Tokens.{variable, Tokens}
 use Rattle.meaning.specs.Faults.{
@@ -54,7 +54,7 @@ none_free x = false
 
 -- The tokens among which a half may not stand twice.
 unfoldable pub judged_in : (Bytes → Bool) → Half → Bytes → Tokens → Tokens
-judged_in free h x piece = if pardoned free h x then head_tokens piece else piece
+judged_in free h x piece = when pardoned free h x then head_tokens piece else piece
 
 -- "For 5 the second occurrence."
 pub record TwiceAt (piece : Tokens) (h : Half) (x : Bytes) (f : Fault) : Type 0 where
@@ -139,19 +139,19 @@ module _ (piece : Tokens) (x : Bytes) (f : Fault) where
 -- The faults of a variable in a clause, where its reader may be free.
 module _ (free : Bytes → Bool) (piece : Tokens) (x : Bytes) (f : Fault) where
   pub twice_in_clause_in : In f (twice_in_clause (free x) piece x) → (h : Half) × TwiceAt (judged_in free h x piece) h x f
-  unfolding twice_in_clause judged_in pardoned if◌then◌else◌
+  unfolding twice_in_clause judged_in pardoned when◌then◌else◌
   twice_in_clause_in m = go (in_append_cases (twice_faults (occurs_at writer x piece)) m)
     where
-      go : In f (twice_faults (occurs_at writer x piece)) ⊎ In f (twice_faults (occurs_at reader x (if free x then head_tokens piece else piece)))
+      go : In f (twice_faults (occurs_at writer x piece)) ⊎ In f (twice_faults (occurs_at reader x (when free x then head_tokens piece else piece)))
           → (h : Half) × TwiceAt (judged_in free h x piece) h x f
       go (inl i) = (writer, twice_in piece x f writer _ refl i)
-      go (inr i) = (reader, twice_in (if free x then head_tokens piece else piece) x f reader _ refl i)
+      go (inr i) = (reader, twice_in (when free x then head_tokens piece else piece) x f reader _ refl i)
 
   pub in_twice_in_clause : (h : Half) → TwiceAt (judged_in free h x piece) h x f → In f (twice_in_clause (free x) piece x)
-  unfolding twice_in_clause judged_in pardoned if◌then◌else◌
-  in_twice_in_clause writer t = in_append_left (twice_faults (occurs_at reader x (if free x then head_tokens piece else piece))) (in_twice piece x f writer t)
+  unfolding twice_in_clause judged_in pardoned when◌then◌else◌
+  in_twice_in_clause writer t = in_append_left (twice_faults (occurs_at reader x (when free x then head_tokens piece else piece))) (in_twice piece x f writer t)
   in_twice_in_clause reader t =
-      in_append_right (twice_faults (occurs_at writer x piece)) (in_twice (if free x then head_tokens piece else piece) x f reader t)
+      in_append_right (twice_faults (occurs_at writer x piece)) (in_twice (when free x then head_tokens piece else piece) x f reader t)
 
 more_variables : (both : Bool) (free : Bytes → Bool) (piece : Tokens) (y : Bytes) (xs : List Bytes) (f : Fault)
     → FaultOf both free piece xs f → FaultOf both free piece (y ∷ xs) f
@@ -192,7 +192,7 @@ module _ (free : Bytes → Bool) (piece : Tokens) (f : Fault) where
 -- Of a query those of 5, and no reader is free.
 module _ (piece : Tokens) (f : Fault) where
   not_free : (h : Half) (x : Bytes) → judged_in none_free h x piece ≡ piece
-  unfolding judged_in pardoned if◌then◌else◌
+  unfolding judged_in pardoned when◌then◌else◌
   not_free writer x = refl
   not_free reader x = refl
 
@@ -226,7 +226,7 @@ abbrev pub Least : List Fault → Fault → Type 0
 Least l f = In f l × ((g : Fault) → In g l → f.offset ≤ g.offset)
 
 smaller_is : (k : Fault) (l : List Fault) (o : Option Fault) → (o ≡ none → l ≡ []) → ((g : Fault) → o ≡ some g → Least l g) → Least (k ∷ l) (smaller k o)
-unfolding smaller if◌then◌else◌
+unfolding smaller when◌then◌else◌
 smaller_is k l none empty its = (here refl, λ g m. go g (in_cons_cases m))
   where
     go : (g : Fault) → (g ≡ k) ⊎ In g l → k.offset ≤ g.offset
@@ -234,7 +234,7 @@ smaller_is k l none empty its = (here refl, λ g m. go g (in_cons_cases m))
     go g (inr m) = absurd (in_none (rw (empty refl) at m))
 smaller_is k l (some g) empty its = go (leb k.offset g.offset) refl (its g refl)
   where
-    go : (b : Bool) → leb k.offset g.offset ≡ b → Least l g → Least (k ∷ l) (if b then k else g)
+    go : (b : Bool) → leb k.offset g.offset ≡ b → Least l g → Least (k ∷ l) (when b then k else g)
     go true e (m, h) = (here refl, λ j i. by j (in_cons_cases i))
       where
         by : (j : Fault) → (j ≡ k) ⊎ In j l → k.offset ≤ j.offset
@@ -255,7 +255,7 @@ least_is (k ∷ l) f e =
 
 -- What is there twice among the tokens by which it is judged is there twice in the item.
 pub twice_anyway : (free : Bytes → Bool) (piece : Tokens) (h : Half) (x : Bytes) (f : Fault) → TwiceAt (judged_in free h x piece) h x f → TwiceAt piece h x f
-unfolding judged_in if◌then◌else◌
+unfolding judged_in when◌then◌else◌
 twice_anyway free piece h x f t = go (pardoned free h x) refl
   where
     go : (b : Bool) → pardoned free h x ≡ b → TwiceAt piece h x f

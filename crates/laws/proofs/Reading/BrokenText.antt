@@ -9,7 +9,7 @@ use mathlib.Core.Option.{Option, none, some}
 use native.Mathlib.Omega.{arith}
 use lib.Dec.{leb, ltb}
 use lib.ListN.{length}
-use Rattle.meaning.specs.Bytes.{Bytes, if◌then◌else◌, all}
+use Rattle.meaning.specs.Bytes.{Bytes, when◌then◌else◌, all}
 use Rattle.meaning.specs.Terms.{Named, Guard, Clause, Query}
 use Rattle.meaning.specs.Tokens.{Token, variable, Tokens, ends, token, tokens}
 use Rattle.meaning.specs.Faults.{Fault, pairing, clause_faults, query_faults, least}
@@ -148,7 +148,7 @@ module _ (so_far : SoFar) (names_fit : SpellingsFit 256 so_far.names) (at : ℕ)
 
     as_guarded : (o : Option (List Guard)) → as_guards r.body.guards ≡ o → unless_unknown (so_far.clauses + 1) at (token at t rest) r counted o ≡ refused (occurrence_rule begins f)
         → ItemBroken (token at t rest) begins f
-    unfolding unless_unknown with_guards unless_broken if◌then◌else◌ read_so
+    unfolding unless_unknown with_guards unless_broken when◌then◌else◌ read_so
     as_guarded none known q = absurd (differ (cc))
     as_guarded (some guards) known q = go (all (of_the_head (length counted.variables) r.head) guards) refl (least faults) refl
       where
@@ -195,7 +195,7 @@ module _ (so_far : SoFar) (names_fit : SpellingsFit 256 so_far.names) (at : ℕ)
   as_query passed e q = absurd (differ (cc))
 
   token_refused : item_from so_far at t rest ≡ refused (occurrence_rule begins f) → ItemBroken (token at t rest) begins f
-  unfolding item_from clause_from query_from if◌then◌else◌
+  unfolding item_from clause_from query_from when◌then◌else◌
   token_refused q = go (is_name t) refl (is "?" t) refl (ltb so_far.clauses 128) refl (ltb so_far.queries 8) refl
     where
       go : (named : Bool) → is_name t ≡ named → (asks : Bool) → is "?" t ≡ asks → (room : Bool) → ltb so_far.clauses 128 ≡ room
@@ -258,7 +258,7 @@ items_refused (piece ∷ ps) fit cut rising so_far names_fit begins f e =
         (piece, here refl, item_refused so_far piece names_fit fit.0 cut.0 rising.0 begins f (rw (← r_is) i))
 
 asked_refused : (x : Reading) (begins : ℕ) (f : Fault) → asked x ≡ Reading.refused (occurrence_rule begins f) → x ≡ Reading.refused (occurrence_rule begins f)
-unfolding asked if◌then◌else◌
+unfolding asked when◌then◌else◌
 asked_refused (job j) begins f e = go (leb 1 (length j.queries)) refl
   where
     go : (b : Bool) → leb 1 (length j.queries) ≡ b → job j ≡ Reading.refused (occurrence_rule begins f)

@@ -11,7 +11,7 @@ use native.Mathlib.Omega.{arith}
 use lib.Dec.{ltb}
 use lib.ListN.{length, length-append}
 use borrow.Author.Tests.{ltb-true}
-use Rattle.meaning.specs.Bytes.{Bytes, if◌then◌else◌, same, any}
+use Rattle.meaning.specs.Bytes.{Bytes, when◌then◌else◌, same, any}
 use Rattle.meaning.specs.Tokens.{Token, Tokens, ends, token}
 use Rattle.meaning.specs.Items.{
   Counted,
@@ -61,20 +61,20 @@ Unmoved low c a = low ≡ c.compounds
 module _ (c : Counted) where
   standing_agrees : (can : Token → Bool) (c₂ : Counted) (s₁ s₂ : Tokens) → Beside c c₂ s₁ s₂
       → Agree c (Unmoved c.compounds) (standing can c s₁) (standing can c₂ s₂)
-  unfolding standing AgreeBy if◌then◌else◌
+  unfolding standing AgreeBy when◌then◌else◌
   standing_agrees can c₂ (ends place₁) (ends place₂) b = tt
   standing_agrees can c₂ (ends place₁) (token place₂ t₂ s₂) b = tt
   standing_agrees can c₂ (token place₁ t₁ s₁) (ends place₂) b = go (can t₁)
     where
-      go : (test : Bool) → Agree c (Unmoved c.compounds) (if test then read (tt {0}) c (token place₁ t₁ s₁) else malformed place₁) (malformed place₂)
+      go : (test : Bool) → Agree c (Unmoved c.compounds) (when test then read (tt {0}) c (token place₁ t₁ s₁) else malformed place₁) (malformed place₂)
       go true = tt
       go false = tt
   standing_agrees can c₂ (token place₁ t₁ s₁) (token place₂ t₂ s₂) b = rw (first_tokens b).0 (go (can t₁))
     where
       go : (test : Bool)
           → Agree c (Unmoved c.compounds)
-          (if test then read (tt {0}) c (token place₁ t₁ s₁) else malformed place₁)
-          (if test then read (tt {0}) c₂ (token place₂ t₁ s₂) else malformed place₂)
+          (when test then read (tt {0}) c (token place₁ t₁ s₁) else malformed place₁)
+          (when test then read (tt {0}) c₂ (token place₂ t₁ s₂) else malformed place₂)
       go true = record { value = refl; onward = rw (first_tokens b).0 at b; widens = widens_refl (bounds c); holds = refl }
       go false = tt
 
@@ -102,7 +102,7 @@ pub record NameCounted (f : Bytes) (c d : Counted) : Type 0 where
 
 count_name_reads : (f : Bytes) (c : Counted) (s : Tokens)
     → (count_name f c s ≡ passed) ⊎ ((d : Counted) × (count_name f c s ≡ read tt d s) × NameCounted f c d)
-unfolding count_name if◌then◌else◌
+unfolding count_name when◌then◌else◌
 count_name_reads f c s = go (any (same f) c.names) refl (ltb (length c.names) 256) refl
   where
     unheard : any (same f) c.names ≡ false → In f c.names → ⊥
@@ -189,15 +189,15 @@ PairBelow low c n = (n < length c.variables) × (low ≡ c.compounds)
 
 module _ (x : Bytes) (spelled : SpellingFits x) (c c₂ : Counted) (s₁ s₂ : Tokens) (b : Beside c c₂ s₁ s₂) where
   new_variable_agrees : (o : Option ℕ) → place_of x c.variables ≡ o → Agree c (PairBelow c.compounds) (new_variable x o c s₁) (new_variable x o c₂ s₂)
-  unfolding new_variable AgreeBy if◌then◌else◌
+  unfolding new_variable AgreeBy when◌then◌else◌
   new_variable_agrees (some n) e =
       record { value = refl; onward = b; widens = widens_refl (bounds c); holds = (place_below x c.variables n e, refl) }
   new_variable_agrees none e = rw (← b.variables) (go (ltb (length c.variables) 16) refl)
     where
       go : (room : Bool) → ltb (length c.variables) 16 ≡ room
           → Agree c (PairBelow c.compounds)
-          (if room then read (length c.variables) (record { names = c.names; variables = c.variables ++ (x ∷ []); compounds = c.compounds }) s₁ else passed)
-          (if room then read (length c.variables) (record { names = c₂.names; variables = c.variables ++ (x ∷ []); compounds = c₂.compounds }) s₂ else passed)
+          (when room then read (length c.variables) (record { names = c.names; variables = c.variables ++ (x ∷ []); compounds = c.compounds }) s₁ else passed)
+          (when room then read (length c.variables) (record { names = c₂.names; variables = c.variables ++ (x ∷ []); compounds = c₂.compounds }) s₂ else passed)
       go true room =
           let longer = length-append c.variables (x ∷ []) in
           let few = ltb-true (length c.variables) 16 room in
@@ -234,13 +234,13 @@ CompoundNext low c n = (n ≡ low) × (c.compounds ≡ low + 1)
 
 module _ (c c₂ : Counted) (s₁ s₂ : Tokens) (b : Beside c c₂ s₁ s₂) where
   count_compound_agrees : Agree c (CompoundNext c.compounds) (count_compound c s₁) (count_compound c₂ s₂)
-  unfolding count_compound AgreeBy if◌then◌else◌
+  unfolding count_compound AgreeBy when◌then◌else◌
   count_compound_agrees = rw (← b.compounds) (go (ltb c.compounds 32) refl)
     where
       go : (room : Bool) → ltb c.compounds 32 ≡ room
           → Agree c (CompoundNext c.compounds)
-          (if room then read c.compounds (record { names = c.names; variables = c.variables; compounds = c.compounds + 1 }) s₁ else passed)
-          (if room then read c.compounds (record { names = c₂.names; variables = c₂.variables; compounds = c.compounds + 1 }) s₂ else passed)
+          (when room then read c.compounds (record { names = c.names; variables = c.variables; compounds = c.compounds + 1 }) s₁ else passed)
+          (when room then read c.compounds (record { names = c₂.names; variables = c₂.variables; compounds = c.compounds + 1 }) s₂ else passed)
       go true room =
           let few = ltb-true c.compounds 32 room in
           record {

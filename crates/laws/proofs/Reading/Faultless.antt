@@ -10,7 +10,7 @@ use native.Mathlib.Omega.{arith}
 use lib.Dec.{leb, eqb}
 use lib.ListN.{length}
 use borrow.Author.Tests.{leb-true, le-leb, eqb-true, eq-eqb}
-use Rattle.meaning.specs.Bytes.{Bytes, if◌then◌else◌, same, all, up_to}
+use Rattle.meaning.specs.Bytes.{Bytes, when◌then◌else◌, same, all, up_to}
 use Rattle.meaning.specs.Terms.{Half, writer, reader, Named, all_occurrences, goals_occurrences}
 use Rattle.meaning.specs.Tokens.{Token, Tokens, ends, token}
 use Rattle.meaning.specs.Faults.{
@@ -55,7 +55,7 @@ use Rattle.laws.proofs.Reading.Passed.{extends_refl, Cut, before_stop, behind_st
 
 -- Each piece of the tokens is cut behind its full stop.
 onto_cut : (place : ℕ) (t : Token) (ps : List Tokens) → is "." t ≡ false → Each Cut ps → Each Cut (onto place t ps)
-unfolding onto Cut if◌then◌else◌
+unfolding onto Cut when◌then◌else◌
 onto_cut place t [] e h = tt
 onto_cut place t (piece ∷ ps) e h = (rw e h.0, h.1)
 
@@ -162,15 +162,15 @@ module _ (piece : Tokens) (x : Bytes) where
 
   -- In a clause, where its reader may be free.
   pub twice_in_clause_none : (free : Bool) → twice_in_clause free piece x ≡ []
-      → (writers ≤ 1) × (length (occurs_at reader x (if free then head_tokens piece else piece)) ≤ 1)
+      → (writers ≤ 1) × (length (occurs_at reader x (when free then head_tokens piece else piece)) ≤ 1)
   unfolding twice_in_clause
   twice_in_clause_none free e =
-      let (w, r) = empty_both (twice_faults (occurs_at writer x piece)) (twice_faults (occurs_at reader x (if free then head_tokens piece else piece))) e in
-      (twice_none (occurs_at writer x piece) w, twice_none (occurs_at reader x (if free then head_tokens piece else piece)) r)
+      let (w, r) = empty_both (twice_faults (occurs_at writer x piece)) (twice_faults (occurs_at reader x (when free then head_tokens piece else piece))) e in
+      (twice_none (occurs_at writer x piece) w, twice_none (occurs_at reader x (when free then head_tokens piece else piece)) r)
 
-  pub twice_in_clause_few : (free : Bool) → writers ≤ 1 → length (occurs_at reader x (if free then head_tokens piece else piece)) ≤ 1 → twice_in_clause free piece x ≡ []
+  pub twice_in_clause_few : (free : Bool) → writers ≤ 1 → length (occurs_at reader x (when free then head_tokens piece else piece)) ≤ 1 → twice_in_clause free piece x ≡ []
   unfolding twice_in_clause
-  twice_in_clause_few free w r = rw (twice_few (occurs_at writer x piece) w, twice_few (occurs_at reader x (if free then head_tokens piece else piece)) r)
+  twice_in_clause_few free w r = rw (twice_few (occurs_at writer x piece) w, twice_few (occurs_at reader x (when free then head_tokens piece else piece)) r)
 
 module _ (free : Bytes → Bool) (piece : Tokens) where
   clause_each : (xs : List Bytes) → clause_faults free piece xs ≡ [] → (x : Bytes) → In x xs → (twice_in_clause (free x) piece x ≡ []) × (alone_of piece x ≡ [])
@@ -277,11 +277,11 @@ module _ (free : Bytes → Bool) (piece : Tokens) (xs : List Bytes) (head : Name
     readers_once : (licence n ≡ true) ⊎ (total reader n ≤ 1)
 
   once_pair : (x : Bytes) (n : ℕ) → place_of x xs ≡ some n → twice_in_clause (free x) piece x ≡ [] → OncePair n
-  unfolding if◌then◌else◌ goals_occurrences
+  unfolding when◌then◌else◌ goals_occurrences
   once_pair x n e none_twice =
       let (w, r) = twice_in_clause_none piece x (free x) none_twice in go (free x) refl (rw (reads_so writer x n e) at w) r
     where
-      go : (b : Bool) → free x ≡ b → total writer n ≤ 1 → length (occurs_at reader x (if free x then head_tokens piece else piece)) ≤ 1 → OncePair n
+      go : (b : Bool) → free x ≡ b → total writer n ≤ 1 → length (occurs_at reader x (when free x then head_tokens piece else piece)) ≤ 1 → OncePair n
       go true q w r =
           record {
             writers_once = w;
@@ -293,11 +293,11 @@ module _ (free : Bytes → Bool) (piece : Tokens) (xs : List Bytes) (head : Name
           record { writers_once = w; head_once = omega arith; readers_once = inr all }
 
   pair_once : (x : Bytes) (n : ℕ) → place_of x xs ≡ some n → OncePair n → twice_in_clause (free x) piece x ≡ []
-  unfolding if◌then◌else◌
+  unfolding when◌then◌else◌
   pair_once x n e once =
       twice_in_clause_few piece x (free x) (rw (reads_so writer x n e) once.writers_once) (go (free x) refl once.readers_once)
     where
-      go : (b : Bool) → free x ≡ b → (licence n ≡ true) ⊎ (total reader n ≤ 1) → length (occurs_at reader x (if free x then head_tokens piece else piece)) ≤ 1
+      go : (b : Bool) → free x ≡ b → (licence n ≡ true) ⊎ (total reader n ≤ 1) → length (occurs_at reader x (when free x then head_tokens piece else piece)) ≤ 1
       go true q r = rw (q, at_head reader x n e) once.head_once
       go false q (inl r) = absurd (false_not_true (licence n) (sym (licences x n e) ∙ q) r)
       go false q (inr r) = rw (q, reads_so reader x n e) r

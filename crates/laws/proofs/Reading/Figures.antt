@@ -7,7 +7,7 @@ use mathlib.Core.List.{List, [], ◌∷◌, ◌++◌}
 use native.Mathlib.Omega.{arith}
 use lib.ListN.{length, length-append}
 use borrow.Author.Tests.{ne_eqb}
-use Rattle.meaning.specs.Bytes.{Bytes, if◌then◌else◌, same, any}
+use Rattle.meaning.specs.Bytes.{Bytes, when◌then◌else◌, same, any}
 use Rattle.meaning.specs.Terms.{
   Half,
   Integer,
@@ -223,12 +223,12 @@ as_term_fits b g h = (h.number, (h.known, h.some_arguments, h.few_arguments), h.
 -- A pair that the item does not have occurs nowhere in what fits.
 module _ (b : Bounds) (h : Half) (n : ℕ) (past : b.pairs ≤ n) where
   mutual
-    unfolding TermFits TermsFit occurrences all_occurrences if◌then◌else◌
+    unfolding TermFits TermsFit occurrences all_occurrences when◌then◌else◌
 
     pub term_below : (t : Term) → TermFits b t → occurrences h n t ≡ 0
     term_below (variable k m) l = rw (ne_eqb n m (λ e. omega arith)) (go (same_half h k))
       where
-        go : (a : Bool) → ◌≡◌ {A = ℕ} (if a && false then 1 else 0) 0
+        go : (a : Bool) → ◌≡◌ {A = ℕ} (when a && false then 1 else 0) 0
         go true = refl
         go false = refl
     term_below (constant k) f = refl

@@ -8,7 +8,7 @@ use mathlib.Core.List.{List, [], ◌∷◌}
 use mathlib.Core.Option.{Option, none, some}
 use lib.Dec.{leb, ltb}
 use lib.ListN.{length}
-use Rattle.meaning.specs.Bytes.{Bytes, if◌then◌else◌, all}
+use Rattle.meaning.specs.Bytes.{Bytes, when◌then◌else◌, all}
 use Rattle.meaning.specs.Terms.{Named, Guard}
 use Rattle.meaning.specs.Tokens.{Token, Tokens, ends, token, tokens, is}
 use Rattle.meaning.specs.Faults.{Fault, pairing, clause_faults, least}
@@ -76,7 +76,7 @@ module _ (so_far : SoFar) (names_fit : SpellingsFit 256 so_far.names) (at : ℕ)
     (fit : EachToken TokenFits (token at t rest)) (begins : ℕ) where
   as_clause : (x : Read Rule) → rule (fresh so_far.names) (token at t rest) ≡ x
       → clause_piece (so_far.clauses + 1) at (token at t rest) x ≡ refused (guard_rule begins) → GuardsBroken (token at t rest) begins
-  unfolding clause_piece unless_unknown with_guards if◌then◌else◌
+  unfolding clause_piece unless_unknown with_guards when◌then◌else◌
   as_clause (read r counted behind) e q = by (as_guards r.body.guards) refl q
     where
       read_so : ItemRead rule (token at t rest)
@@ -106,7 +106,7 @@ module _ (so_far : SoFar) (names_fit : SpellingsFit 256 so_far.names) (at : ℕ)
   as_query passed q = differ (cc)
 
   token_refused : item_from so_far at t rest ≡ refused (guard_rule begins) → GuardsBroken (token at t rest) begins
-  unfolding item_from clause_from query_from if◌then◌else◌
+  unfolding item_from clause_from query_from when◌then◌else◌
   token_refused q = go (is_name t) refl (is "?" t) refl (ltb so_far.clauses 128) refl (ltb so_far.queries 8) refl
     where
       go : (named : Bool) → is_name t ≡ named → (asks : Bool) → is "?" t ≡ asks → (room : Bool) → ltb so_far.clauses 128 ≡ room
@@ -153,7 +153,7 @@ items_refused (piece ∷ ps) fit cut so_far names_fit begins e =
         (piece, here refl, item_refused so_far piece names_fit fit.0 begins (rw (← r_is) i))
 
 asked_refused : (x : Reading) (begins : ℕ) → asked x ≡ Reading.refused (guard_rule begins) → x ≡ Reading.refused (guard_rule begins)
-unfolding asked if◌then◌else◌
+unfolding asked when◌then◌else◌
 asked_refused (job j) begins e = go (leb 1 (length j.queries)) refl
   where
     go : (b : Bool) → leb 1 (length j.queries) ≡ b → job j ≡ Reading.refused (guard_rule begins)

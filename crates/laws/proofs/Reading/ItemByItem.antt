@@ -8,7 +8,7 @@ use native.Mathlib.Omega.{arith}
 use lib.Dec.{leb}
 use lib.ListN.{length}
 use borrow.Author.Tests.{leb-true}
-use Rattle.meaning.specs.Bytes.{Bytes, if◌then◌else◌, those}
+use Rattle.meaning.specs.Bytes.{Bytes, when◌then◌else◌, those}
 use Rattle.meaning.specs.Terms.{Clause, Query, Job}
 use Rattle.meaning.specs.Tokens.{Tokens, tokens}
 use Rattle.meaning.specs.Items.{
@@ -102,7 +102,7 @@ pub record InFigures (so_far : SoFar) : Type 0 where
 module _ (so_far : SoFar) (piece : Tokens) (ps : List Tokens) (j : Job) where
   with_nothing : item so_far piece ≡ nothing → (begins_with is_name piece ≡ false) × (begins_with (is "?") piece ≡ false)
       → ReadInOrder so_far ps j → ReadInOrder so_far (piece ∷ ps) j
-  unfolding those if◌then◌else◌ names_behind
+  unfolding those when◌then◌else◌ names_behind
   with_nothing is_so (unnamed, unasked) h =
       record {
         names = h.names;
@@ -120,7 +120,7 @@ module _ (so_far : SoFar) (piece : Tokens) (ps : List Tokens) (j : Job) where
     with_one_clause : (c : Clause) → item so_far piece ≡ clause c names → ClauseNext so_far piece c names
         → ReadInOrder (record { names = names; clauses = so_far.clauses + 1; queries = so_far.queries }) ps j
         → ReadInOrder so_far (piece ∷ ps) (record { clauses = c ∷ j.clauses; queries = j.queries })
-    unfolding those if◌then◌else◌ names_behind
+    unfolding those when◌then◌else◌ names_behind
     with_one_clause c is_so n h =
         record {
           names = h.names;
@@ -137,7 +137,7 @@ module _ (so_far : SoFar) (piece : Tokens) (ps : List Tokens) (j : Job) where
     with_one_query : (q : Query) → item so_far piece ≡ query q names → QueryNext so_far piece q names
         → ReadInOrder (record { names = names; clauses = so_far.clauses; queries = so_far.queries + 1 }) ps j
         → ReadInOrder so_far (piece ∷ ps) (record { clauses = j.clauses; queries = q ∷ j.queries })
-    unfolding those if◌then◌else◌ names_behind
+    unfolding those when◌then◌else◌ names_behind
     with_one_query q is_so n h =
         record {
           names = h.names;
@@ -201,7 +201,7 @@ items_in_order (piece ∷ ps) fit cut so_far j h e =
 
 -- "Then no query."
 asked_job : (x : Reading) (j : Job) → asked x ≡ job j → (x ≡ job j) × (1 ≤ length j.queries)
-unfolding asked if◌then◌else◌
+unfolding asked when◌then◌else◌
 asked_job (job j') j e = go (leb 1 (length j'.queries)) refl
   where
     go : (b : Bool) → leb 1 (length j'.queries) ≡ b → (job j' ≡ job j) × (1 ≤ length j.queries)

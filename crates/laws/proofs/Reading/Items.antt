@@ -9,7 +9,7 @@ use native.Mathlib.Omega.{arith}
 use lib.Dec.{ltb}
 use lib.ListN.{length}
 use borrow.Author.Tests.{ltb-true}
-use Rattle.meaning.specs.Bytes.{Bytes, if◌then◌else◌, same, all, any, those}
+use Rattle.meaning.specs.Bytes.{Bytes, when◌then◌else◌, same, all, any, those}
 use Rattle.meaning.specs.Terms.{Half, Named, Guard, Clause, Query, all_occurrences, goals_occurrences}
 use Rattle.meaning.specs.Tokens.{Token, name, variable, integer, sign, bad, Tokens, ends, token, tokens}
 use Rattle.meaning.specs.Faults.{Fault, occurs_at, pairing, head_tokens, clause_faults, query_faults, least}
@@ -226,7 +226,7 @@ module _ (so_far : SoFar) (names_fit : SpellingsFit 256 so_far.names) (begins : 
       read_so = record { names = so_far.names; names_fit = names_fit; fit = fit; value = r; counted = counted; rest = rest; is_read = e }
 
       judged_says : (guards : List Guard) → as_guards r.body.guards ≡ some guards → Says so_far whole (with_guards (so_far.clauses + 1) begins whole r counted guards)
-      unfolding Says with_guards unless_broken begins_with whole fresh if◌then◌else◌ read_so
+      unfolding Says with_guards unless_broken begins_with whole fresh when◌then◌else◌ read_so
       judged_says guards known = go (all (of_the_head (length counted.variables) r.head) guards) refl (least faults) refl
         where
           faults : List Fault
@@ -234,7 +234,7 @@ module _ (so_far : SoFar) (names_fit : SpellingsFit 256 so_far.names) (begins : 
 
           go : (of_head : Bool) → all (of_the_head (length counted.variables) r.head) guards ≡ of_head
               → (broken : Option Fault) → least faults ≡ broken
-              → Says so_far whole (if of_head then unless_broken begins broken
+              → Says so_far whole (when of_head then unless_broken begins broken
               (clause (record { place = so_far.clauses + 1; head = r.head; guards = guards; body = r.body.goals; pairs = length counted.variables; compounds = counted.compounds }) counted.names)
               else refused (guard_rule begins))
           go true e₁ none e₂ =
@@ -294,21 +294,21 @@ module _ (so_far : SoFar) (names_fit : SpellingsFit 256 so_far.names) (begins : 
     query_piece_says passed e = tt
 
   token_says : Says so_far whole (item_from so_far begins t behind)
-  unfolding item_from if◌then◌else◌ whole clause_from query_from Says
+  unfolding item_from when◌then◌else◌ whole clause_from query_from Says
   token_says = go (is_name t) refl (is "?" t) refl
     where
       as_clause : is_name t ≡ true → (room : Bool) → ltb so_far.clauses 128 ≡ room
-          → Says so_far whole (if room then clause_piece (so_far.clauses + 1) begins whole (rule (fresh so_far.names) whole) else refused (figure begins))
+          → Says so_far whole (when room then clause_piece (so_far.clauses + 1) begins whole (rule (fresh so_far.names) whole) else refused (figure begins))
       as_clause named true e = clause_piece_says named (ltb-true so_far.clauses 128 e) (rule (fresh so_far.names) whole) refl
       as_clause named false e = tt
 
       as_query : is_name t ≡ false → is "?" t ≡ true → (room : Bool) → ltb so_far.queries 8 ≡ room
-          → Says so_far whole (if room then query_piece begins behind (goals 8 (fresh so_far.names) behind) else refused (figure begins))
+          → Says so_far whole (when room then query_piece begins behind (goals 8 (fresh so_far.names) behind) else refused (figure begins))
       as_query unnamed asked true e = query_piece_says unnamed asked (ltb-true so_far.queries 8 e) (goals 8 (fresh so_far.names) behind) refl
       as_query unnamed asked false e = tt
 
       go : (named : Bool) → is_name t ≡ named → (asked : Bool) → is "?" t ≡ asked
-          → Says so_far whole (if named then clause_from so_far begins whole else if asked then query_from so_far begins behind else refused (no_item begins))
+          → Says so_far whole (when named then clause_from so_far begins whole else when asked then query_from so_far begins behind else refused (no_item begins))
       go true e asked e' = as_clause e (ltb so_far.clauses 128) refl
       go false e true e' = as_query e e' (ltb so_far.queries 8) refl
       go false e false e' = tt

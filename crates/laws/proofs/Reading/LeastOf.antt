@@ -8,7 +8,7 @@ use mathlib.Core.Option.{Option, none, some}
 use native.Mathlib.Omega.{arith}
 use lib.Dec.{leb}
 use borrow.Author.Tests.{leb-true, leb-false, le-leb, lt-leb}
-use Rattle.meaning.specs.Bytes.{Bytes, if◌then◌else◌}
+use Rattle.meaning.specs.Bytes.{Bytes, when◌then◌else◌}
 use Rattle.meaning.specs.Tokens.{Tokens}
 use Rattle.meaning.specs.Faults.{Fault, twice_of, alone_of, twice_in_clause, clause_faults, query_faults, smaller, least}
 
@@ -18,13 +18,13 @@ lesser none o = o
 lesser (some f) o = some (smaller f o)
 
 smaller_joins : (f : Fault) (o p : Option Fault) → smaller f (lesser o p) ≡ smaller (smaller f o) p
-unfolding smaller lesser if◌then◌else◌
+unfolding smaller lesser when◌then◌else◌
 smaller_joins f none p = refl
 smaller_joins f (some g) none = refl
 smaller_joins f (some g) (some k) = go (leb f.offset g.offset) refl (leb g.offset k.offset) refl
   where
     go : (a : Bool) → leb f.offset g.offset ≡ a → (b : Bool) → leb g.offset k.offset ≡ b
-        → smaller f (some (if leb g.offset k.offset then g else k)) ≡ smaller (if leb f.offset g.offset then f else g) (some k)
+        → smaller f (some (when leb g.offset k.offset then g else k)) ≡ smaller (when leb f.offset g.offset then f else g) (some k)
     go true p true q =
         rw (p, q, p, le-leb f.offset k.offset (omega (arith, leb-true f.offset g.offset p, leb-true g.offset k.offset q))) refl
     go true p false q = rw (p, q) refl

@@ -6,7 +6,7 @@ use mathlib.Core.Bool.{Bool, true, false}
 use mathlib.Core.List.{List, [], ◌∷◌}
 use native.Mathlib.Omega.{arith}
 use lib.Dec.{eqb}
-use Rattle.meaning.specs.Bytes.{Bytes, byte, if◌then◌else◌}
+use Rattle.meaning.specs.Bytes.{Bytes, byte, when◌then◌else◌}
 use Rattle.meaning.specs.Terms.{
   Half,
   Constant,
@@ -178,13 +178,13 @@ goal_counts = next_counts goal_from_counts
 
 -- Goals up to their full stop.
 pub goals_counts : (left : ℕ) → Counts (before_stop never) goals_often (goals left)
-unfolding goals goals_occurrences if◌then◌else◌ byte
+unfolding goals goals_occurrences when◌then◌else◌ byte
 goals_counts zero = behind_counts (standing_counts is_name) (λ u. passes_counts)
 goals_counts (suc left) = then_counts goal_counts (λ g. then_counts (either_stop_counts "," refl) (λ another. go g another (goals_counts left)))
   where
     go : (g : Named) (another : Bool) → Counts (before_stop never) goals_often (goals left)
         → Counts (stop_unless (λ h n. all_occurrences h n g.arguments) another) goals_often
-        (if another then (goals left >>= λ gs. give (g ∷ gs)) else give (g ∷ []))
+        (when another then (goals left >>= λ gs. give (g ∷ gs)) else give (g ∷ []))
     go g true others =
         then_counts (after (λ h n. all_occurrences h n g.arguments) others) (λ gs. give_counts (g ∷ gs) (λ s h. h) (λ h n. refl))
     go g false others = give_counts (g ∷ []) (λ s h. h) (λ h n. omega arith)

@@ -8,7 +8,7 @@ use mathlib.Core.List.{List, [], ◌++◌, append_assoc, append-nil}
 use mathlib.Core.Option.{Option, none, some}
 use native.Mathlib.Omega.{arith}
 use lib.ListN.{length}
-use Rattle.meaning.specs.Bytes.{Bytes, if◌then◌else◌}
+use Rattle.meaning.specs.Bytes.{Bytes, when◌then◌else◌}
 use Rattle.meaning.specs.Terms.{Half}
 use Rattle.meaning.specs.Tokens.{Token, Tokens, ends, token}
 use Rattle.meaning.specs.Faults.{is_half, occurs_at}
@@ -32,14 +32,14 @@ Ended s = (place : ℕ) × (s ≡ ends place)
 
 unfoldable pub Cut : Tokens → Type 0
 Cut (ends place) = Unit {0}
-Cut (token place t rest) = if is "." t then Ended rest else Cut rest
+Cut (token place t rest) = when is "." t then Ended rest else Cut rest
 
 cut_ended : (s : Tokens) → Ended s → Cut s
 unfolding Cut
 cut_ended s (place, e) = rw e tt
 
 pub cut_behind : (place : ℕ) (t : Token) (rest : Tokens) → Cut (token place t rest) → Cut rest
-unfolding Cut if◌then◌else◌
+unfolding Cut when◌then◌else◌
 cut_behind place t rest h = go (is "." t) refl
   where
     go : (b : Bool) → is "." t ≡ b → Cut rest
@@ -47,7 +47,7 @@ cut_behind place t rest h = go (is "." t) refl
     go false e = rw e at h
 
 pub stop_ends : (place : ℕ) (t : Token) (rest : Tokens) → is "." t ≡ true → Cut (token place t rest) → Ended rest
-unfolding Cut if◌then◌else◌
+unfolding Cut when◌then◌else◌
 stop_ends place t rest e h = rw e at h
 
 -- How often each half of each pair has occurred so far, and whether the full stop was taken.
@@ -142,8 +142,8 @@ module _ {A : Type 0} {from : Mark} {to : A → Mark} where
   unfolding passes
   passes_counts = record { over = λ c s a d rest e. absurd (differ (cc)) }
 
-  pub if_counts : (test : Bool) {r₁ r₂ : Reader A} → (test ≡ true → Counts from to r₁) → (test ≡ false → Counts from to r₂) → Counts from to (if test then r₁ else r₂)
-  unfolding if◌then◌else◌
+  pub if_counts : (test : Bool) {r₁ r₂ : Reader A} → (test ≡ true → Counts from to r₁) → (test ≡ false → Counts from to r₂) → Counts from to (when test then r₁ else r₂)
+  unfolding when◌then◌else◌
   if_counts true first second = first refl
   if_counts false first second = second refl
 
@@ -172,7 +172,7 @@ module _ {A B : Type 0} {from : Mark} {mid : A → Mark} {to : B → Mark} where
 pub one_token : (from : Mark) (stopped : Bool) (c : Counted) (place : ℕ) (t : Token) (s : Tokens) → ((h : Half) (x : Bytes) → is_half h x t ≡ false)
     → is ":" t ≡ false → (Shape from.stopped (token place t s) → Shape stopped s)
     → Over from (record { stopped = stopped; often = from.often }) c (token place t s) c s
-unfolding occurs_at if◌then◌else◌
+unfolding occurs_at when◌then◌else◌
 one_token from stopped c place t s none_here unimplied shape =
     record {
       grows = extends_refl c.variables;
@@ -199,8 +199,8 @@ module _ {A : Type 0} {from : Mark} {to : A → Mark} where
   cannot_stand_behind place t = record { over = λ place c s a d rest e. absurd (differ (cc)) }
 
   pub if_behind : (test : Bool) (t : Token) {r₁ r₂ : Reader A} → (test ≡ true → CountsBehind from to t r₁) → (test ≡ false → CountsBehind from to t r₂)
-      → CountsBehind from to t (if test then r₁ else r₂)
-  unfolding if◌then◌else◌
+      → CountsBehind from to t (when test then r₁ else r₂)
+  unfolding when◌then◌else◌
   if_behind true t first second = first refl
   if_behind false t first second = second refl
 
@@ -213,7 +213,7 @@ module _ {A : Type 0} {from : Mark} {to : A → Mark} where
       go c (token place t s) a d rest e = (behind place t).over place c s a d rest e
 
   pub if_next_counts : (first_sign : Char) {r₁ r₂ : Reader A} → ((t : Token) → is first_sign t ≡ true → CountsBehind from to t r₁) → Counts from to r₂ → Counts from to (if_next first_sign r₁ r₂)
-  unfolding if_next if◌then◌else◌
+  unfolding if_next when◌then◌else◌
   if_next_counts first_sign {r₁} {r₂} first second = record { over = go }
     where
       go : (c : Counted) (s : Tokens) (a : A) (d : Counted) (rest : Tokens) → if_next first_sign r₁ r₂ c s ≡ read a d rest → Over from (to a) c s d rest

@@ -6,7 +6,7 @@ use mathlib.Core.Logic.{◌⊎◌, inl, inr}
 use mathlib.Core.Bool.{Bool, true, false}
 use mathlib.Core.List.{List, [], ◌∷◌}
 use native.Mathlib.Omega.{arith}
-use Rattle.meaning.specs.Bytes.{Bytes, same, if◌then◌else◌}
+use Rattle.meaning.specs.Bytes.{Bytes, same, when◌then◌else◌}
 use Rattle.meaning.specs.Terms.{Half, writer, reader, same_half}
 use Rattle.meaning.specs.Tokens.{Token, name, variable, integer, sign, bad, Tokens, ends, token, Front, blank, front, placed, tokens_from, tokens}
 use Rattle.meaning.specs.Faults.{is_half, occurs_at}
@@ -25,7 +25,7 @@ rising_from low m (token place t rest) e h = (omega (arith, h.0), h.1)
 
 -- So an occurrence stands at or behind it.
 pub occurs_behind : (h : Half) (x : Bytes) (low p : ℕ) (s : Tokens) → Rising low s → In p (occurs_at h x s) → low ≤ p
-unfolding Rising occurs_at if◌then◌else◌
+unfolding Rising occurs_at when◌then◌else◌
 occurs_behind h x low p (ends place) r m = absurd (in_none m)
 occurs_behind h x low p (token place t rest) r m = go (is_half h x t) refl (λ i. occurs_behind h x (place + 1) p rest r.1 i)
   where
@@ -62,7 +62,7 @@ StandsAt p u (ends place) = ⊥
 StandsAt p u (token place t rest) = ((p ≡ place) × (u ≡ t)) ⊎ StandsAt p u rest
 
 pub occurs_stands_at : (h : Half) (x : Bytes) (p : ℕ) (s : Tokens) → In p (occurs_at h x s) → StandsAt p (variable h x) s
-unfolding StandsAt occurs_at if◌then◌else◌
+unfolding StandsAt occurs_at when◌then◌else◌
 occurs_stands_at h x p (ends place) m = in_none m
 occurs_stands_at h x p (token place t rest) m = go (is_half h x t) refl (occurs_stands_at h x p rest)
   where
@@ -92,7 +92,7 @@ one_token_at u v low p (token place t rest) r (inr m) (inr n) = one_token_at u v
 -- An occurrence's later ones stand behind it.
 pub first_before : (h : Half) (x : Bytes) (low : ℕ) (s : Tokens) → Rising low s → (first : ℕ) (others : List ℕ) → occurs_at h x s ≡ first ∷ others
     → (p : ℕ) → In p others → first < p
-unfolding Rising occurs_at if◌then◌else◌
+unfolding Rising occurs_at when◌then◌else◌
 first_before h x low (ends place) r first others e p m = absurd (differ (cc))
 first_before h x low (token place t rest) r first others e p m = go (is_half h x t) refl (λ q. first_before h x (place + 1) rest r.1 first others q p m)
   where

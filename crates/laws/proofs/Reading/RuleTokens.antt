@@ -8,7 +8,7 @@ use mathlib.Core.List.{List, [], ◌∷◌}
 use mathlib.Core.Option.{Option, none, some}
 use native.Mathlib.Omega.{arith}
 use lib.ListN.{length}
-use Rattle.meaning.specs.Bytes.{Bytes, byte, if◌then◌else◌}
+use Rattle.meaning.specs.Bytes.{Bytes, byte, when◌then◌else◌}
 use Rattle.meaning.specs.Terms.{Half, Named, all_occurrences, goals_occurrences}
 use Rattle.meaning.specs.Tokens.{Token, Tokens, ends, token, is}
 use Rattle.meaning.specs.Table.{Element}
@@ -35,7 +35,7 @@ body_grows from es gs none c d s rest h = h.grows
 body_grows from es gs (some behind) c d s rest (m, guards, goals) = extends_trans c.variables m.variables d.variables guards.grows goals.grows
 
 occurs_behind_sign : (h : Half) (x : Bytes) (place : ℕ) (t : Token) (s : Tokens) → is_half h x t ≡ false → occurs_at h x (token place t s) ≡ occurs_at h x s
-unfolding occurs_at if◌then◌else◌
+unfolding occurs_at when◌then◌else◌
 occurs_behind_sign h x place t s e = rw e refl
 
 ended_none : (h : Half) (x : Bytes) (s : Tokens) → Ended s → occurs_at h x s ≡ []
@@ -75,7 +75,7 @@ module _ {c d : Counted} {s rest : Tokens} {r : Rule} (o : OverRule c s r d rest
     -- With others behind the `:-`.
     head_and_others : is_half h x o.sign ≡ false → is ":" o.sign ≡ true → (others : Tokens)
         → length (occurs_at h x (up_to_implied s others)) ≡ by_head + length (occurs_at h x others)
-    unfolding up_to_implied if◌then◌else◌
+    unfolding up_to_implied when◌then◌else◌
     head_and_others no_half neck others =
         let passed : length (occurs_at h x (up_to_implied s others)) + length (occurs_at h x (token o.place o.sign o.behind))
         ≡ length (occurs_at h x s) + length (occurs_at h x (token o.place o.sign others)) = rw neck at (past_occurs o.head_over.past others h x) in
@@ -84,7 +84,7 @@ module _ {c d : Counted} {s rest : Tokens} {r : Rule} (o : OverRule c s r d rest
         omega (arith, passed', head_and_behind no_half)
 
     head_alone : is_half h x o.sign ≡ false → is ":" o.sign ≡ false → Ended o.behind → length (occurs_at h x (head_tokens s)) ≡ by_head
-    unfolding up_to_implied if◌then◌else◌ head_tokens occurs_at
+    unfolding up_to_implied when◌then◌else◌ head_tokens occurs_at
     head_alone no_half unimplied (place, ended) =
         let passed : length (occurs_at h x (up_to_implied s (ends 0))) + length (occurs_at h x (token o.place o.sign o.behind))
         ≡ length (occurs_at h x s) + length (occurs_at h x (token o.place o.sign (up_to_implied o.behind (ends 0)))) =

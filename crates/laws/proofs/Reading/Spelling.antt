@@ -8,7 +8,7 @@ use mathlib.Core.List.{List, [], ◌∷◌, ◌++◌}
 use native.Mathlib.Omega.{arith}
 use lib.Dec.{leb, eqb}
 use lib.ListN.{length}
-use Rattle.meaning.specs.Bytes.{Bytes, byte, if◌then◌else◌}
+use Rattle.meaning.specs.Bytes.{Bytes, byte, when◌then◌else◌}
 use Rattle.meaning.specs.Terms.{Half, reader, writer}
 use Rattle.meaning.specs.Tokens.{
   Token,
@@ -142,7 +142,7 @@ module _ (k : Half) (x : Bytes) (p : ℕ) where
 
 -- What stands in a piece of the tokens stands among them.
 pub stands_in_all : (p : ℕ) (u : Token) (ts piece : Tokens) → In piece (pieces ts) → StandsAt p u piece → StandsAt p u ts
-unfolding pieces StandsAt onto if◌then◌else◌
+unfolding pieces StandsAt onto when◌then◌else◌
 stands_in_all p u (ends place) piece m i = rw (in_single m) at i
 stands_in_all p u (token place t rest) piece m i = go (is "." t) refl (stands_in_all p u rest)
   where

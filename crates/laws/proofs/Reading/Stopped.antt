@@ -9,7 +9,7 @@ use mathlib.Core.List.{List, [], ◌∷◌, ◌++◌}
 use mathlib.Core.Option.{Option, none, some}
 use lib.Dec.{ltb, eqb}
 use lib.ListN.{length}
-use Rattle.meaning.specs.Bytes.{Bytes, byte, if◌then◌else◌, same, any}
+use Rattle.meaning.specs.Bytes.{Bytes, byte, when◌then◌else◌, same, any}
 use Rattle.meaning.specs.Terms.{Constant, empty, cell, named, Term, compound, end, more, Named, as_term}
 use Rattle.meaning.specs.Tokens.{Token, name, variable, integer, sign, bad, Tokens, ends, token}
 use Rattle.meaning.specs.Table.{Element, whole, bare, equals, as_goals}
@@ -99,13 +99,13 @@ module _ {A : Type 0} where
   behind_token : (place : ℕ) {r : Reader A} → Stops r → StopsBehind place r
   behind_token place {r} h = record { from = λ c s. wider (λ p. At p s) (λ p. (p ≡ place) ⊎ At p s) (λ p m. inr m) (r c s) (h.from c s) }
 
-  if_stops : (test : Bool) {r₁ r₂ : Reader A} → Stops r₁ → Stops r₂ → Stops (if test then r₁ else r₂)
-  unfolding if◌then◌else◌
+  if_stops : (test : Bool) {r₁ r₂ : Reader A} → Stops r₁ → Stops r₂ → Stops (when test then r₁ else r₂)
+  unfolding when◌then◌else◌
   if_stops true first second = first
   if_stops false first second = second
 
-  if_stops_behind : (place : ℕ) (test : Bool) {r₁ r₂ : Reader A} → StopsBehind place r₁ → StopsBehind place r₂ → StopsBehind place (if test then r₁ else r₂)
-  unfolding if◌then◌else◌
+  if_stops_behind : (place : ℕ) (test : Bool) {r₁ r₂ : Reader A} → StopsBehind place r₁ → StopsBehind place r₂ → StopsBehind place (when test then r₁ else r₂)
+  unfolding when◌then◌else◌
   if_stops_behind place true first second = first
   if_stops_behind place false first second = second
 
@@ -118,14 +118,14 @@ module _ {A : Type 0} where
       go c (token place t s) = (h place t).from c s
 
   if_next_stops : (first_sign : Char) {r₁ r₂ : Reader A} → Stops r₁ → Stops r₂ → Stops (if_next first_sign r₁ r₂)
-  unfolding if_next At if◌then◌else◌
+  unfolding if_next At when◌then◌else◌
   if_next_stops first_sign {r₁} {r₂} first second = record { from = go }
     where
       go : (c : Counted) (s : Tokens) → From (λ p. At p s) (if_next first_sign r₁ r₂ c s)
       go c (ends place) = second.from c (ends place)
       go c (token place t s) = by (is first_sign t)
         where
-          by : (b : Bool) → From (λ p. At p (token place t s)) (if b then r₁ c s else r₂ c (token place t s))
+          by : (b : Bool) → From (λ p. At p (token place t s)) (when b then r₁ c s else r₂ c (token place t s))
           by true = (behind_token place first).from c s
           by false = second.from c (token place t s)
 
@@ -145,42 +145,42 @@ module _ {A B : Type 0} where
   behind_stops {r} {q} first on = record { from = λ c s. read_on_from (λ p. At p s) (λ a. q) (λ a. on) (r c s) (first.from c s) }
 
 standing_stops : (can : Token → Bool) → Stops (standing can)
-unfolding standing At if◌then◌else◌
+unfolding standing At when◌then◌else◌
 standing_stops can = record { from = go }
   where
     go : (c : Counted) (s : Tokens) → From (λ p. At p s) (standing can c s)
     go c (ends place) = refl
     go c (token place t s) = by (can t)
       where
-        by : (b : Bool) → From (λ p. At p (token place t s)) (if b then read (tt {0}) c (token place t s) else malformed place)
+        by : (b : Bool) → From (λ p. At p (token place t s)) (when b then read (tt {0}) c (token place t s) else malformed place)
         by true = λ p m. m
         by false = inl refl
 
 count_name_stops : (f : Bytes) → Stops (count_name f)
-unfolding count_name if◌then◌else◌
+unfolding count_name when◌then◌else◌
 count_name_stops f = record { from = λ c s. by (any (same f) c.names) (ltb (length c.names) 256) c s }
   where
     by : (there room : Bool) (c : Counted) (s : Tokens)
-        → From (λ p. At p s) (if there then read (tt {0}) c s else if room then read tt (record { names = c.names ++ (f ∷ []); variables = c.variables; compounds = c.compounds }) s else passed)
+        → From (λ p. At p s) (when there then read (tt {0}) c s else when room then read tt (record { names = c.names ++ (f ∷ []); variables = c.variables; compounds = c.compounds }) s else passed)
     by true room c s = λ p m. m
     by false true c s = λ p m. m
     by false false c s = tt
 
 count_compound_stops : Stops count_compound
-unfolding count_compound if◌then◌else◌
+unfolding count_compound when◌then◌else◌
 count_compound_stops = record { from = λ c s. by (ltb c.compounds 32) c s }
   where
     by : (room : Bool) (c : Counted) (s : Tokens)
-        → From (λ p. At p s) (if room then read c.compounds (record { names = c.names; variables = c.variables; compounds = c.compounds + 1 }) s else passed)
+        → From (λ p. At p s) (when room then read c.compounds (record { names = c.names; variables = c.variables; compounds = c.compounds + 1 }) s else passed)
     by true c s = λ p m. m
     by false c s = tt
 
 count_variable_stops : (x : Bytes) → Stops (count_variable x)
-unfolding count_variable new_variable if◌then◌else◌
+unfolding count_variable new_variable when◌then◌else◌
 count_variable_stops x = record { from = λ c s. by (place_of x c.variables) c s }
   where
     room_or_not : (room : Bool) (c : Counted) (s : Tokens)
-        → From (λ p. At p s) (if room then read (length c.variables) (record { names = c.names; variables = c.variables ++ (x ∷ []); compounds = c.compounds }) s else passed)
+        → From (λ p. At p s) (when room then read (length c.variables) (record { names = c.names; variables = c.variables ++ (x ∷ []); compounds = c.compounds }) s else passed)
     room_or_not true c s = λ p m. m
     room_or_not false c s = tt
 

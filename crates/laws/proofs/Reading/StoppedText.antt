@@ -9,7 +9,7 @@ use mathlib.Core.Option.{Option, none, some}
 use native.Mathlib.Omega.{arith}
 use lib.Dec.{leb, ltb}
 use lib.ListN.{length}
-use Rattle.meaning.specs.Bytes.{Bytes, if◌then◌else◌, all}
+use Rattle.meaning.specs.Bytes.{Bytes, when◌then◌else◌, all}
 use Rattle.meaning.specs.Terms.{Named, Guard, Clause, Query}
 use Rattle.meaning.specs.Tokens.{Token, Tokens, ends, token, Front, blank, front, placed, tokens_from, tokens}
 use Rattle.meaning.specs.Faults.{Fault, pairing, clause_faults, least}
@@ -68,7 +68,7 @@ module _ (so_far : SoFar) (at : ℕ) (t : Token) (rest : Tokens) (p : ℕ) where
   not_four (some fault) accepted h e = differ (cc)
 
   guarded_not_four : (r : Rule) (counted : Counted) (o : Option (List Guard)) → unless_unknown (so_far.clauses + 1) at (token at t rest) r counted o ≡ refused (no_item p) → ⊥
-  unfolding unless_unknown with_guards if◌then◌else◌
+  unfolding unless_unknown with_guards when◌then◌else◌
   guarded_not_four r counted none e = differ (cc)
   guarded_not_four r counted (some guards) e = go (all (of_the_head (length counted.variables) r.head) guards) refl
     where
@@ -96,7 +96,7 @@ module _ (so_far : SoFar) (at : ℕ) (t : Token) (rest : Tokens) (p : ℕ) where
   as_query passed e q = absurd (differ (cc))
 
   token_stopped : item_from so_far at t rest ≡ refused (no_item p) → At p (token at t rest)
-  unfolding item_from clause_from query_from if◌then◌else◌ At
+  unfolding item_from clause_from query_from when◌then◌else◌ At
   token_stopped q = go (is_name t) refl (is "?" t) refl (ltb so_far.clauses 128) refl (ltb so_far.queries 8) refl
     where
       go : (named : Bool) → is_name t ≡ named → (asks : Bool) → is "?" t ≡ asks → (room : Bool) → ltb so_far.clauses 128 ≡ room
@@ -142,7 +142,7 @@ items_stopped (piece ∷ ps) so_far p e = go (item so_far piece) refl (λ behind
         (piece, here refl, item_stopped so_far piece p (rw (← r_is) i))
 
 asked_stopped : (x : Reading) (p : ℕ) → asked x ≡ Reading.refused (no_item p) → x ≡ Reading.refused (no_item p)
-unfolding asked if◌then◌else◌
+unfolding asked when◌then◌else◌
 asked_stopped (job j) p e = go (leb 1 (length j.queries)) refl
   where
     go : (b : Bool) → leb 1 (length j.queries) ≡ b → job j ≡ Reading.refused (no_item p)
@@ -152,7 +152,7 @@ asked_stopped (Reading.refused r) p e = e
 
 -- A place of a piece is a place of the tokens: its end is a full stop's, or theirs.
 at_in_all : (p : ℕ) (ts piece : Tokens) → In piece (pieces ts) → At p piece → At p ts
-unfolding pieces At onto if◌then◌else◌
+unfolding pieces At onto when◌then◌else◌
 at_in_all p (ends place) piece m i = rw (in_single m) at i
 at_in_all p (token place t rest) piece m i = go (is "." t) refl (at_in_all p rest)
   where

@@ -10,7 +10,7 @@ use native.Mathlib.Omega.{arith}
 use lib.Dec.{ltb, eqb}
 use lib.ListN.{length}
 use borrow.Author.Tests.{eqb-true, eq-eqb}
-use Rattle.meaning.specs.Bytes.{Bytes, byte, if◌then◌else◌, same, any}
+use Rattle.meaning.specs.Bytes.{Bytes, byte, when◌then◌else◌, same, any}
 use Rattle.meaning.specs.Terms.{Half, Term, same_half, occurrences}
 use Rattle.meaning.specs.Tokens.{Token, name, variable, integer, sign, bad, Tokens, ends, token}
 use Rattle.meaning.specs.Faults.{is_half, occurs_at}
@@ -93,7 +93,7 @@ place_tells x y (z ∷ l) n e f = go (same x z) refl (same y z) refl (place_of x
 module _ (x : Bytes) (w : List Bytes) (n : ℕ) (e : place_of x w ≡ some n) (h k : Half) (y : Bytes) (place : ℕ) (s : Tokens) where
   pub variable_occurs : length (occurs_at h y (token place (variable k x) s))
       ≡ by_number (place_of y w) (λ m. occurrences h m (Term.variable k n)) + length (occurs_at h y s)
-  unfolding occurs_at is_half occurrences if◌then◌else◌ by_number
+  unfolding occurs_at is_half occurrences when◌then◌else◌ by_number
   variable_occurs = go (same_half h k) refl (same y x) refl (place_of y w) refl
     where
       go : (a : Bool) → same_half h k ≡ a → (b : Bool) → same y x ≡ b → (o : Option ℕ) → place_of y w ≡ o
@@ -116,7 +116,7 @@ module _ (x : Bytes) (w : List Bytes) (n : ℕ) (e : place_of x w ≡ some n) (h
 
 -- What is looked at or counted without a token taken.
 pub standing_counts : {from : Mark} (can : Token → Bool) → Counts from (λ u. from) (standing can)
-unfolding standing if◌then◌else◌
+unfolding standing when◌then◌else◌
 standing_counts {from} can = record { over = go }
   where
     go : (c : Counted) (s : Tokens) (a : Unit {0}) (d : Counted) (rest : Tokens) → standing can c s ≡ read a d rest → Over from from c s d rest
@@ -143,7 +143,7 @@ abbrev with_compound : Counted → Counted
 with_compound c = record { names = c.names; variables = c.variables; compounds = c.compounds + 1 }
 
 pub count_name_counts : {from : Mark} (f : Bytes) → Counts from (λ u. from) (count_name f)
-unfolding count_name if◌then◌else◌
+unfolding count_name when◌then◌else◌
 count_name_counts {from} f = record { over = go }
   where
     go : (c : Counted) (s : Tokens) (a : Unit {0}) (d : Counted) (rest : Tokens) → count_name f c s ≡ read a d rest → Over from from c s d rest
@@ -161,7 +161,7 @@ count_name_counts {from} f = record { over = go }
         by false p false q = let e' : passed ≡ read a d rest = rw (p, q, count_name) at e in absurd (differ (cc))
 
 pub count_compound_counts : {from : Mark} → Counts from (λ n. from) count_compound
-unfolding count_compound if◌then◌else◌
+unfolding count_compound when◌then◌else◌
 count_compound_counts {from} = record { over = go }
   where
     go : (c : Counted) (s : Tokens) (a : ℕ) (d : Counted) (rest : Tokens) → count_compound c s ≡ read a d rest → Over from from c s d rest
@@ -257,7 +257,7 @@ module _ (k : Half) (x : Bytes) where
   counted_over : (place : ℕ) (c : Counted) (s : Tokens) (o : Option ℕ) → place_of x c.variables ≡ o → (a : Term) (d : Counted) (rest : Tokens)
       → read_on (new_variable x o c s) (λ n. give (Term.variable k n)) ≡ read a d rest
       → Over (before_stop never) (term_often a) c (token place (variable k x) s) d rest
-  unfolding read_on new_variable give if◌then◌else◌
+  unfolding read_on new_variable give when◌then◌else◌
   counted_over place c s (some n) here a d rest e =
       let a_is : Term.variable k n ≡ a = cc in
       let d_is : c ≡ d = cc in

@@ -7,7 +7,7 @@ use mathlib.Core.Bool.{Bool, true, false, ◌&&◌, ◌||◌}
 use mathlib.Core.List.{List, [], ◌∷◌, ◌++◌, append_assoc}
 use mathlib.Core.Option.{Option, none, some}
 use native.Mathlib.Omega.{arith}
-use Rattle.meaning.specs.Bytes.{Bytes, same, if◌then◌else◌}
+use Rattle.meaning.specs.Bytes.{Bytes, same, when◌then◌else◌}
 use Rattle.meaning.specs.Terms.{Half, writer, reader, same_half}
 use Rattle.meaning.specs.Tokens.{Token, name, variable, integer, sign, bad, Tokens, ends, token, is}
 use Rattle.meaning.specs.Faults.{Broken, twice, Fault, is_half, occurs_at, up_to_implied, head_tokens, least}
@@ -32,8 +32,8 @@ nowhere (p ∷ ps) = false
 unfoldable pub broken_by : Bool → (Bytes → Bool) → Tokens → Bool → Seen → Token → Option Broken
 broken_by both free piece implied seen (name f) = none
 broken_by both free piece implied seen (variable h x) =
-    if seen h x then (if implied && pardoned free h x then none else some twice)
-    else if both && nowhere (occurs_at (other h) x piece) then some (alone h) else none
+    when seen h x then (when implied && pardoned free h x then none else some twice)
+    else when both && nowhere (occurs_at (other h) x piece) then some (alone h) else none
 broken_by both free piece implied seen (integer i) = none
 broken_by both free piece implied seen (sign b) = none
 broken_by both free piece implied seen bad = none
@@ -102,7 +102,7 @@ module _ (both : Bool) (free : Bytes → Bool) (piece : Tokens) (xs : List Bytes
 
     -- The token is no half of a variable; it may be the `:-`.
     passed_by : ((h : Half) (x : Bytes) → is_half h x t ≡ false) → Before (implied || is ":" t) (with_seen t seen) rest
-    unfolding occurs_at if◌then◌else◌ with_seen head_tokens up_to_implied
+    unfolding occurs_at when◌then◌else◌ with_seen head_tokens up_to_implied
     passed_by none_here =
         record {
           earlier = b.earlier;
@@ -135,7 +135,7 @@ module _ (both : Bool) (free : Bytes → Bool) (piece : Tokens) (xs : List Bytes
         go reader = same_refl x
 
     places_are : occurs_at h x piece ≡ b.earlier h x ++ (place ∷ occurs_at h x rest)
-    unfolding occurs_at if◌then◌else◌
+    unfolding occurs_at when◌then◌else◌
     places_are = rw itself at (b.splits h x)
 
     its : In x xs
@@ -144,7 +144,7 @@ module _ (both : Bool) (free : Bytes → Bool) (piece : Tokens) (xs : List Bytes
     -- Unless it is pardoned here, its place is the next among those by which it is judged.
     judged_here : (implied && pardoned free h x) ≡ false
         → (others : List ℕ) × (occurs_at h x (judged_in free h x piece) ≡ b.earlier h x ++ (place ∷ others)) × ((p : ℕ) → In p others → place + 1 ≤ p)
-    unfolding judged_in if◌then◌else◌ occurs_at head_tokens up_to_implied is
+    unfolding judged_in when◌then◌else◌ occurs_at head_tokens up_to_implied is
     judged_here e = go (pardoned free h x) refl implied refl
       where
         go : (pardon : Bool) → pardoned free h x ≡ pardon → (i : Bool) → implied ≡ i
@@ -179,7 +179,7 @@ module _ (both : Bool) (free : Bytes → Bool) (piece : Tokens) (xs : List Bytes
 
     -- Behind the `:-` no reader that is free is there twice: the head's places lie before.
     pardoned_here : (implied && pardoned free h x) ≡ true → (f : Fault) → TwiceAt (judged_in free h x piece) h x f → In f.offset (b.earlier h x)
-    unfolding judged_in if◌then◌else◌
+    unfolding judged_in when◌then◌else◌
     pardoned_here e f t =
         let in_head : TwiceAt (head_tokens piece) h x f = rw (and_right implied (pardoned free h x) e) at t in
         b.head_passed (and_left implied (pardoned free h x) e) h x f.offset (rw in_head.places (there (here refl)))
@@ -187,7 +187,7 @@ module _ (both : Bool) (free : Bytes → Bool) (piece : Tokens) (xs : List Bytes
     -- Where no fault is at this place, the walk goes on.
     onward : ((f : Fault) (o : FaultOf both free piece xs f) → o.half ≡ h → o.spelling ≡ x → f.offset ≡ place → ⊥)
         → Before (implied || is ":" (variable h x)) (with_seen (variable h x) seen) rest
-    unfolding occurs_at if◌then◌else◌ with_seen head_tokens up_to_implied is
+    unfolding occurs_at when◌then◌else◌ with_seen head_tokens up_to_implied is
     onward unbroken =
         record {
           earlier = now;
@@ -199,7 +199,7 @@ module _ (both : Bool) (free : Bytes → Bool) (piece : Tokens) (xs : List Bytes
         }
       where
         now : Half → Bytes → List ℕ
-        now k y = if is_half k y (variable h x) then b.earlier k y ++ (place ∷ []) else b.earlier k y
+        now k y = when is_half k y (variable h x) then b.earlier k y ++ (place ∷ []) else b.earlier k y
 
         before_this : (i : Bool) → (i || false) ≡ true → i ≡ true
         before_this true e = refl
@@ -207,22 +207,22 @@ module _ (both : Bool) (free : Bytes → Bool) (piece : Tokens) (xs : List Bytes
 
         split_so : (all left : Tokens) → ((k : Half) (y : Bytes) → occurs_at k y all ≡ b.earlier k y ++ occurs_at k y (token place (variable h x) left))
             → (k : Half) (y : Bytes) (c : Bool) → is_half k y (variable h x) ≡ c
-            → occurs_at k y all ≡ (if is_half k y (variable h x) then b.earlier k y ++ (place ∷ []) else b.earlier k y) ++ occurs_at k y left
+            → occurs_at k y all ≡ (when is_half k y (variable h x) then b.earlier k y ++ (place ∷ []) else b.earlier k y) ++ occurs_at k y left
         split_so all left split k y true q = rw (q, append_assoc (b.earlier k y) (place ∷ []) (occurs_at k y left)) (rw q at (split k y))
         split_so all left split k y false q = rw q (rw q at (split k y))
 
         passed_so : (k : Half) (y : Bytes) (p : ℕ) → In p (b.earlier k y) → (c : Bool) → is_half k y (variable h x) ≡ c
-            → In p (if is_half k y (variable h x) then b.earlier k y ++ (place ∷ []) else b.earlier k y)
+            → In p (when is_half k y (variable h x) then b.earlier k y ++ (place ∷ []) else b.earlier k y)
         passed_so k y p m true q = rw q (in_append_left (place ∷ []) m)
         passed_so k y p m false q = rw q m
 
         seen_so : (k : Half) (y : Bytes) (c : Bool) → is_half k y (variable h x) ≡ c
-            → (is_half k y (variable h x) || seen k y) ≡ some_of (if is_half k y (variable h x) then b.earlier k y ++ (place ∷ []) else b.earlier k y)
+            → (is_half k y (variable h x) || seen k y) ≡ some_of (when is_half k y (variable h x) then b.earlier k y ++ (place ∷ []) else b.earlier k y)
         seen_so k y true q = rw q (sym (some_of_last (b.earlier k y) place))
         seen_so k y false q = rw q (b.seen_is k y)
 
         clean_so : (f : Fault) (o : FaultOf both free piece xs f)
-            → In f.offset (if is_half o.half o.spelling (variable h x) then b.earlier o.half o.spelling ++ (place ∷ []) else b.earlier o.half o.spelling) → ⊥
+            → In f.offset (when is_half o.half o.spelling (variable h x) then b.earlier o.half o.spelling ++ (place ∷ []) else b.earlier o.half o.spelling) → ⊥
         clean_so f o m = by (is_half o.half o.spelling (variable h x)) refl
           where
             by : (c : Bool) → is_half o.half o.spelling (variable h x) ≡ c → ⊥
@@ -301,7 +301,7 @@ module _ (both : Bool) (free : Bytes → Bool) (piece : Tokens) (xs : List Bytes
           go (inr (q, a)) = false_not_true (both && nowhere (occurs_at (other h) x piece)) e (rw (q, a.missing) refl)
 
   finds : (low : ℕ) (s : Tokens) → Rising low s → (implied : Bool) (seen : Seen) → Before implied seen s → Finds (first_from both free piece implied seen s)
-  unfolding Finds Rising first_from broken_by here_or is_half if◌then◌else◌ occurs_at
+  unfolding Finds Rising first_from broken_by here_or is_half when◌then◌else◌ occurs_at
   finds low (ends place) r implied seen b = λ f o. in_none (ahead implied seen (ends place) b f o)
   finds low (token place (name f) rest) r implied seen b =
       finds (place + 1) rest r.1 (implied || is ":" (name f)) (with_seen (name f) seen) (passed_by place (name f) rest r.1 implied seen b (λ h x. refl))
@@ -313,7 +313,7 @@ module _ (both : Bool) (free : Bytes → Bool) (piece : Tokens) (xs : List Bytes
           → (broken : Bool) → (both && nowhere (occurs_at (other h) x piece)) ≡ broken
           → (Before (implied || is ":" (variable h x)) (with_seen (variable h x) seen) rest
           → Finds (first_from both free piece (implied || is ":" (variable h x)) (with_seen (variable h x) seen) rest))
-          → Finds (here_or place (if was then (if pardon then none else some twice) else if broken then some (alone h) else none)
+          → Finds (here_or place (when was then (when pardon then none else some twice) else when broken then some (alone h) else none)
           (first_from both free piece (implied || is ":" (variable h x)) (with_seen (variable h x) seen) rest))
       go true e true p broken e' further =
           further (onward place h x rest r.1 implied seen b (seen_and_pardoned place h x rest r.1 implied seen b e p))

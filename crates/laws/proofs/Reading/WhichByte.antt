@@ -8,7 +8,7 @@ use mathlib.Core.List.{List, [], ◌∷◌}
 use mathlib.Core.Option.{Option, none, some}
 use native.Mathlib.Omega.{arith}
 use lib.ListN.{length}
-use Rattle.meaning.specs.Bytes.{Bytes, if◌then◌else◌, same, all}
+use Rattle.meaning.specs.Bytes.{Bytes, when◌then◌else◌, same, all}
 use Rattle.meaning.specs.Terms.{Half, Guard, goals_occurrences}
 use Rattle.meaning.specs.Tokens.{Tokens}
 use Rattle.meaning.specs.Faults.{Fault, occurs_at, query_faults, least}
@@ -93,7 +93,7 @@ module _ {piece : Tokens} (x : ItemRead rule piece) (nth begins : ℕ) where
   pub other_variable_refused : (guards : List Guard) → as_guards x.value.body.guards ≡ some guards
       → all (of_the_head (length x.counted.variables) x.value.head) guards ≡ false
       → clause_piece nth begins piece (read x.value x.counted x.rest) ≡ refused (guard_rule begins)
-  unfolding clause_piece unless_unknown with_guards if◌then◌else◌
+  unfolding clause_piece unless_unknown with_guards when◌then◌else◌
   other_variable_refused guards e q = rw (e, q) refl
 
 module _ {piece : Tokens} (x : ItemRead rule piece) (cut : Cut piece) (guards : List Guard) where
@@ -112,7 +112,7 @@ module _ {piece : Tokens} (x : ItemRead rule piece) (cut : Cut piece) (guards : 
         ((clause_rules x guards ≡ true) × (clause_piece nth begins piece (read x.value x.counted x.rest)
         ≡ clause (record { place = nth; head = x.value.head; guards = guards; body = x.value.body.goals; pairs = length x.counted.variables; compounds = x.counted.compounds }) x.counted.names))
         ⊎ ((clause_rules x guards ≡ false) × ((f : Fault) × (clause_piece nth begins piece (read x.value x.counted x.rest) ≡ refused (occurrence_rule begins f))))
-    unfolding clause_piece unless_unknown with_guards unless_broken if◌then◌else◌
+    unfolding clause_piece unless_unknown with_guards unless_broken when◌then◌else◌
     clause_as_before = go clause_judged
       where
         go : Judged (clause_rules x guards) (least (faults_of x cut guards))

@@ -8,7 +8,7 @@ use mathlib.Core.List.{List, [], ◌∷◌, ◌++◌}
 use mathlib.Core.Option.{Option, none, some}
 use lib.Dec.{ltb, eqb}
 use lib.ListN.{length}
-use Rattle.meaning.specs.Bytes.{Bytes, byte, same, if◌then◌else◌, any}
+use Rattle.meaning.specs.Bytes.{Bytes, byte, same, when◌then◌else◌, any}
 use Rattle.meaning.specs.Terms.{Constant, empty, cell, named, Term, Terms, compound, end, more, Named, as_term}
 use Rattle.meaning.specs.Tokens.{Token, name, variable, integer, sign, bad, Tokens, ends, token}
 use Rattle.meaning.specs.Table.{Element, whole, bare, equals, as_goals}
@@ -121,8 +121,8 @@ module _ (N X : Bytes → Type 0) where
   unfolding passes
   passes_reads = record { from = λ counted rest c t. tt }
 
-  if_reads : {A : Type 0} {P : A → Type 0} (b : Bool) {r s : Reader A} → Reads A P r → Reads A P s → Reads A P (if b then r else s)
-  unfolding if◌then◌else◌
+  if_reads : {A : Type 0} {P : A → Type 0} (b : Bool) {r s : Reader A} → Reads A P r → Reads A P s → Reads A P (when b then r else s)
+  unfolding when◌then◌else◌
   if_reads true p q = p
   if_reads false p q = q
 
@@ -136,11 +136,11 @@ module _ (N X : Bytes → Type 0) where
       go counted (token place s rest) c t = (p place s t.0).from counted rest c t.1
 
   if_next_reads : {A : Type 0} {P : A → Type 0} (mark : Char) {r s : Reader A} → Reads A P r → Reads A P s → Reads A P (if_next mark r s)
-  unfolding if_next if◌then◌else◌
+  unfolding if_next when◌then◌else◌
   if_next_reads {A} {P} mark {r} {s} p q = record { from = go }
     where
       take : (b : Bool) (place : ℕ) (t : Token) (counted : Counted) (rest : Tokens) → Each X counted.variables → TokenGood t → TokensGood rest
-          → Good P (if b then r counted rest else s counted (token place t rest))
+          → Good P (when b then r counted rest else s counted (token place t rest))
       take true place t counted rest c g h = p.from counted rest c h
       take false place t counted rest c g h = q.from counted (token place t rest) c (g, h)
 
@@ -149,11 +149,11 @@ module _ (N X : Bytes → Type 0) where
       go counted (token place u rest) c t = take (is mark u) place u counted rest c t.0 t.1
 
   standing_reads : (can : Token → Bool) → Reads (Unit {0}) Any (standing can)
-  unfolding standing if◌then◌else◌
+  unfolding standing when◌then◌else◌
   standing_reads can = record { from = go }
     where
       stand : (b : Bool) (place : ℕ) (t : Token) (counted : Counted) (rest : Tokens) → Each X counted.variables → TokensGood (token place t rest)
-          → Good {A = Unit {0}} Any (if b then read (tt {0}) counted (token place t rest) else malformed place)
+          → Good {A = Unit {0}} Any (when b then read (tt {0}) counted (token place t rest) else malformed place)
       stand true place t counted rest c g = (tt, c, g)
       stand false place t counted rest c g = tt
 
@@ -173,13 +173,13 @@ module _ (N X : Bytes → Type 0) where
 
   -- Counting: a new variable is a good one.
   count_name_reads : (f : Bytes) → Reads (Unit {0}) Any (count_name f)
-  unfolding count_name if◌then◌else◌
+  unfolding count_name when◌then◌else◌
   count_name_reads f = record { from = λ counted rest c t. go counted rest c t (any (same f) counted.names) (ltb (length counted.names) 256) }
     where
       go : (counted : Counted) (rest : Tokens) → Each X counted.variables → TokensGood rest → (known few : Bool)
           → Good {A = Unit {0}} Any
-          (if known then read (tt {0}) counted rest
-          else if few
+          (when known then read (tt {0}) counted rest
+          else when few
           then read (tt {0}) (record { names = counted.names ++ (f ∷ []); variables = counted.variables; compounds = counted.compounds }) rest
           else passed)
       go counted rest c t true few = (tt, c, t)
@@ -187,13 +187,13 @@ module _ (N X : Bytes → Type 0) where
       go counted rest c t false false = tt
 
   new_variable_reads : (x : Bytes) → X x → (place : Option ℕ) → Reads ℕ Any (new_variable x place)
-  unfolding new_variable if◌then◌else◌
+  unfolding new_variable when◌then◌else◌
   new_variable_reads x g (some n) = record { from = λ counted rest c t. (tt, c, t) }
   new_variable_reads x g none = record { from = λ counted rest c t. go counted rest c t (ltb (length counted.variables) 16) }
     where
       go : (counted : Counted) (rest : Tokens) → Each X counted.variables → TokensGood rest → (few : Bool)
           → Good {A = ℕ} Any
-          (if few
+          (when few
           then read (length counted.variables)
           (record { names = counted.names; variables = counted.variables ++ (x ∷ []); compounds = counted.compounds }) rest
           else passed)
@@ -205,12 +205,12 @@ module _ (N X : Bytes → Type 0) where
   count_variable_reads x g = record { from = λ counted rest c t. (new_variable_reads x g (place_of x counted.variables)).from counted rest c t }
 
   count_compound_reads : Reads ℕ Any count_compound
-  unfolding count_compound if◌then◌else◌
+  unfolding count_compound when◌then◌else◌
   count_compound_reads = record { from = λ counted rest c t. go counted rest c t (ltb counted.compounds 32) }
     where
       go : (counted : Counted) (rest : Tokens) → Each X counted.variables → TokensGood rest → (few : Bool)
           → Good {A = ℕ} Any
-          (if few
+          (when few
           then read counted.compounds
           (record { names = counted.names; variables = counted.variables; compounds = counted.compounds + 1 }) rest
           else passed)

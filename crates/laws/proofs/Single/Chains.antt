@@ -9,7 +9,7 @@ use native.Mathlib.Omega.{arith}
 use lib.Dec.{leb, eqb}
 use lib.ListN.{length}
 use borrow.Author.Tests.{leb-true, leb-false, eqb-true, eqb-false}
-use Rattle.meaning.specs.Bytes.{if◌then◌else◌}
+use Rattle.meaning.specs.Bytes.{when◌then◌else◌}
 use Rattle.meaning.specs.Terms.{
   Half,
   writer,
@@ -256,7 +256,7 @@ followed_inside values inside (suc links) (variable k q) below = go (value value
 
 -- From a new pair that was given nothing no reader is reached.
 nothing_reached : (values : Values) (p x : ℕ) → length values ≤ x → Reaches values p (more (variable writer x) end) → ⊥
-unfolding all_occurrences occurrences same_half if◌then◌else◌
+unfolding all_occurrences occurrences same_half when◌then◌else◌
 nothing_reached values p x past (here m) = omega arith
 nothing_reached values p x past (through k q u m e further) = go (eqb q x) refl
   where
@@ -295,7 +295,7 @@ module _ (unit : QueryUnit) (goal : Named) (no_circle : circle unit.values ≡ f
   -- What is reached from what the head gave a new pair is reached from the goal.
   given_parts : (clause : Clause) (given : List Assignment) → compared clause unit goal ≡ succeeds given
       → Each (λ a. length unit.values ≤ a.pair → (p : ℕ) → Reaches unit.values p (more a.value end) → Reaches unit.values p goal.arguments) given
-  unfolding compared occurrences all_occurrences same_half if◌then◌else◌
+  unfolding compared occurrences all_occurrences same_half when◌then◌else◌
   given_parts clause given agree =
       table_gives (λ u. Unit {0}) Part Part
       (λ a. length unit.values ≤ a.pair → (p : ℕ) → Reaches unit.values p (more a.value end) → Reaches unit.values p goal.arguments)

@@ -10,7 +10,7 @@ use native.Mathlib.Omega.{arith}
 use lib.Dec.{eqb}
 use lib.ListN.{length}
 use borrow.Author.Tests.{eqb-true}
-use Rattle.meaning.specs.Bytes.{if◌then◌else◌, any}
+use Rattle.meaning.specs.Bytes.{when◌then◌else◌, any}
 use Rattle.meaning.specs.Terms.{
   Half,
   writer,
@@ -88,12 +88,12 @@ module _ (test wider : ℕ → Bool) (implied : (n : ℕ) → test n ≡ true �
 -- A pair that does not pass it occurs nowhere.
 module _ (test : ℕ → Bool) (h : Half) (n : ℕ) (not : test n ≡ false) where
   mutual
-    unfolding holds_only all_hold_only occurrences all_occurrences if◌then◌else◌
+    unfolding holds_only all_hold_only occurrences all_occurrences when◌then◌else◌
 
     pub not_held : (t : Term) → holds_only test t ≡ true → occurrences h n t ≡ 0
     not_held (variable k m) e = go (same_half h k) (eqb n m) refl
       where
-        go : (a b : Bool) → eqb n m ≡ b → ◌≡◌ {A = ℕ} (if a && b then 1 else 0) 0
+        go : (a b : Bool) → eqb n m ≡ b → ◌≡◌ {A = ℕ} (when a && b then 1 else 0) 0
         go true true f =
             let same : n ≡ m = eqb-true n m f in
             absurd (false_not_true (test n) not (rw same e))
@@ -275,7 +275,7 @@ table_grounds r member = each_in (λ r. r.means_ground ≡ true → grounding r.
 -- Only a constant, or of an argument without a variable.
 argument_plain : (constants : Constant → Bool) (t : Term) (ts : Terms) (first : List Assignment) → argument_is constants false (more t ts) ≡ succeeds first
     → variables and_then t ≡ succeeds []
-unfolding argument_is variables unassigned waits_on succeeds_if if◌then◌else◌
+unfolding argument_is variables unassigned waits_on succeeds_if when◌then◌else◌
 argument_plain constants (variable writer p) ts first e = absurd (fails_not_succeeds e)
 argument_plain constants (variable reader p) ts first e = absurd (waits_not_succeeds e)
 argument_plain constants (constant k) ts first e = refl

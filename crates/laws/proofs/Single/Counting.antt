@@ -6,7 +6,7 @@ use mathlib.Core.Bool.{true, false}
 use mathlib.Core.List.{List, [], ◌∷◌, ◌++◌, map}
 use native.Mathlib.Omega.{arith}
 use borrow.Author.Tests.{eq-eqb, ne_eqb}
-use Rattle.meaning.specs.Bytes.{if◌then◌else◌, those}
+use Rattle.meaning.specs.Bytes.{when◌then◌else◌, those}
 use Rattle.meaning.specs.Terms.{Half, Named, Clause, Query, all_occurrences, goals_occurrences}
 use Rattle.meaning.specs.State.{QueryUnit, Goal, Goals, goals_at, all_goals, of, goals_of, Origin, from_query}
 use Rattle.meaning.specs.Compare.{Assignment}
@@ -21,7 +21,7 @@ together goals = goals.queue ++ map (λ w. w.goal) goals.waiting ++ goals.failed
 
 -- How often a half occurs in a goal, if the goal is of the query.
 abbrev pub own : ℕ → Half → ℕ → Goal → ℕ
-own k h n g = if of k g then all_occurrences h n g.goal.arguments else 0
+own k h n g = when of k g then all_occurrences h n g.goal.arguments else 0
 
 -- How often it occurs in the goals of the query.
 abbrev pub count_of : ℕ → Goals → Count
@@ -54,11 +54,11 @@ count_of_own k goals h n =
 
 module _ (k : ℕ) (h : Half) (n : ℕ) where
   pub own_of : (g : Goal) → of k g ≡ true → own k h n g ≡ all_occurrences h n g.goal.arguments
-  unfolding if◌then◌else◌
+  unfolding when◌then◌else◌
   own_of g e = rw e
 
   pub own_of_other : (g : Goal) → of k g ≡ false → own k h n g ≡ 0
-  unfolding if◌then◌else◌
+  unfolding when◌then◌else◌
   own_of_other g e = rw e
 
   -- A query's goals, or a body's, entered at its place, and at another.

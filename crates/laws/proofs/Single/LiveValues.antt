@@ -8,7 +8,7 @@ use mathlib.Core.Option.{Option, none, some}
 use native.Mathlib.Omega.{arith}
 use lib.Dec.{eqb}
 use borrow.Author.Tests.{eqb-true, eqb-false}
-use Rattle.meaning.specs.Bytes.{if◌then◌else◌}
+use Rattle.meaning.specs.Bytes.{when◌then◌else◌}
 use Rattle.meaning.specs.Terms.{Half, writer, reader, Term, Terms, variable, constant, compound, same_half, occurrences, all_occurrences}
 use Rattle.meaning.specs.State.{Values, value}
 use Rattle.meaning.specs.Compare.{Assignment, followed}
@@ -91,7 +91,7 @@ module _ {values : Values} where
       }
 
 pub occurs_within : (c : Count) (k : Half) (p : ℕ) → 1 ≤ c k p → (h : Half) (n : ℕ) → occurrences h n (variable k p) ≤ c h n
-unfolding occurrences same_half if◌then◌else◌
+unfolding occurrences same_half when◌then◌else◌
 occurs_within c k p e h n = go h k e (eqb n p) refl
   where
     go : (h k : Half) → 1 ≤ c k p → (b : Bool) → eqb n p ≡ b → occurrences h n (variable k p) ≤ c h n
@@ -104,7 +104,7 @@ occurs_within c k p e h n = go h k e (eqb n p) refl
 
 -- A reader is no writer.
 pub no_writer_marks : (n : ℕ) (live : List Assignment) → marks reader writer n live ≡ 0
-unfolding occurrences same_half if◌then◌else◌
+unfolding occurrences same_half when◌then◌else◌
 no_writer_marks n [] = refl
 no_writer_marks n (a ∷ live) = omega (arith, no_writer_marks n live)
 

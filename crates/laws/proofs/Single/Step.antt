@@ -15,7 +15,7 @@ use Rattle.meaning.specs.State.{Values, value, QueryUnit, Goal, Waiting, Goals, 
 use Rattle.meaning.specs.Compare.{Assignment, succeeds}
 use Rattle.meaning.specs.Circle.{circle}
 use Rattle.meaning.specs.Trial.{next_pair, compared, with_pairs, values_after, trial, procedure, Choice, reduces, joins_waiting, joins_failed, choice}
-use Rattle.meaning.specs.Bytes.{among, those, if◌then◌else◌}
+use Rattle.meaning.specs.Bytes.{among, those, when◌then◌else◌}
 use Rattle.meaning.specs.Step.{unit_after, wakes, made_by, body_goals, goals_after, without_front, step}
 use Rattle.meaning.specs.Run.{choice_for}
 use Rattle.laws.proofs.Lists.{differ, false_not_true, in_any, in_among, each_member, In, here, there, those_member, Each, each_in, each_append, each_implies, each_of_those, TakenOut}
@@ -132,7 +132,7 @@ module _ (clause : Clause) (ok : ClauseOk clause) (unit : QueryUnit) (goal : Nam
       → Each (λ w. of k w.goal ≡ true → Each (λ p. value unit.values p ≡ none) w.readers) waiting
       → Each (λ w. of k w.goal ≡ true → Each (λ p. value (values_after clause given unit) p ≡ none) w.readers)
       (those (λ w. not (wakes k given w)) waiting)
-  unfolding those wakes if◌then◌else◌
+  unfolding those wakes when◌then◌else◌
   still_idle k [] idle = tt
   still_idle k (w ∷ waiting) idle = go (wakes k given w) refl (still_idle k waiting idle.1)
     where

@@ -8,7 +8,7 @@ use native.Mathlib.Decide.{dec_lt}
 use native.Mathlib.Omega.{arith}
 use lib.Dec.{eqb}
 use borrow.Author.Tests.{eqb-true}
-use Rattle.meaning.specs.Bytes.{if◌then◌else◌}
+use Rattle.meaning.specs.Bytes.{when◌then◌else◌}
 use Rattle.meaning.specs.Terms.{
   Half,
   Term,
@@ -52,8 +52,8 @@ Beyond n t = (p : ℕ) → Stands p t → n ≤ p
 abbrev pub AllBeyond : ℕ → Terms → Type 0
 AllBeyond n ts = (p : ℕ) → StandsIn p ts → n ≤ p
 
-counted : (a b : Bool) → 1 ≤ (if a && b then 1 else 0) → b ≡ true
-unfolding if◌then◌else◌
+counted : (a b : Bool) → 1 ≤ (when a && b then 1 else 0) → b ≡ true
+unfolding when◌then◌else◌
 counted true true o = refl
 counted true false o = absurd (omega arith)
 counted false b o = absurd (omega arith)

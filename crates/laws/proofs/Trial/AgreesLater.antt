@@ -5,7 +5,7 @@ use mathlib.Core.Path.{◌≡◌, refl, sym, ◌∙◌}
 use mathlib.Core.Bool.{Bool, true, false, ◌&&◌}
 use mathlib.Core.List.{List, [], ◌∷◌, ◌++◌}
 use lib.Dec.{eqb}
-use Rattle.meaning.specs.Bytes.{if◌then◌else◌}
+use Rattle.meaning.specs.Bytes.{when◌then◌else◌}
 use Rattle.meaning.specs.Terms.{
   writer,
   reader,
@@ -94,7 +94,7 @@ module _ (Goal Found : Term → Type 0) (look look_later : Term → Term)
       (record { given_later = one.given_later ++ two.given_later; agrees = refl; paired = paired_append one.paired two.paired })
 
   mutual
-    unfolding EachArgument FoundLater place places renamed all_renamed waits_on if◌then◌else◌
+    unfolding EachArgument FoundLater place places renamed all_renamed waits_on when◌then◌else◌
 
     place_agrees_later : (u t : Term) → Found t → (given : List Assignment) → place look (renamed p c u) t ≡ succeeds given
         → AgreesLater (place look_later (renamed q d u) (look_later t)) given
@@ -112,7 +112,7 @@ module _ (Goal Found : Term → Type 0) (look look_later : Term → Term)
     place_agrees_later (constant a) (variable reader z) found given e = absurd (waits_not_succeeds e)
     place_agrees_later (constant a) (constant k) found given e = rw (later (constant k) found) (go (same_constant a k) e)
       where
-        go : (b : Bool) → (if b then succeeds [] else fails) ≡ succeeds given → AgreesLater (if b then succeeds [] else fails) given
+        go : (b : Bool) → (when b then succeeds [] else fails) ≡ succeeds given → AgreesLater (when b then succeeds [] else fails) given
         go true i = nothing_given given i
         go false i = absurd (fails_not_succeeds i)
     place_agrees_later (constant a) (compound n f ts) found given e = absurd (fails_not_succeeds e)
@@ -125,9 +125,9 @@ module _ (Goal Found : Term → Type 0) (look look_later : Term → Term)
         (go (same_functor g f && eqb (count us) (count ts)) (rw (count_renamed p c us) at e)
         (λ i. places_agree_later us ts (inside_found n f ts found) given i))
       where
-        go : (b : Bool) → (if b then places look (all_renamed p c us) ts else fails) ≡ succeeds given
+        go : (b : Bool) → (when b then places look (all_renamed p c us) ts else fails) ≡ succeeds given
             → (places look (all_renamed p c us) ts ≡ succeeds given → AgreesLater (places look_later (all_renamed q d us) ts) given)
-            → AgreesLater (if b then places look_later (all_renamed q d us) ts else fails) given
+            → AgreesLater (when b then places look_later (all_renamed q d us) ts else fails) given
         go true i deeper = deeper i
         go false i deeper = absurd (fails_not_succeeds i)
 

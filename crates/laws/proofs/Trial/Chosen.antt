@@ -4,7 +4,7 @@ use Prim.Native.Nat.{ℕ}
 use mathlib.Core.Path.{◌≡◌, refl, ◌∙◌}
 use mathlib.Core.Bool.{Bool, true, false}
 use mathlib.Core.List.{List, [], ◌∷◌, ◌++◌}
-use Rattle.meaning.specs.Bytes.{if◌then◌else◌}
+use Rattle.meaning.specs.Bytes.{when◌then◌else◌}
 use Rattle.meaning.specs.Terms.{Named, Guard, Clause}
 use Rattle.meaning.specs.State.{Values, QueryUnit}
 use Rattle.meaning.specs.Compare.{Assignment, Result, succeeds, waits, fails}
@@ -60,7 +60,7 @@ module _ (unit : QueryUnit) (goal : Named) (clause : Clause) (given : List Assig
 
   tested_succeeds : (r : Result) → tested clause unit r ≡ succeeds given
       → (r ≡ succeeds given) × (circle (values_after clause given unit) ≡ false)
-  unfolding tested if◌then◌else◌
+  unfolding tested when◌then◌else◌
   tested_succeeds (succeeds g) e = go (circle (values_after clause g unit)) refl
     where
       go : (b : Bool) → circle (values_after clause g unit) ≡ b → (succeeds g ≡ succeeds given) × (circle (values_after clause given unit) ≡ false)

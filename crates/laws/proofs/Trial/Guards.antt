@@ -6,7 +6,7 @@ use mathlib.Core.Logic.{◌≢◌}
 use mathlib.Core.Bool.{Bool, true, false}
 use mathlib.Core.List.{List, [], ◌∷◌, ◌++◌}
 use native.Mathlib.Omega.{arith}
-use Rattle.meaning.specs.Bytes.{if◌then◌else◌}
+use Rattle.meaning.specs.Bytes.{when◌then◌else◌}
 use Rattle.meaning.specs.Terms.{
   Half,
   writer,
@@ -71,7 +71,7 @@ module _ (Q : ℕ → Type 0) where
   waited_first_of fails two f g readers e = absurd (fails_not_waits e)
 
   waited_if : (b : Bool) → EachWaited Q (succeeds_if b)
-  unfolding succeeds_if if◌then◌else◌
+  unfolding succeeds_if when◌then◌else◌
   waited_if true readers e = absurd (succeeds_not_waits e)
   waited_if false readers e = absurd (fails_not_waits e)
 
@@ -169,7 +169,7 @@ first_of_on_some (waits readers) two f g = f
 first_of_on_some fails two f g = f
 
 succeeds_if_on_some : (b : Bool) → OnSome (succeeds_if b)
-unfolding succeeds_if if◌then◌else◌
+unfolding succeeds_if when◌then◌else◌
 succeeds_if_on_some true = succeeds_on_some []
 succeeds_if_on_some false = fails_on_some
 

@@ -5,7 +5,7 @@ use mathlib.Core.Path.{◌≡◌, refl, sym, ap}
 use mathlib.Core.Logic.{◌⊎◌, inl, inr}
 use mathlib.Core.Bool.{Bool, true, false, ◌&&◌}
 use lib.Dec.{eqb}
-use Rattle.meaning.specs.Bytes.{if◌then◌else◌}
+use Rattle.meaning.specs.Bytes.{when◌then◌else◌}
 use Rattle.meaning.specs.Terms.{
   writer,
   reader,
@@ -54,7 +54,7 @@ module _ (Goal Found : Term → Type 0) (look look_later : Term → Term)
     (later : (t : Term) → Goal t → FoundLater (look t) (look_later t))
     (p c q d : ℕ) where
   mutual
-    unfolding EachArgument FoundLater place places renamed all_renamed gives waits_on and_then if◌then◌else◌
+    unfolding EachArgument FoundLater place places renamed all_renamed gives waits_on and_then when◌then◌else◌
 
     place_fails_later : (u t s : Term) → Found t → FoundLater t s → place look (renamed p c u) t ≡ fails → place look_later (renamed q d u) s ≡ fails
     place_fails_later (variable writer x) (variable writer z) s found l e = rw l
@@ -77,9 +77,9 @@ module _ (Goal Found : Term → Type 0) (look look_later : Term → Term)
         (behind (same_functor g f && eqb (count us) (count ts)) (rw (count_renamed p c us) at e)
         (λ i. places_fail_later us ts (inside_found n f ts found) i))
       where
-        behind : (b : Bool) → (if b then places look (all_renamed p c us) ts else fails) ≡ fails
+        behind : (b : Bool) → (when b then places look (all_renamed p c us) ts else fails) ≡ fails
             → (places look (all_renamed p c us) ts ≡ fails → places look_later (all_renamed q d us) ts ≡ fails)
-            → (if b then places look_later (all_renamed q d us) ts else fails) ≡ fails
+            → (when b then places look_later (all_renamed q d us) ts else fails) ≡ fails
         behind true e further = further e
         behind false e further = refl
 

@@ -5,7 +5,7 @@ use mathlib.Core.Path.{◌≡◌, refl, sym, ap, ◌∙◌}
 use mathlib.Core.Bool.{Bool, true, false, ◌&&◌}
 use mathlib.Core.List.{List, [], ◌∷◌, ◌++◌}
 use lib.Dec.{eqb}
-use Rattle.meaning.specs.Bytes.{if◌then◌else◌}
+use Rattle.meaning.specs.Bytes.{when◌then◌else◌}
 use Rattle.meaning.specs.Terms.{
   writer,
   reader,
@@ -41,7 +41,7 @@ unfoldable mutual
   reached look (compound m g us) (variable h z) = place look (compound m g us) (variable h z) ∷ []
   reached look (compound m g us) (constant k) = place look (compound m g us) (constant k) ∷ []
   reached look (compound m g us) (compound n f ts) =
-      if same_functor g f && eqb (count us) (count ts) then all_reached look us ts else fails ∷ []
+      when same_functor g f && eqb (count us) (count ts) then all_reached look us ts else fails ∷ []
 
   pub all_reached : (Term → Term) → Terms → Terms → List Result
   all_reached look end end = []
@@ -62,7 +62,7 @@ together_append (r ∷ rs) ss =
 -- The comparison comes to all places that it reaches, taken together.
 module _ (look : Term → Term) where
   mutual
-    unfolding place places reached all_reached taken_together if◌then◌else◌
+    unfolding place places reached all_reached taken_together when◌then◌else◌
 
     place_together : (u t : Term) → place look u t ≡ taken_together (reached look u t)
     place_together (variable h x) t = sym (and_then_nothing_behind (place look (variable h x) t))
@@ -72,7 +72,7 @@ module _ (look : Term → Term) where
     place_together (compound m g us) (compound n f ts) = go (same_functor g f && eqb (count us) (count ts)) (places_together us ts)
       where
         go : (b : Bool) → places look us ts ≡ taken_together (all_reached look us ts)
-            → (if b then places look us ts else fails) ≡ taken_together (if b then all_reached look us ts else fails ∷ [])
+            → (when b then places look us ts else fails) ≡ taken_together (when b then all_reached look us ts else fails ∷ [])
         go true e = e
         go false e = sym (and_then_nothing_behind fails)
 

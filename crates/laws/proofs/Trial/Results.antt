@@ -4,7 +4,7 @@ use Prim.Native.Nat.{ℕ}
 use mathlib.Core.Path.{◌≡◌, refl}
 use mathlib.Core.Bool.{Bool, true, false}
 use mathlib.Core.List.{List, ◌++◌}
-use Rattle.meaning.specs.Bytes.{if◌then◌else◌}
+use Rattle.meaning.specs.Bytes.{when◌then◌else◌}
 use Rattle.meaning.specs.Compare.{Assignment, Result, succeeds, waits, fails, and_then, with_assignments, with_readers}
 use Rattle.laws.proofs.Lists.{differ}
 
@@ -22,13 +22,13 @@ succeeds_not_waits e = differ (cc)
 
 -- A result that stands behind a test, or unless the test.
 module _ (r answer : Result) (no_failure : fails ≡ answer → ⊥) where
-  pub behind_test : (b : Bool) → (if b then r else fails) ≡ answer → r ≡ answer
-  unfolding if◌then◌else◌
+  pub behind_test : (b : Bool) → (when b then r else fails) ≡ answer → r ≡ answer
+  unfolding when◌then◌else◌
   behind_test true e = e
   behind_test false e = absurd (no_failure e)
 
-  pub unless_test : (b : Bool) → (if b then fails else r) ≡ answer → r ≡ answer
-  unfolding if◌then◌else◌
+  pub unless_test : (b : Bool) → (when b then fails else r) ≡ answer → r ≡ answer
+  unfolding when◌then◌else◌
   unless_test true e = absurd (no_failure e)
   unless_test false e = e
 

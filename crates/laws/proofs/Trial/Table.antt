@@ -6,7 +6,7 @@ use mathlib.Core.Logic.{inl, inr}
 use mathlib.Core.Bool.{Bool, true, false, ◌&&◌}
 use mathlib.Core.List.{List, []}
 use lib.Dec.{eqb}
-use Rattle.meaning.specs.Bytes.{if◌then◌else◌}
+use Rattle.meaning.specs.Bytes.{when◌then◌else◌}
 use Rattle.meaning.specs.Terms.{
   writer,
   reader,
@@ -62,8 +62,8 @@ module _ (P : Assignment → Type 0) where
   each_and_then (waits readers) fails f g = tt
   each_and_then fails s f g = tt
 
-  each_if : (b : Bool) (r : Result) → EachGiven P r → EachGiven P (if b then r else fails)
-  unfolding EachGiven if◌then◌else◌
+  each_if : (b : Bool) (r : Result) → EachGiven P r → EachGiven P (when b then r else fails)
+  unfolding EachGiven when◌then◌else◌
   each_if true r f = f
   each_if false r f = tt
 

@@ -4,7 +4,7 @@ use mathlib.Core.Path.{◌≡◌, sym, ◌∙◌}
 use native.Mathlib.Omega.{arith}
 use borrow.Author.Tests.{eq-eqb, ne_eqb}
 use borrow.Author.Rules.{rules}
-use Rattle.meaning.specs.Bytes.{if◌then◌else◌}
+use Rattle.meaning.specs.Bytes.{when◌then◌else◌}
 use Rattle.load_guards.proofs.guards.test_word.Statement.{statement}
 use Rattle.load_guards.proofs.guards.test_word.Tie as tie
 
@@ -27,7 +27,7 @@ overflow_add-result : tie.Need-overflow_add-result
 overflow_add-result c = search rules
 
 returns-then-row-index : tie.Need-returns-then-row-index
-unfolding if◌then◌else◌
+unfolding when◌then◌else◌
 returns-then-row-index c =
     let a = c.before.before.before.before.args in
     let six : a.row ≡ 6 = c.before.before.if-row-index.true ∙ c.before.before.before.index.ensures in
@@ -43,7 +43,7 @@ overflow_add-result-2 : tie.Need-overflow_add-result-2
 overflow_add-result-2 c = search rules
 
 returns : tie.Need-returns
-unfolding if◌then◌else◌
+unfolding when◌then◌else◌
 returns c =
     let a = c.before.before.before.args in
     rw (ne_eqb a.row 6 (λ q. c.before.if-row-index.false (q ∙ sym c.before.before.index.ensures))) (omega (arith, c.word-2.ensures))

@@ -2,7 +2,7 @@
 -- Two bytes behind `:`, `?` and `=`, and one behind any other sign.
 use mathlib.Core.Path.{sym, ◌∙◌}
 use borrow.Author.Rules.{rules}
-use Rattle.meaning.specs.Bytes.{if◌then◌else◌}
+use Rattle.meaning.specs.Bytes.{when◌then◌else◌}
 use Rattle.load_tokens.specs.Fronts.{behind}
 use Rattle.load_tokens.proofs.token.behind_sign.Statement.{statement}
 use Rattle.load_tokens.proofs.token.behind_sign.Tie as tie
@@ -17,11 +17,11 @@ overflow_add-result-else-begins_double : tie.Need-overflow_add-result-else-begin
 overflow_add-result-else-begins_double c = search rules
 
 returns-then-begins_double : tie.Need-returns-then-begins_double
-unfolding behind if◌then◌else◌
+unfolding behind when◌then◌else◌
 returns-then-begins_double c = rw (sym c.before.begins_double.ensures ∙ c.if-begins_double.true)
 
 returns-else-begins_double : tie.Need-returns-else-begins_double
-unfolding behind if◌then◌else◌
+unfolding behind when◌then◌else◌
 returns-else-begins_double c = rw (sym c.before.begins_double.ensures ∙ c.if-begins_double.false)
 
 pub behind_sign_spec : {M : Type 1} → statement M

@@ -9,7 +9,7 @@ use lib.ListN.{length, get_or}
 use lib.Seq.{slice, slice_empty}
 use borrow.Author.Rules.{rules}
 use borrow.Author.Tests.{not-true, not-false}
-use Rattle.meaning.specs.Bytes.{all, if◌then◌else◌}
+use Rattle.meaning.specs.Bytes.{all, when◌then◌else◌}
 use Rattle.meaning.specs.Tokens.{digit, value}
 use Rattle.load_tokens.proofs.Classes.{digit_bytes}
 use Rattle.load_tokens.proofs.Digits.{value_next, digits_next, digits_stop, value_below, power_small}
@@ -36,7 +36,7 @@ digit-requires : tie.Need-digit-requires invariant-loop-i decreases-loop-i
 digit-requires c κs = search rules
 
 returns-then-not-digit : tie.Need-returns-then-not-digit invariant-loop-i decreases-loop-i
-unfolding if◌then◌else◌
+unfolding when◌then◌else◌
 returns-then-not-digit c =
     let l = c.before.before.before.before in
     let rest = l.before.before.args.rest.now in
@@ -95,7 +95,7 @@ loop-i-preserved c =
     )
 
 returns : tie.Need-returns invariant-loop-i decreases-loop-i
-unfolding if◌then◌else◌ all value
+unfolding when◌then◌else◌ all value
 returns c =
     let l = c.before in
     let rest = l.before.before.args.rest.now in

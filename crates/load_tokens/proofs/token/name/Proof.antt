@@ -2,7 +2,7 @@
 -- A run of at most 31 bytes is a name.
 use borrow.Author.Rules.{rules}
 use borrow.Author.Tests.{le-leb, lt-leb}
-use Rattle.meaning.specs.Bytes.{if◌then◌else◌}
+use Rattle.meaning.specs.Bytes.{when◌then◌else◌}
 use Rattle.load_tokens.proofs.token.name.Statement.{statement}
 use Rattle.load_tokens.proofs.token.name.Tie as tie
 
@@ -10,11 +10,11 @@ overflow_sub-e : tie.Need-overflow_sub-e
 overflow_sub-e c = search rules
 
 returns-then-e-a-le31 : tie.Need-returns-then-e-a-le31
-unfolding if◌then◌else◌
+unfolding when◌then◌else◌
 returns-then-e-a-le31 c = rw (le-leb _ 31 c.if-e-a-le31.true)
 
 returns-else-e-a-le31 : tie.Need-returns-else-e-a-le31
-unfolding if◌then◌else◌
+unfolding when◌then◌else◌
 returns-else-e-a-le31 c = rw (lt-leb _ 31 c.if-e-a-le31.false)
 
 pub name_spec : {M : Type 1} → statement M
