@@ -1,5 +1,5 @@
 -- `copy_arguments` and `copy_compound` meet their contracts: what each asks of the other and tells is a lemma of CopyCalls.
-use Rattle.std.proofs.Common.{rules, arith, ◌+◌, ◌*◌, ◌-◌, ◌<◌, length, sym, ◌∙◌}
+use Rattle.std.proofs.Common.{arith, ◌+◌, sym, ◌∙◌}
 use Rattle.run_effects.proofs.CopyCalls as calls
 use Rattle.run_effects.proofs.Copying.{none_compound}
 use Rattle.run_effects.proofs.build.+copy_arguments_copy_compound.Goals as goal
