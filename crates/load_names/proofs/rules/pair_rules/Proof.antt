@@ -94,7 +94,7 @@ returns c =
     c.both_or_none.ensures
     ∙ sym (else_both a.item.now a.heads.now a.licensed.now a.n join.before.before.before.before.before.before.if-heads-n-gt1.false
     join.before.before.before.before.if-heads-n-gt1-2.false join.before.before.if-item-n-gt1.false (elim join.if-item-n-gt1-2.branch [
-      then-item-n-gt1-2+else-licensed-n-eq0 w ↦ inl w.if-licensed-n-eq0.false
+      | then-item-n-gt1-2+else-licensed-n-eq0 w ↦ inl w.if-licensed-n-eq0.false
       | else-item-n-gt1-2 w ↦ inr w.if-item-n-gt1-2.false
     ]))
 

@@ -48,7 +48,7 @@ loop-i-preserved c =
     let i = c.loop-i.i in
     let inside : i < length text = omega arith in
     elim c.if-text-i-eq10.branch [
-      then-text-i-eq10 w ↦ (omega (arith, those_passes feeds text i inside (eq-eqb (get_or text i 0) 10 w.if-text-i-eq10.true)), omega arith, omega arith)
+      | then-text-i-eq10 w ↦ (omega (arith, those_passes feeds text i inside (eq-eqb (get_or text i 0) 10 w.if-text-i-eq10.true)), omega arith, omega arith)
       | else-text-i-eq10 w ↦ (omega (arith, those_fails feeds text i inside (ne_eqb (get_or text i 0) 10 w.if-text-i-eq10.false)), omega arith, omega arith)
     ]
 

@@ -58,10 +58,10 @@ step-requires c κs =
     (a.0, a.1, a.2, h.limit, h.atlas, h.slots, f.0, f.1, h.running, steps_few h c.before.if-left-eq0.false, f.2)
 
 enum_known-u : tie.Need-enum_known-u invariant-loop-t decreases-loop-t
-enum_known-u c = c.in-Next.in-Next-own.keys1
+enum_known-u c = search rules
 
 enum_told-1 : tie.Need-enum_told-1 invariant-loop-t decreases-loop-t
-enum_told-1 c = c.in-NoRoom.in-NoRoom-own.keys2
+enum_told-1 c = search rules
 
 shape_of-s-in-NoRoom : tie.Need-shape_of-s-in-NoRoom invariant-loop-t decreases-loop-t
 shape_of-s-in-NoRoom c =

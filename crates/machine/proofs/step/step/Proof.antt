@@ -34,7 +34,7 @@ use Rattle.machine.proofs.step.step.Tie as tie
 
 module _ (w : tie.After-word) where
   abbrev start : tie.Start
-  start = w.before.before.before.before.before.before.before.before.before.before
+  start = w.before.before.before.before.before.before.before.before.before
 
   abbrev goal : ℕ
   goal = w.before.before.before.before.before.before.word_at-goal.result
@@ -190,7 +190,7 @@ enum_known-k c = search rules
 reduce-requires : tie.Need-reduce-requires
 reduce-requires c κs =
     let C = c.before.before.before.before in
-    let p = (start C.before).pre in
+    let p = (start C.before).requires in
     let its = reduces C p.0 p.1 p.2 p.3 p.4 p.5 p.6 p.7 p.8 p.9 p.10 _ _ c.before.in-Reduces.is in
     (p.0, p.1, p.2, p.3, p.4, p.5, p.6, p.7, its.0, its.1, taken C p.0 p.1 p.2 p.3 p.4 p.5 p.6 p.7 p.8 p.9 p.10, its.2)
 
@@ -200,7 +200,7 @@ enum_known-readers c = search rules
 join_waiting-requires : tie.Need-join_waiting-requires
 join_waiting-requires c κs =
     let C = c.before.before.before.before in
-    let p = (start C.before).pre in
+    let p = (start C.before).requires in
     let its = waits C p.0 p.1 p.2 p.3 p.4 p.5 p.6 p.7 p.8 p.9 p.10 _ c.before.in-Waits.is in
     (p.0, p.1, p.2, p.3, p.4, p.5, p.6, p.7, its.0, taken C p.0 p.1 p.2 p.3 p.4 p.5 p.6 p.7 p.8 p.9 p.10, its.1)
 
@@ -210,7 +210,7 @@ enum_told-1 c = search rules
 join_failed-requires : tie.Need-join_failed-requires
 join_failed-requires c κs =
     let C = c.before.before.before.before in
-    let p = (start C.before).pre in
+    let p = (start C.before).requires in
     let its = fails C p.0 p.1 p.2 p.3 p.4 p.5 p.6 p.7 p.8 p.9 p.10 c.before.in-Fails.is in
     (p.0, p.1, p.2, p.3, p.4, p.5, p.6, p.7, taken C p.0 p.1 p.2 p.3 p.4 p.5 p.6 p.7 p.8 p.9 p.10, its)
 

@@ -169,18 +169,18 @@ pub +from_term_spec : {M : Type 1} → statement M
     let m = c.loop-i.state in let walking = c.loop-i.invariant.0 in
     let low : i ≤ k = omega (arith, c.loop-i-test.true) in
     elim c.if-leads.branch [
-      from_term_lts.then-leads+then-later-ne0+else-r-eq-REACHED w ↦ rw (w.s-is, w.state-is, w.later-is) (
+      | from_term_lts.then-leads+then-later-ne0+else-r-eq-REACHED w ↦ rw (w.s-is, w.state-is, w.later-is) (
         calls.walking_next s vs ms z st b u n s₂ p k i later m walking c.argument-a.result c.argument-a.ensures low
             (rw w.if-leads.true at c.leads.ensures) w.from_term-r.new.s w.from_term-r.result w.joined-state.result w.from_term-r.ensures
             w.if-r-eq-REACHED.false w.joined-state.ensures,
         w.from_term-r.auto.s ∙ c.loop-i.invariant.1,
       )
-    | from_term_lts.then-leads+else-later-ne0 w ↦ rw (w.s-is, w.state-is, w.later-is) (
+      | from_term_lts.then-leads+else-later-ne0 w ↦ rw (w.s-is, w.state-is, w.later-is) (
         calls.walking_on s vs ms z st b u n s₂ p k i later m walking c.argument-a.result c.argument-a.ensures low
             (rw w.if-leads.true at c.leads.ensures) w.if-later-ne0.false,
         c.loop-i.invariant.1,
       )
-    | from_term_lts.else-leads w ↦ rw (w.s-is, w.state-is, w.later-is) (
+      | from_term_lts.else-leads w ↦ rw (w.s-is, w.state-is, w.later-is) (
         calls.walking_over s vs ms z st b u n s₂ p k i later m walking c.argument-a.result c.argument-a.ensures low
             (rw w.if-leads.false at c.leads.ensures),
         c.loop-i.invariant.1,

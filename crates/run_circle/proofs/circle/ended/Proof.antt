@@ -33,10 +33,10 @@ returns-then-met_open : tie.Need-returns-then-met_open
 returns-then-met_open c =
     let a = c.args in (
       elim c.if-visited_one.branch [
-          lts.then-visited_one w ↦ rw w.s-is (λ x place goal h names.
-              w.settle.ensures x place goal h (names w.first_visited.result w.first_visited.ensures))
+        | lts.then-visited_one w ↦ rw w.s-is (λ x place goal h names.
+            w.settle.ensures x place goal h (names w.first_visited.result w.first_visited.ensures))
         | lts.else-visited_one w ↦ rw w.s-is (λ x place goal h names. settled_same x a.marks a.stamp a.s.now)
-        ],
+      ],
       sym (eqb-true (a.state % 2) 1 (sym c.met_open.ensures ∙ c.if-met_open.true)),
     )
 
@@ -48,10 +48,10 @@ returns-else-met_open c =
     let a = c.args in
     let even = eqb-false (a.state % 2) 1 (sym c.met_open.ensures ∙ c.if-met_open.false) in (
       elim c.if-visited_one.branch [
-          lts.then-visited_one w ↦ rw w.s-is (λ x place goal h names.
-              w.settle.ensures x place goal h (names w.first_visited.result w.first_visited.ensures))
+        | lts.then-visited_one w ↦ rw w.s-is (λ x place goal h names.
+            w.settle.ensures x place goal h (names w.first_visited.result w.first_visited.ensures))
         | lts.else-visited_one w ↦ rw w.s-is (λ x place goal h names. settled_same x a.marks a.stamp a.s.now)
-        ],
+      ],
       omega (arith, even),
     )
 

@@ -342,12 +342,12 @@ pub +compounds_places_spec : {M : Type 1} → statement M
     let done = c.table.ensures in
     let F = facing a.links G left in
     elim c.match-table.branch [
-      places_lts.in-Noted came ↦ rw (came.s-is, came.noted-is) (turn_noted a.links G left head goal leads done came.in-Noted.is)
-    | places_lts.in-Below+else-i-k-2+in-Noted-compounds came ↦
-        let below = came.in-Below.is in
-        let D = turn_compounds a.links G left head goal leads done below in
-        let told = came.compounds.ensures x y G.partly.low F.mid D.m D.g D.us D.l D.f D.ts D.against in
-        rw (came.s-is, came.noted-is) (both_noted a.links G left head goal leads done below told came.in-Noted-compounds.is)
+      | places_lts.in-Noted came ↦ rw (came.s-is, came.noted-is) (turn_noted a.links G left head goal leads done came.in-Noted.is)
+      | places_lts.in-Below+else-i-k-2+in-Noted-compounds came ↦
+          let below = came.in-Below.is in
+          let D = turn_compounds a.links G left head goal leads done below in
+          let told = came.compounds.ensures x y G.partly.low F.mid D.m D.g D.us D.l D.f D.ts D.against in
+          rw (came.s-is, came.noted-is) (both_noted a.links G left head goal leads done below told came.in-Noted-compounds.is)
     ])
     -- places-shape_of-s
     (λ c.

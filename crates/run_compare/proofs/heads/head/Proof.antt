@@ -173,14 +173,14 @@ places-preserved c x y m g us lo hi ts A =
     let K = next_against links A.head P F c.argument-h.ensures (followed_read links A P F c.word_at-w.ensures) in
     let table_told = c.table in
     elim c.match-table.branch [
-      lts.in-Noted k ↦
-        let told = place_noted links K table_told.ensures k.in-Noted.is in
-        rw (k.s-is, k.noted-is) (one_more links A.head P F told (followed_left links A P F told.only))
-    | lts.in-Below+else-differ+in-Noted-places k ↦
-        let D = place_deeper links K table_told.ensures k.in-Below.is k.differ.result k.differ.ensures k.if-differ.false in
-        let below = D.back k.places-in-Below.new.s k.places-in-Below.result (k.places-in-Below.ensures x y D.m D.g D.us (P.low + 1) F.mid D.l D.f D.ts D.against) in
-        let told = rw k.in-Noted-places.is at below in
-        rw (k.s-is, k.noted-is) (one_more links A.head P F told (followed_left links A P F told.only))
+      | lts.in-Noted k ↦
+          let told = place_noted links K table_told.ensures k.in-Noted.is in
+          rw (k.s-is, k.noted-is) (one_more links A.head P F told (followed_left links A P F told.only))
+      | lts.in-Below+else-differ+in-Noted-places k ↦
+          let D = place_deeper links K table_told.ensures k.in-Below.is k.differ.result k.differ.ensures k.if-differ.false in
+          let below = D.back k.places-in-Below.new.s k.places-in-Below.result (k.places-in-Below.ensures x y D.m D.g D.us (P.low + 1) F.mid D.l D.f D.ts D.against) in
+          let told = rw k.in-Noted-places.is at below in
+          rw (k.s-is, k.noted-is) (one_more links A.head P F told (followed_left links A P F told.only))
     ]
 
 shape_of-s : tie.Need-shape_of-s invariant-places decreases-places

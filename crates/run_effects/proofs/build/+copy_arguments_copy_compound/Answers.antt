@@ -1,5 +1,5 @@
 -- `copy_arguments` and `copy_compound` meet their contracts: what each asks of the other and tells is a lemma of CopyCalls.
-use Rattle.std.proofs.Common.{rules, arith, ◌+◌, ◌*◌, ◌-◌, ◌<◌, length, sym, ◌∙◌}
+use Rattle.std.proofs.Common.{arith, ◌+◌, sym, ◌∙◌}
 use Rattle.run_effects.proofs.CopyCalls as calls
 use Rattle.run_effects.proofs.Copying.{none_compound}
 use Rattle.run_effects.proofs.build.+copy_arguments_copy_compound.Goals as goal
@@ -77,10 +77,10 @@ copy_arguments-loop-i-preserved t c =
     let a = c.args in let L = c.loop-i in let A = c.argument-a in let M = c.match-look in
     let on = calls.walk_on _ a.pair a.to a.p _ L.s L.free L.i L.invariant c.loop-i-test.true A.result A.ensures in
     elim M.branch [
-      copy_arguments-in-Compound w ↦
+      | copy_arguments-in-Compound w ↦
           let said = sym c.look.ensures ∙ w.in-Compound.is in
           on _ _ (calls.whole_tells L.s a.pair (a.to + L.i) L.free A.result _ said _ _ w.copy_compound-free.ensures) M.s M.free w.s-is w.free-is
-    | copy_arguments-in_default w ↦
+      | copy_arguments-in_default w ↦
           let plain = none_compound _ (λ p e. w.in_default.not-Compound p (c.look.ensures ∙ e)) in
           on _ _ (calls.moved_tells L.s a.pair (a.to + L.i) L.free A.result plain _ w.moved.ensures) M.s M.free (w.s-is ∙ w.put.ensures) w.free-is
     ]

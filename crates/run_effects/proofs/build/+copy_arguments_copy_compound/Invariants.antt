@@ -1,5 +1,5 @@
 -- The measure is the depth of the compound, as its word tells it.
-use Rattle.std.proofs.Common.{ℕ, ◌+◌, ◌*◌, ◌-◌, length}
+use Rattle.std.proofs.Common.{◌+◌, ◌*◌, ◌-◌, length}
 use Rattle.run_circle.proofs.Depth.{height}
 use Rattle.term.specs.Words.{compound_word}
 use Rattle.run_effects.proofs.CopyCalls as calls

@@ -76,7 +76,7 @@ returns c =
     rw (c.before.before.set_at-2.ensures, c.before.before.before.word.ensures)
     (opened_ends S.args.s.now L.s S.args.place S.args.woken L.i S.requires L.invariant
     (elim c.before.before.before.before.before.loop-i-test.branch [
-        else-loop-i-test w ↦ lower S.args.s.now L.s S.args.place S.args.woken L.i S.requires L.invariant (omega (arith, w.loop-i-test.false))
+      | else-loop-i-test w ↦ lower S.args.s.now L.s S.args.place S.args.woken L.i S.requires L.invariant (omega (arith, w.loop-i-test.false))
       | then-loop-i-test+then-index-place w ↦
           lower_than S.args.s.now L.s S.args.place S.args.woken L.i S.requires L.invariant (L.i - 1) (omega (arith, w.loop-i-test.true))
           (omega (arith, w.if-index-place.true, w.index.ensures, w.word_at-before.ensures))

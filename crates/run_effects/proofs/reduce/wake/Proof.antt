@@ -114,14 +114,14 @@ loop-i-preserved c =
       λ pairs slots w.
           let a = L.invariant.1 pairs slots w in
           elim c.if-waiter-ne0.branch [
-            then-waiter-ne0 t ↦
+            | then-waiter-ne0 t ↦
                 let j = steps.place_before _ _ waiter t.if-waiter-ne0.true in
                 rw (t.s-is, t.woken-is)
                 (steps.awake_one S.args.s.now S.args.log S.args.waiters S.args.sets pairs slots S.args.n w L.s L.i L.woken a less _ read _ j _
                 (t.leave.ensures pairs _ _ _
                 (steps.waits_at S.args.s.now S.args.log S.args.waiters S.args.sets pairs slots S.args.n w L.s L.i L.woken a less _ read _ j))
                 _ t.insert.ensures)
-          | else-waiter-ne0 t ↦
+            | else-waiter-ne0 t ↦
                 rw (t.s-is, t.woken-is)
                 (steps.awake_none S.args.s.now S.args.log S.args.waiters S.args.sets pairs slots S.args.n w L.s L.i L.woken a less _ read
                 (sym waiter ∙ t.if-waiter-ne0.false))

@@ -36,10 +36,10 @@ put-requires c κs =
       W.readers,
       rw c.index.ensures (puts a.s.now x values a.lists a.links a.taken W a.c a.d v u m o is (λ no.
           elim If2.if-not-is_variable-2.branch [
-            lts.then-not-is_variable-2+else-d-ne-COMPOUND q ↦ q.if-d-ne-COMPOUND.false
-          | lts.else-not-is_variable-2 q ↦
-              let it = is_variable a.d If2.is_variable-2.result If2.is_variable-2.ensures (ap not q.if-not-is_variable-2.false) in
-              absurd (omega (arith, no it.0, it.1))
+            | lts.then-not-is_variable-2+else-d-ne-COMPOUND q ↦ q.if-d-ne-COMPOUND.false
+            | lts.else-not-is_variable-2 q ↦
+                let it = is_variable a.d If2.is_variable-2.result If2.is_variable-2.ensures (ap not q.if-not-is_variable-2.false) in
+                absurd (omega (arith, no it.0, it.1))
           ])),
     )
 
@@ -59,10 +59,10 @@ returns c =
     (rw Put.index.ensures at (Put.put.ensures x.met W.readers
     (rw Put.index.ensures (puts a.s.now x values a.lists a.links a.taken W a.c a.d v u m o is (λ no.
     elim If2.if-not-is_variable-2.branch [
-      lts.then-not-is_variable-2+else-d-ne-COMPOUND q ↦ q.if-d-ne-COMPOUND.false
-    | lts.else-not-is_variable-2 q ↦
-        let it = is_variable a.d If2.is_variable-2.result If2.is_variable-2.ensures (ap not q.if-not-is_variable-2.false) in
-        absurd (omega (arith, no it.0, it.1))
+      | lts.then-not-is_variable-2+else-d-ne-COMPOUND q ↦ q.if-d-ne-COMPOUND.false
+      | lts.else-not-is_variable-2 q ↦
+          let it = is_variable a.d If2.is_variable-2.result If2.is_variable-2.ensures (ap not q.if-not-is_variable-2.false) in
+          absurd (omega (arith, no it.0, it.1))
     ])))))
 
 pub point_spec : {M : Type 1} → statement M

@@ -107,9 +107,9 @@ returns c =
     rw (Set3.set_at-3.ensures, Word2.word-2.ensures, Set2.set_at-2.ensures, Word.word.ensures)
     (put_new a.s.now a.lists a.links a.taken met a.p a.w r k If4.if-taken-links.false (λ h e.
     elim If1.if-rank-taken.branch [
-      lts.then-rank-taken+else-index-p q ↦ q.if-index-p.false
-        (q.index.ensures ∙ ap (λ k. k % 65536) q.word_at-old.ensures ∙ ap (λ k. get_or a.s.now (a.lists + k) 0 % 65536) rank ∙ e)
-    | lts.else-rank-taken q ↦ omega (arith, rank, q.if-rank-taken.false)
+      | lts.then-rank-taken+else-index-p q ↦ q.if-index-p.false
+          (q.index.ensures ∙ ap (λ k. k % 65536) q.word_at-old.ensures ∙ ap (λ k. get_or a.s.now (a.lists + k) 0 % 65536) rank ∙ e)
+      | lts.else-rank-taken q ↦ omega (arith, rank, q.if-rank-taken.false)
     ]))
 
 pub put_spec : {M : Type 1} → statement M

@@ -106,12 +106,12 @@ pub +through_spec : {M : Type 1} → statement M
     let reads = c.argument-a.ensures in let s₂ = c.if-a-eq-COMPOUND.s in let r = c.if-a-eq-COMPOUND.found in
     let done : calls.NextTells vs ms ls st s₀ q k a.state s i f passing low b reads s₂ r × (length s₂ ≡ length s) =
     elim c.if-a-eq-COMPOUND.branch [
-      through_lts.then-a-eq-COMPOUND w ↦ rw (w.s-is, w.found-is) (
+      | through_lts.then-a-eq-COMPOUND w ↦ rw (w.s-is, w.found-is) (
         calls.inner_tells vs ms ls st s₀ q k a.state s i f passing low b reads w.if-a-eq-COMPOUND.true w.index-p.result w.index-p.ensures
             w.count-n.result w.count-n.ensures w.through-found.new.s w.through-found.result w.through-found.ensures,
         w.through-found.auto.s,
       )
-    | through_lts.else-a-eq-COMPOUND w ↦ rw (w.s-is, w.found-is) (
+      | through_lts.else-a-eq-COMPOUND w ↦ rw (w.s-is, w.found-is) (
         calls.leaf_tells vs ms ls st s₀ q k a.state s i f passing low b reads w.if-a-eq-COMPOUND.false w.from_leaf-found.new.s
             w.from_leaf-found.result w.from_leaf-found.ensures,
         w.from_leaf-found.auto.s,
@@ -126,12 +126,12 @@ pub +through_spec : {M : Type 1} → statement M
     let b = c.argument-a.result in let reads = c.argument-a.ensures in let s₂ = c.if-a-eq-COMPOUND.s in let r = c.if-a-eq-COMPOUND.found in
     let done : calls.NextTells vs ms ls st s₀ q k a.state s i f passing low b reads s₂ r × (length s₂ ≡ length s) =
     elim c.if-a-eq-COMPOUND.branch [
-      through_lts.then-a-eq-COMPOUND w ↦ rw (w.s-is, w.found-is) (
+      | through_lts.then-a-eq-COMPOUND w ↦ rw (w.s-is, w.found-is) (
         calls.inner_tells vs ms ls st s₀ q k a.state s i f passing low b reads w.if-a-eq-COMPOUND.true w.index-p.result w.index-p.ensures
             w.count-n.result w.count-n.ensures w.through-found.new.s w.through-found.result w.through-found.ensures,
         w.through-found.auto.s,
       )
-    | through_lts.else-a-eq-COMPOUND w ↦ rw (w.s-is, w.found-is) (
+      | through_lts.else-a-eq-COMPOUND w ↦ rw (w.s-is, w.found-is) (
         calls.leaf_tells vs ms ls st s₀ q k a.state s i f passing low b reads w.if-a-eq-COMPOUND.false w.from_leaf-found.new.s
             w.from_leaf-found.result w.from_leaf-found.ensures,
         w.from_leaf-found.auto.s,
@@ -154,12 +154,12 @@ pub +through_spec : {M : Type 1} → statement M
     let b = c.argument-a.result in let reads = c.argument-a.ensures in let s₂ = c.if-a-eq-COMPOUND.s in let r = c.if-a-eq-COMPOUND.found in
     let done : calls.NextTells vs ms ls st s₀ q k a.state s i f passing low b reads s₂ r × (length s₂ ≡ length s) =
     elim c.if-a-eq-COMPOUND.branch [
-      through_lts.then-a-eq-COMPOUND w ↦ rw (w.s-is, w.found-is) (
+      | through_lts.then-a-eq-COMPOUND w ↦ rw (w.s-is, w.found-is) (
         calls.inner_tells vs ms ls st s₀ q k a.state s i f passing low b reads w.if-a-eq-COMPOUND.true w.index-p.result w.index-p.ensures
             w.count-n.result w.count-n.ensures w.through-found.new.s w.through-found.result w.through-found.ensures,
         w.through-found.auto.s,
       )
-    | through_lts.else-a-eq-COMPOUND w ↦ rw (w.s-is, w.found-is) (
+      | through_lts.else-a-eq-COMPOUND w ↦ rw (w.s-is, w.found-is) (
         calls.leaf_tells vs ms ls st s₀ q k a.state s i f passing low b reads w.if-a-eq-COMPOUND.false w.from_leaf-found.new.s
             w.from_leaf-found.result w.from_leaf-found.ensures,
         w.from_leaf-found.auto.s,

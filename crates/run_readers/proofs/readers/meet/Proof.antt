@@ -64,9 +64,9 @@ returns c =
     let new =
     not_at_rank S.args.s.now S.args.readers S.args.pairs S.args.n S.args.p S.requires.0 (λ h e.
     elim m.if-rank-n.branch [
-      lts.then-rank-n+else-index-p w ↦
-        w.if-index-p.false (w.index.ensures ∙ w.word_at-then-rank-n.ensures ∙ ap (λ k. get_or S.args.s.now (S.args.readers + k) 0) rank ∙ e)
-    | lts.else-rank-n w ↦ omega (arith, rank, w.if-rank-n.false)
+      | lts.then-rank-n+else-index-p w ↦
+          w.if-index-p.false (w.index.ensures ∙ w.word_at-then-rank-n.ensures ∙ ap (λ k. get_or S.args.s.now (S.args.readers + k) 0) rank ∙ e)
+      | lts.else-rank-n w ↦ omega (arith, rank, w.if-rank-n.false)
     ])
     in
     rw (c.set_at-2.ensures, c.word-2.ensures, c.set_at.ensures, c.word.ensures)

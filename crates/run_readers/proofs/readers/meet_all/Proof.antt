@@ -70,7 +70,7 @@ loop-i-preserved c =
     let term = sym c.word_at.ensures in (
       omega arith,
       elim c.if-word_at-eq0.branch [
-          lts.then-word_at-eq0 w ↦
+        | lts.then-word_at-eq0 w ↦
             rw (w.s-is, w.met-is)
             (met_more S.args.s.now L.s S.args.readers S.args.pairs S.args.first L.i L.met S.requires.1 few L.invariant.1 _ _
             (term ∙ w.if-word_at-eq0.true) (rw (w.index.ensures, w.word_at-then-word_at-eq0.ensures) at w.meet-met.ensures))
@@ -78,7 +78,7 @@ loop-i-preserved c =
             rw (w.s-is, w.met-is)
             (met_less S.args.s.now L.s S.args.readers S.args.pairs S.args.first L.i L.met S.requires.1 few L.invariant.1
             (λ e. w.if-word_at-eq0.false (sym term ∙ e)))
-        ],
+      ],
     )
 
 shape_of-s : tie.Need-shape_of-s invariant-loop-i decreases-loop-i

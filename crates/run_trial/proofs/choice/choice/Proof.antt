@@ -124,8 +124,8 @@ clauses-preserved c =
     let left = T.before.before.before.clauses-test.true in
     let passed : clauses.Passed L.clauses.readers T.trial-t.result J.match-t-2.readers =
     elim J.match-t-2.branch [
-      lts.in-Waits w ↦ inl (w.in-Waits.n, w.in-Waits.is, w.readers-is)
-    | lts.in_default-t w ↦ inr (clauses.neither T.trial-t.result J.before.in_default.in_default-own.keys2 w.in_default-t.in_default-t-own.keys2, w.readers-is)
+      | lts.in-Waits w ↦ inl (w.in-Waits.n, w.in-Waits.is, w.readers-is)
+      | lts.in_default-t w ↦ inr (clauses.neither T.trial-t.result J.before.in_default.in_default-own.keys2 w.in_default-t.in_default-t-own.keys2, w.readers-is)
     ] in
     λ text names j limit figures at g others trying stand new.
     let w = L.clauses.invariant text names j limit figures at g others trying stand new in

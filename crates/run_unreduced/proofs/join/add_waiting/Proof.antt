@@ -28,15 +28,15 @@ module _ (f : tie.After-free_place-log) (text : Bytes) (names : List Bytes) (j :
 
   inside : f.free_place-log.result < 2 * (start f).args.room.goals
   inside =
-      place_inside (start f).args.s.now f.free_place-log.last.0 text names j (figures (start f).args.room) limit atlas slots g others (start f).args.t
+      place_inside (start f).args.s.now f.free_place-log.new.s text names j (figures (start f).args.room) limit atlas slots g others (start f).args.t
       (start f).args.goal (start f).args.query (start f).args.readers readers f.free_place-log.result k joins free
 
-  asks : Waits f.free_place-log.last.0 (waiting_region (figures (start f).args.room)) (waiters_region (figures (start f).args.room))
+  asks : Waits f.free_place-log.new.s (waiting_region (figures (start f).args.room)) (waiters_region (figures (start f).args.room))
       (sets_region (figures (start f).args.room))
       (start f).args.room.pairs free.slots_now f.free_place-log.result (start f).args.goal
       (readers_region (figures (start f).args.room)) (start f).args.readers
   asks =
-      wait_asks (start f).args.s.now f.free_place-log.last.0 text names j (figures (start f).args.room) limit atlas slots g others (start f).args.t
+      wait_asks (start f).args.s.now f.free_place-log.new.s text names j (figures (start f).args.room) limit atlas slots g others (start f).args.t
       (start f).args.goal (start f).args.query (start f).args.readers readers f.free_place-log.result k joins free
 
 module _ (w : tie.After-wait) where
@@ -47,10 +47,10 @@ module _ (w : tie.After-wait) where
       (k : Taken (start found).args.s.now text names j (figures (start found).args.room) limit atlas slots g others (start found).args.t)
       (joins : JoiningWaiting (start found).args.s.now j (figures (start found).args.room) limit atlas g (start found).args.goal
       (start found).args.query (start found).args.readers readers)
-      → LogNow found.free-place.last.0 w.wait.last.0 (waiting_region (figures (start found).args.room)) (waiters_region (figures (start found).args.room))
-      (sets_region (figures (start found).args.room)) (start found).args.room.pairs (found.free-place.result + 1)
+      → LogNow found.free_place-log.new.s w.wait.new.s (waiting_region (figures (start found).args.room)) (waiters_region (figures (start found).args.room))
+      (sets_region (figures (start found).args.room)) (start found).args.room.pairs (found.free_place-log.result + 1)
       ((free found text names j limit atlas slots g others readers k joins).slots_now
-      ++ (waits (start found).args.goal (gathered [] (listed found.free-place.last.0 (readers_region (figures (start found).args.room)) (start found).args.readers)) ∷ []))
+      ++ (waits (start found).args.goal (gathered [] (listed found.free_place-log.new.s (readers_region (figures (start found).args.room)) (start found).args.readers)) ∷ []))
   waited text names j limit atlas slots g others readers k joins =
       (rw (w.before.readers.ensures, w.before.before.sets.ensures, w.before.before.before.waiters.ensures, w.before.before.before.before.waiting.ensures) at
       w.wait.ensures)
@@ -88,9 +88,9 @@ count_try-requires : tie.Need-count_try-requires
 count_try-requires c κs =
     let w = c.before.before.before in
     let f = found w in
-    let p = (start f).pre in
-    waits_tries (start f).args.s.now f.free-place.last.0 p.0 p.1 p.2 (figures (start f).args.room) p.3 p.4 p.5 p.6 p.7 (start f).args.t
-    (start f).args.goal (start f).args.query (start f).args.readers p.8 f.free-place.result p.9 p.10
+    let p = (start f).requires in
+    waits_tries (start f).args.s.now f.free_place-log.new.s p.0 p.1 p.2 (figures (start f).args.room) p.3 p.4 p.5 p.6 p.7 (start f).args.t
+    (start f).args.goal (start f).args.query (start f).args.readers p.8 f.free_place-log.result p.9 p.10
     (free f p.0 p.1 p.2 p.3 p.4 p.5 p.6 p.7 p.8 p.9 p.10)
     w.wait.new.s (waited w p.0 p.1 p.2 p.3 p.4 p.5 p.6 p.7 p.8 p.9 p.10)
 
@@ -100,13 +100,13 @@ behind-requires c κs = search rules
 overflow_sub-result : tie.Need-overflow_sub-result
 overflow_sub-result c =
     let f = found c.before.before.before.before.before.before.before.before in
-    let p = (start f).pre in
+    let p = (start f).requires in
     omega (arith, some_active (start f).args.s.now p.0 p.1 p.2 (figures (start f).args.room) p.3 p.4 p.5 p.6 p.7 (start f).args.t p.9)
 
 overflow_add-result : tie.Need-overflow_add-result
 overflow_add-result c =
     let f = found c.before.before.before.before.before.before.before.before in
-    let p = (start f).pre in
+    let p = (start f).requires in
     let place = inside f p.0 p.1 p.2 p.3 p.4 p.5 p.6 p.7 p.8 p.9 p.10 in
     let most = p.9.running.in_range.goals in
     search rules
@@ -114,7 +114,7 @@ overflow_add-result c =
 overflow_add-result-2 : tie.Need-overflow_add-result-2
 overflow_add-result-2 c =
     let f = found c.before.before.before.before.before.before.before.before.before in
-    let p = (start f).pre in
+    let p = (start f).requires in
     let fit = goals_fit (start f).args.s.now p.0 p.1 p.2 (figures (start f).args.room) p.3 p.4 p.5 p.6 p.7 (start f).args.t p.9 in
     let most = p.9.running.in_range.goals in
     search rules
@@ -132,8 +132,8 @@ returns c =
     let w = c.before.before.before.before.before.before.before.before.before.before in
     let f = found w in
     λ text names j limit atlas slots g others readers k joins.
-    step_waiting (start f).args.s.now f.free-place.last.0 text names j (figures (start f).args.room) limit atlas slots g others (start f).args.t
-    (start f).args.goal (start f).args.query (start f).args.readers readers f.free-place.result k joins
+    step_waiting (start f).args.s.now f.free_place-log.new.s text names j (figures (start f).args.room) limit atlas slots g others (start f).args.t
+    (start f).args.goal (start f).args.query (start f).args.readers readers f.free_place-log.result k joins
     (free f text names j limit atlas slots g others readers k joins)
     w.wait.new.s (waited w text names j limit atlas slots g others readers k joins) _ _
     c.before.before.before.before.before.before.count_try.ensures

@@ -21,7 +21,7 @@ module _ (e : tie.After-keep_ends) where
   kept : (text : Bytes) (names : List Bytes) (j : Job) (limit : ℕ) (atlas : Atlas) (slots : List Slot) (g : Goal) (others : List Goal) (readers : List ℕ)
       (k : Taken start.args.s.now text names j (figures start.args.room) limit atlas slots g others start.args.t)
       (joins : JoiningWaiting start.args.s.now j (figures start.args.room) limit atlas g start.args.goal start.args.query start.args.readers readers)
-      → EndsKept start.args.s.now e.keep_ends.last.0 (keeping.x k joins) (values_region (figures start.args.room)) start.args.room.pairs
+      → EndsKept start.args.s.now e.keep_ends.new.s (keeping.x k joins) (values_region (figures start.args.room)) start.args.room.pairs
   kept text names j limit atlas slots g others readers k joins =
       (rw e.before.before.values.ensures at e.keep_ends.ensures)
       (keeping.x k joins) g.goal.number (named g.goal.name) g.goal.arguments (keeping.keeps k joins e.before.place_of.result e.before.place_of.ensures)
