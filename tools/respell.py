@@ -16,6 +16,7 @@ NAME = re.compile(r"[^\s(){}\[\].,;:`\"]+")
 DASHED = re.compile(r"^[^\W\d_][\w'₀₁₂₃₄₅₆₇₈₉]*(-[\w'₀₁₂₃₄₅₆₇₈₉]+)+$")
 # Words of tactics, which no definition may have; and the library's own `if`, which has another definition than ours.
 TACTICS = {"ground": "a_ground", "if": "when", "if◌then◌else◌": "when◌then◌else◌"}
+BY_HAND = {"Taken-of": "taken_of", "getD-from-getElem?": "get_or_from_get_elem"}
 MADE = re.compile(r"^(Need|invariant|decreases)-")
 MARKS = r"(?:(?:unfoldable|abbrev|pub|pattern|irrelevant)\s+)*"
 KIT = ("Prim.", "mathlib.", "lib.", "native.", "base.", "borrow.", "contract.", "denote.", "ghost.", "mir.", "prog.", "seplogic.", "sound.", "store.",
@@ -24,8 +25,8 @@ KIT = ("Prim.", "mathlib.", "lib.", "native.", "base.", "borrow.", "contract.", 
 
 def spelled(name):
     """The name in today's spelling: a type's parts in camel case, all else with underscores. `Taken-of` is port.py's for our `taken-of`."""
-    if name == "Taken-of":
-        return "taken_of"
+    if name in BY_HAND:
+        return BY_HAND[name]
     if name[0].isupper():
         head, *rest = name.split("-")
         return head + "".join(part[:1].upper() + part[1:] for part in rest)
@@ -113,7 +114,7 @@ def main():
             word, before = m.group(), m.string[: m.start()]
             if code and word in TACTICS and (antt or word != "if" or re.search(r"\bthen\b", m.string[m.end() :])):
                 return TACTICS[word]
-            if not DASHED.match(word):
+            if not DASHED.match(word) and word not in BY_HAND:
                 return word
             if before.endswith("."):
                 left = NAME.search(before[:-1][::-1])
@@ -146,7 +147,9 @@ def main():
             parts = re.split(r"""("(?:\\.|[^"\\])*"|b'(?:\\.|[^'])')""", code)
             code = "".join(p if i % 2 else NAME.sub(lambda m: turn(m, True), p) for i, p in enumerate(parts))
             importing = importing and ";" not in line
-            out.append(code + NAME.sub(lambda m: turn(m, False), remark))
+            # What a remark quotes is the documents' own.
+            parts = re.split(r'("[^"]*(?:"|$))', remark)
+            out.append(code + "".join(p if i % 2 else NAME.sub(lambda m: turn(m, False), p) for i, p in enumerate(parts)))
         turned = "\n".join(out)
         words = set(NAME.findall(text))
         for new, olds in seen.items():

@@ -194,7 +194,7 @@ module _ (job : Job) (ok : JobOk job) (limit : ℕ) (figures : Room) (g : Goal) 
         → circle (values_after clause given unit) ≡ any (circle_at (values_after clause given unit)) starts
     circle_by_readers_here = sound_circle_by_readers_here run_state g others (taken_front front) sound_here clause clause_ok given agrees
 
-  -- A reduction. Where an unassigned pair's reader stands is kept by every step, whichever goal it takes: by `reached-by-stays`, and by `step_unread` where
+  -- A reduction. Where an unassigned pair's reader stands is kept by every step, whichever goal it takes: by `reached_by_stays`, and by `step_unread` where
   -- it stands nowhere. What a reduction gives and brings is read so:
   module _ (clause : Clause) (given : List Assignment) (chosen : choice_for job.clauses (run job limit figures).state g ≡ reduces clause given) where
     -- The goals that read what a pair is given, of unassigned pairs, are those that read the pair.

@@ -1,5 +1,5 @@
 -- "One writer, one reader, nothing dropped" (02, T-11): for every accepted text, of every state of every run of its job, under any budget, in any room.
--- The parts stand in one record, and the theorem under one name, `text-on-record`; it is derived from what a step keeps at any place of the queue.
+-- The parts stand in one record, and the theorem under one name, `text_on_record`; it is derived from what a step keeps at any place of the queue.
 -- Read `OnRecord` first, then the theorem at the end; Example has one job at each of its budgets.
 pub mod Log
 pub mod Together

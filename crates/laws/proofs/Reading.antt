@@ -41,7 +41,7 @@ use lib.ListN.{length, get_or, get_elem?}
 use Rattle.meaning.specs.Bytes.{Bytes}
 use Rattle.meaning.specs.Terms.{Job, Query}
 use Rattle.meaning.specs.Items.{job, reading}
-use Rattle.laws.proofs.Lists.{each_paired, getD-from-getElem?, paired_equal_at, paired_length}
+use Rattle.laws.proofs.Lists.{each_paired, get_or_from_get_elem, paired_equal_at, paired_length}
 use Rattle.laws.proofs.Reading.Figures.{ClauseFits, QueryFits}
 use Rattle.laws.proofs.Reading.Accepted.{clause_ok, clause_fits, query_ok, query_fits}
 use Rattle.laws.proofs.Reading.Pieces.{same_tokens_same_query, counted_equal}
@@ -118,4 +118,4 @@ module _ (text₁ text₂ : Bytes) (j₁ j₂ : Job) (reads₁ : reading text₁
   -- The same of the query that `get_or` finds.
   pub same_query_tokens_same_query_at : (k : ℕ) → get_elem? (map bare (query_pieces text₁)) k ≡ get_elem? (map bare (query_pieces text₂)) k
       → (q : Query) → get_or j₁.queries k q ≡ get_or j₂.queries k q
-  same_query_tokens_same_query_at k e q = getD-from-getElem? j₁.queries j₂.queries k q (same_query_tokens_same_query k e)
+  same_query_tokens_same_query_at k e q = get_or_from_get_elem j₁.queries j₂.queries k q (same_query_tokens_same_query k e)

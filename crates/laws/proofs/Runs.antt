@@ -39,7 +39,7 @@ use Rattle.laws.proofs.Runs.Counts.{
 }
 use Rattle.laws.proofs.Runs.Charges.{run_summed, run_units}
 use Rattle.laws.proofs.Runs.Dropped.{reductions, body_goals_of, NoneDropped, onward_drops_none}
-use Rattle.laws.proofs.Runs.Further.{goes_on, no_more, steps_on, Goes_on, cases_on}
+use Rattle.laws.proofs.Runs.Further.{goes_on, no_more, steps_on, GoesOn, cases_on}
 -- Where every goal comes from: the query, or a clause of the text at one of the query's tries.
 pub use Origins.{Comes, run_goals_come}
 -- What the first state has and each step keeps, every state of every run has.
@@ -135,8 +135,8 @@ run_drops_no_goal job limit figures =
 -- A run with a larger budget goes on from the end of the run with the smaller.
 pub run_goes_on : (job : Job) (m n : ℕ) (figures : Room)
     → (run job (m + n) figures).state ≡ goes_on job.clauses figures n (run job m figures).state
-unfolding run goes_on Goes_on
-run_goes_on job m n figures = run_induction job figures (Goes_on job.clauses figures) (cases_on job.clauses figures) m n
+unfolding run goes_on GoesOn
+run_goes_on job m n figures = run_induction job figures (GoesOn job.clauses figures) (cases_on job.clauses figures) m n
 
 -- So runs end in every state of a run: with no budget before the first step (`no_steps`), and with one step more behind each step that is taken.
 pub run_steps_on : (job : Job) (limit : ℕ) (figures : Room) (g : Goal) (others : List Goal)

@@ -144,7 +144,7 @@ tail_stops element others place counted (token p (sign b) ts) h =
     rw (none_of.0, none_of.1, none_of.2) (ap malformed h.0)
 tail_stops element others place counted (token p bad ts) h = ap malformed h.0
 
--- `if-next` where its sign does not come next.
+-- `if_next` where its sign does not come next.
 pub if_next_other : {A : Type 0} (first second : Reader A) (place : ℕ) (counted : Counted) (ts : Tokens) → Stops (one_of 40 40 40) place ts
     → if_next "(" first second counted ts ≡ second counted ts
 unfolding if_next one_of is byte when◌then◌else◌

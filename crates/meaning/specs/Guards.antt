@@ -106,7 +106,7 @@ after [] = succeeds []
 after (r ∷ readers) = waits []
 
 -- What a test answers of its arguments written out. "Ground fails on an unassigned writer, else waits on every unassigned reader. `==` compares two
--- written_out ground terms; else the first unassigned variable from the left decides."
+-- written-out ground terms; else the first unassigned variable from the left decides."
 unfoldable pub answer : Test → List ℕ → Terms → Result
 answer an_integer earlier ts = argument_is is_integer false ts
 answer a_constant earlier ts = argument_is (λ k. true) false ts

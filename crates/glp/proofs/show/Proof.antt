@@ -9,7 +9,7 @@ enum_known-answer : tie.Need-enum_known-answer
 enum_known-answer c = search rules
 
 slice_bounds-write_all-end : tie.Need-slice_bounds-write_all-end
-slice_bounds-write_all-end c = simp length-take (omega (arith, c.before.before.requires c.in-Ran.n c.in-Ran.is))
+slice_bounds-write_all-end c = simp length-take (omega (arith, c.requires c.in-Ran.n c.in-Ran.is))
 
 write_all-requires : tie.Need-write_all-requires
 write_all-requires c κs = search rules

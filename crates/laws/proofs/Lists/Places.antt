@@ -10,14 +10,14 @@ use Rattle.meaning.specs.Bytes.{joined}
 use Rattle.laws.proofs.Lists.Tests.{differ}
 
 -- What stands at a place, with a default where nothing does.
-pub getD-from-getElem? : {A : Type 0} (l r : List A) (k : ℕ) (d : A) → get_elem? l k ≡ get_elem? r k → get_or l k d ≡ get_or r k d
-getD-from-getElem? [] [] k d e = refl
-getD-from-getElem? [] (b ∷ r) zero d e = absurd (differ (cc))
-getD-from-getElem? [] (b ∷ r) (suc k) d e = getD-from-getElem? [] r k d e
-getD-from-getElem? (a ∷ l) [] zero d e = absurd (differ (cc))
-getD-from-getElem? (a ∷ l) [] (suc k) d e = getD-from-getElem? l [] k d e
-getD-from-getElem? (a ∷ l) (b ∷ r) zero d e = cc
-getD-from-getElem? (a ∷ l) (b ∷ r) (suc k) d e = getD-from-getElem? l r k d e
+pub get_or_from_get_elem : {A : Type 0} (l r : List A) (k : ℕ) (d : A) → get_elem? l k ≡ get_elem? r k → get_or l k d ≡ get_or r k d
+get_or_from_get_elem [] [] k d e = refl
+get_or_from_get_elem [] (b ∷ r) zero d e = absurd (differ (cc))
+get_or_from_get_elem [] (b ∷ r) (suc k) d e = get_or_from_get_elem [] r k d e
+get_or_from_get_elem (a ∷ l) [] zero d e = absurd (differ (cc))
+get_or_from_get_elem (a ∷ l) [] (suc k) d e = get_or_from_get_elem l [] k d e
+get_or_from_get_elem (a ∷ l) (b ∷ r) zero d e = cc
+get_or_from_get_elem (a ∷ l) (b ∷ r) (suc k) d e = get_or_from_get_elem l r k d e
 
 -- Two lists that agree at a place both have it, or neither.
 pub same_place : {A : Type 0} (l r : List A) (k : ℕ) → get_elem? l k ≡ get_elem? r k → k < length l → k < length r

@@ -40,11 +40,11 @@ module _ (clauses : List Clause) (figures : Room) where
   unfolding goes_on onward
   steps_on n state g others e f = ap (λ queue. (onward (suc n) clauses figures state queue).state) e ∙ rw (f, onward)
 
-  unfoldable pub Goes_on : ℕ → State → Ended → Type 0
-  Goes_on m state last = (n : ℕ) → goes_on (m + n) state ≡ goes_on n last.state
+  unfoldable pub GoesOn : ℕ → State → Ended → Type 0
+  GoesOn m state last = (n : ℕ) → goes_on (m + n) state ≡ goes_on n last.state
 
-  pub cases_on : Cases clauses figures Goes_on
-  unfolding Goes_on ended
+  pub cases_on : Cases clauses figures GoesOn
+  unfolding GoesOn ended
   cases_on =
       record {
         rests = λ m state e n. rests_on (m + n) state e ∙ sym (rests_on n state e);

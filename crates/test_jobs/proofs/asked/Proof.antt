@@ -11,8 +11,8 @@ call-answer-requires c κs = search rules
 
 show-requires : tie.Need-show-requires
 show-requires c κs = λ n e.
-    let a = c.before.before.before.before.before.before.before.before.before.before.args in
-    let called = c.before.before.before.before.call-answer in
+    let a = c.args in
+    let called = c.call-answer in
     let g = given a.text.now a.budget (room_of a.pairs a.compounds a.goals) a.s.now a.buffer.now in
     omega (arith, ran_fits g called.result called.new.buffer called.new.s called.ensures n e, called.auto.buffer)
 

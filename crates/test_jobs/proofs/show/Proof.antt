@@ -12,7 +12,7 @@ told-requires : tie.Need-told-requires
 told-requires c κs = search rules
 
 slice_bounds-write_all-end : tie.Need-slice_bounds-write_all-end
-slice_bounds-write_all-end c = simp length-take (omega (arith, c.before.before.before.requires c.before.in-Ran.n c.before.in-Ran.is))
+slice_bounds-write_all-end c = simp length-take (omega (arith, c.requires c.in-Ran.n c.in-Ran.is))
 
 write_all-requires : tie.Need-write_all-requires
 write_all-requires c κs = search rules

@@ -48,7 +48,7 @@ returns-in-GuardRefused c = search rules
 
 returns-in-OccurrenceBroken : tie.Need-returns-in-OccurrenceBroken
 unfolding line_of
-returns-in-OccurrenceBroken c = rw (c.before.in-Refused.is, c.in-OccurrenceBroken.is) refl
+returns-in-OccurrenceBroken c = rw (c.in-Refused.is, c.in-OccurrenceBroken.is) refl
 
 returns-in-FigurePassed : tie.Need-returns-in-FigurePassed
 unfolding line_of

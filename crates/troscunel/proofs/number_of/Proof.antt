@@ -66,7 +66,7 @@ returns-in-GuardRefused c = search rules
 
 returns-in-OccurrenceBroken : tie.Need-returns-in-OccurrenceBroken
 unfolding number
-returns-in-OccurrenceBroken c = rw (c.before.before.in-Refused.is, c.before.in-OccurrenceBroken.is) c.rule_number.ensures
+returns-in-OccurrenceBroken c = rw (c.in-Refused.is, c.in-OccurrenceBroken.is) c.rule_number.ensures
 
 returns-in-FigurePassed : tie.Need-returns-in-FigurePassed
 unfolding number

@@ -40,7 +40,7 @@ enum_told-in-ReportLong c = search rules
 
 returns-in-NoItems : tie.Need-returns-in-NoItems
 unfolding offset_of
-returns-in-NoItems c = rw (c.before.in-Refused.is, c.in-NoItems.is) refl
+returns-in-NoItems c = rw (c.in-Refused.is, c.in-NoItems.is) refl
 
 returns-in-GuardRefused : tie.Need-returns-in-GuardRefused
 unfolding offset_of
@@ -48,7 +48,7 @@ returns-in-GuardRefused c = search rules
 
 returns-in-OccurrenceBroken : tie.Need-returns-in-OccurrenceBroken
 unfolding offset_of
-returns-in-OccurrenceBroken c = rw (c.before.in-Refused.is, c.in-OccurrenceBroken.is) refl
+returns-in-OccurrenceBroken c = rw (c.in-Refused.is, c.in-OccurrenceBroken.is) refl
 
 returns-in-FigurePassed : tie.Need-returns-in-FigurePassed
 unfolding offset_of

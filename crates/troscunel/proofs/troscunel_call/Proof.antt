@@ -28,12 +28,12 @@ shape_of-buffer c = search rules
 
 returns : tie.Need-returns
 returns c =
-    let e = c.before.before.before.before.before.before.before.before.call-answer.ensures in
+    let e = c.call-answer.ensures in
     record {
       number_is = c.number_of.ensures ∙ ap (λ (o : Outcome). number o.answer) e;
-      line_is = c.before.before.before.line_of.ensures ∙ ap (λ (o : Outcome). line_of o.answer) e;
-      length_is = c.before.before.length_of.ensures ∙ ap (λ (o : Outcome). length_of o.answer) e;
-      offset_is = c.before.offset_of.ensures ∙ ap (λ (o : Outcome). offset_of o.answer) e;
+      line_is = c.line_of.ensures ∙ ap (λ (o : Outcome). line_of o.answer) e;
+      length_is = c.length_of.ensures ∙ ap (λ (o : Outcome). length_of o.answer) e;
+      offset_is = c.offset_of.ensures ∙ ap (λ (o : Outcome). offset_of o.answer) e;
       buffer_is = ap (λ (o : Outcome). o.buffer) e;
       scratch_is = ap (λ (o : Outcome). o.scratch) e;
     }

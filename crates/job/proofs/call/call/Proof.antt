@@ -15,44 +15,44 @@ within-requires c κs = search rules
 
 returns-then-not-within : tie.Need-returns-then-not-within
 returns-then-not-within c =
-    let a = c.before.before.before.before.before.args in
+    let a = c.args in
     let room = room_of a.pairs a.compounds a.goals in
-    let w = c.before.within in
+    let w = c.within in
     call_1 a.text.now a.budget room a.s.now a.buffer.now (sym w.ensures ∙ c.if-not-within.true)
 
 need-words-requires : tie.Need-need-words-requires
 need-words-requires c κs =
-    let a = c.before.before.before.before.before.args in
+    let a = c.args in
     let room = room_of a.pairs a.compounds a.goals in
-    let w = c.before.within in
+    let w = c.within in
     let h : in_range a.budget room ≡ true = sym w.ensures ∙ c.if-not-within.false in
     let bounds = in_range_within a.budget a.pairs a.compounds a.goals h in
     record { pairs = bounds.pairs; compounds = bounds.compounds; goals = bounds.goals }
 
 returns-then-s-words : tie.Need-returns-then-s-words
 returns-then-s-words c =
-    let a = c.before.before.before.before.before.before.before.args in
+    let a = c.args in
     let room = room_of a.pairs a.compounds a.goals in
-    let w = c.before.before.before.within in
-    let h : in_range a.budget room ≡ true = sym w.ensures ∙ c.before.before.if-not-within.false in
-    call_2 a.text.now a.budget room a.s.now a.buffer.now h (omega (arith, c.before.need-words.ensures))
+    let w = c.within in
+    let h : in_range a.budget room ≡ true = sym w.ensures ∙ c.if-not-within.false in
+    call_2 a.text.now a.budget room a.s.now a.buffer.now h (omega (arith, c.need-words.ensures))
 
 returns-then-text-gt16384 : tie.Need-returns-then-text-gt16384
 returns-then-text-gt16384 c =
-    let a = c.before.before.before.before.before.before.before.before.args in
+    let a = c.args in
     let room = room_of a.pairs a.compounds a.goals in
-    let w = c.before.before.before.before.within in
-    let h : in_range a.budget room ≡ true = sym w.ensures ∙ c.before.before.before.if-not-within.false in
-    call_3 a.text.now a.budget room a.s.now a.buffer.now h (omega (arith, c.before.before.need-words.ensures)) (omega arith)
+    let w = c.within in
+    let h : in_range a.budget room ≡ true = sym w.ensures ∙ c.if-not-within.false in
+    call_3 a.text.now a.budget room a.s.now a.buffer.now h (omega (arith, c.need-words.ensures)) (omega arith)
 
 taken-requires : tie.Need-taken-requires
 taken-requires c κs =
-    let a = c.before.before.before.before.before.before.before.before.before.before.args in
+    let a = c.args in
     let room = room_of a.pairs a.compounds a.goals in
-    let w = c.before.before.before.before.before.before.within in
-    let h : in_range a.budget room ≡ true = sym w.ensures ∙ c.before.before.before.before.before.if-not-within.false in
+    let w = c.within in
+    let h : in_range a.budget room ≡ true = sym w.ensures ∙ c.if-not-within.false in
     let bounds = in_range_within a.budget a.pairs a.compounds a.goals h in
-    (record { pairs = bounds.pairs; compounds = bounds.compounds; goals = bounds.goals }, omega (arith, c.before.before.before.before.need-words.ensures), bounds.budget, omega arith)
+    (record { pairs = bounds.pairs; compounds = bounds.compounds; goals = bounds.goals }, omega (arith, c.need-words.ensures), bounds.budget, omega arith)
 
 shape_of-s : tie.Need-shape_of-s
 shape_of-s c = search rules
@@ -62,11 +62,11 @@ shape_of-buffer c = search rules
 
 returns : tie.Need-returns
 returns c =
-    let a = c.before.before.before.before.before.before.before.before.before.before.before.before.before.before.before.args in
+    let a = c.args in
     let room = room_of a.pairs a.compounds a.goals in
-    let w = c.before.before.before.before.before.before.before.before.before.before.before.within in
-    let h : in_range a.budget room ≡ true = sym w.ensures ∙ c.before.before.before.before.before.before.before.before.before.before.if-not-within.false in
-    call_4 a.text.now a.budget room a.s.now a.buffer.now h (omega (arith, c.before.before.before.before.before.before.before.before.before.need-words.ensures)) (omega arith) c.before.before.before.before.taken.ensures
+    let w = c.within in
+    let h : in_range a.budget room ≡ true = sym w.ensures ∙ c.if-not-within.false in
+    call_4 a.text.now a.budget room a.s.now a.buffer.now h (omega (arith, c.need-words.ensures)) (omega arith) c.taken.ensures
 
 pub call_spec : {M : Type 1} → statement M
 call_spec =

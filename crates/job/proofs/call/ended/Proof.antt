@@ -31,14 +31,14 @@ shape_of-buffer c = search rules
 returns : tie.Need-returns
 unfolding with_report
 returns c = λ names j limit f q short.
-    let a = c.before.before.before.before.before.before.before.before.before.before.before.before.before.before.before.before.args in
+    let a = c.args in
     let room = figures a.room in
     let written = report j.queries (run j limit room) in
-    let got = c.before.before.before.before.before.before.before.before.before.report-n.ensures names j limit f q short in
+    let got = c.report-n.ensures names j limit f q short in
     delivered_is (need_of room) a.text.now limit room written a.s.now a.buffer.now
     (c.told.ensures (length written) got.length_is) got.buffer_is
-    (cleared_by (need_of room) c.before.before.before.before.before.before.before.before.before.before.before.before.need-all.result a.s.now c.before.before.before.before.before.before.before.before.before.report-n.new.s
-    c.before.before.before.before.before.before.before.before.before.before.before.before.need-all.ensures got.size (λ k h. got.behind k (omega arith)) c.before.before.before.clear.ensures)
+    (cleared_by (need_of room) c.need-all.result a.s.now c.report-n.new.s
+    c.need-all.ensures got.size (λ k h. got.behind k (omega arith)) c.clear.ensures)
 
 pub ended_spec : {M : Type 1} → statement M
 ended_spec =

@@ -19,9 +19,9 @@ enum_known-verdict c = search rules
 
 ended-requires : tie.Need-ended-requires
 ended-requires c κs =
-    let a = c.before.before.before.before.before.before.before.before.before.before.before.args in
-    let q = c.before.before.before.before.before.before.before.before.before.before.before.requires in
-    let got = rw c.before.before.in-Ended.is at (c.before.before.before.before.before.run.ensures a.text.now q.0 q.1 q.2 (omega (arith, q.3)) q.4 q.5) in
+    let a = c.args in
+    let q = c.requires in
+    let got = rw c.in-Ended.is at (c.run.ensures a.text.now q.0 q.1 q.2 (omega (arith, q.3)) q.4 q.5) in
     (q.0, q.1, _, got.1, q.5, q.6)
 
 enum_told-1 : tie.Need-enum_told-1
@@ -38,25 +38,25 @@ shape_of-buffer c = search rules
 
 returns-in-Ended : tie.Need-returns-in-Ended
 returns-in-Ended c = λ names j ready clauses q short.
-    let a = c.before.before.before.before.before.before.before.before.before.before.before.before.before.before.before.before.args in
+    let a = c.args in
     let room = figures a.room in
-    let got = rw c.before.before.before.before.before.before.before.in-Ended.is at (c.before.before.before.before.before.before.before.before.before.before.run.ensures a.text.now names j ready (omega (arith, c.before.before.before.before.before.before.before.before.before.before.before.before.before.before.before.before.requires.3)) clauses q) in
-    let t = c.before.before.before.before.before.before.before.before.before.before.run.new.s in
+    let got = rw c.in-Ended.is at (c.run.ensures a.text.now names j ready (omega (arith, c.requires.3)) clauses q) in
+    let t = c.run.new.s in
     ran_is (need_of room) a.text.now a.budget room j a.s.now t a.buffer.now got.1.fit
-    (cleared_same (need_of room) a.s.now t got.0.size got.0.behind) (c.before.before.before.before.ended.ensures names j _ got.1 q short)
+    (cleared_same (need_of room) a.s.now t got.0.size got.0.behind) (c.ended.ensures names j _ got.1 q short)
 
 shape_of-s-in-QueriesPassRoom : tie.Need-shape_of-s-in-QueriesPassRoom
 shape_of-s-in-QueriesPassRoom c = search rules
 
 returns-in-QueriesPassRoom : tie.Need-returns-in-QueriesPassRoom
 returns-in-QueriesPassRoom c = λ names j ready clauses q short.
-    let a = c.before.before.before.before.before.before.before.before.before.before.before.before.before.args in
+    let a = c.args in
     let room = figures a.room in
-    let got = rw c.before.before.before.before.in-QueriesPassRoom.is at (c.before.before.before.before.before.before.before.run.ensures a.text.now names j ready (omega (arith, c.before.before.before.before.before.before.before.before.before.before.before.before.before.requires.3)) clauses q) in
-    let t = c.before.before.before.before.before.before.before.run.new.s in
+    let got = rw c.in-QueriesPassRoom.is at (c.run.ensures a.text.now names j ready (omega (arith, c.requires.3)) clauses q) in
+    let t = c.run.new.s in
     passed_is (need_of room) a.text.now a.budget room j a.s.now a.buffer.now got.0
-    (cleared_by (need_of room) c.before.before.before.before.before.before.before.before.before.need-words.result a.s.now t c.before.before.before.before.before.before.before.before.before.need-words.ensures (ap length got.1) (λ k l. ap (λ x. get_or x k 0) got.1)
-    c.before.before.clear.ensures)
+    (cleared_by (need_of room) c.need-words.result a.s.now t c.need-words.ensures (ap length got.1) (λ k l. ap (λ x. get_or x k 0) got.1)
+    c.clear.ensures)
 
 pub loaded_spec : {M : Type 1} → statement M
 loaded_spec =

@@ -13,11 +13,11 @@ enum_known-clauses c = search rules
 
 loaded-requires : tie.Need-loaded-requires
 loaded-requires c κs =
-    let a = c.before.before.before.before.before.before.before.before.before.before.args in
-    let q = c.before.before.before.before.before.before.before.before.before.before.requires in
+    let a = c.args in
+    let q = c.requires in
     let room = figures a.room in
-    let t = c.before.before.before.before.before.load.new.s in
-    let got = rw c.before.before.in-Job.is at c.before.before.before.before.before.load.ensures in
+    let t = c.load.new.s in
+    let got = rw c.in-Job.is at c.load.ensures in
     (got.5, got.0, got.6, q.2, got.2, got.3, q.3)
 
 enum_known-why : tie.Need-enum_known-why
@@ -31,25 +31,25 @@ shape_of-buffer c = search rules
 
 returns-in-Job : tie.Need-returns-in-Job
 returns-in-Job c =
-    let a = c.before.before.before.before.before.before.before.before.before.before.before.before.before.before.before.args in
-    let q = c.before.before.before.before.before.before.before.before.before.before.before.before.before.before.before.requires in
+    let a = c.args in
+    let q = c.requires in
     let room = figures a.room in
-    let t = c.before.before.before.before.before.before.before.before.before.before.load.new.s in
-    let got = rw c.before.before.before.before.before.before.before.in-Job.is at c.before.before.before.before.before.before.before.before.before.before.load.ensures in
+    let t = c.load.new.s in
+    let got = rw c.in-Job.is at c.load.ensures in
     taken_job (need_of room) a.text.now a.budget room got.0 a.s.now t a.buffer.now got.1
     (cleared_same (need_of room) a.s.now t got.7.size got.7.above)
-    (c.before.before.before.before.loaded.ensures got.5 got.0 got.6 got.2 got.3 q.3)
+    (c.loaded.ensures got.5 got.0 got.6 got.2 got.3 q.3)
 
 shape_of-s-in-Refused : tie.Need-shape_of-s-in-Refused
 shape_of-s-in-Refused c = search rules
 
 returns-in-Refused : tie.Need-returns-in-Refused
 returns-in-Refused c =
-    let a = c.before.before.before.before.before.before.before.before.args in
-    let q = c.before.before.before.before.before.before.before.before.requires in
+    let a = c.args in
+    let q = c.requires in
     let room = figures a.room in
-    let t = c.before.before.before.load.new.s in
-    let got = rw c.in-Refused.is at c.before.before.before.load.ensures in
+    let t = c.load.new.s in
+    let got = rw c.in-Refused.is at c.load.ensures in
     taken_refused (need_of room) a.text.now a.budget room got.0 a.s.now t a.buffer.now got.1
     got.2 got.3
 
