@@ -1,5 +1,5 @@
-/* The call of document 01, proved in crates/job and exported by crates/troscunel: it reads a job text, checks it, runs it and writes its report.
-   Link target/staticlib/libtroscunel.a, which `rt staticlib troscunel` writes for x86-64. tests/prototype holds this file to the Rattle source. */
+/* The call of document 01, proved in crates/job and exported by crates/troscunel_c: it reads a job text, checks it, runs it and writes its report.
+   Link target/staticlib/libtroscunel.a, which `hosts/library` writes for x86-64. tests/prototype holds this file to the Rattle source. */
 #ifndef TROSCUNEL_H
 #define TROSCUNEL_H
 

@@ -13,7 +13,7 @@ fn main() {
     let archive = folder.join("libtroscunel.a");
     println!("cargo:rerun-if-changed={}", archive.display());
     if !archive.is_file() {
-        stop(&format!("{} is missing. 'rt staticlib troscunel' in the repository writes target/staticlib/libtroscunel.a; {FOLDER} names another folder that has it", archive.display()));
+        stop(&format!("{} is missing. 'hosts/library' in the repository writes target/staticlib/libtroscunel.a; {FOLDER} names another folder that has it", archive.display()));
     }
     let target = std::env::var("CARGO_CFG_TARGET_ARCH").unwrap_or_default();
     if own && target != "x86_64" {

@@ -34,7 +34,7 @@
 //!
 //! # Linking
 //!
-//! `rt staticlib troscunel` writes `target/staticlib/libtroscunel.a` for x86-64, and the build script links it. The
+//! `hosts/library` writes `target/staticlib/libtroscunel.a` for x86-64, and the build script links it. The
 //! environment variable `TROSCUNEL_LIBRARY` names another folder that holds a `libtroscunel.a`.
 //!
 //! # The stack

@@ -1,7 +1,7 @@
 //! Jobs as cases of the definitions: what the proof checker is given to compute.
 //!
 //! A case is the record `Case` of the definitions, with the reference's answer as the expected one. What it expects of
-//! report buffer and scratch follows from that answer by `expected-buffer` and `expected-scratch` there, which use none
+//! report buffer and scratch follows from that answer by `expected_buffer` and `expected_scratch` there, which use none
 //! of the call's own definitions. Its text and its report are definitions of their own. The statement over a list of one case is that none of its cases fails.
 
 use std::fmt::Write;
@@ -17,14 +17,10 @@ const LONG_RUN: usize = 40;
 pub fn module(jobs: &[(&Job, &Answer)], first: usize) -> String {
     let mut text = String::from(
         "-- Jobs, and the reference's answers to them.\n\
-         use Prim.Native.Nat.{ℕ}\n\
-         use Prim.Native.String.{String}\n\
-         use mathlib.Core.Path.{_≡_, refl}\n\
-         use mathlib.Core.List.{List, [], _∷_, _++_}\n\
-         use lib.ListN.{replicate}\n\
-         use Rattle·meaning.specs.Bytes.{Bytes, bytes}\n\
-         use Rattle·meaning.specs.State.{Room}\n\
-         use Rattle·meaning.specs.Case.{Case, Expected, prints, refuses, too-long, failing, case-words}\n",
+         use Rattle.std.specs.Prelude.{◌≡◌, [], ◌∷◌, ◌++◌, replicate}\n\
+         use mathlib.Core.Path.{refl}\n\
+         use Rattle.meaning.specs.Bytes.{Bytes, bytes}\n\
+         use Rattle.meaning.specs.Case.{Case, prints, refuses, too_long, failing, case_words}\n",
     );
     for (place, (job, answer)) in jobs.iter().enumerate() {
         write_case(&mut text, first + place, job, answer);
@@ -35,18 +31,18 @@ pub fn module(jobs: &[(&Job, &Answer)], first: usize) -> String {
 
 /// The name of the statement over the job with this place.
 pub fn statement(place: usize) -> String {
-    format!("agrees-{place}")
+    format!("agrees_{place}")
 }
 
 fn write_case(text: &mut String, place: usize, job: &Job, answer: &Answer) {
     let Figures { budget, pairs, compounds, goals, buffer, scratch, .. } = job.figures;
     let label = string(job.label.as_bytes());
     let expected = expected(text, place, answer);
-    write_bytes(text, &format!("text-{place}"), &job.text);
+    write_bytes(text, &format!("text_{place}"), &job.text);
     let _ = write!(
         text,
-        "\nunfoldable job-{place} : Case\n\
-         job-{place} = record {{ label = {label}; text = text-{place}; budget = {budget};\n  \
+        "\nunfoldable job_{place} : Case\n\
+         job_{place} = record {{ label = {label}; text = text_{place}; budget = {budget};\n  \
          room = record {{ pairs = {pairs}; compounds = {compounds}; goals = {goals} }};\n  \
          scratch = {scratch}; buffer = {buffer}; expected = {expected} }}\n"
     );
@@ -54,10 +50,10 @@ fn write_case(text: &mut String, place: usize, job: &Job, answer: &Answer) {
 
 /// The expected answer, its report as a definition before it.
 fn expected(text: &mut String, place: usize, answer: &Answer) -> String {
-    write_bytes(text, &format!("report-{place}"), answer.report.as_deref().unwrap_or(&[]));
+    write_bytes(text, &format!("report_{place}"), answer.report.as_deref().unwrap_or(&[]));
     match &answer.report {
-        Some(_) => format!("prints report-{place}"),
-        None if answer.number == 8 => format!("too-long {}", answer.length),
+        Some(_) => format!("prints report_{place}"),
+        None if answer.number == 8 => format!("too_long {}", answer.length),
         None => format!("refuses {} {} {}", answer.number, answer.line, answer.offset),
     }
 }
@@ -66,8 +62,8 @@ fn write_statement(text: &mut String, place: usize) {
     let name = statement(place);
     let _ = write!(
         text,
-        "\n{name} : failing (job-{place} ∷ []) ≡ []\n\
-         unfolding case-words text-{place} report-{place} job-{place}\n\
+        "\n{name} : failing (job_{place} ∷ []) ≡ []\n\
+         unfolding case_words text_{place} report_{place} job_{place}\n\
          {name} = refl\n"
     );
 }

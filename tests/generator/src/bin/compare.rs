@@ -1,12 +1,12 @@
 //! `compare --seed S --count N`, from the repository's root: the definitions compute every job, and the reference too.
 //!
-//! A small repository under target/compare/ has a copy of the definitions, and crates whose statements say that the
-//! definitions give the reference's answer: number, line, length, offset and report. Of report buffer and scratch they say what
+//! A small repository among the temporary files, outside the checkout, where `rt ci` takes no file of Rattle's but the
+//! crates', has a copy of the definitions, and crates whose statements say that the definitions give the reference's answer: number, line, length, offset and report. Of report buffer and scratch they say what
 //! document 01 does after that answer; the reference has neither. The proof checker computes them. One more crate has
 //! falsified answers, and the checker must refuse every statement of it.
 //! Exit status 0 if every job agreed and everything occurred, 1 if not, 2 for bad usage.
 
-use std::path::Path;
+use std::path::{Path, PathBuf};
 use std::process::{Command, ExitCode};
 use std::time::Instant;
 use std::{fs, io};
@@ -16,8 +16,8 @@ use generator::table::Table;
 use generator::{antt, call, frame, jobs, Answer, Job};
 
 const DEFINITIONS: &str = "crates/meaning";
-const FOLDER: &str = "target/compare";
 /// The frames of the jobs that did not agree, to be run again.
+const KEPT: &str = "target/compare";
 const REFUSED: &str = "target/compare/refused.jobs";
 /// The crates that are proved side by side, and the one that must not be proved.
 const AGREE: [&str; 2] = ["agree1", "agree2"];
@@ -55,13 +55,14 @@ fn compared(options: &Options) -> Result<(), String> {
     let cases: Vec<Case> = jobs.iter().zip(&answers).collect();
     let false_answers: Vec<Answer> = answers.iter().take(FALSIFIED).enumerate().map(falsified).collect();
     let false_cases: Vec<Case> = jobs.iter().zip(&false_answers).collect();
-    let folder = Path::new(FOLDER);
-    write_repository(folder, &cases, &false_cases).map_err(|error| format!("{FOLDER}: {error}"))?;
-    let checked = check(folder, &AGREE)?;
-    if !checked.proved {
-        return Err(disagreement(&checked.output, &cases));
+    let folder = Folder(std::env::temp_dir().join(format!("compare-{}", std::process::id())));
+    write_repository(&folder.0, &cases, &false_cases).map_err(|error| format!("{}: {error}", folder.0.display()))?;
+    let output = check(&folder.0)?;
+    let agreed: Vec<Checked> = AGREE.iter().map(|name| Checked::of(&output, name)).collect();
+    if !agreed.iter().all(|it| it.proved) {
+        return Err(disagreement(&agreed.iter().map(|it| it.output.as_str()).collect::<String>(), &output, &cases));
     }
-    denied(&check(folder, &[DENIED])?, &false_cases)?;
+    denied(&Checked::of(&output, DENIED), &false_cases)?;
     let table = Table::of(&answers);
     print!("{table}");
     println!("seed {}, {:.1} s", options.seed, begun.elapsed().as_secs_f64());
@@ -88,12 +89,18 @@ fn falsified((place, answer): (usize, &Answer)) -> Answer {
     wrong
 }
 
-/// The repository anew, but for what was proved of the definitions.
+/// A folder that is removed at the end.
+struct Folder(PathBuf);
+
+impl Drop for Folder {
+    fn drop(&mut self) {
+        let _ = fs::remove_dir_all(&self.0);
+    }
+}
+
+/// The repository.
 fn write_repository(folder: &Path, cases: &[Case], false_cases: &[Case]) -> io::Result<()> {
     let crates = folder.join("crates");
-    if crates.exists() {
-        fs::remove_dir_all(&crates)?;
-    }
     fs::create_dir_all(&crates)?;
     copy(Path::new(DEFINITIONS), &crates.join("meaning"))?;
     let modules = modules(cases);
@@ -117,7 +124,7 @@ fn write_crate(folder: &Path, modules: &[&(usize, String)]) -> io::Result<()> {
     let proofs = folder.join("proofs");
     fs::create_dir_all(folder.join("src"))?;
     fs::create_dir_all(&proofs)?;
-    fs::write(folder.join("src/lib.rt"), "// The statements are in proofs/.\n")?;
+    fs::write(folder.join("src/lib.rt"), "// The statements are in proofs/.\n#![tactic(auto)]\n")?;
     let mut list = String::new();
     for (number, text) in modules {
         list.push_str(&format!("pub mod Jobs{number}\n"));
@@ -134,24 +141,35 @@ fn copy(from: &Path, to: &Path) -> io::Result<()> {
         let name = entry.file_name();
         if entry.file_type()?.is_file() {
             fs::copy(entry.path(), to.join(name))?;
-        } else if name != "must-fail" && name != "proofs" {
+        } else if name != "must-fail" && name != "proofs" && name != "out" {
             copy(&entry.path(), &to.join(name))?;
         }
     }
     Ok(())
 }
 
+/// A crate proved or not, and what the checker said of it.
 struct Checked {
     proved: bool,
     output: String,
 }
 
-/// Crates proved or not, with no line of the checker's output cut.
-fn check(folder: &Path, names: &[&str]) -> Result<Checked, String> {
-    let run = Command::new("rt").arg("check").args(names).env("RT_CUT", "0").current_dir(folder).output();
+impl Checked {
+    /// What `rt all check` says of one crate: behind the line `== NAME`, and in the summary.
+    fn of(output: &str, name: &str) -> Checked {
+        let head = format!("== {name}");
+        let lines = output.lines().skip_while(|line| *line != head).skip(1).take_while(|line| !line.starts_with("== "));
+        let output_of: String = lines.flat_map(|line| [line, "\n"]).collect();
+        let proved = output.lines().any(|line| line == format!("{name}: ok"));
+        Checked { proved, output: output_of }
+    }
+}
+
+/// What the checker says of all crates, the definitions' among them, which are proved two at a time.
+fn check(folder: &Path) -> Result<String, String> {
+    let run = Command::new("rt").args(["all", "check"]).current_dir(folder).output();
     let run = run.map_err(|error| format!("rt: {error}"))?;
-    let output = format!("{}{}", String::from_utf8_lossy(&run.stdout), String::from_utf8_lossy(&run.stderr));
-    Ok(Checked { proved: run.status.success(), output })
+    Ok(format!("{}{}", String::from_utf8_lossy(&run.stdout), String::from_utf8_lossy(&run.stderr)))
 }
 
 /// What the checker says of the statement of a job, if it refuses it.
@@ -176,7 +194,7 @@ fn denied(checked: &Checked, cases: &[Case]) -> Result<(), String> {
 }
 
 /// Every job whose statement was refused: another answer, or the checker's limit of steps. Their frames are kept.
-fn disagreement(output: &str, cases: &[Case]) -> String {
+fn disagreement(output: &str, whole: &str, cases: &[Case]) -> String {
     let mut message = String::from("not every job agreed\n");
     let mut frames = Vec::new();
     let mut count = 0;
@@ -187,9 +205,9 @@ fn disagreement(output: &str, cases: &[Case]) -> String {
         count += 1;
     }
     if count == 0 {
-        return format!("the crates were not proved, and of no job:\n{output}");
+        return format!("the crates were not proved, and of no job:\n{whole}");
     }
-    let kept = match fs::write(REFUSED, frames) {
+    let kept = match fs::create_dir_all(KEPT).and_then(|()| fs::write(REFUSED, frames)) {
         Ok(()) => format!("their frames are in {REFUSED}"),
         Err(error) => format!("{REFUSED}: {error}"),
     };
@@ -200,7 +218,7 @@ fn disagreement(output: &str, cases: &[Case]) -> String {
 fn told(complaint: &str, (job, answer): &Case) -> String {
     let Answer { number, line, length, offset, report } = answer;
     let report = report.as_deref().map(String::from_utf8_lossy).unwrap_or_default();
-    let limit = complaint.contains("step limit");
+    let limit = complaint.contains("step limit") || complaint.contains("ran out of");
     let why = if limit { "the checker reached its limit of steps" } else { "the definitions give another answer" };
     format!(
         "---- {}: {why}\n{:?}\ntext {}\nthe reference: number {number} line {line} length {length} offset {offset}\n{report}{complaint}\n",
