@@ -322,7 +322,6 @@ def turn(path, f):
     parts = blocks(text)
     out = []
     for p in parts:
-        m = re.match(r"module _ .*?where", p, re.S)
         out.append(t.block(p, {}))
     text = "\n".join(out)
     text = t.loops(t.types(text))
