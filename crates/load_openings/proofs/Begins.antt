@@ -1,5 +1,5 @@
 -- The reader of a term by its first token, and by the next where that is a name or `[`: each lemma is one arm of the code.
-use Prim.Native.Nat.{ℕ, zero, suc, ◌-◌}
+use Prim.Native.Nat.{ℕ, zero, suc}
 use mathlib.Core.Path.{◌≡◌, refl, ◌∙◌}
 use mathlib.Core.Bool.{false}
 use lib.Dec.{eqb}

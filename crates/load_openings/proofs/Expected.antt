@@ -1,30 +1,17 @@
 -- The definitions' small readers at the tokens in front: a piece up to a token that is no full stop, a name counted, a sign that comes next
 -- or none of those expected.
-use Prim.Native.Nat.{ℕ, zero, suc, ◌+◌, ◌≤◌, ◌<◌}
+use Prim.Native.Nat.{ℕ, ◌+◌, ◌≤◌, ◌<◌}
 use Prim.Native.Char.{Char}
-use mathlib.Core.Path.{◌≡◌, refl, ap, sym, ◌∙◌}
+use mathlib.Core.Path.{◌≡◌, refl, ap}
 use mathlib.Core.Bool.{Bool, true, false, ◌||◌}
-use mathlib.Core.List.{List, [], ◌∷◌, ◌++◌, map}
+use mathlib.Core.List.{List, [], ◌∷◌}
 use native.Mathlib.Omega.{arith}
-use lib.Dec.{ltb, eqb}
-use lib.ListN.{length, length-append, length-map}
+use lib.Dec.{eqb}
+use lib.ListN.{length, length-append}
 use borrow.Author.Tests.{lt-ltb, le-ltb}
 use Rattle.meaning.specs.Bytes.{Bytes, byte, same, any, when◌then◌else◌}
 use Rattle.meaning.specs.Tokens.{Token, name, variable, integer, sign, bad, Tokens, ends, token}
-use Rattle.meaning.specs.Items.{
-  Counted,
-  read,
-  malformed,
-  passed,
-  read_on,
-  give,
-  cannot_stand,
-  next,
-  is,
-  expect,
-  either,
-  count_name,
-}
+use Rattle.meaning.specs.Items.{Counted, read, malformed, passed, give, cannot_stand, next, is, expect, either, count_name}
 use Rattle.load_names.specs.Places.{Place, spellings, with_place}
 use Rattle.load_names.proofs.Numbering.{spellings_snoc, spellings_length}
 use Rattle.load_openings.specs.Reading.{piece, counted_at}

@@ -1,5 +1,5 @@
 -- The definitions' readers at the tokens where the code branches: each lemma is one arm of the code.
-use Prim.Native.Nat.{ℕ, ◌+◌, ◌-◌, ◌≤◌, ◌<◌}
+use Prim.Native.Nat.{ℕ, ◌+◌, ◌≤◌, ◌<◌}
 use mathlib.Core.Path.{◌≡◌, refl, ap, sym, ◌∙◌}
 use mathlib.Core.Bool.{Bool, true, false, ◌||◌}
 use mathlib.Core.List.{List, [], ◌∷◌, ◌++◌}
@@ -9,9 +9,9 @@ use lib.Dec.{eqb, ltb}
 use lib.ListN.{length, length-append}
 use borrow.Author.Tests.{lt-ltb, le-ltb}
 use Rattle.meaning.specs.Bytes.{Bytes, same, any, byte, when◌then◌else◌}
-use Rattle.meaning.specs.Terms.{Term, compound}
+use Rattle.meaning.specs.Terms.{Term}
 use Rattle.meaning.specs.Tokens.{Tokens, ends, token, name, variable, integer, sign, bad}
-use Rattle.meaning.specs.Items.{Counted, Reader, read, malformed, passed, cannot_stand, next, is, begins_term, standing, expect, either, if_next, count_name, place_of, new_variable, count_variable, count_compound, tail_of, term}
+use Rattle.meaning.specs.Items.{Counted, Reader, read, malformed, passed, cannot_stand, next, is, begins_term, standing, expect, either, if_next, count_name, place_of, new_variable, count_variable, count_compound, tail_of}
 use Rattle.load_names.specs.Places.{Place, spellings, with_place}
 use Rattle.load_tokens.specs.Nexts.{one_of, Stops, Goes}
 use Rattle.load_openings.specs.Reading.{counted_at}

@@ -9,10 +9,9 @@ pub struct Cursor {
     pub compounds: usize,
 }
 
-// A term's word, or a number of arguments; or 4 at a place, or 6.
+// Why nothing is read: a token that cannot stand at this place (4), or a figure that is passed (6).
 #[derive(Clone, Copy)]
-pub enum Read {
-    Got(u64, Cursor),
+pub enum Unread {
     Malformed(usize),
     Exceeded,
 }
