@@ -3,7 +3,7 @@ use Rattle.std.specs.Prelude.{Ok, Err}
 use Prim.Native.Nat.{ℕ, ◌+◌, ◌≤◌}
 use mathlib.Core.Path.{◌≡◌, refl, ap, ◌∙◌}
 use mathlib.Core.Bool.{Bool, true, false}
-use mathlib.Core.List.{List}
+use mathlib.Core.List.{List, [], ◌∷◌}
 use native.Mathlib.Omega.{arith}
 use lib.ListN.{length}
 use lib.Seq.{slice}
@@ -21,7 +21,9 @@ use Rattle.load_tokens.specs.declared.token.Token.TheVariants.{End, Name, Writer
 use Rattle.load_names.specs.declared.names.Numbered.TheVariants.{Number, Exceeded as NameExceeded}
 use Rattle.load_openings.specs.declared.cursor.Cursor.{Cursor}
 use Rattle.load_openings.specs.declared.cursor.Unread.TheVariants.{Malformed, Exceeded}
-use Rattle.load_openings.proofs.Expected.{piece_open, expect_this, expect_none, name_counted, name_passed}
+use Rattle.load_openings.proofs.Expected.{piece_open, expect_this, expect_stops}
+use Rattle.load_openings.proofs.Passing.{piece_stops}
+use Rattle.load_openings.proofs.Readers.{count_name_with, count_name_passed}
 
 goal_named : (counted : Counted) (p : ℕ) (f : Bytes) (ts : Tokens)
     → goal counted (piece (token p (name f) ts)) ≡ read_on (count_name f counted (piece ts)) (λ u. expect "(" >> compound_of (term 15) f)
@@ -33,18 +35,19 @@ module _ (p at : ℕ) (f : Bytes) (known vars : List Place) (n : ℕ) (ts : Toke
   pub goal_passed : any (same f) (spellings known) ≡ false → 256 ≤ length known
       → goal (counted_at known vars n) (piece (token p (name f) ts)) ≡ passed
   unfolding read_on
-  goal_passed h many = rw (goal_named (counted_at known vars n) p f ts, name_passed at f known vars n (piece ts) h many)
+  goal_passed h many = rw (goal_named (counted_at known vars n) p f ts, count_name_passed f known vars n (piece ts) h many)
 
   goal_counted : length (with_place at f known) ≤ 256
       → goal (counted_at known vars n) (piece (token p (name f) ts))
       ≡ read_on (expect "(" (counted_at (with_place at f known) vars n) (piece ts)) (λ u. compound_of (term 15) f)
   unfolding read_on ◌>>◌
-  goal_counted few = rw (goal_named (counted_at known vars n) p f ts, name_counted at f known vars n (piece ts) few)
+  goal_counted few = rw (goal_named (counted_at known vars n) p f ts, count_name_with at f known vars n (piece ts) few)
 
-  pub goal_lacks : length (with_place at f known) ≤ 256 → (y z place : ℕ) → Stops (one_of (byte "(") y z) place ts
+  pub goal_lacks : length (with_place at f known) ≤ 256 → (place : ℕ) → Stops (one_of (byte "(" ∷ [])) place ts
       → goal (counted_at known vars n) (piece (token p (name f) ts)) ≡ malformed place
   unfolding read_on
-  goal_lacks few y z place h = rw (goal_counted few, expect_none (counted_at (with_place at f known) vars n) "(" y z place ts h)
+  goal_lacks few place h =
+      rw (goal_counted few, expect_stops (counted_at (with_place at f known) vars n) "(" place (piece ts) (piece_stops (one_of (byte "(" ∷ [])) place ts h))
 
   pub goal_opens : length (with_place at f known) ≤ 256 → (q : ℕ) (us : Tokens) → ts ≡ token q (sign 40) us
       → goal (counted_at known vars n) (piece (token p (name f) ts)) ≡ compound_of (term 15) f (counted_at (with_place at f known) vars n) (piece us)
@@ -117,14 +120,14 @@ module _ (text rest : Bytes) (from : ℕ) (names names' item : List ℕ) (c : Cu
         },
       )
 
-  pub opening_lacks : (a e n count place y z : ℕ) → FrontIs rest c.at (Name a e)
+  pub opening_lacks : (a e n count place : ℕ) → FrontIs rest c.at (Name a e)
       → NameIs text known (from + a) (slice a e rest) names names' (Number n count)
-      → place ≤ length rest → ((from : ℕ) → Stops (one_of 40 y z) (from + place) (tokens_in from rest e))
+      → place ≤ length rest → ((from : ℕ) → Stops (one_of (40 ∷ [])) (from + place) (tokens_in from rest e))
       → OpeningIs text rest from names' item known vars c (Err (Malformed place))
   unfolding byte
-  opening_lacks a e n count place y z h k inside stops = (
+  opening_lacks a e n count place h k inside stops = (
     rw (named_tokens a e h)
-        (goal_lacks (from + a) (from + a) (slice a e rest) known vars c.compounds (tokens_in from rest e) k.0.few y z (from + place) (stops from)),
+        (goal_lacks (from + a) (from + a) (slice a e rest) known vars c.compounds (tokens_in from rest e) k.0.few (from + place) (stops from)),
     inside,
   )
 

@@ -275,7 +275,7 @@ module _ (left : ℕ) (text rest : Bytes) (from : ℕ) (known vars : List Place)
                 (ap (term left so_far) named
                 ∙ term_name left so_far (from + a) f (piece (tokens_in from rest e)) (counted_at known' vars c.compounds) (from + b.2)
                 (count_it (piece (tokens_in from rest e)))
-                (piece_stops (one_of 40 40 40) (from + b.2) (tokens_in from rest e) (b.3 from)))
+                (piece_stops (one_of (40 ∷ [])) (from + b.2) (tokens_in from rest e) (b.3 from)))
                 stands_named
                 (b.0 ∙ ap (λ k. name_word k) (sym (placed f (spellings known') n numbered.3).number))
                 refl
@@ -338,7 +338,7 @@ module _ (left : ℕ) (text rest : Bytes) (from : ℕ) (known vars : List Place)
             reads = rw (moves_in.names, moves_in.variables)
                 (ap (term left so_far) bracket
                 ∙ term_square left so_far (from + a) (piece (tokens_in from rest (a + 1))) (left - 1) (from + k.2) (omega (arith, k.0))
-                (piece_stops (one_of 93 93 93) (from + k.2) (tokens_in from rest (a + 1)) (k.3 from)));
+                (piece_stops (one_of (93 ∷ [])) (from + k.2) (tokens_in from rest (a + 1)) (k.3 from)));
             follows = moves_in.follows;
             stands = rw (moves_in.names, moves_in.variables) (stands_moved (a + 1) stands inside);
             compounds_same = refl;

@@ -1,5 +1,5 @@
 -- What the functions that begin a term say of what they found: behind a name, behind an opening bracket, of a variable.
-use Rattle.std.specs.Prelude.{ℕ, ◌+◌, ◌*◌, ◌<◌, ◌≡◌, List, Result, Ok, Err}
+use Rattle.std.specs.Prelude.{ℕ, ◌+◌, ◌*◌, ◌<◌, ◌≡◌, List, [], ◌∷◌, Result, Ok, Err}
 use Rattle.meaning.specs.Bytes.{Bytes}
 use Rattle.term.specs.Words.{name_word, packed}
 use Rattle.load_tokens.specs.Fronts.{tokens_in}
@@ -20,7 +20,7 @@ moved_to c at = record { at = at; names = c.names; variables = c.variables; comp
 -- Behind the name n: no parenthesis, or one, where brackets may open or may not.
 abbrev pub BehindName : Bytes → (left n : ℕ) → Cursor → Result Begun Unread → Type 0
 BehindName rest left n d (Ok (Got w d')) =
-    (w ≡ name_word n) × (d' ≡ d) × (place : ℕ) × ((from : ℕ) → Stops (one_of 40 40 40) (from + place) (tokens_in from rest d.at))
+    (w ≡ name_word n) × (d' ≡ d) × (place : ℕ) × ((from : ℕ) → Stops (one_of (40 ∷ [])) (from + place) (tokens_in from rest d.at))
 BehindName rest left n d (Ok (Round m d')) = (m ≡ n) × (0 < left) × (b : ℕ) × SignAt rest d.at 40 b × (d' ≡ moved_to d b)
 BehindName rest left n d (Ok (Square d')) = ⊥
 BehindName rest left n d (Err (Malformed place)) = ⊥
@@ -31,7 +31,7 @@ abbrev pub BehindBracket : Bytes → (left : ℕ) → Cursor → Result Begun Un
 BehindBracket rest left d (Ok (Got w d')) = (w ≡ 5) × (0 < left) × (b : ℕ) × SignAt rest d.at 93 b × (d' ≡ moved_to d b)
 BehindBracket rest left d (Ok (Round m d')) = ⊥
 BehindBracket rest left d (Ok (Square d')) =
-    (0 < left) × (d' ≡ d) × (place : ℕ) × ((from : ℕ) → Stops (one_of 93 93 93) (from + place) (tokens_in from rest d.at))
+    (0 < left) × (d' ≡ d) × (place : ℕ) × ((from : ℕ) → Stops (one_of (93 ∷ [])) (from + place) (tokens_in from rest d.at))
 BehindBracket rest left d (Err (Malformed place)) = ⊥
 BehindBracket rest left d (Err Exceeded) = left ≡ 0
 

@@ -8,7 +8,7 @@ ghost use Rattle.load_openings.specs.Reading.{Stands, BegunIs};
 
 use crate::cursor::{Cursor, Unread};
 use load_names::{names, variables};
-use load_tokens::next::{IsNext, next_is};
+use load_tokens::next::next_is;
 use load_tokens::token::{Token, front};
 use term::word::{EMPTY, INTEGER, NAME, READER, TAGS, WRITER, index, word};
 
@@ -26,9 +26,9 @@ fn behind_name(rest: &[u8], left: usize, n: usize, d: Cursor) -> Result<Begun, U
     ensures { BehindName rest.now left n d result }
 {
     match next_is(rest, d.at, b'(') {
-        IsNext::No(_) => Ok(Begun::Got(NAME + TAGS * word(n), d)),
-        IsNext::Yes(_) if left == 0 => Err(Unread::Exceeded),
-        IsNext::Yes(at) => Ok(Begun::Round(n, Cursor { at, ..d })),
+        Err(_) => Ok(Begun::Got(NAME + TAGS * word(n), d)),
+        Ok(_) if left == 0 => Err(Unread::Exceeded),
+        Ok(at) => Ok(Begun::Round(n, Cursor { at, ..d })),
     }
 }
 
@@ -41,8 +41,8 @@ fn behind_bracket(rest: &[u8], left: usize, d: Cursor) -> Result<Begun, Unread>
         return Err(Unread::Exceeded);
     }
     match next_is(rest, d.at, b']') {
-        IsNext::Yes(at) => Ok(Begun::Got(EMPTY, Cursor { at, ..d })),
-        IsNext::No(_) => Ok(Begun::Square(d)),
+        Ok(at) => Ok(Begun::Got(EMPTY, Cursor { at, ..d })),
+        Err(_) => Ok(Begun::Square(d)),
     }
 }
 

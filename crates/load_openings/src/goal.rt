@@ -6,7 +6,7 @@ ghost use Rattle.load_openings.specs.Openings.{OpeningIs};
 
 use crate::cursor::{Cursor, Unread};
 use load_names::names;
-use load_tokens::next::{IsNext, next_is};
+use load_tokens::next::next_is;
 use load_tokens::token::{Token, front};
 
 // "Heads and goals are compounds with a name": the name's number, and the cursor behind its parenthesis.
@@ -23,10 +23,10 @@ pub fn goal_name(
 {
     match front(rest, c.at) {
         Token::Name(a, e) => match names::number(text, rest, from, names, c.names, a, e) {
-            names::Numbered::Number(n, names) => match next_is(rest, e, b'(') {
-                IsNext::Yes(at) => Ok((n, Cursor { at, names, ..c })),
-                IsNext::No(a) => Err(Unread::Malformed(a)),
-            },
+            names::Numbered::Number(n, names) => {
+                let at = next_is(rest, e, b'(')?;
+                Ok((n, Cursor { at, names, ..c }))
+            }
             names::Numbered::Exceeded => Err(Unread::Exceeded),
         },
         Token::Writer(a, _)

@@ -1,16 +1,19 @@
 -- What stands in front decides: a name is counted, and its parenthesis comes next or not.
+use Rattle.std.proofs.lemmas.Result.{err_from_is_err_and}
 use Rattle.load_openings.proofs.GoalNames.{opening_named, opening_lacks, opening_passed, opening_writer, opening_reader, opening_integer, opening_sign, opening_bad, opening_ends}
 use Rattle.load_openings.proofs.goal.goal_name.Goals as goal
 
-pub returns-in-Yes : goal.returns-in-Yes
-returns-in-Yes c = λ known vars item st.
+pub returns-in_ok-at-in-Number : goal.returns-in_ok-at-in-Number
+returns-in_ok-at-in-Number c = λ known vars item st.
     let a = c.args in
-    opening_named a.text.now a.rest.now a.from a.names.now c.number.new.table item a.c known vars st c.in-Name.a c.in-Name.e c.in-Number.n c.in-Number.names c.in-Yes.at c.in-Name.ensures (c.in-Number.ensures known st.names_in st.names_count) c.in-Yes.ensures
+    opening_named a.text.now a.rest.now a.from a.names.now c.number.new.table item a.c known vars st c.in-Name.a c.in-Name.e c.in-Number.n c.in-Number.names c.in_ok-at-in-Number.at c.in-Name.ensures (c.in-Number.ensures known st.names_in st.names_count) c.in_ok-at-in-Number.ensures
 
-pub returns-in-No : goal.returns-in-No
-returns-in-No c = λ known vars item st.
+pub returns-in_err-at-in-Number : goal.returns-in_err-at-in-Number
+returns-in_err-at-in-Number c = λ known vars item st.
     let a = c.args in
-    opening_lacks a.text.now a.rest.now a.from a.names.now c.number.new.table item a.c known vars st c.in-Name.a c.in-Name.e c.in-Number.n c.in-Number.names c.in-No.a 40 40 c.in-Name.ensures (c.in-Number.ensures known st.names_in st.names_count) c.in-No.ensures.0 c.in-No.ensures.1
+    let e = err_from_is_err_and c.from_residual.result c.from_residual.ensures.1 in
+    let stops = c.in_err-at-in-Number.ensures in
+    rw (e.1, e.2) (opening_lacks a.text.now a.rest.now a.from a.names.now c.number.new.table item a.c known vars st c.in-Name.a c.in-Name.e c.in-Number.n c.in-Number.names _ c.in-Name.ensures (c.in-Number.ensures known st.names_in st.names_count) stops.0 stops.1)
 
 pub returns-in-Exceeded : goal.returns-in-Exceeded
 returns-in-Exceeded c = λ known vars item st.
