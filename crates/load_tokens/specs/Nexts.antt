@@ -42,7 +42,7 @@ StartIs rest at (Ok u) = (from : ℕ) → Goes begins_term (tokens_in from rest 
 StartIs rest at (Err m) = StopsAt begins_term rest at m
 
 abbrev pub MarkIs : Bytes → ℕ → Result (ℕ × ℕ) Misplaced → Type 0
-MarkIs rest at (Ok s) = FrontIs rest at (tokens.Sign s.0 s.1)
+MarkIs rest at (Ok (c, a)) = FrontIs rest at (tokens.Sign c a)
 MarkIs rest at (Err m) = (signs : List ℕ) → StopsAt (one_of signs) rest at m
 
 abbrev pub IsNextSign : Bytes → ℕ → ℕ → Result ℕ Misplaced → Type 0
@@ -50,5 +50,5 @@ IsNextSign rest at x (Ok next) = SignAt rest at x next
 IsNextSign rest at x (Err m) = StopsAt (one_of (x ∷ [])) rest at m
 
 abbrev pub NextIs : Bytes → ℕ → List ℕ → Result (ℕ × ℕ) Misplaced → Type 0
-NextIs rest at signs (Ok s) = (among s.0 signs ≡ true) × SignAt rest at s.0 s.1
+NextIs rest at signs (Ok (c, next)) = (among c signs ≡ true) × SignAt rest at c next
 NextIs rest at signs (Err m) = StopsAt (one_of signs) rest at m
