@@ -1,5 +1,5 @@
 -- A goal at its first tokens: a name, its parenthesis, and behind it what `compound` reads.
-use Rattle.std.specs.Prelude.{Ok, Err}
+use Rattle.std.specs.Prelude.{Ok, Err, Some, None}
 use Prim.Native.Nat.{ℕ, ◌+◌, ◌≤◌}
 use mathlib.Core.Path.{◌≡◌, refl, ap, ◌∙◌}
 use mathlib.Core.Bool.{Bool, true, false}
@@ -18,7 +18,6 @@ use Rattle.load_names.specs.Places.{Place, spellings, with_place}
 use Rattle.load_openings.specs.Reading.{piece, counted_at, Stands}
 use Rattle.load_tokens.specs.Nexts.{one_of, Stops, SignAt}
 use Rattle.load_tokens.specs.declared.token.Token.TheVariants.{End, Name, Writer, Reader, Integer as AnInteger, Sign, Bad}
-use Rattle.load_names.specs.declared.names.Numbered.TheVariants.{Number, Exceeded as NameExceeded}
 use Rattle.load_openings.specs.declared.cursor.Cursor.{Cursor}
 use Rattle.load_openings.specs.declared.cursor.Unread.TheVariants.{Malformed, Exceeded}
 use Rattle.load_openings.proofs.Expected.{piece_open, expect_this, expect_stops}
@@ -92,7 +91,7 @@ module _ (text rest : Bytes) (from : ℕ) (names names' item : List ℕ) (c : Cu
   named_tokens a e h = h.4 from
 
   pub opening_named : (a e n count behind : ℕ) → FrontIs rest c.at (Name a e)
-      → NameIs text known (from + a) (slice a e rest) names names' (Number n count) → SignAt rest e 40 behind
+      → NameIs text known (from + a) (slice a e rest) names names' (Some (n, count)) → SignAt rest e 40 behind
       → OpeningIs text rest from names' item known vars c
       (Ok (n, record { at = behind; names = count; variables = c.variables; compounds = c.compounds }))
   opening_named a e n count behind h k opens =
@@ -121,7 +120,7 @@ module _ (text rest : Bytes) (from : ℕ) (names names' item : List ℕ) (c : Cu
       )
 
   pub opening_lacks : (a e n count place : ℕ) → FrontIs rest c.at (Name a e)
-      → NameIs text known (from + a) (slice a e rest) names names' (Number n count)
+      → NameIs text known (from + a) (slice a e rest) names names' (Some (n, count))
       → place ≤ length rest → ((from : ℕ) → Stops (one_of (40 ∷ [])) (from + place) (tokens_in from rest e))
       → OpeningIs text rest from names' item known vars c (Err (Malformed place))
   unfolding byte
@@ -131,7 +130,7 @@ module _ (text rest : Bytes) (from : ℕ) (names names' item : List ℕ) (c : Cu
     inside,
   )
 
-  pub opening_passed : (a e : ℕ) → FrontIs rest c.at (Name a e) → NameIs text known (from + a) (slice a e rest) names names' NameExceeded
+  pub opening_passed : (a e : ℕ) → FrontIs rest c.at (Name a e) → NameIs text known (from + a) (slice a e rest) names names' None
       → OpeningIs text rest from names' item known vars c (Err Exceeded)
   opening_passed a e h k =
       rw (named_tokens a e h)

@@ -1,5 +1,5 @@
 -- A term by its first token, as the code's answers say it: read whole, or opened by a bracket, or refused.
-use Rattle.std.specs.Prelude.{Result, Ok, Err}
+use Rattle.std.specs.Prelude.{Result, Ok, Err, Some}
 use Prim.Native.Nat.{ℕ, ◌+◌, ◌*◌, ◌-◌, ◌≤◌, ◌<◌, min}
 use mathlib.Core.Path.{◌≡◌, refl, ap, sym, ◌∙◌}
 use mathlib.Core.Bool.{Bool, true, false}
@@ -23,7 +23,6 @@ use Rattle.load_names.specs.Answers.{NameIs}
 use Rattle.load_tokens.specs.Nexts.{SignAt, one_of}
 use Rattle.load_openings.specs.Begun.{BehindName, BehindBracket, VariableBegun}
 use Rattle.load_openings.specs.Reading.{piece, counted_at, half_place, Stands, BegunIs}
-use Rattle.load_names.specs.declared.names.Numbered.TheVariants.{Number as NameNumber}
 use Rattle.load_tokens.specs.declared.token.Token.TheVariants.{End, Name, Integer as AnInteger, Sign, Bad}
 use Rattle.load_openings.specs.declared.cursor.Cursor.{Cursor}
 use Rattle.load_openings.specs.declared.begin.Begun.{Begun}
@@ -219,7 +218,7 @@ module _ (left : ℕ) (text rest : Bytes) (from : ℕ) (known vars : List Place)
         ∙ term_name_passed left so_far (from + a) f (piece (tokens_in from rest e))
         (count_name_passed f known vars c.compounds (piece (tokens_in from rest e)) u many)
 
-    module _ (n total : ℕ) (names' : List ℕ) (numbered : NameIs text known (from + a) f names names' (NameNumber n total)) where
+    module _ (n total : ℕ) (names' : List ℕ) (numbered : NameIs text known (from + a) f names names' (Some (n, total))) where
       abbrev d : Cursor
       d = record { at = e; names = total; variables = c.variables; compounds = c.compounds }
 

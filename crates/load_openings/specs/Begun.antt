@@ -1,12 +1,11 @@
 -- What the functions that begin a term say of what they found: behind a name, behind an opening bracket, of a variable.
-use Rattle.std.specs.Prelude.{ℕ, ◌+◌, ◌*◌, ◌<◌, ◌≡◌, List, [], ◌∷◌, Result, Ok, Err}
+use Rattle.std.specs.Prelude.{ℕ, ◌+◌, ◌*◌, ◌<◌, ◌≡◌, List, [], ◌∷◌, Result, Ok, Err, Some, None}
 use Rattle.meaning.specs.Bytes.{Bytes}
 use Rattle.term.specs.Words.{name_word, packed}
 use Rattle.load_tokens.specs.Fronts.{tokens_in}
 use Rattle.load_names.specs.Places.{Place}
 use Rattle.load_names.specs.Answers.{VariableIs}
 use Rattle.load_tokens.specs.Nexts.{SignAt, Stops, one_of}
-use Rattle.load_names.specs.declared.variables.Numbered.TheVariants.{Number, Exceeded as VariableExceeded}
 use Rattle.load_openings.specs.declared.cursor.Cursor.{Cursor}
 use Rattle.load_openings.specs.declared.begin.Begun.{Begun}
 use Rattle.load_openings.specs.declared.begin.Begun.TheVariants.{Got, Round, Square}
@@ -40,8 +39,8 @@ abbrev pub VariableBegun : Bytes → List Place → (tag at : ℕ) → Bytes →
 VariableBegun rest vars tag at x next c item item' (Ok (Got w d)) =
     (n : ℕ) × (count : ℕ) × (w ≡ packed tag n)
     × (d ≡ record { at = next; names = c.names; variables = count; compounds = c.compounds })
-    × VariableIs rest vars (16 + 16 * tag) at x item item' (Number n count)
+    × VariableIs rest vars (16 + 16 * tag) at x item item' (Some (n, count))
 VariableBegun rest vars tag at x next c item item' (Ok (Round m d)) = ⊥
 VariableBegun rest vars tag at x next c item item' (Ok (Square d)) = ⊥
 VariableBegun rest vars tag at x next c item item' (Err (Malformed place)) = ⊥
-VariableBegun rest vars tag at x next c item item' (Err Exceeded) = VariableIs rest vars (16 + 16 * tag) at x item item' VariableExceeded
+VariableBegun rest vars tag at x next c item item' (Err Exceeded) = VariableIs rest vars (16 + 16 * tag) at x item item' None

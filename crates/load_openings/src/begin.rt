@@ -62,13 +62,10 @@ fn variable(
         → VariableBegun rest.now vars tag a (slice a e rest.now) at c item.old item.new result }
 {
     let half = 16 + 16 * index(tag);
-    match variables::number(rest, item, c.variables, half, a, e) {
-        variables::Numbered::Number(n, variables) => Ok(Begun::Got(
-            tag + TAGS * word(n),
-            Cursor { at, variables, ..c },
-        )),
-        variables::Numbered::Exceeded => Err(Unread::Exceeded),
-    }
+    let numbered = variables::number(rest, item, c.variables, half, a, e);
+    let (n, variables) = numbered.ok_or(Unread::Exceeded)?;
+    let d = Cursor { at, variables, ..c };
+    Ok(Begun::Got(tag + TAGS * word(n), d))
 }
 
 // "A term is a writer, a reader, a constant, a compound or a list", by its first token, and by the next where that is a name or `[`.
@@ -86,17 +83,11 @@ pub fn begin(
         → BegunIs left text.now rest.now from known vars c item.old names.new item.new result }
 {
     match front(rest, c.at) {
-        Token::Name(a, e) => match names::number(text, rest, from, names, c.names, a, e) {
-            names::Numbered::Number(n, count) => {
-                let d = Cursor {
-                    at: e,
-                    names: count,
-                    ..c
-                };
-                behind_name(rest, left, n, d)
-            }
-            names::Numbered::Exceeded => Err(Unread::Exceeded),
-        },
+        Token::Name(a, e) => {
+            let numbered = names::number(text, rest, from, names, c.names, a, e);
+            let (n, names) = numbered.ok_or(Unread::Exceeded)?;
+            behind_name(rest, left, n, Cursor { at: e, names, ..c })
+        }
         Token::Writer(a, e) => variable(rest, item, WRITER, a, e, e, c),
         Token::Reader(a, e) => variable(rest, item, READER, a, e, e + 1, c),
         Token::Integer(w, _, e) => Ok(Begun::Got(INTEGER + TAGS * w, Cursor { at: e, ..c })),

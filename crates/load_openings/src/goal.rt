@@ -22,13 +22,12 @@ pub fn goal_name(
         → OpeningIs text.now rest.now from names.new item known vars c result }
 {
     match front(rest, c.at) {
-        Token::Name(a, e) => match names::number(text, rest, from, names, c.names, a, e) {
-            names::Numbered::Number(n, names) => {
-                let at = next_is(rest, e, b'(')?;
-                Ok((n, Cursor { at, names, ..c }))
-            }
-            names::Numbered::Exceeded => Err(Unread::Exceeded),
-        },
+        Token::Name(a, e) => {
+            let numbered = names::number(text, rest, from, names, c.names, a, e);
+            let (n, names) = numbered.ok_or(Unread::Exceeded)?;
+            let at = next_is(rest, e, b'(')?;
+            Ok((n, Cursor { at, names, ..c }))
+        }
         Token::Writer(a, _)
         | Token::Reader(a, _)
         | Token::Integer(_, a, _)

@@ -1,5 +1,6 @@
 -- Each arm is one lemma on a term's first token.
-use Rattle.std.proofs.Common.{◌+◌, refl, arith}
+use Rattle.std.proofs.Common.{◌≡◌, ◌+◌, Some, None, Err, refl, arith}
+use Rattle.load_openings.specs.declared.cursor.Unread.TheVariants.{Exceeded}
 use Rattle.std.proofs.Math.Seq.{slice}
 use borrow.Author.Tests.{ne_eqb}
 use Rattle.load_names.specs.Places.{item_places}
@@ -15,16 +16,19 @@ overflow_add-a c = omega (arith, c.in-Sign-eq91-default.ensures, behind_past c.i
 pub behind_bracket-requires : goal.behind_bracket-requires
 behind_bracket-requires c = omega (arith, c.in-Sign-eq91-default.ensures, behind_past c.in-Sign-eq91-default.field-0 c.in-Sign-eq91-default.a)
 
-pub returns-in-Number : goal.returns-in-Number
-returns-in-Number c = λ known vars stands.
+pub returns-in_ok-n-in-Name : goal.returns-in_ok-n-in-Name
+returns-in_ok-n-in-Name c = λ known vars stands.
     let a = c.args in
-    begun_name a.left a.text.now a.rest.now a.from known vars a.c a.names.now a.item.now stands c.in-Name.a c.in-Name.e c.in-Name.ensures c.in-Number.n c.in-Number.count _ (c.in-Number.ensures known stands.names_in stands.names_count) c.behind_name.result c.behind_name.ensures
+    let found : c.number-numbered.result ≡ Some (c.in_ok-n-in-Name.n, c.in_ok-n-in-Name.names) = grind arith in
+    begun_name a.left a.text.now a.rest.now a.from known vars a.c a.names.now a.item.now stands c.in-Name.a c.in-Name.e c.in-Name.ensures c.in_ok-n-in-Name.n c.in_ok-n-in-Name.names _ (rw found at (c.number-numbered.ensures known stands.names_in stands.names_count)) c.behind_name.result c.behind_name.ensures
 
-pub returns-in-Exceeded : goal.returns-in-Exceeded
-returns-in-Exceeded c = λ known vars stands.
+pub returns-in_err-n-in-Name : goal.returns-in_err-n-in-Name
+returns-in_err-n-in-Name c = λ known vars stands.
     let a = c.args in
-    let full = c.in-Exceeded.ensures known stands.names_in stands.names_count in
-    begun_name_passed a.left a.text.now a.rest.now a.from known vars a.c a.names.now a.item.now stands c.in-Name.a c.in-Name.e c.in-Name.ensures full.0 full.1 a.names.now
+    let none : c.number-numbered.result ≡ None = grind arith in
+    let e : c.from_residual.result ≡ Err Exceeded = grind arith in
+    let full = rw none at (c.number-numbered.ensures known stands.names_in stands.names_count) in
+    rw e (begun_name_passed a.left a.text.now a.rest.now a.from known vars a.c a.names.now a.item.now stands c.in-Name.a c.in-Name.e c.in-Name.ensures full.0 full.1 c.number-numbered.new.table)
 
 pub returns-in-Writer : goal.returns-in-Writer
 unfolding item_places half_place
