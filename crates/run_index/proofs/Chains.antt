@@ -8,7 +8,8 @@ use native.Mathlib.Omega.{arith}
 use Rattle.std.specs.Prelude.{Option, None, Some}
 use lib.ListN.{get_or}
 use Rattle.term.specs.Layout.{clause_key_word, clause_open_word, clause_later_word}
-use Rattle.run_index.specs.Index.{key_of, bucket_of, functor_of, link_to, FirstOf, HasKey, InBucket, ClauseIndexed, IndexedFrom, Indexed}
+use Rattle.term.specs.Words.{link_to}
+use Rattle.run_index.specs.Index.{key_of, bucket_of, functor_of, FirstOf, HasKey, InBucket, ClauseIndexed, IndexedFrom, Indexed}
 use Rattle.run_index.proofs.First.{first_itself, first_from}
 
 -- A walk along the bucket of a key: of the clauses passed none has it, and the next is the first of the bucket behind them.

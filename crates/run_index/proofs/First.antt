@@ -5,7 +5,8 @@ use mathlib.Core.Path.{◌≡◌, refl}
 use native.Mathlib.Decide.{dec_lt, ℕ_discrete}
 use native.Mathlib.Omega.{arith}
 use Rattle.std.specs.Prelude.{Option, None, Some, IfSome}
-use Rattle.run_index.specs.Index.{link_to, FirstOf}
+use Rattle.term.specs.Words.{link_to}
+use Rattle.run_index.specs.Index.{FirstOf}
 
 module _ (P : ℕ → Type 0) where
   pub first_none : (from to r : ℕ) → to ≤ from → FirstOf P from to r → r ≡ 0

@@ -8,7 +8,7 @@ use native.Mathlib.Omega.{arith}
 use lib.ListN.{get_or}
 use Rattle.meaning.specs.Terms.{Clause}
 use Rattle.term.specs.Layout.{clause_stride, clause_record}
-use Rattle.run_index.specs.Index.{link_to}
+use Rattle.term.specs.Words.{link_to}
 use Rattle.run_index.specs.Left.{Left, AllOut, Nearest, InOrder, FurtherIs}
 use Rattle.run_index.specs.declared.leads.Leads.{Leads}
 

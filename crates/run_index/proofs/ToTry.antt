@@ -9,12 +9,12 @@ use lib.ListN.{length, get_or}
 use Rattle.meaning.specs.Bytes.{Bytes}
 use Rattle.meaning.specs.Terms.{Named, Clause, Job}
 use Rattle.meaning.specs.Trial.{procedure}
-use Rattle.term.specs.Words.{tag_in}
+use Rattle.term.specs.Words.{link_to, tag_in}
 use Rattle.term.specs.Jobs.{Linked, ClauseAt}
 use Rattle.term.specs.Layout.{procedure_slot, told_word, followed_part}
 use Rattle.term.proofs.Held.{linked_next}
 use Rattle.term.proofs.Numbers.{number_below}
-use Rattle.run_index.specs.Index.{kind_of, KindReads, key_of, functor_of, told_by, link_to, FirstOf, HasKey}
+use Rattle.run_index.specs.Index.{kind_of, KindReads, key_of, functor_of, told_by, FirstOf, HasKey}
 use Rattle.run_index.specs.Left.{Idle, Left, Sought, LeadsAre, InOrder}
 use Rattle.run_index.specs.declared.leads.Leads.{Leads}
 use Rattle.run_index.proofs.First.{first_from}

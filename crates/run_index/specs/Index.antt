@@ -56,11 +56,6 @@ own_kind s k = when eqb (told_by s (functor_of s k)) 0 then 0 else kind_of s (ge
 unfoldable pub own_key : List ℕ → ℕ → ℕ
 own_key s k = key_of (functor_of s k) (own_kind s k)
 
--- The word of a record that leads to a clause: one more than its number; 0 for none.
-abbrev pub link_to : Option ℕ → ℕ
-link_to None = 0
-link_to (Some k) = k + 1
-
 -- A word says which argument a procedure is told apart by; 0 that it is by none.
 abbrev pub TellsApart : ℕ → Option ℕ → Type 0
 TellsApart w None = w ≡ 0

@@ -3,11 +3,11 @@ use Rattle.std.specs.Prelude.{ℕ, ◌+◌, ◌-◌, ◌≤◌, ◌<◌, ◌≡�
 use Rattle.meaning.specs.Bytes.{Bytes}
 use Rattle.meaning.specs.Terms.{Named, named, Clause, Job, count}
 use Rattle.meaning.specs.Trial.{procedure}
-use Rattle.term.specs.Words.{tag_in}
+use Rattle.term.specs.Words.{link_to, tag_in}
 use Rattle.term.specs.Cells.{KnownName, functor_word}
 use Rattle.term.specs.Jobs.{places_from, EachFrom, ClauseAt, HoldsJob}
 use Rattle.term.specs.Layout.{procedure_slot, clause_stride, clause_record, clause_head, followed_part}
-use Rattle.run_index.specs.Index.{kind_of, KindReads, link_to, Indexed}
+use Rattle.run_index.specs.Index.{kind_of, KindReads, Indexed}
 use Rattle.run_index.specs.declared.leads.Leads.{Leads}
 
 -- Clause k has another kind of term than the goal at an argument that both have, where the clause has no writer, and the goal no variable.

@@ -3,17 +3,18 @@ ghost use Rattle.std.specs.Prelude.{◌≡◌, ◌≢◌, List, ℕ, ◌+◌, �
 ghost use Rattle.meaning.specs.Bytes.{Bytes};
 ghost use Rattle.meaning.specs.Terms.{Job};
 ghost use Rattle.term.specs.Jobs.{HoldsJob};
+ghost use Rattle.term.specs.Words.{link_to};
 ghost use Rattle.term.specs.Layout.{compounds_region, clause_stride, clause_record, clause_head};
-ghost use Rattle.run_index.specs.Index.{kind_of, KindReads, bucket_of, functor_of as functor_of_meant, first_of, own_key, link_to, Indexed, IndexedFrom, IndexOnly};
+ghost use Rattle.run_index.specs.Index.{kind_of, KindReads, bucket_of, functor_of as functor_of_meant, first_of, own_key, Indexed, IndexedFrom, IndexOnly};
 ghost use Rattle.run_index.specs.Building.{HeadReads, HeadsRead, OneRead, Alike, ArgumentOf, ToldFits, Begun, NextIs, Telling, Put, Entering, Entered};
 
-use crate::index::{bucket, find, key, kind, link, linked, told};
+use crate::index::{bucket, find, key, kind, told};
 use term::layout::{
     CLAUSE_FIRST, CLAUSE_KEY, CLAUSE_LATER, CLAUSE_MANY, CLAUSE_NEXT, CLAUSE_OPEN, CLAUSE_SAME,
     CLAUSE_STRIDE, CLAUSE_TOLD, CLAUSES, ITEM_WORDS, ITEMS, PROCEDURES,
 };
 use term::scratch::{argument, count, set_at, word_at};
-use term::word::{index, word};
+use term::word::{index, link, linked, word};
 
 // How many clauses of a procedure are tried in a line, with no argument that tells them apart.
 const FEW: u64 = 8;

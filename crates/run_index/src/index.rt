@@ -1,11 +1,12 @@
 // The words of the index: of a clause its key, and of keys the first clause.
-ghost use Rattle.std.specs.Prelude.{◌≡◌, List, ℕ, ◌<◌, ◌≤◌, length, get_or, IfSome};
+ghost use Rattle.std.specs.Prelude.{◌≡◌, List, ℕ, ◌<◌, ◌≤◌, length, get_or};
+ghost use Rattle.term.specs.Words.{link_to};
 ghost use Rattle.term.specs.Layout.{compounds_region, told_word};
-ghost use Rattle.run_index.specs.Index.{kind_of, KindReads, key_of, bucket_of, link_to, FirstOf, HasKey, IndexedFrom, TellsApart};
+ghost use Rattle.run_index.specs.Index.{kind_of, KindReads, key_of, bucket_of, FirstOf, HasKey, IndexedFrom, TellsApart};
 
 use term::layout::{CLAUSE_FIRST, CLAUSE_KEY, CLAUSE_LATER, CLAUSE_STRIDE, CLAUSE_TOLD, CLAUSES};
 use term::scratch::word_at;
-use term::word::{COMPOUND, READER, TAGS, WRITER, index, word};
+use term::word::{COMPOUND, READER, TAGS, WRITER, index, linked};
 
 // How many buckets the keys have, and how many words tell an argument: one in each clause's record.
 pub const BUCKETS: u64 = 128;
@@ -50,21 +51,6 @@ pub fn told(s: &[u64], first: usize) -> Option<usize>
         0 => None,
         a => Some(a),
     }
-}
-
-// The clause to which a word of a record leads: the word is one more than its number; 0 for none.
-pub fn linked(w: u64) -> Option<usize>
-    ensures { link_to result ≡ w }
-{
-    index(w).checked_sub(1)
-}
-
-// The word that leads to a clause, or to none.
-pub fn link(clause: Option<usize>) -> u64
-    requires { IfSome clause (λ k. k < 128) }
-    ensures { result ≡ link_to clause }
-{
-    clause.map_or(0, |k| word(k + 1))
 }
 
 // The first clause with a key.

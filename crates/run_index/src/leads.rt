@@ -2,16 +2,17 @@
 ghost use Rattle.std.specs.Prelude.{◌≡◌, List, ℕ, ◌+◌, ◌<◌, ◌≤◌, length, Some};
 ghost use Rattle.meaning.specs.Bytes.{Bytes};
 ghost use Rattle.meaning.specs.Terms.{Named, Job};
+ghost use Rattle.term.specs.Words.{link_to};
 ghost use Rattle.term.specs.Layout.{compounds_region, clause_record};
-ghost use Rattle.run_index.specs.Index.{key_of, functor_of, link_to, FirstOf, HasKey, Indexed};
+ghost use Rattle.run_index.specs.Index.{key_of, functor_of, FirstOf, HasKey, Indexed};
 ghost use Rattle.run_index.specs.Left.{InOrder, Sought, LeadsAre, FurtherIs};
 
-use crate::index::{find, key, kind, linked, told};
+use crate::index::{find, key, kind, told};
 use term::layout::{
     CLAUSE_KEY, CLAUSE_NEXT, CLAUSE_OPEN, CLAUSE_SAME, CLAUSE_STRIDE, CLAUSES, FOLLOWED,
 };
 use term::scratch::word_at;
-use term::word::READER;
+use term::word::{READER, linked};
 
 // What is left to try: two chains of clauses, each by its first clause, if it has one, and the word of a record by which it goes on. The clause to try next is
 // the first of the first chain; the other chain has none before it.

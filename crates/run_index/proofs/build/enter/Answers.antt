@@ -1,7 +1,8 @@
 -- The first clauses behind it with its key, and with a writer, are found in the index of those.
 use Rattle.std.proofs.Common.{◌≡◌, ◌+◌, ap, subst, ◌∙◌}
 use native.Mathlib.Omega.{arith}
-use Rattle.run_index.specs.Index.{key_of, functor_of, link_to, FirstOf, HasKey}
+use Rattle.term.specs.Words.{link_to}
+use Rattle.run_index.specs.Index.{key_of, functor_of, FirstOf, HasKey}
 use Rattle.run_index.proofs.First.{first_few}
 use Rattle.run_index.proofs.Joining.{joined}
 use Rattle.run_index.proofs.build.enter.Goals as goal

@@ -1,6 +1,7 @@
 -- A walk along the key's bucket.
 use Rattle.std.proofs.Common.{ℕ}
-use Rattle.run_index.specs.Index.{link_to, IndexedFrom}
+use Rattle.term.specs.Words.{link_to}
+use Rattle.run_index.specs.Index.{IndexedFrom}
 use Rattle.run_index.proofs.Chains.{Seeking, to_go}
 use Rattle.run_index.proofs.index.find.Given as goal
 
