@@ -70,5 +70,6 @@ pub record InOrder (a link b other : ℕ) (l : Leads) : Type 0 where
   pub are : ((link_to l.next ≡ a) × (l.link ≡ link) × (link_to l.other ≡ b) × (l.onward ≡ other))
       ⊎ ((link_to l.next ≡ b) × (l.link ≡ other) × (link_to l.other ≡ a) × (l.onward ≡ link))
 
-abbrev pub FurtherIs : List ℕ → Leads → Leads → Type 0
-FurtherIs s l r = InOrder (get_or s (clause_record (link_to l.next - 1) + l.link) 0) l.link (link_to l.other) l.onward r
+-- What is left behind clause k, the next one.
+abbrev pub FurtherIs : List ℕ → ℕ → Leads → Leads → Type 0
+FurtherIs s k l r = InOrder (get_or s (clause_record k + l.link) 0) l.link (link_to l.other) l.onward r

@@ -90,7 +90,7 @@ pub fn to_try(s: &[u64], functor: u64, first: Option<usize>) -> Leads
 // What is left when clause k, the next, was tried.
 pub fn further(s: &[u64], k: usize, l: Leads) -> Leads
     requires { (l.next ≡ Some k) × (clause_record k + l.link < length s.now) }
-    ensures { FurtherIs s.now l result }
+    ensures { FurtherIs s.now k l result }
 {
     let a = linked(word_at(s, CLAUSES + CLAUSE_STRIDE * k, l.link));
     in_order(a, l.link, l.other, l.onward)

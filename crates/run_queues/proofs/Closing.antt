@@ -15,9 +15,6 @@ use Rattle.run_queues.proofs.Log.{by_place}
 use Rattle.run_queues.proofs.LogSteps.{log_only_same, log_only_then, same_slots}
 
 module _ (s : List ℕ) (log waiters sets pairs : ℕ) (slots : List Slot) (place to : ℕ) (a : Settles s log waiters sets pairs slots place to) where
-  pub settle_inside : log + 2 * place + 1 < length s
-  settle_inside = omega (arith, a.ok.inside, a.here)
-
   stands_as : (v : Slot) → slot slots place ≡ v → SlotStands s log waiters sets pairs place v
   stands_as v e = rw e at (a.ok.stands place a.here)
 
