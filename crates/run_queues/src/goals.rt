@@ -19,7 +19,7 @@ fn spot(size: usize, at: usize) -> usize
 // The queue: a ring of so many words from a place on, in which so many goals stand from the front on.
 #[derive(Clone, Copy)]
 pub struct Ring {
-    pub queue: usize,
+    pub start: usize,
     pub size: usize,
     pub front: usize,
     pub active: usize,
@@ -28,10 +28,10 @@ pub struct Ring {
 impl Ring {
     // The goal joins the end of the queue.
     pub fn push(self, s: &mut [u64], goal: u64)
-        requires { RingOk s.old self.queue self.size self.front × (self.active < self.size) }
-        ensures { Pushed s.old s.new self.queue self.size self.front self.active goal }
+        requires { RingOk s.old self.start self.size self.front × (self.active < self.size) }
+        ensures { Pushed s.old s.new self.start self.size self.front self.active goal }
     {
-        s[self.queue + spot(self.size, self.front + self.active)] = goal;
+        s[self.start + spot(self.size, self.front + self.active)] = goal;
     }
 }
 
