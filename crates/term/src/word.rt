@@ -33,6 +33,7 @@ pub enum View {
 }
 
 // A word taken apart.
+#[tactic(auto, using(crate::proofs::Words::view_compound), unfolding(crate::specs::Words::view))]
 pub fn look(w: u64) -> View
     ensures { result ≡ view (tag_in w) (rest_in w) }
 {
@@ -40,16 +41,17 @@ pub fn look(w: u64) -> View
     let tag = w % TAGS;
     match tag {
         0 => View::Nothing,
-        1 => View::Writer(payload as usize),
-        2 => View::Reader(payload as usize),
-        3 => View::Integer(payload),
-        4 => View::Name(payload as usize),
-        5 => View::Empty,
-        _ => View::Compound(payload as usize),
+        WRITER => View::Writer(index(payload)),
+        READER => View::Reader(index(payload)),
+        INTEGER => View::Integer(payload),
+        NAME => View::Name(index(payload)),
+        EMPTY => View::Empty,
+        _ => View::Compound(index(payload)),
     }
 }
 
 // A word as an index, and a number as a word.
+// Stay casts: Rust has no From between u64 and usize.
 pub fn index(w: u64) -> usize
     ensures { result ≡ w }
 {
