@@ -1,11 +1,7 @@
 -- A word looked at: what is seen is what the term is.
 use Prim.Native.Nat.{ℕ}
 use mathlib.Core.Path.{◌≡◌, refl, ◌∙◌}
-use mathlib.Core.List.{[], ◌∷◌}
 use mathlib.Core.Option.{none}
-use denote.Enum.Declared.{tag_of}
-use types.Run.{OneOf, miss}
-use Rattle.term.specs.contracts.word.View.{the_type}
 use native.Mathlib.Omega.{arith}
 use Rattle.meaning.specs.Bytes.{Bytes}
 use Rattle.meaning.specs.Terms.{Half, writer, reader, Integer, Constant, Functor, Term, Terms}
@@ -130,16 +126,13 @@ no_variable_value values (Term.variable h n) d = absurd (d h n refl)
 no_variable_value values (Term.constant k) d = refl
 no_variable_value values (Term.compound n f ts) d = refl
 
--- No compound is seen.
-pub no_compound_seen : (v : View) → OneOf (0 ∷ 1 ∷ 2 ∷ 3 ∷ 4 ∷ 5 ∷ []) (tag_of the_type v) → NoCompound v
-no_compound_seen v k q e = miss (0 ∷ 1 ∷ 2 ∷ 3 ∷ 4 ∷ 5 ∷ []) 6 tt (rw e at k)
-
--- Neither nothing nor a compound: then it is one of the others.
-pub other_leaf : (v : View) → OneOf (0 ∷ 6 ∷ []) (tag_of the_type v) → (v ≡ Nothing → ⊥) → NoCompound v → ⊥
-other_leaf Nothing k n d = n refl
-other_leaf (Writer p) k n d = miss (0 ∷ 6 ∷ []) 1 tt k
-other_leaf (Reader p) k n d = miss (0 ∷ 6 ∷ []) 2 tt k
-other_leaf (AnInteger m) k n d = miss (0 ∷ 6 ∷ []) 3 tt k
-other_leaf (Name m) k n d = miss (0 ∷ 6 ∷ []) 4 tt k
-other_leaf Empty k n d = miss (0 ∷ 6 ∷ []) 5 tt k
-other_leaf (Compound q) k n d = d q refl
+-- None of the others, neither nothing nor a compound: that is no view.
+pub other_leaf : (v : View) → ((p : ℕ) → v ≡ Writer p → ⊥) → ((p : ℕ) → v ≡ Reader p → ⊥) → ((n : ℕ) → v ≡ AnInteger n → ⊥)
+    → ((k : ℕ) → v ≡ Name k → ⊥) → (v ≡ Empty → ⊥) → (v ≡ Nothing → ⊥) → NoCompound v → ⊥
+other_leaf Nothing w r i k e n d = n refl
+other_leaf (Writer p) w r i k e n d = w p refl
+other_leaf (Reader p) w r i k e n d = r p refl
+other_leaf (AnInteger m) w r i k e n d = i m refl
+other_leaf (Name m) w r i k e n d = k m refl
+other_leaf Empty w r i k e n d = e refl
+other_leaf (Compound q) w r i k e n d = d q refl

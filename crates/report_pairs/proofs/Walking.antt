@@ -15,17 +15,13 @@ use Rattle.term.specs.Words.{view_of, packed, tag_in, rest_in}
 use Rattle.term.specs.Cells.{Places, content, functor_number, Known, AllKnown}
 use Rattle.term.specs.Holds.{CellAt, Holds, HoldsFrom}
 use Rattle.term.specs.Setting.{Setting, Within, AllWithin, Ranged, AllRanged}
-use denote.Enum.Declared.{tag_of}
-use types.Run.{OneOf, miss}
-use Rattle.term.specs.contracts.word.View.{the_type}
-use Rattle.term.specs.declared.word.View.{View}
 use Rattle.term.specs.declared.word.View.TheVariants.{Empty, Compound}
 use Rattle.report_pairs.specs.Threaded.{full, all_full, seen_after, seen_after_all}
 use Rattle.report_pairs.specs.Sound.{Sound, AllSound}
 use Rattle.term.specs.Chains.{value_of}
 use Rattle.report_pairs.specs.Facts.{Led, Shows}
 use Rattle.report_pairs.specs.Walk.{StandsAt, Position, Found}
-use Rattle.std.specs.Prelude.{Some, None}
+use Rattle.std.specs.Prelude.{Option as Told, Some, None}
 use Rattle.report_pairs.proofs.Full.{full_constant, full_compound, full_unassigned}
 use Rattle.report_pairs.proofs.Once.{seen_after_constant, seen_after_compound, seen_after_end, seen_after_more}
 use Rattle.report_pairs.proofs.Told.{seen, seen_term, empty_told, compound_told}
@@ -289,13 +285,11 @@ led_inside s x v w q l e = go (compound_told x.places l.last q (sym (seen_term x
     go : (n : ℕ) × (f : Functor) × (ts : Terms) × (l.last ≡ Term.compound n f ts) × (q ≡ x.places.compound n) → q + 8 ≤ length s
     go (n, f, ts, z, b) = let held : Holds s x.places (Term.compound n f ts) = rw z at l.term.held in rw b held.0.inside
 
--- Neither `[]` nor a compound is seen.
-pub other_empty : (v : View) → OneOf (0 ∷ 1 ∷ 2 ∷ 3 ∷ 4 ∷ []) (tag_of the_type v) → v ≡ Empty → ⊥
-other_empty v k e = miss (0 ∷ 1 ∷ 2 ∷ 3 ∷ 4 ∷ []) 5 tt (rw e at k)
-
-pub other_compound : (v : View) → OneOf (0 ∷ 1 ∷ 2 ∷ 3 ∷ 4 ∷ []) (tag_of the_type v) → (q : ℕ) → v ≡ Compound q → ⊥
-other_compound v k q e = miss (0 ∷ 1 ∷ 2 ∷ 3 ∷ 4 ∷ []) 6 tt (rw e at k)
-
 -- The word of a list's tail.
 pub tail_shows : (s : List ℕ) (x : Setting) (p : ℕ) (u v : Term) → Position s x p 1 0 cell u (more v end) → Shows s x v (get_or s (p + 2) 0)
 tail_shows s x p u v a = position_shows s x p 2 1 cell v end (position_next s x p 1 0 cell u v end a)
+
+-- What was found, by its parts.
+pub found_as : (s : List ℕ) (x : Setting) (f : Functor) (j : ℕ) (us : Terms) (r : ℕ × Told (ℕ × ℕ)) (o : Told (ℕ × ℕ)) → r.1 ≡ o
+    → Found s x f j us r → Found s x f j us (r.0, o)
+found_as s x f j us (b, n) o e F = rw e at F
