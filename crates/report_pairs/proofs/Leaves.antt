@@ -1,5 +1,5 @@
 -- Terms that are no compounds: where their bytes come from.
-use Prim.Native.Nat.{ℕ, zero, suc, ◌+◌, ◌-◌, ◌*◌, ◌/◌, ◌≤◌, ◌<◌}
+use Prim.Native.Nat.{ℕ, suc, ◌+◌, ◌-◌, ◌*◌, ◌≤◌, ◌<◌}
 use mathlib.Core.Path.{◌≡◌, refl, ◌∙◌, sym, ap}
 use mathlib.Core.Bool.{Bool, true, false, ◌||◌}
 use mathlib.Core.List.{List, [], ◌∷◌, ◌++◌}
@@ -9,12 +9,11 @@ use lib.ListN.{length, length-append, get_or}
 use lib.Seq.{slice}
 use mathlib.Core.Logic.{◌≢◌}
 use Rattle.meaning.specs.Bytes.{Bytes, bytes, decimal, same, any, when◌then◌else◌}
-use Rattle.meaning.specs.Terms.{Half, writer, reader, Integer, plus, minus, Constant, Functor, cell, named, Term, Terms}
+use Rattle.meaning.specs.Terms.{Half, writer, reader, Integer, plus, minus, Constant, Functor, cell, named, Term}
 use Rattle.meaning.specs.State.{value}
 use Rattle.meaning.specs.Report.{alone, written, variable_bytes, number_in, integer_bytes, constant_bytes, behind_bar, empty_bytes}
-use Rattle.laws.proofs.Terms.Standing.{Stands}
 use Rattle.term.specs.Words.{view_of}
-use Rattle.term.specs.Cells.{content, bits, number_of, functor_number, KnownName, Known}
+use Rattle.term.specs.Cells.{content, bits, number_of, KnownName, Known}
 use Rattle.term.specs.Setting.{Setting, Within, Ranged, RangedInteger}
 use Rattle.term.specs.Spellings.{SpelledAt}
 use Rattle.term.specs.declared.word.View.TheVariants.{Nothing, Writer, Reader, Integer as AnInteger, Name, Empty}
@@ -22,7 +21,7 @@ use Rattle.term.proofs.Numbers.{number_below, same_equal}
 use Rattle.term.proofs.Spellings.{holds_spelling_at}
 use Rattle.report_pairs.specs.Threaded.{full}
 use Rattle.report_pairs.specs.Walk.{Opens, opening_bytes}
-use Rattle.report_pairs.specs.Facts.{fact_place, Readable, Led}
+use Rattle.report_pairs.specs.Facts.{Readable, Led}
 use Rattle.report_pairs.proofs.Full.{full_constant, full_unassigned}
 use Rattle.report_pairs.proofs.Told.{seen, seen_term, writer_told, reader_told, integer_told, name_told, empty_told, nothing_told}
 

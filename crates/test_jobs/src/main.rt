@@ -8,12 +8,11 @@
 ghost use Rattle.std.specs.Prelude.{◌≡◌, ℕ, ◌≤◌, ◌<◌, length};
 ghost use Rattle.job.specs.Calling.{Within};
 
-use job::call::{Answer, call};
-use loader::refusal::{Refusal, rule_number};
+use job::call::{Unreported, call};
 use term::layout::{COMPOUND_WORDS, COMPOUNDS};
 
-fn told(number: u64, line: usize, size: usize, offset: usize) {
-    io::print_decimal(1, number);
+fn told(number: u32, line: usize, size: usize, offset: usize) {
+    io::print_decimal(1, number as u64);
     io::write_all(1, b" ");
     io::print_decimal(1, line as u64);
     io::write_all(1, b" ");
@@ -23,30 +22,15 @@ fn told(number: u64, line: usize, size: usize, offset: usize) {
     io::write_all(1, b"\n");
 }
 
-fn show(answer: Answer, buffer: &[u8])
+fn show(answer: Result<usize, Unreported>, buffer: &[u8])
     requires { Within answer buffer.now }
 {
     match answer {
-        Answer::Ran(n) => {
+        Ok(n) => {
             told(0, 0, n, 0);
             io::write_all(1, &buffer[..n]);
         }
-        Answer::OutOfRange => told(1, 0, 0, 0),
-        Answer::ScratchShort => told(2, 0, 0, 0),
-        Answer::TextLong => told(3, 0, 0, 0),
-        Answer::Refused(why) => match why {
-            Refusal::NoItems(line, offset) => told(4, line, 0, offset),
-            Refusal::GuardRefused(line) => told(11, line, 0, 0),
-            Refusal::OccurrenceBroken(rule, line, offset) => told(
-                rule_number(rule) as u64,
-                line,
-                0,
-                offset,
-            ),
-            Refusal::FigurePassed(line) => told(6, line, 0, 0),
-        },
-        Answer::QueriesPassRoom => told(7, 0, 0, 0),
-        Answer::ReportLong(n) => told(8, 0, n, 0),
+        Err(why) => told(why.number(), why.line(), why.length(), why.offset()),
     }
 }
 
