@@ -17,7 +17,7 @@ use Rattle.term.specs.Layout.{values_region, waiters_region, sets_region, queue_
 use Rattle.term.specs.States.{Atlas}
 use Rattle.term.specs.Goals.{goal_mark}
 use Rattle.term.specs.declared.state.Standing.{Standing}
-use Rattle.run_between.specs.declared.stepped.Stepped.TheVariants.{Next, NoRoom}
+use Rattle.std.specs.Prelude.{Option, Some, None}
 use Rattle.run_queues.specs.Log.{Slot}
 use Rattle.run_compare.specs.Gifts.{Entry}
 use Rattle.run_effects.specs.Build.{Item, Copies, total}
@@ -106,7 +106,7 @@ module _ {s : List ℕ} {text : Bytes} {names : List Bytes} {j : Job} {figures :
 
   module _ {query k n : ℕ} {c : Clause} {given : List Assignment} (red : Reducing s names j figures limit atlas g query k n c given) where
     pub reduction_stops : fits figures (reduces c given) (run j limit figures).state (without_front others (run j limit figures).state.goals) ≡ false
-        → StepIs s s text names j figures limit atlas g others t NoRoom
+        → StepIs s s text names j figures limit atlas g others t None
     reduction_stops fit = record { only = run_only_same figures s; told = (rw red.chosen fit, taken.running.state) }
 
     pub reduction_steps : (s' : List ℕ) (u : Standing) (cells' : ℕ) (y : Copies) (front : ℕ) (zs : List ℕ)
@@ -116,7 +116,7 @@ module _ {s : List ℕ} {text : Bytes} {names : List Bytes} {j : Job} {figures :
         front (t.active - 1)
         → StandingAfter t u c cells' front (length (hits zs 0 slots))
         → WokenAre atlas g.query given (run j limit figures).state.goals.waiting slots zs
-        → StepIs s s' text names j figures limit atlas g others t (Next u)
+        → StepIs s s' text names j figures limit atlas g others t (Some u)
     reduction_steps s' u cells' y front zs fit passed done after waked =
         record {
           only = done.only;
@@ -225,7 +225,7 @@ module _ {s : List ℕ} {text : Bytes} {names : List Bytes} {j : Job} {figures :
                       pub size_6 : length s₆ ≡ length s
                       size_6 = ap length raw₆ ∙ length-set s₅ (query_tries_word query) (get_or s₅ (query_tries_word query) 0 + 1) ∙ size_5
 
-                      pub ends : (u : Standing) → StandingAfter t u c r₄ front r → StepIs s s₆ text names j figures limit atlas g others t (Next u)
+                      pub ends : (u : Standing) → StandingAfter t u c r₄ front r → StepIs s s₆ text names j figures limit atlas g others t (Some u)
                       ends u after =
                           rw (raw₆, red.query_is)
                           (reduction_steps taken red _ u _ _ front (entry_places s₂ n) fit passed
