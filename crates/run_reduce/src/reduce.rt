@@ -21,7 +21,14 @@ use term::state::Standing;
 use term::word::index;
 
 // The goal is reduced by clause k, with n of its pairs given a term: the state after it, unless the reduction does not fit.
-pub fn reduce(s: &mut [u64], room: Room, t: Standing, query: usize, k: usize, n: usize) -> Option<Standing>
+pub fn reduce(
+    s: &mut [u64],
+    room: Room,
+    t: Standing,
+    query: usize,
+    k: usize,
+    n: usize,
+) -> Option<Standing>
     requires { (text : Bytes) × (names : List Bytes) × (j : Job) × (limit : ℕ) × (atlas : Atlas) × (slots : List Slot) × (g : Goal) × (others : List Goal) × (c : Clause) × (given : List Assignment)
         × Taken s.old text names j (figures room) limit atlas slots g others t
         × Reducing s.old names j (figures room) limit atlas g query k n c given }

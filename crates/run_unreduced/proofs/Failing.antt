@@ -1,5 +1,5 @@
 -- The step when the goal in front fails: what the code asks, and the run's next state.
-use Prim.Native.Nat.{ℕ, ◌+◌, ◌-◌, ◌*◌, ◌≤◌, ◌<◌}
+use Prim.Native.Nat.{ℕ, ◌+◌, ◌*◌, ◌≤◌, ◌<◌}
 use mathlib.Core.Path.{◌≡◌, refl, ap, ◌∙◌}
 use mathlib.Core.Bool.{true}
 use mathlib.Core.List.{List, [], ◌∷◌, ◌++◌}
@@ -22,7 +22,7 @@ use Rattle.run_queues.specs.Log.{Slot, Failed}
 use Rattle.run_queues.specs.Ring.{Passed}
 use Rattle.run_between.specs.Running.{GroundMarks, Running, StepIs}
 use Rattle.run_between.specs.Taking.{Taken, JoiningFailed}
-use Rattle.std.specs.Prelude.{Option, Some, None}
+use Rattle.std.specs.Prelude.{Some}
 use Rattle.run_between.proofs.Frames.{units_set}
 use Rattle.run_between.proofs.GroundMarks.{grounds_alike}
 use Rattle.run_between.proofs.FramesRunning.{few_units, tries_below, front_stands}

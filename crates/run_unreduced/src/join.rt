@@ -80,7 +80,13 @@ pub fn join_waiting(
 }
 
 // The goal joins the end of the failed goals.
-pub fn join_failed(s: &mut [u64], room: Room, t: Standing, goal: u64, query: usize) -> Option<Standing>
+pub fn join_failed(
+    s: &mut [u64],
+    room: Room,
+    t: Standing,
+    goal: u64,
+    query: usize,
+) -> Option<Standing>
     requires { (text : Bytes) × (names : List Bytes) × (j : Job) × (limit : ℕ) × (atlas : Atlas) × (slots : List Slot) × (g : Goal) × (others : List Goal)
         × Taken s.old text names j (figures room) limit atlas slots g others t
         × JoiningFailed j (figures room) limit atlas g goal query }
