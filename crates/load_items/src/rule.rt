@@ -30,20 +30,17 @@ pub enum Ruled {
     Exceeded,
 }
 
-// The words of n elements as the goals', from a place on, if each is a compound with a name.
-fn set_goals(s: &mut [u64], words: &[u64], n: usize, place: usize) -> bool
-    requires { (place + 8 ≤ length s.old) × (length s.old < 1152921504606846976) × (n ≤ 8) × (8 ≤ length words.now) }
-    ensures { (places : CellPlaces) (es : List Element) → Worded words.now n places es
+// The words of elements as the goals', from a place on, if each is a compound with a name.
+fn set_goals(s: &mut [u64], words: &[u64], place: usize) -> bool
+    requires { (place + 8 ≤ length s.old) × (length s.old < 1152921504606846976) × (length words.now ≤ 8) }
+    ensures { (places : CellPlaces) (es : List Element) → Worded words.now (length words.now) places es
         → SetIs s.old s.new place places es result }
 {
-    let mut i = 0;
-    while i < n {
-        let w = words[i];
-        if w % TAGS != COMPOUND {
+    for (i, w) in words.iter().enumerate() {
+        if *w % TAGS != COMPOUND {
             return false;
         }
-        s[place + i] = w;
-        i += 1;
+        s[place + i] = *w;
     }
     true
 }
@@ -140,7 +137,7 @@ fn body(
     copy_counts(in_guards, item);
     match elements(text, rest, from, s, names, item, base, &mut words, c) {
         Elements::Stop(n, a, d) => {
-            if !set_goals(s, &words, n, record + CLAUSE_BODY) {
+            if !set_goals(s, &words[..n], record + CLAUSE_BODY) {
                 return Ruled::Malformed(a);
             }
             add_counts(item, in_head);
