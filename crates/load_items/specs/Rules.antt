@@ -34,10 +34,10 @@ use Rattle.load_guards.specs.Judged.{tests_set, Licences}
 use Rattle.load_items.specs.declared.rule.Ruled.{Ruled}
 use Rattle.load_items.specs.declared.rule.Ruled.TheVariants.{Got, Unknown, Malformed, Exceeded}
 
--- The words of n elements, from the beginning of a table on.
-pub record Worded (words : List ℕ) (n : ℕ) (places : CellPlaces) (es : List Element) : Type 0 where
-  pub count_is : length es ≡ n
-  pub words_are : (i : ℕ) → i < n → get_or words i 0 ≡ get_or (map (element_word places) es) i 0
+-- The words of elements.
+pub record Worded (words : List ℕ) (places : CellPlaces) (es : List Element) : Type 0 where
+  pub count_is : length es ≡ length words
+  pub words_are : (i : ℕ) → i < length words → get_or words i 0 ≡ get_or (map (element_word places) es) i 0
 
 -- Goals' words, one behind the other.
 unfoldable pub goals_set : CellPlaces → ℕ → List Named → List ℕ → List ℕ

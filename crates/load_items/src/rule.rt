@@ -33,7 +33,7 @@ pub enum Ruled {
 // The words of elements as the goals', from a place on, if each is a compound with a name.
 fn set_goals(s: &mut [u64], words: &[u64], place: usize) -> bool
     requires { (place + 8 ≤ length s.old) × (length s.old < 1152921504606846976) × (length words.now ≤ 8) }
-    ensures { (places : CellPlaces) (es : List Element) → Worded words.now (length words.now) places es
+    ensures { (places : CellPlaces) (es : List Element) → Worded words.now places es
         → SetIs s.old s.new place places es result }
 {
     for (i, w) in words.iter().enumerate() {
