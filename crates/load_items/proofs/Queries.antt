@@ -6,6 +6,7 @@ use mathlib.Core.List.{List, [], ◌∷◌, map}
 use mathlib.Core.Option.{none, some}
 use native.Mathlib.Omega.{arith}
 use lib.ListN.{length, get_or, set, replicate, length-replicate}
+use Rattle.std.specs.Prelude.{None}
 use Rattle.meaning.specs.Bytes.{Bytes, byte, when◌then◌else◌}
 use Rattle.meaning.specs.Terms.{Half, Named, Query, goals_occurrences}
 use Rattle.meaning.specs.Tokens.{sign, Tokens, ends, token}
@@ -136,7 +137,7 @@ module _ (text rest : Bytes) (from : ℕ) (names item₀ : List ℕ) (count₀ :
       -- Something occurs twice: there is a least fault, and the search for it has what it asks.
       pub query_broken : none_twice item' c'.variables ≡ false
           → (f : Fault) × (item (so_far known clauses k) (piece (tokens_in from rest 0)) ≡ refused (occurrence_rule (from + begins) f))
-          × Searches rest from item' c'.variables false (begins + 2) 0 (replicate 16 0) vars' none_free none f
+          × Searches rest from item' c'.variables false (begins + 2) None (replicate 16 0) vars' none_free none f
       unfolding whole goals_part pairing
       query_broken h =
           let size : length (spellings vars') ≡ c'.variables = spellings_length vars' ∙ sym t.stands.variables_count in
@@ -144,8 +145,8 @@ module _ (text rest : Bytes) (from : ℕ) (names item₀ : List ℕ) (count₀ :
           let (f, is_least, is_first) = query_fault whole (spellings vars') gs distinct (item_rising from rest c.at) counts (rw size once) in (
             f,
             reads_all ∙ judged_broken (from + begins) whole gs known' vars' c'.compounds (ends stop) f is_least,
-            searches_from rest from item' (replicate 16 0) c'.variables false c.at (begins + 2) 0 vars' none_free none f at_first
-                (searches rest from c.at 0 item' (replicate 16 0) c'.variables vars' gs none_free none t.stands.variables_in t.stands.variables_count refl
+            searches_from rest from item' (replicate 16 0) c'.variables false c.at (begins + 2) None vars' none_free none f at_first
+                (searches rest from c.at None item' (replicate 16 0) c'.variables vars' gs none_free none t.stands.variables_in t.stands.variables_count tt
                 (halves_from_none item₀ item' gs b.empty t.halves)
                 (goals_sound (counted_at known [] c.compounds) (counted_at known' vars' c'.compounds) whole gs stop t.reads) counts (length-replicate {A = ℕ} 16 0)
                 (λ x n e. rw (none_licensed n) refl) false f is_first),
