@@ -274,8 +274,11 @@ module _ (k : ℕ) (few : k < 128) (text rest : Bytes) (from : ℕ) (known vars 
           at_bar true tested (Err Unknown) told = never told.0
           at_bar false (e, o) (Err Unknown) (found_so, hs, counted, left, h, o₄) =
               (barred es after hs, counted, left, t.reads ∙ bar_read es bar_counted counted after left hs h, e, only_then 0 trial_region s s₃ s₄ (only_tests s₃ o) o₄)
-          at_bar found tested (Err (Malformed p)) (h, inside, o₄) =
-              (t.reads ∙ bar_malformed es bar_counted after (from + p) h, inside, only_then 0 trial_region s s₃ s₄ (tested_only s₃ l₃ found tested) o₄)
-          at_bar found tested (Err Exceeded) (h, o₄) =
-              (t.reads ∙ bar_passed es bar_counted after h, only_then 0 trial_region s s₃ s₄ (tested_only s₃ l₃ found tested) o₄)
-          at_bar found tested (Err (Broken f)) told = absurd told
+          at_bar true tested (Err (Malformed p)) (h, inside, o₄) =
+              (t.reads ∙ bar_malformed es bar_counted after (from + p) h, inside, only_then 0 trial_region s s₃ s₄ (tested_only s₃ l₃ true tested) o₄)
+          at_bar false tested (Err (Malformed p)) (h, inside, o₄) =
+              (t.reads ∙ bar_malformed es bar_counted after (from + p) h, inside, only_then 0 trial_region s s₃ s₄ (tested_only s₃ l₃ false tested) o₄)
+          at_bar true tested (Err Exceeded) (h, o₄) = (t.reads ∙ bar_passed es bar_counted after h, only_then 0 trial_region s s₃ s₄ (tested_only s₃ l₃ true tested) o₄)
+          at_bar false tested (Err Exceeded) (h, o₄) = (t.reads ∙ bar_passed es bar_counted after h, only_then 0 trial_region s s₃ s₄ (tested_only s₃ l₃ false tested) o₄)
+          at_bar true tested (Err (Broken f)) told = absurd told
+          at_bar false tested (Err (Broken f)) told = absurd told

@@ -35,7 +35,7 @@ unfolding perhaps_goals if_next is byte when◌then◌else◌ give
 perhaps_stop counted p ts us e = rw (e, piece_stop p (sign 46) us refl)
 
 perhaps_other : (counted : Counted) (place : ℕ) (ts : Tokens) → Stops (one_of (46 ∷ [])) place ts → perhaps_goals counted (piece ts) ≡ goals 8 counted (piece ts)
-unfolding perhaps_goals
+unfolding perhaps_goals byte
 perhaps_other counted place ts h = if_next_other counted "." (give []) (goals 8) place (piece ts) (piece_stops (one_of (46 ∷ [])) place ts h)
 
 module _ (k : ℕ) (text rest : Bytes) (from : ℕ) (known vars : List Place) (c : Cursor) (s names item : List ℕ)

@@ -8,6 +8,7 @@ use native.Mathlib.Omega.{arith}
 use lib.Dec.{eqb}
 use lib.ListN.{length, get_or, set, take, drop, length-drop}
 use lib.Seq.{get_or-drop, take_all}
+use Rattle.std.specs.Prelude.{Err}
 use Rattle.meaning.specs.Bytes.{Bytes, all, when◌then◌else◌}
 use Rattle.meaning.specs.Terms.{Half, writer, reader, Guard, Clause, all_occurrences, goals_occurrences}
 use Rattle.meaning.specs.Tokens.{name, Tokens, ends, token}
@@ -46,7 +47,9 @@ use Rattle.load_image.specs.Image.{so_far, clause_stored, head_word}
 use Rattle.load_goals.specs.Endings.{Ended}
 use Rattle.load_guards.specs.Judged.{head_place, Counts}
 use Rattle.load_items.specs.Rules.{rule_part, GuardsAre, RuleRead, RuledIs}
-use Rattle.load_items.specs.Outcomes.{Begins, TookClause, Took}
+use Rattle.load_items.specs.Outcomes.{Begins, TookClause, Took, RefusedIs}
+use Rattle.load_items.specs.declared.refused.Refused.{Refused}
+use Rattle.load_items.specs.declared.refused.Refused.TheVariants.{Malformed, Unknown, Broken, Exceeded}
 use Rattle.load_items.specs.Judging.{Whole, Judging}
 use Rattle.load_items.specs.declared.rule.Ruled.{Ruled}
 use Rattle.load_openings.specs.declared.cursor.Cursor.{Cursor}
@@ -106,20 +109,27 @@ module _ (rest : Bytes) (from : ℕ) (known : List Place) (k queries begins : �
         ≡ clause_piece (k + 1) (from + begins) (piece (tokens_in from rest c.at)) (rule (counted_at known [] c.compounds) (piece (tokens_in from rest c.at)))
     reads_rule = rw (at_first, none_yet, tokens) (clause_reads known k queries (from + begins) ts f few)
 
-    pub clause_malformed : (a : ℕ) → rule (counted_at known [] c.compounds) (piece (tokens_in from rest c.at)) ≡ malformed (from + a)
+    clause_malformed : (a : ℕ) → rule (counted_at known [] c.compounds) (piece (tokens_in from rest c.at)) ≡ malformed (from + a)
         → item (so_far known k queries) (piece (tokens_in from rest 0)) ≡ refused (no_item (from + a))
     unfolding clause_piece
     clause_malformed a h = rw (reads_rule, h)
 
-    pub clause_passed : rule (counted_at known [] c.compounds) (piece (tokens_in from rest c.at)) ≡ passed
+    clause_passed : rule (counted_at known [] c.compounds) (piece (tokens_in from rest c.at)) ≡ passed
         → item (so_far known k queries) (piece (tokens_in from rest 0)) ≡ refused (figure (from + begins))
     unfolding clause_piece
     clause_passed h = rw (reads_rule, h)
 
-    pub clause_unknown : (r : Rule) (d : Counted) (left : Tokens) → rule (counted_at known [] c.compounds) (piece (tokens_in from rest c.at)) ≡ read r d left
+    clause_unknown : (r : Rule) (d : Counted) (left : Tokens) → rule (counted_at known [] c.compounds) (piece (tokens_in from rest c.at)) ≡ read r d left
         → as_guards r.body.guards ≡ none → item (so_far known k queries) (piece (tokens_in from rest 0)) ≡ refused (guard_rule (from + begins))
     unfolding clause_piece unless_unknown
     clause_unknown r d left h e = rw (reads_rule, h, e)
+
+    pub clause_refused : (text : Bytes) (s item heads s' names' item' heads' h₁ g₁ l₁ : List ℕ) (why : Refused)
+        → RuledIs k text rest from known [] c s item heads s' names' item' heads' h₁ g₁ l₁ (Err why) → RefusedIs rest from known k queries begins s s' why
+    clause_refused text s item heads s' names' item' heads' h₁ g₁ l₁ (Malformed a) (h, inside, only) = (clause_malformed a h, inside, only)
+    clause_refused text s item heads s' names' item' heads' h₁ g₁ l₁ Unknown (r, d, left, h, e, only) = (clause_unknown r d left h e, only)
+    clause_refused text s item heads s' names' item' heads' h₁ g₁ l₁ Exceeded (h, only) = (clause_passed h, only)
+    clause_refused text s item heads s' names' item' heads' h₁ g₁ l₁ (Broken fault) told = absurd told
 
 -- The head's counts are the last part of their table.
 pub part_counts : (l : List ℕ) (i : ℕ) → get_or (take (length l - 32) (drop 32 l)) i 0 ≡ get_or l (32 + i) 0
@@ -302,7 +312,7 @@ module _ (rest : Bytes) (s table in_head in_guards licences : List ℕ) (k : ℕ
       clause_took v n u h ev en eu =
           let s₁ = set s (clause_pairs_word k) v in
           let s₂ = set s₁ (clause_compounds_word k) n in
-          let s₃ = set s₂ (clause_goals_word k) goals in (
+          let s₃ = set s₂ (clause_goals_word k) ruled.goals in (
             the_clause,
             w.passed,
             w.stop,
