@@ -1,5 +1,5 @@
 -- What loading answers, and how far it has come between two items.
-use Rattle.std.specs.Prelude.{ℕ, ◌+◌, ◌*◌, ◌-◌, ◌≤◌, ◌<◌, ◌≡◌, List, [], ◌∷◌, ◌++◌, length, take, drop, Option, Some, None, Result, Ok, Err}
+use Rattle.std.specs.Prelude.{ℕ, ◌+◌, ◌*◌, ◌-◌, ◌≤◌, ◌<◌, ◌≡◌, List, [], ◌∷◌, ◌++◌, length, take, drop, Option, Result, Ok, Err}
 use Rattle.meaning.specs.Bytes.{Bytes}
 use Rattle.meaning.specs.Terms.{Job, count}
 use Rattle.meaning.specs.Tokens.{Tokens, tokens}
@@ -27,7 +27,7 @@ use Rattle.load_image.specs.Image.{
   image,
 }
 use Rattle.load_openings.specs.Reading.{piece}
-use Rattle.load_items.specs.Outcomes.{TakenIs, RefusedIs}
+use Rattle.load_items.specs.Outcomes.{RefusedIs, ItemIs}
 use Rattle.load_items.specs.Rules.{GuardsNamed}
 use Rattle.load_items.specs.declared.items.Item.{Item}
 use Rattle.load_items.specs.declared.items.Unfit.{Unfit}
@@ -77,14 +77,12 @@ ToldIs text from places clauses queries s s' why =
 -- The item at an offset of the text, or that nothing is left.
 abbrev pub ItemAtIs : (text : Bytes) (from : ℕ) (places : List Place) (clauses queries : ℕ) (s heads s' names names' heads' : List ℕ)
     → Result (Option Item) Why → Type 0
-ItemAtIs text from places clauses queries s heads s' names names' heads' (Ok (Some i)) =
-    TakenIs text (drop from text) from places clauses queries s heads s' names' heads' i
-ItemAtIs text from places clauses queries s heads s' names names' heads' (Ok None) =
-    (tokens_in from (drop from text) 0 ≡ Tokens.ends (from + length (drop from text))) × (s' ≡ s) × (heads' ≡ heads) × (names' ≡ names)
+ItemAtIs text from places clauses queries s heads s' names names' heads' (Ok found) =
+    ItemIs text (drop from text) from places clauses queries s heads s' names names' heads' (Ok found)
 ItemAtIs text from places clauses queries s heads s' names names' heads' (Err why) = ToldIs text from places clauses queries s s' why
 
 -- All items read, with a query among them; or the first refused item's refusal, or that of a text without a query.
-abbrev pub ListedIs : (text : Bytes) (s₀ s names heads : List ℕ) → Result (ℕ × (ℕ × ℕ)) Why → Type 0
+abbrev pub ListedIs : (text : Bytes) (s₀ s names heads : List ℕ) → Result (ℕ × ℕ × ℕ) Why → Type 0
 ListedIs text s₀ s names heads (Ok (clauses, queries, known)) =
     (places : List Place) × (done : List Entry) × (n : ℕ) × (from : ℕ)
     × Reached text s₀ s names heads from clauses queries known places done
