@@ -1,6 +1,6 @@
 -- `load_tokens::lines::line` meets its contract. Up to i the line feeds are counted; what is left of the bytes to count falls.
 use Prim.Native.Nat.{ℕ, ◌+◌, ◌-◌, ◌≤◌, ◌<◌}
-use mathlib.Core.Path.{◌≡◌, refl, ap, ◌∙◌}
+use mathlib.Core.Path.{◌≡◌}
 use mathlib.Core.Bool.{Bool}
 use lib.Dec.{eqb}
 use lib.ListN.{length, get_or, take}

@@ -8,7 +8,6 @@ use native.Mathlib.Omega.{arith}
 use lib.ListN.{length, get_or}
 use lib.Seq.{slice, slice_empty}
 use borrow.Author.Rules.{rules}
-use borrow.Author.Tests.{not-true, not-false}
 use Rattle.meaning.specs.Bytes.{all, when◌then◌else◌}
 use Rattle.meaning.specs.Tokens.{digit, value}
 use Rattle.load_tokens.proofs.Classes.{digit_bytes}

@@ -5,7 +5,6 @@ use mathlib.Core.Path.{◌≡◌, refl, sym, ◌∙◌}
 use native.Mathlib.Omega.{arith}
 use lib.ListN.{length}
 use borrow.Author.Rules.{rules}
-use borrow.Author.Tests.{not-true, not-false}
 use Rattle.load_tokens.specs.Ends.{end_of_run}
 use Rattle.load_tokens.proofs.Ends.{run_goes_on, run_stops, run_at_end}
 use Rattle.load_tokens.proofs.token.run_end.Statement.{statement}
