@@ -7,6 +7,8 @@ use mathlib.Core.Bool.{Bool, true, false, ◌&&◌, ◌||◌, and-false}
 use native.Mathlib.Omega.{arith}
 use lib.Dec.{leb, eqb}
 use borrow.Author.Tests.{leb-true, le-leb, lt-leb, eqb-true, ne_eqb}
+use Rattle.std.specs.Char.{is_ascii_digit, is_ascii_lowercase, is_ascii_uppercase}
+use Rattle.std.proofs.lemmas.Bool.Decides.{nat_tests}
 use Rattle.meaning.specs.Bytes.{byte}
 use Rattle.meaning.specs.Tokens.{tokens_words, between, lowercase, uppercase, digit, separates, single_sign}
 
@@ -77,3 +79,16 @@ of_signs P round close square shut comma bar stop c =
     let two = one_more P c 41 (eqb c 40) (λ t. rw (eqb-true c 40 t) round) close in
     let four = one_more P c 93 _ (one_more P c 91 _ two square) shut in
     one_more P c 46 _ (one_more P c 124 _ (one_more P c 44 _ four comma) bar) stop
+
+-- The library's classes are the definitions'.
+pub digit_is : (c : ℕ) → is_ascii_digit c ≡ digit c
+unfolding tokens_words
+digit_is c = grind (arith, nat_tests)
+
+pub lowercase_is : (c : ℕ) → is_ascii_lowercase c ≡ lowercase c
+unfolding tokens_words
+lowercase_is c = grind (arith, nat_tests)
+
+pub uppercase_is : (c : ℕ) → is_ascii_uppercase c ≡ uppercase c
+unfolding tokens_words
+uppercase_is c = grind (arith, nat_tests)

@@ -27,18 +27,11 @@ ghost use Rattle.run_ground.specs.Looking.{
   args_result,
 };
 
+use run_asked::asking::Hindered;
 use run_readers::readers::meet;
 use term::layout::TRIAL;
 use term::scratch::{argument, count, set_at, word_at};
 use term::word::{COMPOUND, READER, TAGS, WRITER, index};
-
-// What the walk finds: no unassigned variable; readers to wait on, and how many pairs the set has with them; or that the guard fails.
-#[derive(Clone, Copy)]
-pub enum Sought {
-    Ground,
-    Waits(usize),
-    Fails,
-}
 
 // The mark of a pair from which no unassigned pair is reached. Stamps are greater.
 const GROUND: u64 = 1;
@@ -269,7 +262,8 @@ fn through(
     found
 }
 
-// Looks through the arguments of a guard, whose compound stands at a place. Stamps from this one on are unused.
+// Looks through the arguments of a guard, whose compound stands at a place: whether no unassigned variable is found. Else there are readers to wait on, or
+// the guard fails. Stamps from this one on are unused.
 pub fn seek(
     s: &mut [u64],
     values: usize,
@@ -280,28 +274,20 @@ pub fn seek(
     place: usize,
     count: usize,
     stamp: u64,
-) -> Sought
+) -> Result<(), Hindered>
     requires { (x : Setting) × (y : Template) × (given : List Assignment) × (n : ℕ) × (ts : Terms)
         × Seeks s.old x y given n ts values marks links met place count stamp }
     ensures { (x : Setting) (y : Template) (given : List Assignment) (n : ℕ) (ts : Terms)
         → Seeks s.old x y given n ts values marks links met place count stamp
         → Sees s.old s.new x given ts marks links met first stamp result }
 {
-    let r = through(
-        s,
-        values,
-        marks,
-        links,
-        stamp,
-        place,
-        count,
-        begun(first, met),
-    );
-    if r == FAILED {
-        return Sought::Fails;
+    let state = begun(first, met);
+    let found = through(s, values, marks, links, stamp, place, count, state);
+    if found == FAILED {
+        return Err(Hindered::Fails);
     }
-    if pending(r) {
-        return Sought::Waits(met_in(r));
+    if pending(found) {
+        return Err(Hindered::Waits(met_in(found)));
     }
-    Sought::Ground
+    Ok(())
 }
