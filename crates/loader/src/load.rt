@@ -13,7 +13,7 @@ use load_items::items::{Item, Unfit, next_item};
 use load_items::refused::Refused;
 use load_tokens::lines::line;
 use term::clear::clear;
-use term::layout::{Room, need};
+use term::layout::Room;
 
 // Why the item that begins in the rest of the text at an offset is refused, with its line.
 fn told(text: &[u8], from: usize, unfit: Unfit) -> Refusal
@@ -102,7 +102,7 @@ pub fn load(text: &[u8], s: &mut [u64], room: Room) -> Result<(usize, usize), Re
     requires { InRange (figures room) × (need_of (figures room) ≤ length s.old) }
     ensures { LoadedIs text.now (figures room) s.old s.new result }
 {
-    let words = need(room);
+    let words = room.need();
     prepare(s, room);
     let mut names = [0u64; 1024];
     let mut heads = [0u64; 128];
