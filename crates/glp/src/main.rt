@@ -11,9 +11,10 @@ ghost use Rattle.job.specs.Calling.{Within};
 use job::call::{Unreported, call};
 use term::layout::{COMPOUND_WORDS, COMPOUNDS};
 
+// Stays a cast: Rust has no From between usize and u64.
 fn refused(number: u32, line: usize) {
     io::write_all(1, b"refused ");
-    io::print_decimal(1, number as u64);
+    io::print_decimal(1, u64::from(number));
     io::write_all(1, b" line ");
     io::print_decimal(1, line as u64);
     io::write_all(1, b"\n");

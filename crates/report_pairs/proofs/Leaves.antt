@@ -7,7 +7,6 @@ use mathlib.Core.Option.{none}
 use native.Mathlib.Omega.{arith}
 use lib.ListN.{length, length-append, get_or}
 use lib.Seq.{slice}
-use mathlib.Core.Logic.{◌≢◌}
 use Rattle.meaning.specs.Bytes.{Bytes, bytes, decimal, same, any, when◌then◌else◌}
 use Rattle.meaning.specs.Terms.{Half, writer, reader, Integer, plus, minus, Constant, Functor, cell, named, Term}
 use Rattle.meaning.specs.State.{value}
@@ -148,17 +147,13 @@ minus_length i n r e h = ap length (minus_bits i n r e h).0 ∙ length_more 45 (
 pub spelled_is : (text : Bytes) (from n a b : ℕ) (f : Bytes) → from ≡ a → n ≡ b → SpelledAt text a b f → slice from (from + n) text ≡ f
 spelled_is text from n a b f e g k = rw (e, g) k.spelled
 
--- What a compound begins with, by its functor's word.
-pub opens_cell : (s : List ℕ) (text : Bytes) (w r : ℕ) (f : Functor) → r ≡ w → Opens s text w f → r ≡ 0 → f ≡ cell
-opens_cell s text w r cell e o z = refl
-opens_cell s text w r (named g) e o z = absurd (omega (arith, o.1))
-
-pub opens_named : (s : List ℕ) (text : Bytes) (w r : ℕ) (f : Functor) → r ≡ w → Opens s text w f → r ≢ 0
-    → (g : Bytes) × (f ≡ named g) × (2 * (r - 1) + 1 < length s) × SpelledAt text (get_or s (2 * (r - 1)) 0) (get_or s (2 * (r - 1) + 1) 0) g
-opens_named s text w r cell e o d = absurd (d (e ∙ o))
-opens_named s text w r (named g) e o d =
-    let k : r - 1 ≡ o.0 = omega (arith, o.1) in
-    (g, refl, rw k o.2, rw k o.3)
+-- What a compound with a name begins with, by its functor's word.
+pub opens_named : (s : List ℕ) (text : Bytes) (w k : ℕ) (f : Functor) → w ≡ k + 1 → Opens s text w f
+    → (g : Bytes) × (f ≡ named g) × (2 * k + 1 < length s) × SpelledAt text (get_or s (2 * k) 0) (get_or s (2 * k + 1) 0) g
+opens_named s text w k cell e o = absurd (omega arith)
+opens_named s text w k (named g) e o =
+    let same : k ≡ o.0 = omega (arith, o.1) in
+    (g, refl, rw same o.2, rw same o.3)
 
 pub opening_length : (f : Functor) → 1 ≤ length (opening_bytes f)
 opening_length cell = omega arith
