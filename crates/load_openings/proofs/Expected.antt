@@ -37,6 +37,11 @@ none_of c signs (integer i) m h = refl
 none_of c signs (sign b) m h = other_sign b (byte c) signs m h
 none_of c signs bad m h = refl
 
+-- Of two signs, what is not the second is the first.
+pub first_of_two : (b x y : ℕ) → among b (x ∷ y ∷ []) ≡ true → (b ≡ y → ⊥) → b ≡ x
+unfolding among
+first_of_two b x y h p = grind (arith, nat_tests)
+
 first_among : (x : ℕ) (signs : List ℕ) → among x (x ∷ signs) ≡ true
 unfolding among
 first_among x signs = grind (arith, nat_tests)

@@ -1,8 +1,6 @@
 -- Each arm is one lemma: on an argument, on a compound over its arguments, on an element and its tail, on how a term begins.
-use Rattle.std.proofs.Common.{rules, ◌≡◌, ◌+◌, ◌-◌, ◌≤◌, ℕ, [], ◌∷◌, ◌∙◌, true, Err, Ok, ap, arith, set}
-use Rattle.std.proofs.lemmas.Bool.Decides.{nat_tests}
+use Rattle.std.proofs.Common.{rules, ◌+◌, ◌-◌, ◌≤◌, ◌∙◌, Err, Ok, ap, arith, set}
 use Rattle.std.proofs.lemmas.Result.{err_from_is_err_and}
-use Rattle.meaning.specs.Bytes.{among}
 use Rattle.meaning.specs.Items.{term as term_reader, arguments as arguments_reader, elements as elements_reader}
 use Rattle.term.proofs.Cells.{numbered_order}
 use Rattle.load_names.specs.Places.{spellings, names_over, variables_over}
@@ -10,6 +8,7 @@ use Rattle.load_names.proofs.Numbering.{placed, spellings_length}
 use Rattle.load_tokens.proofs.InFront.{last_of_three}
 use Rattle.load_openings.specs.Reading.{ArgumentsAre, round_of}
 use Rattle.load_openings.specs.declared.cursor.Unread.TheVariants.{Malformed, Exceeded}
+use Rattle.load_openings.proofs.Expected.{first_of_two}
 use Rattle.load_openings.proofs.Given.{round_read, opened_read}
 use Rattle.load_openings.proofs.Moves.{moved_to, stands_counted, stands_moved}
 use Rattle.load_terms.proofs.Arguments.{argument_unread, argument_stop, argument_last, seventh_passed, seventh_cannot, compound_none, compound_unread, compound_got}
@@ -17,11 +16,6 @@ use Rattle.load_terms.proofs.Reached.{reached_more}
 use Rattle.load_terms.proofs.Elements.{cell_stored, last_unread, last_other, last_got}
 use Rattle.load_terms.proofs.Linked.{linked_none, linked_cannot, linked_many, linked_unread, linked_more, linked_last, linked_last_unread, linked_closed, linked_stop}
 use Rattle.load_terms.proofs.terms.+arguments_compound_elements_last_tail_term.Goals as goal
-
--- Of two signs, what is not the second is the first.
-first_of_two : (b x y : ℕ) → among b (x ∷ y ∷ []) ≡ true → (b ≡ y → ⊥) → b ≡ x
-unfolding among
-first_of_two b x y h p = grind (arith, nat_tests)
 
 pub arguments-term-requires : goal.arguments-term-requires
 arguments-term-requires t c =
