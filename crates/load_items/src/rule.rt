@@ -148,9 +148,10 @@ fn body(
     requires none_counted { (tables.old.in_guards ≡ replicate 64 0) × (tables.old.licensed ≡ replicate 16 0) }
     requires by_index { (i : ℕ) → i < 32 → get_or tables.old.in_head (32 + i) 0 ≡ get_or item.old (32 + i) 0 }
     requires stands { (known : List Place) × (vars : List Place) × Stands text.now rest.now from names.old item.old c known vars }
-    ensures { (known : List Place) (vars : List Place) → Stands text.now rest.now from names.old item.old c known vars
+    ensures read { (known : List Place) (vars : List Place) → Stands text.now rest.now from names.old item.old c known vars
         → BodyIs k text.now rest.now from known vars c s.old item.old
         s.new names.new item.new tables.new.in_guards tables.new.licensed result }
+    ensures head_stays { tables.new.in_head ≡ tables.old.in_head }
 {
     let mut words = [0u64; 8];
     let record = CLAUSES + CLAUSE_STRIDE * k;

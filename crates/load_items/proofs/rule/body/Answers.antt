@@ -15,8 +15,8 @@ elements-requires-clause-stands c =
     (p.0, p.1, fresh_stands a.k c.requires.k_bound.0 a.text.now a.rest.now a.from p.0 p.1 a.c a.s.now a.names.now a.item.now a.tables.now.in_head c.requires.by_index p.2
     c.copy_counts.new.table c.copy_counts.auto.table fresh)
 
-pub returns-in_err-n : goal.returns-in_err-n
-returns-in_err-n c = λ known vars st.
+pub returns-in_err-n-clause-read : goal.returns-in_err-n-clause-read
+returns-in_err-n-clause-read c = λ known vars st.
     let a = c.args in
     let fresh = rw c.requires.none_counted.0 at c.copy_counts.ensures in
     let p = err_from_is_err_and c.from_residual.result c.from_residual.ensures.1 in
@@ -48,8 +48,8 @@ slice_bounds-set_goals-end c =
     let many : 8 ≤ length c.elements.new.words = omega (arith, c.elements.auto.words) in
     omega (arith, length-take now.n c.elements.new.words, told.2.gave.few, many)
 
-pub returns-then-not-set_goals : goal.returns-then-not-set_goals
-returns-then-not-set_goals c = λ known vars st.
+pub returns-then-not-set_goals-clause-read : goal.returns-then-not-set_goals-clause-read
+returns-then-not-set_goals-clause-read c = λ known vars st.
     let a = c.args in
     let fresh = rw c.requires.none_counted.0 at c.copy_counts.ensures in
     let now = c.in-Stop in
@@ -104,8 +104,8 @@ guarded-requires-clause-stands c =
     (replicate 8 0) c.elements.new.s c.elements.new.names c.elements.new.item c.elements.new.words now.n now.d told.0 told.1 told.2 told.3 c.requires.k_bound.1
     c.copy_counts-in-Bar.new.table back.new.table back.new.table size_g kept_guards back.auto.table back.ensures)
 
-pub returns-else-not-set_goals : goal.returns-else-not-set_goals
-returns-else-not-set_goals c = λ known vars st.
+pub returns-else-not-set_goals-clause-read : goal.returns-else-not-set_goals-clause-read
+returns-else-not-set_goals-clause-read c = λ known vars st.
     let a = c.args in
     let fresh = rw c.requires.none_counted.0 at c.copy_counts.ensures in
     let now = c.in-Stop in
@@ -121,8 +121,8 @@ returns-else-not-set_goals c = λ known vars st.
     (replicate 8 0) c.elements.new.s c.elements.new.names c.elements.new.item c.elements.new.words now.n now.d told.0 told.1 now.a told.2 c.set_goals.new.s c.add_counts.new.table a.tables.now.in_guards a.tables.now.licensed
     c.word.result c.add_counts.auto.table c.add_counts.ensures c.word.ensures c.requires.none_counted.0 c.requires.none_counted.1 goals_told
 
-pub returns-in-Bar : goal.returns-in-Bar
-returns-in-Bar c = λ known vars st.
+pub returns-in-Bar-clause-read : goal.returns-in-Bar-clause-read
+returns-in-Bar-clause-read c = λ known vars st.
     let a = c.args in
     let fresh = rw c.requires.none_counted.0 at c.copy_counts.ensures in
     let now = c.in-Bar in

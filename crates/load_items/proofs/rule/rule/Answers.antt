@@ -30,11 +30,11 @@ returns-then-sign-eq58 c = λ known vars st.
     let a = c.args in
     let gave = c.in_ok-e.ensures known vars st in
     let next = rw c.if-sign-eq58.true at c.in_ok-sign.ensures.1 in
-    head_body a.k a.text.now a.rest.now a.from known vars a.c a.s.now a.item.now a.heads.now c.requires.k_bound.0 c.goal.new.s c.goal.new.names c.goal.new.item
+    rw c.body.ensures.head_stays (head_body a.k a.text.now a.rest.now a.from known vars a.c a.s.now a.item.now a.heads.now c.requires.k_bound.0 c.goal.new.s c.goal.new.names c.goal.new.item
     _ c.in_ok-e.e gave.0 gave.1 gave.2 c.requires.k_bound.4 (omega (arith, c.requires.k_bound.0, c.requires.k_bound.1)) a.tables.now.in_head c.copy_counts.new.table
     (omega (arith, c.copy_counts.auto.table)) c.copy_counts.ensures c.in_ok-sign.behind next
     c.body.new.s c.body.new.names c.body.new.item c.body.new.tables.in_guards c.body.new.tables.licensed c.body.result
-    (c.body.ensures (names_over gave.1 known) (variables_over a.from gave.1 vars) (stands_moved c.in_ok-sign.behind gave.2.stands next.inside))
+    (c.body.ensures.read (names_over gave.1 known) (variables_over a.from gave.1 vars) (stands_moved c.in_ok-sign.behind gave.2.stands next.inside)))
 
 pub returns : goal.returns
 returns c = λ known vars st.
