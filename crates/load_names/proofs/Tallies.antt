@@ -1,15 +1,16 @@
 -- A test over the numbers up to n, as a loop makes it: one number more that passes keeps all passing, one that fails decides.
 use Prim.Native.Nat.{ℕ, zero, suc, ◌+◌, ◌≤◌, ◌<◌}
-use mathlib.Core.Path.{◌≡◌, refl, sym}
+use mathlib.Core.Path.{◌≡◌, refl, sym, ap, ◌∙◌}
 use mathlib.Core.Bool.{Bool, true, false, ◌&&◌}
 use mathlib.Core.List.{List, [], ◌∷◌, ◌++◌}
 use mathlib.Core.Logic.{⊎_elim}
 use native.Mathlib.Omega.{arith}
-use native.Mathlib.Nat.{eq-or-lt_of_le}
+use native.Mathlib.Nat.{add-zero, zero-add, eq-or-lt_of_le}
 use native.Mathlib.Numerals.{add-one}
 use lib.Dec.{leb}
 use lib.ListN.{get_or}
 use borrow.Author.Tests.{le-leb, lt-leb, eq-eqb, ne_eqb}
+use Rattle.std.specs.List.{list_all, range_with_len}
 use Rattle.meaning.specs.Bytes.{all, up_to}
 use Rattle.load_names.specs.Rules.{once, alike}
 
@@ -41,6 +42,19 @@ all_next test n h t = rw (add-one n, all_suc test n, h, t)
 pub all_none : (test : ℕ → Bool) → all test (up_to 0) ≡ true
 unfolding up_to all
 all_none test = refl
+
+-- As the library tests them, from some number on.
+all_from : (test : ℕ → Bool) (a n : ℕ) → (all test (up_to a) && list_all test (range_with_len a n)) ≡ all test (up_to (a + n))
+all_from test a zero = rw (add-zero a) (and_true (all test (up_to a)))
+all_from test a (suc n) =
+    sym (and_assoc (all test (up_to a)) (test a) (list_all test (range_with_len (a + 1) n)))
+    ∙ ap (λ t. t && list_all test (range_with_len (a + 1) n)) (sym (rw (add-one a) (all_suc test a)))
+    ∙ all_from test (a + 1) n
+    ∙ ap (λ k. all test (up_to k)) (omega arith)
+
+pub all_counted : (test : ℕ → Bool) (n : ℕ) → list_all test (range_with_len 0 n) ≡ all test (up_to n)
+unfolding up_to all
+all_counted test n = all_from test 0 n ∙ ap (λ k. all test (up_to k)) (zero-add n)
 
 -- One that fails.
 pub all_fails : (test : ℕ → Bool) (m n : ℕ) → n < m → test n ≡ false → all test (up_to m) ≡ false

@@ -9,14 +9,7 @@ ghost use Rattle.load_names.specs.Places.{Place, spellings};
 ghost use Rattle.load_names.specs.Tables.{hash_of, StandsAt, NamesIn, stored_name};
 ghost use Rattle.load_names.specs.Answers.{found, NameIs};
 
-use term::bytes::same;
 use term::word::{index, word};
-
-fn wide(c: u8) -> usize
-    ensures { result ≡ c }
-{
-    c as usize
-}
 
 // A hash below 256 of the bytes from a to e.
 fn hash(rest: &[u8], a: usize, e: usize) -> usize
@@ -24,10 +17,8 @@ fn hash(rest: &[u8], a: usize, e: usize) -> usize
     ensures { result ≡ hash_of (slice a e rest.now) }
 {
     let mut h: usize = 0;
-    let mut i = a;
-    while i < e {
-        h = (h * 33 + wide(rest[i])) % 4_294_967_296;
-        i += 1;
+    for c in &rest[a..e] {
+        h = (h * 33 + usize::from(*c)) % 4_294_967_296;
     }
     h % 256
 }
@@ -40,10 +31,7 @@ pub fn spelled(text: &[u8], rest: &[u8], table: &[u64], n: usize, a: usize, e: u
 {
     let start = index(table[2 * n]);
     let size = index(table[2 * n + 1]);
-    if size != e - a {
-        return false;
-    }
-    same(rest, a, text, start, size)
+    rest[a..e] == text[start..start + size]
 }
 
 // The number of the name that is spelled so, among those with this hash.

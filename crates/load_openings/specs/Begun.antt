@@ -8,6 +8,8 @@ use Rattle.load_names.specs.Answers.{VariableIs}
 use Rattle.load_tokens.specs.Nexts.{SignAt, Stops, one_of}
 use Rattle.load_openings.specs.declared.cursor.Cursor.{Cursor}
 use Rattle.load_openings.specs.declared.begin.Begun.{Begun}
+use Rattle.load_openings.specs.declared.begin.Half.{Half}
+use Rattle.load_openings.specs.declared.begin.Half.TheVariants.{Writer, Reader}
 use Rattle.load_openings.specs.declared.begin.Begun.TheVariants.{Got, Round, Square}
 use Rattle.load_openings.specs.declared.cursor.Unread.{Unread}
 use Rattle.load_openings.specs.declared.cursor.Unread.TheVariants.{Malformed, Exceeded}
@@ -33,6 +35,11 @@ BehindBracket rest left d (Ok (Square d')) =
     (0 < left) × (d' ≡ d) × (place : ℕ) × ((from : ℕ) → Stops (one_of (93 ∷ [])) (from + place) (tokens_in from rest d.at))
 BehindBracket rest left d (Err (Malformed place)) = ⊥
 BehindBracket rest left d (Err Exceeded) = left ≡ 0
+
+-- The tag of a half's words.
+abbrev pub tag_of : Half → ℕ
+tag_of Writer = 1
+tag_of Reader = 2
 
 -- A variable with its half's tag, 1 or 2, behind which the reading goes on at `next`.
 abbrev pub VariableBegun : Bytes → List Place → (tag at : ℕ) → Bytes → (next : ℕ) → Cursor → (item item' : List ℕ) → Result Begun Unread → Type 0

@@ -39,12 +39,9 @@ value_long c cs h k =
     let ten : 10 ^ 10 ≤ 10 ^ length cs = pow-le-pow_right (omega arith) k in
     omega (arith, value_led c cs h, ten)
 
--- One digit more keeps the value below the next power of ten, and ten digits fit 64 bits.
+-- One digit more keeps the value below the next power of ten.
 pub value_below : (v d k : ℕ) → v < 10 ^ k → d < 10 → v * 10 + d < 10 ^ (k + 1)
 value_below v d k h l = rw (add-one k, pow-succ' 10 k) (omega arith)
-
-pub power_small : (k : ℕ) → k < 10 → 10 ^ k ≤ 1000000000
-power_small k h = pow-le-pow_right {n = 10} (omega arith) {j = 9} (omega arith)
 
 module _ (digits : Bytes) (i : ℕ) (h : i < length digits) where
   pub value_next : (v : ℕ) → value v (drop i digits) ≡ value (v * 10 + (get_or digits i 0 - 48)) (drop (i + 1) digits)

@@ -3,9 +3,11 @@
 ghost use Rattle.std.specs.Prelude.{◌≡◌, ℕ, ◌+◌, ◌*◌, ◌≤◌, ◌<◌, length, get_or, set, List, [], ◌∷◌, ◌++◌};
 ghost use Rattle.run_queues.specs.Ring.{RingOk, Pushed, Passed};
 ghost use Rattle.term.specs.Words.{link_to};
+ghost use Rattle.term.specs.Layout.{figures, InRange, waiters_region, sets_region, waiting_region};
 ghost use Rattle.term.specs.States.{round, listed};
 ghost use Rattle.run_queues.specs.Log.{Slot, gone, waits, joined, gathered, At, Joins, JoinsAll, Waits, LogNow, Turns, Turned, Shifts, LogOk, Settles, SettledAs, Closed, Failed, slot};
 
+use term::layout::Room;
 use term::scratch::word_at;
 use term::word::{index, link, linked, word};
 
@@ -52,6 +54,20 @@ pub struct Log {
 }
 
 impl Log {
+    // The log where a room has it.
+    pub fn of(room: Room) -> Log
+        requires { InRange (figures room) }
+        ensures places { result.places ≡ waiting_region (figures room) }
+        ensures waiters { result.waiters ≡ waiters_region (figures room) }
+        ensures sets { result.sets ≡ sets_region (figures room) }
+    {
+        Log {
+            places: room.waiting(),
+            waiters: room.waiters(),
+            sets: room.sets(),
+        }
+    }
+
     // Two words of a place: the goal, and a link to the first pair of its set.
     fn seat(self, s: &mut [u64], place: usize, goal: u64, first: u64)
         requires { self.places + 2 * place + 1 < length s.old }
