@@ -1,6 +1,6 @@
 // The word of a term: a tag below 8, and what it is a term of, eight times over. A pair that has no value holds 0.
-ghost use Rattle.std.specs.Prelude.{◌≡◌, ◌/◌, ◌%◌};
-ghost use Rattle.term.specs.Words.{view, tag_in, rest_in};
+ghost use Rattle.std.specs.Prelude.{◌≡◌, ◌<◌, ◌/◌, ◌%◌, IfSome};
+ghost use Rattle.term.specs.Words.{view, tag_in, rest_in, link_to};
 
 // The tags. No term has PROBE: it stands before a number of the code's own among words of terms. Below TAGS, a goal's word has its query, and a functor's
 // word the number of arguments.
@@ -62,4 +62,18 @@ pub fn word(n: usize) -> u64
     ensures { result ≡ n }
 {
     n as u64
+}
+
+// What a word leads to: it is one more than its number, or 0 where it leads to nothing; and the word that leads there.
+pub fn linked(w: u64) -> Option<usize>
+    ensures { link_to result ≡ w }
+{
+    index(w).checked_sub(1)
+}
+
+pub fn link(to: Option<usize>) -> u64
+    requires { IfSome to (λ n. n < 18446744073709551615) }
+    ensures { result ≡ link_to to }
+{
+    to.map_or(0, |n| word(n + 1))
 }

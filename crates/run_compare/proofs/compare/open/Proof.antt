@@ -1,10 +1,8 @@
 -- `run_compare::compare::open` meets its contract. The invariant: those behind the k-th are the same constants.
-use Prim.Native.Nat.{◌%◌}
 use mathlib.Core.Path.{sym, ◌∙◌}
 use native.Mathlib.Omega.{arith}
 use lib.ListN.{get_or}
 use Rattle.term.specs.Words.{tag_in}
-use borrow.Author.Tests.{not-true, not-false}
 use Rattle.run_compare.specs.Same.{SameBehind}
 use Rattle.run_compare.proofs.Same.{same_true, none_behind, one_more_same}
 use Rattle.run_compare.proofs.compare.open.Statement.{statement}

@@ -1,7 +1,5 @@
 -- `run_compare::compare::same` meets its contract: the words are equal, and an arm that says yes has seen a constant.
-use mathlib.Core.Path.{◌≡◌, sym, ap, ◌∙◌}
-use Prim.Native.Nat.{ℕ}
-use native.Mathlib.Omega.{arith}
+use mathlib.Core.Path.{sym, ap, ◌∙◌}
 use borrow.Author.Rules.{rules}
 use Rattle.run_compare.specs.Same.{is_constant}
 use Rattle.run_compare.proofs.Same.{same_differs, same_equal, no_constant}
