@@ -8,31 +8,7 @@ use Rattle.meaning.specs.Bytes.{byte, among, when◌then◌else◌}
 use Rattle.meaning.specs.Terms.{Constant, cell, named, Term}
 use Rattle.meaning.specs.Tokens.{Token, name, variable, integer, sign, bad, Tokens, ends, token}
 use Rattle.meaning.specs.Table.{Element, equals, as_goals}
-use Rattle.meaning.specs.Items.{
-  Counted,
-  Reader,
-  read,
-  malformed,
-  passed,
-  read_on,
-  ◌>>=◌,
-  ◌>>◌,
-  give,
-  cannot_stand,
-  passes,
-  next,
-  is,
-  begins_term,
-  if_next,
-  term,
-  by_itself,
-  equals_behind,
-  element_behind,
-  unguarded,
-  guarded,
-  behind_element,
-  body,
-}
+use Rattle.meaning.specs.Items.{Counted, read, malformed, passed, read_on, ◌>>=◌, ◌>>◌, give, cannot_stand, passes, next, is, begins_term, if_next, term, by_itself, equals_behind, element_behind, unguarded, guarded, behind_element, body}
 use Rattle.load_names.specs.Places.{Place}
 use Rattle.load_tokens.specs.Nexts.{one_of, Stops, Goes}
 use Rattle.load_openings.specs.Reading.{counted_at}

@@ -54,7 +54,6 @@ pub record GaveRight (left : ℕ) (text rest : Bytes) (from base : ℕ) (known v
       → get_or item' (half_place h m) 0 ≡ min 2 (get_or item (half_place h m) 0 + occurrences h m u)
 
 abbrev pub RightIs : (left : ℕ) (text rest : Bytes) (from base : ℕ) (known vars : List Place) (c : Cursor) (s item s' names' item' : List ℕ)
-   
     → Result (ℕ × Cursor) Unread → Type 0
 RightIs left text rest from base known vars c s item s' names' item' (Ok (w, c')) =
     (u : Term) × (passed : List Placed) × GaveRight left text rest from base known vars c s item s' names' item' w c' u passed

@@ -1,21 +1,20 @@
 -- Which readers the first guards license: one guard more licenses at most one reader more.
-use Prim.Native.Nat.{ℕ, zero, suc, ◌+◌, ◌≤◌, ◌<◌}
+use Prim.Native.Nat.{ℕ, suc, ◌+◌, ◌≤◌, ◌<◌}
 use mathlib.Core.Path.{◌≡◌, refl, sym, ap, ◌∙◌}
-use mathlib.Core.Logic.{◌≢◌}
 use mathlib.Core.Bool.{Bool, true, false, ◌&&◌, ◌||◌}
 use mathlib.Core.List.{List, [], ◌∷◌, ◌++◌, append_assoc}
 use native.Mathlib.Omega.{arith}
 use lib.Dec.{leb, eqb}
 use lib.ListN.{length, get_or, set, replicate, length-set, length-append, length-replicate, get_or-replicate}
 use lib.Seq.{get_or-set_same, get_or-set_other}
-use borrow.Author.Tests.{eqb-true, eqb-false, ne_eqb, leb-true, leb-false}
+use borrow.Author.Tests.{eqb-true, eqb-false, leb-true}
 use Rattle.std.specs.Prelude.{Option as Told, Some, None}
 use Rattle.std.proofs.Math.Bool.{or-true, or-false, or_assoc}
 use Rattle.std.proofs.lemmas.List.{append-nil}
 use Rattle.meaning.specs.Bytes.{any, when◌then◌else◌}
 use Rattle.meaning.specs.Terms.{Guard}
 use Rattle.meaning.specs.Table.{is_reader, licensed}
-use Rattle.term.specs.Guards.{guard_word, HoldsGuards}
+use Rattle.term.specs.Guards.{HoldsGuards}
 use Rattle.load_names.specs.Places.{Place, item_places}
 use Rattle.load_guards.specs.Judged.{Tabled, Tests, TestAt, marks, marked, Licences}
 
@@ -97,26 +96,29 @@ module _ (s : List ℕ) (place n base : ℕ) (known : List Place) (gs : List Gua
             tabled = (rw first.2 at p.tabled).1;
           }
 
-      module _ (r : Told ℕ) (says : (m : ℕ) → (first.0.row.means_ground && is_reader m first.0.arguments) ≡ marks m r) where
-        told_now : (m : ℕ) → licensed (p.done ++ (first.0 ∷ [])) m ≡ (licensed p.done m || marks m r)
-        told_now m = licensed_more p.done first.0 m ∙ rw (says m) refl
+      -- What `grounded` tells of the next guard.
+      module _ (o : Told ℕ)
+          (told : (b : ℕ) (k : List Place) (g : Guard) → TestAt s (get_or s (place + i) 0) b k g → (m : ℕ) → (g.row.means_ground && is_reader m g.arguments) ≡ marks m o) where
+        told_now : (m : ℕ) → licensed (p.done ++ (first.0 ∷ [])) m ≡ (licensed p.done m || marks m o)
+        told_now m = licensed_more p.done first.0 m ∙ rw (told base known first.0 test_at m) refl
 
-      pub none_more : ((m : ℕ) → (first.0.row.means_ground && is_reader m first.0.arguments) ≡ marks m None) → Licensing s place base known gs (i + 1) table
-      none_more says =
-          goes_on table (record { size = p.told.size; licences = λ m l. rw (told_now None says m, or-false (licensed p.done m)) (p.told.licences m l) })
+        pub none_more : o ≡ None → Licensing s place base known gs (i + 1) table
+        none_more h =
+            goes_on table (record {
+              size = p.told.size;
+              licences = λ m l. rw (told_now m, h, or-false (licensed p.done m)) (p.told.licences m l);
+            })
 
-      pub one_more : (r : ℕ) → ((m : ℕ) → (first.0.row.means_ground && is_reader m first.0.arguments) ≡ marks m (Some r))
-          → Licensing s place base known gs (i + 1) (marked table r)
-      unfolding marked when◌then◌else◌
-      one_more r says = goes_on (marked table r) (record { size = marked_length table r ∙ p.told.size; licences = λ m l. go m l (leb 16 r) refl (eqb m r) refl })
-        where
-          go : (m : ℕ) → m < 16 → (a : Bool) → leb 16 r ≡ a → (b : Bool) → eqb m r ≡ b
-              → get_or (when a then table else set table r 1) m 0 ≡ (when licensed (p.done ++ (first.0 ∷ [])) m then 1 else 0)
-          go m l true few true e = let here = eqb-true m r e in absurd (omega (arith, leb-true 16 r few))
-          go m l true few false e = rw (told_now (Some r) says m, e, or-false (licensed p.done m)) (p.told.licences m l)
-          go m l false few true e =
-              let here : m ≡ r = eqb-true m r e in
-              rw (told_now (Some r) says m, e, or-true (licensed p.done m), here) (get_or-set_same table r 1 0 (omega (arith, p.told.size)))
-          go m l false few false e =
-              rw (told_now (Some r) says m, e, or-false (licensed p.done m))
-              (get_or-set_other table r m 1 0 (eqb-false m r e) ∙ p.told.licences m l)
+        pub one_more : (r : ℕ) → o ≡ Some r → Licensing s place base known gs (i + 1) (marked table r)
+        unfolding marked when◌then◌else◌
+        one_more r h = goes_on (marked table r) (record { size = marked_length table r ∙ p.told.size; licences = λ m l. go m l (leb 16 r) refl (eqb m r) refl })
+          where
+            go : (m : ℕ) → m < 16 → (a : Bool) → leb 16 r ≡ a → (b : Bool) → eqb m r ≡ b
+                → get_or (when a then table else set table r 1) m 0 ≡ (when licensed (p.done ++ (first.0 ∷ [])) m then 1 else 0)
+            go m l true few true e = let here = eqb-true m r e in absurd (omega (arith, leb-true 16 r few))
+            go m l true few false e = rw (told_now m, h, e, or-false (licensed p.done m)) (p.told.licences m l)
+            go m l false few true e =
+                let here : m ≡ r = eqb-true m r e in
+                rw (told_now m, h, e, or-true (licensed p.done m), here) (get_or-set_same table r 1 0 (omega (arith, p.told.size)))
+            go m l false few false e =
+                rw (told_now m, h, e, or-false (licensed p.done m)) (get_or-set_other table r m 1 0 (eqb-false m r e) ∙ p.told.licences m l)

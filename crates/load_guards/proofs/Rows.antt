@@ -1,16 +1,16 @@
 -- Which row of the table an element is: what searching the whole table by a name and a number of arguments says of those rows that may stand so.
-use Prim.Native.Nat.{ℕ, zero, suc, ◌+◌, ◌*◌, ◌/◌, ◌%◌, ◌≤◌, ◌<◌}
+use Prim.Native.Nat.{ℕ, zero, suc, ◌+◌, ◌*◌, ◌/◌, ◌≤◌, ◌<◌}
 use mathlib.Core.Path.{◌≡◌, refl, sym, ap, ◌∙◌}
-use mathlib.Core.Logic.{◌≢◌, ◌⊎◌, inl, inr}
+use mathlib.Core.Logic.{◌≢◌}
 use mathlib.Core.Bool.{Bool, true, false, not, cond}
 use mathlib.Core.List.{List, [], ◌∷◌, ◌++◌}
-use mathlib.Core.Option.{Option, none, some}
+use mathlib.Core.Option.{none, some}
 use native.Mathlib.Nat.{zero-add}
 use native.Mathlib.Omega.{arith}
 use lib.Dec.{eqb, ltb}
 use lib.ListN.{length}
 use borrow.Author.Tests.{eqb-true, eqb-false, eq-eqb, ne_eqb, ltb-true, ltb-false, lt-ltb}
-use Rattle.meaning.specs.Bytes.{Bytes, bytes_words, bytes, same, all, when◌then◌else◌}
+use Rattle.meaning.specs.Bytes.{Bytes, bytes_words, same, all, when◌then◌else◌}
 use Rattle.meaning.specs.Terms.{Term, Terms, end, more, Named, Row, Guard, count, as_term, terms_words}
 use Rattle.meaning.specs.Table.{Element, whole, bare, equals, rows_before, rows_between, rows_alone, guard_table, in_rows, as_guard, table_words}
 use Rattle.std.specs.Prelude.{Option as Told, Some, None, nat_eq, nat_lt}
@@ -19,7 +19,6 @@ use Rattle.std.specs.Option.{MatchOption}
 use Rattle.std.proofs.lemmas.Bool.{and_right as and_right_false}
 use Rattle.std.proofs.lemmas.Map.Entries.{option_filter}
 use Rattle.laws.proofs.Lists.Tests.{differ, and_left, and_right, false_not_true}
-use Rattle.term.specs.Cells.{term_word}
 use Rattle.term.specs.Guards.{test_number, guard_word, row_is, row_of, row_at, found_row}
 use Rattle.term.specs.Layout.{item_place}
 use Rattle.term.proofs.TableOfGuards.{seven}

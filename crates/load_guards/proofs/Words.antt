@@ -2,18 +2,17 @@
 use Prim.Native.Nat.{ℕ, zero, suc, ◌+◌, ◌-◌, ◌*◌, ◌/◌, ◌%◌, ◌≤◌, ◌<◌}
 use mathlib.Core.Path.{◌≡◌, refl, sym, ap, ◌∙◌}
 use mathlib.Core.Logic.{◌≢◌}
-use mathlib.Core.Bool.{Bool, true, false, ◌||◌, ◌&&◌}
-use mathlib.Core.List.{List, [], ◌∷◌, map}
+use mathlib.Core.Bool.{Bool, true, false, ◌&&◌}
+use mathlib.Core.List.{List, [], ◌∷◌}
 use native.Mathlib.Omega.{arith}
 use lib.Dec.{eqb}
 use lib.ListN.{length, get_or}
-use borrow.Author.Tests.{ne_eqb}
 use Rattle.meaning.specs.Bytes.{Bytes, same, any, when◌then◌else◌}
-use Rattle.meaning.specs.Terms.{Half, writer, reader, Constant, cell, named, Term, Terms, end, more, Named, Guard, count, as_term}
+use Rattle.meaning.specs.Terms.{writer, reader, Constant, named, Term, Terms, end, more, Named, Guard, count, as_term}
 use Rattle.meaning.specs.Table.{Element, whole, bare, equals, guard_table, as_guard, is_reader, table_words}
 use Rattle.std.specs.Prelude.{Some}
 use Rattle.laws.proofs.Lists.Tests.{same_true, false_not_true}
-use Rattle.term.specs.Cells.{term_word, number_of, functor_word, Known, KnownName}
+use Rattle.term.specs.Cells.{term_word, number_of, Known, KnownName}
 use Rattle.term.specs.Guards.{test_number, row_at, found_row}
 use Rattle.term.specs.Holds.{CellAt, Holds, HoldsFrom}
 use Rattle.term.specs.Layout.{item_place}
@@ -21,7 +20,7 @@ use Rattle.load_names.specs.Places.{Place, spellings, item_places}
 use Rattle.load_names.specs.Tables.{no_place, StandsAt, NamesIn}
 use Rattle.load_names.proofs.NameTable.{name_stands}
 use Rattle.load_elements.specs.Elements.{element_word, ElementKnown}
-use Rattle.load_guards.specs.Judged.{HoldsElement, Alone, NamedAt, InTable, TestAt, row_number}
+use Rattle.load_guards.specs.Judged.{HoldsElement, Alone, NamedAt, TestAt, row_number}
 use Rattle.load_guards.proofs.Rows.{equals_found}
 
 tag_of : (tag n : ℕ) → tag < 8 → (tag + 8 * n) % 8 ≡ tag

@@ -3,7 +3,7 @@ use Rattle.std.specs.Prelude.{ℕ, ◌+◌, ◌-◌, ◌/◌, ◌%◌, ◌≤◌
 use Rattle.std.proofs.Math.Option.{Option, none, some}
 use Rattle.meaning.specs.Bytes.{Bytes, when◌then◌else◌}
 use Rattle.meaning.specs.Terms.{Half, writer, reader, end, more, Named, Guard, count, as_term, all_occurrences}
-use Rattle.meaning.specs.Table.{Element, whole, bare, equals, guard_table, as_guard, as_guards, licensed}
+use Rattle.meaning.specs.Table.{Element, whole, bare, equals, guard_table, as_guards, licensed}
 use Rattle.term.specs.Cells.{Places as CellPlaces}
 use Rattle.term.specs.Frames.{Only}
 use Rattle.term.specs.Guards.{test_number, guard_word, HoldsGuards, row_at}
@@ -12,7 +12,7 @@ use Rattle.term.specs.Layout.{item_start, item_end}
 use Rattle.load_names.specs.Places.{Place, spellings, item_places}
 use Rattle.load_names.specs.Tables.{NamesIn, StandsAt}
 use Rattle.load_openings.specs.Reading.{half_place}
-use Rattle.load_elements.specs.Elements.{element_word, elements_occurrences, ElementNumbered, ElementsNumbered, ElementKnown, ElementsKnown}
+use Rattle.load_elements.specs.Elements.{element_word, elements_occurrences, ElementsNumbered, ElementKnown, ElementsKnown}
 
 -- The scratch holds an element's compounds; of `==` the words of its sides behind its place, and their compounds.
 unfoldable pub HoldsElement : List ℕ → CellPlaces → Element → Type 0

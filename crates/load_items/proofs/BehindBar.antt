@@ -25,7 +25,7 @@ use Rattle.load_openings.specs.declared.cursor.Unread.TheVariants as unread
 use Rattle.load_openings.proofs.Expected.{piece_stop, if_next_other}
 use Rattle.load_openings.proofs.Passing.{piece_stops}
 use Rattle.load_goals.specs.Endings.{goals_part, Ended, EndIs}
-use Rattle.load_goals.proofs.Partly.{behind_it, stands_behind}
+use Rattle.load_openings.proofs.Moves.{moved_to, stands_moved}
 use Rattle.load_items.proofs.Counted.{half_few}
 use Rattle.load_items.specs.Rules.{perhaps_goals, GuardedIs}
 use Rattle.load_items.specs.Refusing.{refused_as}
@@ -45,7 +45,7 @@ module _ (k : ℕ) (text rest : Bytes) (from : ℕ) (known vars : List Place) (c
 
   -- No goal.
   pub none_behind : (behind : ℕ) (next : SignAt rest c.at 46 behind)
-      → EndIs (goals_part (clause_goals_from k)) perhaps_goals text rest from (clause_base k) known vars c s item s names item (Ok (0, behind_it c behind))
+      → EndIs (goals_part (clause_goals_from k)) perhaps_goals text rest from (clause_base k) known vars c s item s names item (Ok (0, moved_to c behind))
   unfolding goals_part goals_stored goals_occurrences before names_over variables_over Open GoalsKnown
   none_behind behind next = (
     [],
@@ -56,7 +56,7 @@ module _ (k : ℕ) (text rest : Bytes) (from : ℕ) (known vars : List Place) (c
       follows = next.follows from;
       no_stop = tt;
       forward = omega (arith, next.forward);
-      stands = stands_behind text rest from names item c known vars behind st next.inside;
+      stands = stands_moved behind st next.inside;
       size_is = refl;
       stored_is = refl;
       known_names = tt;

@@ -132,8 +132,8 @@ module _ (rest : Bytes) (from : ℕ) (known : List Place) (k queries begins : �
     clause_refused text s item heads s' names' item' heads' h₁ g₁ l₁ (Broken fault) told = absurd told
 
 -- The head's counts are the last part of their table.
-pub part_counts : (l : List ℕ) (i : ℕ) → get_or (take (length l - 32) (drop 32 l)) i 0 ≡ get_or l (32 + i) 0
-part_counts l i = ap (λ m. get_or m i 0) (take_all (length l - 32) (drop 32 l) (omega (arith, length-drop 32 l))) ∙ get_or-drop 32 l i 0
+pub part_counts : (l : List ℕ) (n : ℕ) → length l ≤ 32 + n → (i : ℕ) → get_or (take n (drop 32 l)) i 0 ≡ get_or l (32 + i) 0
+part_counts l n enough i = ap (λ m. get_or m i 0) (take_all n (drop 32 l) (omega (arith, length-drop 32 l))) ∙ get_or-drop 32 l i 0
 
 -- Judged behind its full stop.
 module _ (rest : Bytes) (s table in_head in_guards licences : List ℕ) (k : ℕ) (ruled : Ruled) (w : Whole) (few : k < 128)

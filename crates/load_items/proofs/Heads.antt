@@ -31,7 +31,8 @@ use Rattle.load_openings.specs.declared.cursor.Unread.TheVariants as unread
 use Rattle.load_openings.proofs.Expected.{piece_open, piece_stop, either_first, either_second, either_stops}
 use Rattle.load_openings.proofs.Passing.{More, names_append, variables_append, before_append, open_append, names_more, piece_stops}
 use Rattle.load_goals.proofs.GoalLists.{places_more, still_stored, still_named}
-use Rattle.load_goals.proofs.Partly.{behind_it, stands_behind, gave_only}
+use Rattle.load_openings.proofs.Given.{gave_only}
+use Rattle.load_openings.proofs.Moves.{moved_to, stands_moved}
 use Rattle.load_items.specs.Counts.{Copied}
 use Rattle.load_items.specs.Rules.{body_part, rule_part, GuardsAre, BodyIs, RuleRead, RuledIs}
 use Rattle.load_items.specs.Refusing.{refused_as}
@@ -143,7 +144,7 @@ module _ (k : ℕ) (text rest : Bytes) (from : ℕ) (known vars : List Place) (c
     few = few_arguments c.compounds e.compounds g gave.numbered
 
     head_only : Only 0 trial_region s s'
-    head_only = gave_only gave (omega arith)
+    head_only = only_wider (item_start base) (item_end base) 0 trial_region s s' (omega arith) (omega arith) (gave_only gave)
 
     in_head : (h : Half) (m : ℕ) → m < 16 → get_or h₁ (half_place h m) 0 ≡ min 2 (get_or item (half_place h m) 0 + all_occurrences h m g.arguments)
     unfolding occurrences as_term
@@ -163,7 +164,7 @@ module _ (k : ℕ) (text rest : Bytes) (from : ℕ) (known vars : List Place) (c
     -- A fact: `head.`
     pub head_stop : (g₁ l₁ : List ℕ) → g₁ ≡ replicate 64 0 → l₁ ≡ replicate 16 0 → (behind : ℕ) (next : SignAt rest e.at 46 behind)
         → RuledIs k text rest from known vars c s item heads s' names' item' (set heads k (get_or s' (item_start base) 0)) h₁ g₁ l₁
-        (Ok (record { guards = 0; bar = None; goals = 0; cursor = behind_it e behind }))
+        (Ok (record { guards = 0; bar = None; goals = 0; cursor = moved_to e behind }))
     unfolding rule_part goals_stored guards_stored goals_occurrences occurrences as_term GoalsKnown
     head_stop g₁ l₁ no_counts no_licences behind next =
         let there : tokens_in from rest e.at ≡ token (from + next.place) (sign 46) (tokens_in from rest behind) = next.follows from in (
@@ -179,7 +180,7 @@ module _ (k : ℕ) (text rest : Bytes) (from : ℕ) (known vars : List Place) (c
               follows = gave.follows ∙ ap (before qs) there;
               no_stop = gave.no_stop;
               forward = omega (arith, next.forward);
-              stands = stands_behind text rest from names' item' e known' vars' behind gave.stands next.inside;
+              stands = stands_moved behind gave.stands next.inside;
               size_is = refl;
               stored_is = gave.stored_is;
               known_names = (gave.known_names, tt);
@@ -197,7 +198,7 @@ module _ (k : ℕ) (text rest : Bytes) (from : ℕ) (known vars : List Place) (c
     -- A body behind `:-`.
     module _ (behind : ℕ) (next : SignAt rest e.at 58 behind) (s'' names'' item'' g₁ l₁ : List ℕ) where
       abbrev d : Cursor
-      d = behind_it e behind
+      d = moved_to e behind
 
       there : tokens_in from rest e.at ≡ token (from + next.place) (sign 58) (tokens_in from rest behind)
       there = next.follows from

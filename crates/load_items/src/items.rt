@@ -9,7 +9,7 @@ ghost use Rattle.load_items.specs.Outcomes.{BegunIs, ItemIs, Begins, FirstName, 
 ghost use Rattle.load_items.specs.Judging.{Whole, Judging, JudgedIs};
 
 use crate::refused::Refused;
-use crate::rule::{Ruled, rule};
+use crate::rule::{Ruled, Tables, rule};
 use load_faults::faults::first_fault;
 use load_goals::goals::goals;
 use load_guards::guards::foreign;
@@ -54,24 +54,30 @@ fn judged(
     rest: &[u8],
     s: &mut [u64],
     item: &[u64],
-    in_head: &[u64],
-    in_guards: &[u64],
-    licensed: &[u64],
+    tables: &Tables,
     k: usize,
     ruled: Ruled,
 ) -> Result<Item, Refused>
     requires k_bound { (k < 128) × (trial_region ≤ length s.old) × (length s.old < 1152921504606846976) }
-    requires judging { (w : Whole) × Judging rest.now s.old item.now in_head.now in_guards.now licensed.now k ruled w }
-    ensures { (w : Whole) → Judging rest.now s.old item.now in_head.now in_guards.now licensed.now k ruled w
+    requires judging { (w : Whole) × Judging rest.now s.old item.now tables.now.in_head tables.now.in_guards tables.now.licensed k ruled w }
+    ensures { (w : Whole) → Judging rest.now s.old item.now tables.now.in_head tables.now.in_guards tables.now.licensed k ruled w
         → JudgedIs rest.now k s.new w result }
 {
-    let counts = &in_head[32..];
+    let counts = &tables.in_head[32..];
     let c = ruled.cursor;
-    if foreign(in_guards, counts, c.variables) {
+    if foreign(&tables.in_guards, counts, c.variables) {
         return Err(Refused::Unknown);
     }
-    if !clause_rules(item, counts, licensed, c.variables) {
-        let fault = first_fault(rest, item, c.variables, true, 0, ruled.bar, licensed);
+    if !clause_rules(item, counts, &tables.licensed, c.variables) {
+        let fault = first_fault(
+            rest,
+            item,
+            c.variables,
+            true,
+            0,
+            ruled.bar,
+            &tables.licensed,
+        );
         return Err(Refused::Broken(fault));
     }
     let record = CLAUSES + CLAUSE_STRIDE * k;
@@ -104,9 +110,11 @@ fn clause(
     if 128 <= k {
         return Err(Refused::Exceeded);
     }
-    let mut in_head = [0u64; 64];
-    let mut in_guards = [0u64; 64];
-    let mut licensed = [0u64; 16];
+    let mut tables = Tables {
+        in_head: [0; 64],
+        in_guards: [0; 64],
+        licensed: [0; 16],
+    };
     let ruled = rule(
         text,
         rest,
@@ -115,13 +123,11 @@ fn clause(
         names,
         item,
         heads,
-        &mut in_head,
-        &mut in_guards,
-        &mut licensed,
+        &mut tables,
         k,
         first(known, 0),
     )?;
-    judged(rest, s, item, &in_head, &in_guards, &licensed, k, ruled)
+    judged(rest, s, item, &tables, k, ruled)
 }
 
 // The query of this number, whose `?-` is at an offset of the rest.

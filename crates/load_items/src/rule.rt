@@ -31,6 +31,14 @@ pub struct Ruled {
     pub cursor: Cursor,
 }
 
+// What the halves of a clause are counted in while it is read, apart from the item's table, and which of its readers are licensed.
+#[derive(Clone, Copy)]
+pub struct Tables {
+    pub in_head: [u64; 64],
+    pub in_guards: [u64; 64],
+    pub licensed: [u64; 16],
+}
+
 // The words of elements as the goals', from a place on, if each is a compound with a name.
 fn set_goals(s: &mut [u64], words: &[u64], place: usize) -> bool
     requires { (place + 8 ≤ length s.old) × (length s.old < 1152921504606846976) × (length words.now ≤ 8) }
@@ -124,7 +132,7 @@ fn guarded(
     })
 }
 
-// What stands behind `:-`, whose head's halves are counted in `in_head` as in the item's table; those of the elements before a bar are counted apart.
+// What stands behind `:-`, whose head's halves are counted in the tables' `in_head` as in the item's table; those of the elements before a bar are counted apart.
 fn body(
     text: &[u8],
     rest: &[u8],
@@ -132,30 +140,29 @@ fn body(
     s: &mut [u64],
     names: &mut [u64],
     item: &mut [u64],
-    in_head: &[u64],
-    in_guards: &mut [u64],
-    licensed: &mut [u64],
+    tables: &mut Tables,
     k: usize,
     c: Cursor,
 ) -> Result<Ruled, Refused>
     requires k_bound { (k < 128) × (trial_region ≤ length s.old) × (length s.old < 1152921504606846976) }
-    requires in_head_len { (length in_head.now ≡ 64) × (in_guards.old ≡ replicate 64 0) × (licensed.old ≡ replicate 16 0) }
-    requires by_index { (i : ℕ) → i < 32 → get_or in_head.now (32 + i) 0 ≡ get_or item.old (32 + i) 0 }
+    requires none_counted { (tables.old.in_guards ≡ replicate 64 0) × (tables.old.licensed ≡ replicate 16 0) }
+    requires by_index { (i : ℕ) → i < 32 → get_or tables.old.in_head (32 + i) 0 ≡ get_or item.old (32 + i) 0 }
     requires stands { (known : List Place) × (vars : List Place) × Stands text.now rest.now from names.old item.old c known vars }
-    ensures { (known : List Place) (vars : List Place) → Stands text.now rest.now from names.old item.old c known vars
+    ensures read { (known : List Place) (vars : List Place) → Stands text.now rest.now from names.old item.old c known vars
         → BodyIs k text.now rest.now from known vars c s.old item.old
-        s.new names.new item.new in_guards.new licensed.new result }
+        s.new names.new item.new tables.new.in_guards tables.new.licensed result }
+    ensures head_stays { tables.new.in_head ≡ tables.old.in_head }
 {
     let mut words = [0u64; 8];
     let record = CLAUSES + CLAUSE_STRIDE * k;
     let base = ITEMS / COMPOUND_WORDS + ITEM_COMPOUNDS * k;
-    copy_counts(in_guards, item);
+    copy_counts(&tables.in_guards, item);
     match elements(text, rest, from, s, names, item, base, &mut words, c)? {
         Elements::Stop(n, a, d) => {
             if !set_goals(s, &words[..n], record + CLAUSE_BODY) {
                 return Err(Refused::Malformed(a));
             }
-            add_counts(item, in_head);
+            add_counts(item, &tables.in_head);
             Ok(Ruled {
                 guards: 0,
                 bar: None,
@@ -164,8 +171,8 @@ fn body(
             })
         }
         Elements::Bar(n, d) => {
-            copy_counts(item, in_guards);
-            copy_counts(in_head, item);
+            copy_counts(item, &mut tables.in_guards);
+            copy_counts(&tables.in_head, item);
             let found = tested(
                 text,
                 names,
@@ -174,7 +181,7 @@ fn body(
                 n,
                 base,
                 record + CLAUSE_TESTS,
-                licensed,
+                &mut tables.licensed,
             );
             guarded(text, rest, from, s, names, item, k, n, found, d)
         }
@@ -190,28 +197,26 @@ pub fn rule(
     names: &mut [u64],
     item: &mut [u64],
     heads: &mut [u64],
-    in_head: &mut [u64],
-    in_guards: &mut [u64],
-    licensed: &mut [u64],
+    tables: &mut Tables,
     k: usize,
     c: Cursor,
 ) -> Result<Ruled, Refused>
     requires k_bound { (k < 128) × (trial_region ≤ length s.old) × (length s.old < 1152921504606846976) × (length heads.old ≡ 128) × (c.compounds ≡ 0) }
-    requires in_head_len { (length in_head.old ≡ 64) × (in_guards.old ≡ replicate 64 0) × (licensed.old ≡ replicate 16 0) }
+    requires none_counted { (tables.old.in_guards ≡ replicate 64 0) × (tables.old.licensed ≡ replicate 16 0) }
     requires stands { (known : List Place) × (vars : List Place) × Stands text.now rest.now from names.old item.old c known vars }
     ensures { (known : List Place) (vars : List Place) → Stands text.now rest.now from names.old item.old c known vars
         → RuledIs k text.now rest.now from known vars c s.old item.old heads.old
-        s.new names.new item.new heads.new in_head.new in_guards.new licensed.new result }
+        s.new names.new item.new heads.new tables.new.in_head tables.new.in_guards tables.new.licensed result }
 {
     let base = ITEMS / COMPOUND_WORDS + ITEM_COMPOUNDS * k;
     let (_, e) = goal(text, rest, from, s, names, item, base, c)?;
     heads[k] = s[COMPOUND_WORDS * base];
-    copy_counts(item, in_head);
+    copy_counts(item, &mut tables.in_head);
     let (sign, behind) = next_of(rest, e.at, b":.")?;
     let d = Cursor { at: behind, ..e };
     if sign == b':' {
         return body(
-            text, rest, from, s, names, item, in_head, in_guards, licensed, k, d,
+            text, rest, from, s, names, item, tables, k, d,
         );
     }
     Ok(Ruled {

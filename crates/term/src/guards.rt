@@ -20,9 +20,6 @@ pub const ARE_EQUAL: u64 = 5;
 
 pub const OTHERWISE: u64 = 6;
 
-// How many rows there are: the number of no row.
-pub const ROWS: usize = 7;
-
 // A row: its name, its number of arguments, and whether success means ground. Of `==` it does, but only "a reader that is itself the argument of a ground,
 // integer or constant guard" may stand several times.
 #[derive(Clone, Copy)]

@@ -1,5 +1,5 @@
 -- One element more, with what comes behind it, or what stops the reading.
-use Rattle.std.proofs.Common.{◌≡◌, ◌+◌, ◌-◌, ◌<◌, ◌≤◌, ℕ, List, [], length, set, refl, ap, ◌∙◌, arith}
+use Rattle.std.proofs.Common.{◌+◌, ◌-◌, ◌<◌, ◌≤◌, ℕ, [], length, set, refl, ap, ◌∙◌, arith}
 use Rattle.std.proofs.lemmas.Result.{err_from_is_err_and}
 use Rattle.load_elements.proofs.Lists.{length_snoc}
 use Rattle.load_elements.proofs.Partly.{comma_left, partly_none, partly_ninth, partly_unread, partly_other, partly_comma, partly_bar, partly_stop}

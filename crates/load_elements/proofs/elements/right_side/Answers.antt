@@ -1,5 +1,4 @@
 -- Each return is one lemma on what the right side's term gave.
-use Rattle.std.proofs.Common.{arith}
 use Rattle.std.proofs.lemmas.Result.{err_from_is_err_and}
 use Rattle.load_openings.proofs.Moves.{stands_counted}
 use Rattle.load_elements.proofs.Right.{right_many, right_unread, right_got}

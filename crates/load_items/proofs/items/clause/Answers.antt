@@ -28,7 +28,7 @@ returns-in_err-ruled c = λ known queries begins name ts b t.
     let st = begin_stands a.text.now a.rest.now a.from a.names.now a.item.now a.known known b c.first.result (omega (arith, f.0)) f.1 f.2 f.3 in
     let p = err_from_is_err_and c.from_residual.result c.from_residual.ensures.1 in
     rw (p.1, p.2) (clause_refused a.rest.now a.from known a.k queries begins name ts t.tokens c.if-k-ge128.false c.first.result f.0 f.3
-    a.text.now a.s.now a.item.now a.heads.now r.s r.names r.item r.heads r.in_head r.in_guards r.licensed _ (c.in_err-ruled.ensures known [] st))
+    a.text.now a.s.now a.item.now a.heads.now r.s r.names r.item r.heads r.tables.in_head r.tables.in_guards r.tables.licensed _ (c.in_err-ruled.ensures known [] st))
 
 pub judged-requires-clause-judging : goal.judged-requires-clause-judging
 judged-requires-clause-judging c =
@@ -56,7 +56,7 @@ judged-requires-clause-judging c =
       passed = got.2;
       stop = got.3;
     } in
-    let j : Judging a.rest.now c.rule.new.s c.rule.new.item c.rule.new.in_head c.rule.new.in_guards c.rule.new.licensed a.k c.in_ok-ruled.ruled w =
+    let j : Judging a.rest.now c.rule.new.s c.rule.new.item c.rule.new.tables.in_head c.rule.new.tables.in_guards c.rule.new.tables.licensed a.k c.in_ok-ruled.ruled w =
         record { was_read = got.4; empty = b.empty; at_first = (f.0, f.3); tokens = t.tokens } in
     (w, j)
 
@@ -84,6 +84,6 @@ returns c = λ known queries begins name ts b t.
       passed = got.2;
       stop = got.3;
     } in
-    let j : Judging a.rest.now c.rule.new.s c.rule.new.item c.rule.new.in_head c.rule.new.in_guards c.rule.new.licensed a.k c.in_ok-ruled.ruled w =
+    let j : Judging a.rest.now c.rule.new.s c.rule.new.item c.rule.new.tables.in_head c.rule.new.tables.in_guards c.rule.new.tables.licensed a.k c.in_ok-ruled.ruled w =
         record { was_read = got.4; empty = b.empty; at_first = (f.0, f.3); tokens = t.tokens } in
     c.judged.ensures w j queries
