@@ -148,10 +148,8 @@ fn point(s: &mut [u64], lists: usize, links: usize, taken: usize, c: u64, d: u64
     if !is_variable(c) {
         return taken;
     }
-    if !is_variable(d) {
-        if d % TAGS != COMPOUND {
-            return taken;
-        }
+    if !is_variable(d) && d % TAGS != COMPOUND {
+        return taken;
     }
     put(s, lists, links, taken, index(c / TAGS), d)
 }
@@ -165,10 +163,8 @@ fn join(s: &mut [u64], lists: usize, links: usize, taken: usize, c: u64, d: u64)
     if !is_variable(c) {
         return point(s, lists, links, taken, d, c);
     }
-    if is_variable(d) {
-        if c / TAGS < d / TAGS {
-            return point(s, lists, links, taken, d, c);
-        }
+    if is_variable(d) && c / TAGS < d / TAGS {
+        return point(s, lists, links, taken, d, c);
     }
     point(s, lists, links, taken, c, d)
 }
