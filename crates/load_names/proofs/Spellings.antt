@@ -1,18 +1,16 @@
 -- Spellings: the definitions' test tells exactly whether two are the same, and the place of one among others is the first that is the same.
 -- All by recursion on the lists; a test's outcome goes to a helper with its equation.
 use Prim.Native.Nat.{ℕ, zero, suc, ◌+◌, ◌*◌, ◌-◌, ◌≤◌, ◌<◌}
-use mathlib.Core.Path.{◌≡◌, refl, sym, ap, ap₂, ◌∙◌}
+use mathlib.Core.Path.{◌≡◌, refl, sym, ap, ◌∙◌}
 use mathlib.Core.Bool.{Bool, true, false, ◌||◌}
 use mathlib.Core.List.{List, [], ◌∷◌, ◌++◌, map-append}
 use mathlib.Core.Option.{Option, none, some}
 use native.Mathlib.Omega.{arith}
-use lib.Dec.{eqb}
-use borrow.Author.Tests.{eqb-true, eq-eqb, ne_eqb}
 use lib.ListN.{length, get_or, length-map}
-use lib.Seq.{slice, slice-cons, slice_empty, length-slice}
+use lib.Seq.{slice, length-slice}
 use Rattle.meaning.specs.Bytes.{Bytes, same, any, when◌then◌else◌}
 use Rattle.meaning.specs.Items.{place_of}
-use Rattle.laws.proofs.Lists.Tests.{same_refl, same_true}
+use Rattle.laws.proofs.Lists.Tests.{same_refl}
 use Rattle.term.proofs.Compared.{same_false}
 use Rattle.load_names.specs.Places.{Place, spellings, with_place}
 use Rattle.load_names.specs.Tables.{no_place, StandsAt}

@@ -12,20 +12,6 @@ ghost use Rattle.load_names.specs.Answers.{found, NameIs};
 use term::bytes::same;
 use term::word::{index, word};
 
-#[derive(Clone, Copy)]
-pub enum Numbered {
-    // The name's number, and how many names there are then.
-    Number(usize, usize),
-    Exceeded,
-}
-
-// The number of the place that a search has found, if any.
-#[derive(Clone, Copy)]
-pub enum Found {
-    At(usize),
-    Nothing,
-}
-
 fn wide(c: u8) -> usize
     ensures { result ≡ c }
 {
@@ -61,7 +47,8 @@ pub fn spelled(text: &[u8], rest: &[u8], table: &[u64], n: usize, a: usize, e: u
 }
 
 // The number of the name that is spelled so, among those with this hash.
-fn find(text: &[u8], rest: &[u8], table: &[u64], h: usize, a: usize, e: usize) -> Found
+#[tactic(auto, using(crate::proofs::Hashes::hash_fits))]
+fn find(text: &[u8], rest: &[u8], table: &[u64], h: usize, a: usize, e: usize) -> Option<usize>
     requires a_le_e { (a ≤ e) × (e ≤ length rest.now) × (h ≡ hash_of (slice a e rest.now)) }
     requires names_in { (places : List Place) × NamesIn text.now places table.now }
     ensures { (places : List Place) → NamesIn text.now places table.now
@@ -71,11 +58,11 @@ fn find(text: &[u8], rest: &[u8], table: &[u64], h: usize, a: usize, e: usize) -
     while next != 0 {
         let n = next - 1;
         if spelled(text, rest, table, n, a, e) {
-            return Found::At(n);
+            return Some(n);
         }
         next = index(table[768 + n]);
     }
-    Found::Nothing
+    None
 }
 
 // A new name becomes the last one of its hash.
@@ -90,7 +77,8 @@ fn add(table: &mut [u64], count: usize, h: usize, start: usize, size: usize)
     table[512 + h] = word(count + 1);
 }
 
-// The number of the name from a to e of the rest, which begins at an offset of the text; the new name may pass the figure.
+// The number of the name from a to e of the rest, which begins at an offset of the text, and how many names there are then; none where a new
+// name passes the figure.
 pub fn number(
     text: &[u8],
     rest: &[u8],
@@ -99,19 +87,19 @@ pub fn number(
     count: usize,
     a: usize,
     e: usize,
-) -> Numbered
+) -> Option<(usize, usize)>
     requires from_in_bounds { (from ≤ length text.now) × (rest.now ≡ drop from text.now) × (a < e) × (e ≤ length rest.now) × (e ≤ a + 31) }
     requires names_in { (places : List Place) × NamesIn text.now places table.old × (count ≡ length places) }
     ensures { (places : List Place) → NamesIn text.now places table.old → count ≡ length places
         → NameIs text.now places (from + a) (slice a e rest.now) table.old table.new result }
 {
     let h = hash(rest, a, e);
-    if let Found::At(n) = find(text, rest, table, h, a, e) {
-        return Numbered::Number(n, count);
+    if let Some(n) = find(text, rest, table, h, a, e) {
+        return Some((n, count));
     }
     if 256 <= count {
-        return Numbered::Exceeded;
+        return None;
     }
     add(table, count, h, from + a, e - a);
-    Numbered::Number(count, count + 1)
+    Some((count, count + 1))
 }

@@ -20,7 +20,7 @@ use Rattle.run_trial.specs.Choosing.{unit_of, Trying, MarksBelow, ChoiceTold, Ch
 use Rattle.run_queues.specs.Log.{Slot}
 use Rattle.run_between.specs.Running.{RunOnly, Running, StepIs}
 use Rattle.run_between.specs.Taking.{Taken, Reducing, JoiningWaiting, JoiningFailed}
-use Rattle.run_between.specs.declared.stepped.Stepped.{Stepped}
+use Rattle.std.specs.Prelude.{Option, Some, None}
 use Rattle.run_trial.specs.declared.choice.ChoiceResult.{ChoiceResult}
 use Rattle.run_trial.specs.declared.choice.ChoiceResult.TheVariants.{Reduces, Waits, Fails}
 use Rattle.run_between.proofs.GroundMarks.{grounds_tried}
@@ -121,6 +121,6 @@ module _ (s : List ℕ) (text : Bytes) (names : List Bytes) (j : Job) (figures :
     unfolding choice_for
     choice_fails e = record { goal_is = its_word; query_is = its_query; chosen = rw e at told.told }
 
-    pub step_from : (s' : List ℕ) (answer : Stepped) → StepIs s₁ s' text names j figures limit atlas g others t answer
+    pub step_from : (s' : List ℕ) (answer : Option Standing) → StepIs s₁ s' text names j figures limit atlas g others t answer
         → StepIs s s' text names j figures limit atlas g others t answer
     step_from s' answer is = record { only = run_only_then figures s s₁ s' tried_only is.only; told = is.told }

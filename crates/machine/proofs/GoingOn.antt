@@ -16,7 +16,7 @@ use Rattle.term.specs.declared.state.Verdict.TheVariants.{Rest, Budget, Room as 
 use Rattle.run_queues.specs.Log.{Slot}
 use Rattle.run_between.specs.Running.{RunOnly, Running, StepIs}
 use Rattle.machine.specs.Ending.{GoneOn}
-use Rattle.run_between.specs.declared.stepped.Stepped.TheVariants.{Next, NoRoom}
+use Rattle.std.specs.Prelude.{Option, Some, None}
 use Rattle.machine.specs.declared.run.Ran.TheVariants.{Ended}
 use Rattle.run_between.proofs.FramesRunning.{run_only_then}
 use Rattle.machine.proofs.Going.{ends_at_rest, ends_for_room, ends_by_budget}
@@ -95,7 +95,7 @@ module _ {s₀ s : List ℕ} {text : Bytes} {names : List Bytes} {j : Job} {figu
   steps_few more = omega (arith, h.left_is, h.few, h.steps, more)
 
   module _ (g : Goal) (others : List Goal) (first : (run j h.limit figures).state.goals.queue ≡ g ∷ others) (some : left ≢ 0) (s' : List ℕ) where
-    pub goes_to_next : (u : Standing) → StepIs s s' text names j figures h.limit h.atlas g others t (Next u)
+    pub goes_to_next : (u : Standing) → StepIs s s' text names j figures h.limit h.atlas g others t (Some u)
         → GoesOn s₀ s' text names j figures budget (left - 1) u
     goes_to_next u k =
         let n = k.told in
@@ -110,7 +110,7 @@ module _ {s₀ s : List ℕ} {text : Bytes} {names : List Bytes} {j : Job} {figu
           few = h.few;
         }
 
-    pub goes_to_room : StepIs s s' text names j figures h.limit h.atlas g others t NoRoom → GoneOn s' names j figures budget (Ended NoRoomLeft t)
+    pub goes_to_room : StepIs s s' text names j figures h.limit h.atlas g others t None → GoneOn s' names j figures budget (Ended NoRoomLeft t)
     goes_to_room k =
         let n = k.told in
         let less : (run j h.limit figures).state.steps < h.limit + left = omega (arith, steps_are, some) in

@@ -1,8 +1,7 @@
 -- `load_names::rules::both_halves` meets its contract. All pairs below n have passed; the first that fails decides.
-use Prim.Native.Nat.{ℕ, ◌+◌, ◌-◌, ◌≤◌}
-use mathlib.Core.Path.{◌≡◌, refl, sym, ◌∙◌}
-use mathlib.Core.Bool.{true, false, ◌&&◌}
-use lib.ListN.{get_or}
+use Prim.Native.Nat.{◌-◌, ◌≤◌}
+use mathlib.Core.Path.{◌≡◌, sym}
+use mathlib.Core.Bool.{true}
 use Rattle.meaning.specs.Bytes.{all, up_to}
 use Rattle.load_names.specs.Rules.{alike, halves_alike}
 use Rattle.load_names.proofs.Tallies.{all_next, all_none, all_fails, alike_passes, alike_fails}

@@ -1,10 +1,9 @@
 -- `load_names::rules::clause_rules` meets its contract. All pairs below n have passed; the first that fails decides.
-use Prim.Native.Nat.{ℕ, ◌-◌, ◌≤◌}
+use Prim.Native.Nat.{◌-◌, ◌≤◌}
 use mathlib.Core.Path.{◌≡◌, sym, ◌∙◌}
 use mathlib.Core.Bool.{true}
 use native.Mathlib.Omega.{arith}
 use borrow.Author.Rules.{rules}
-use borrow.Author.Tests.{not-true, not-false}
 use Rattle.meaning.specs.Bytes.{all, up_to}
 use Rattle.load_names.specs.Rules.{pair_kept}
 use Rattle.load_names.proofs.Tallies.{all_next, all_none, all_fails}

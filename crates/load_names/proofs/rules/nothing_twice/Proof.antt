@@ -1,8 +1,7 @@
 -- `load_names::rules::nothing_twice` meets its contract. All pairs below n have passed; the first that fails decides.
-use Prim.Native.Nat.{ℕ, ◌+◌, ◌-◌, ◌≤◌}
-use mathlib.Core.Path.{◌≡◌, refl, sym, ◌∙◌}
-use mathlib.Core.Bool.{true, false, ◌&&◌}
-use lib.ListN.{get_or}
+use Prim.Native.Nat.{◌-◌, ◌≤◌}
+use mathlib.Core.Path.{◌≡◌, sym}
+use mathlib.Core.Bool.{true}
 use Rattle.meaning.specs.Bytes.{all, up_to}
 use Rattle.load_names.specs.Rules.{once, none_twice}
 use Rattle.load_names.proofs.Tallies.{all_next, all_none, all_fails, once_passes, once_fails, once_fails_2}

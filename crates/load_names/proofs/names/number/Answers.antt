@@ -1,0 +1,28 @@
+-- What the search found decides which of the three answers is given.
+use Rattle.std.proofs.Common.{◌+◌, ◌-◌, sym, arith}
+use Rattle.std.proofs.Math.Seq.{slice, length-slice}
+use Rattle.load_names.proofs.Lists.{part_behind}
+use Rattle.load_names.proofs.Hashes.{hash_fits}
+use Rattle.load_names.proofs.NameTable.{name_known, name_new, name_passed}
+use Rattle.load_names.proofs.names.number.Goals as goal
+
+pub returns-in-Some : goal.returns-in-Some
+returns-in-Some c places kept counted =
+    let a = c.args in
+    name_known a.text.now places a.table.now a.count (a.from + a.a) (slice a.a a.e a.rest.now) kept counted c.in-Some.n (sym (c.in-Some.ensures places kept))
+
+pub returns-then-count-ge256 : goal.returns-then-count-ge256
+returns-then-count-ge256 c places kept counted =
+    let a = c.args in
+    name_passed a.text.now places a.table.now a.count (a.from + a.a) (slice a.a a.e a.rest.now) kept counted (sym (c.in_default.ensures places kept)) c.if-count-ge256.true
+
+pub add-requires : goal.add-requires
+add-requires c = (c.if-count-ge256.false, rw c.hash-h.ensures (hash_fits _), c.requires.names_in.1.size)
+
+pub returns : goal.returns
+returns c places kept counted =
+    let a = c.args in
+    let r = c.requires.from_in_bounds in
+    name_new a.text.now places a.table.now a.count (a.from + a.a) (slice a.a a.e a.rest.now) kept counted c.hash-h.result (a.e - a.a) c.add.new.table
+    (sym (c.in_default.ensures places kept)) c.if-count-ge256.false
+    (part_behind a.text.now a.rest.now a.from a.a a.e r.0 r.1 (omega arith) r.3) c.hash-h.ensures (sym (length-slice a.a a.e a.rest.now r.3)) c.add.ensures
