@@ -1,11 +1,14 @@
 -- One element more behind those that have been read: its comma, its bar, its full stop, or what stops the reading.
 use Prim.Native.Nat.{ℕ, suc, ◌+◌, ◌*◌, ◌-◌, ◌≤◌, ◌<◌, min}
 use mathlib.Core.Path.{◌≡◌, refl, ap, sym, ◌∙◌}
+use mathlib.Core.Bool.{true}
 use mathlib.Core.List.{List, [], ◌∷◌, ◌++◌, map}
 use native.Mathlib.Omega.{arith}
 use lib.ListN.{length, get_or, set}
 use lib.Seq.{get_or-set_other}
-use Rattle.meaning.specs.Bytes.{Bytes, byte, when◌then◌else◌}
+use Rattle.std.specs.Prelude.{Err}
+use Rattle.std.proofs.lemmas.Bool.Decides.{nat_tests}
+use Rattle.meaning.specs.Bytes.{Bytes, byte, among, when◌then◌else◌}
 use Rattle.meaning.specs.Terms.{Half}
 use Rattle.meaning.specs.Tokens.{sign, Tokens, ends, token}
 use Rattle.meaning.specs.Table.{Element}
@@ -18,16 +21,14 @@ use Rattle.load_tokens.specs.Nexts.{SignAt, one_of, Stops}
 use Rattle.load_names.specs.Places.{Place, Placed, spellings, before, names_over, variables_over, item_places}
 use Rattle.load_openings.specs.Reading.{piece, counted_at, half_place, Stands, Open}
 use Rattle.load_openings.specs.declared.cursor.Cursor.{Cursor}
-use Rattle.load_openings.specs.declared.cursor.Read.{Read}
-use Rattle.load_openings.specs.declared.cursor.Read.TheVariants as reads
+use Rattle.load_openings.specs.declared.cursor.Unread.{Unread}
+use Rattle.load_openings.specs.declared.cursor.Unread.TheVariants.{Malformed, Exceeded}
 use Rattle.load_openings.proofs.Expected.{piece_stop}
 use Rattle.load_openings.proofs.Moves.{Moves, moves_then, moves_sign, sign_placed, piece_sign, moved_to, stands_moved, once, half_small}
 use Rattle.load_openings.proofs.Passing.{names_more, piece_stops}
 use Rattle.load_elements.specs.Elements.{element_word, elements_stored, elements_occurrences, ElementsNumbered, ElementsKnown, GaveElement, ElementIs}
 use Rattle.load_elements.specs.Listed.{GaveElements, AtBar, AtStop, ElementsAre}
 use Rattle.load_elements.specs.Sides.{NinthIs}
-use Rattle.load_elements.specs.declared.answer.Elements.{Elements}
-use Rattle.load_elements.specs.declared.answer.Elements.TheVariants.{Stop, Bar, Malformed, Exceeded}
 use Rattle.load_elements.proofs.Bodies.{body_malformed, body_passed, body_comma, body_bar, body_stop, body_other}
 use Rattle.load_elements.proofs.Lists.{
   length_snoc,
@@ -41,6 +42,11 @@ use Rattle.load_elements.proofs.Lists.{
   element_only,
   words_snoc,
 }
+
+-- Neither the bar nor the full stop.
+pub comma_left : (b : ℕ) → among b (44 ∷ 124 ∷ 46 ∷ []) ≡ true → (b ≡ 124 → ⊥) → (b ≡ 46 → ⊥) → b ≡ 44
+unfolding among
+comma_left b h p q = grind (arith, nat_tests)
 
 -- What is known of the elements that have been read, by the places that the tokens led to.
 pub record Had (text rest : Bytes) (from base : ℕ) (c : Cursor) (s₀ item₀ words₀ s names item words : List ℕ) (d : Cursor)
@@ -91,10 +97,8 @@ module _ (text rest : Bytes) (from base : ℕ) (known vars : List Place) (c : Cu
   so_far = counted_at known₁ vars₁ d.compounds
 
   -- Eight have been read: the ninth passes the figure or cannot stand.
-  pub partly_ninth : length es ≡ 8 → (r : Elements) → NinthIs rest d.at r
-      → ElementsAre text rest from base known vars c s₀ item₀ words₀ s names item words r
-  partly_ninth full (Stop n a e) h = absurd h
-  partly_ninth full (Bar n e) h = absurd h
+  pub partly_ninth : length es ≡ 8 → (why : Unread) → NinthIs rest d.at why
+      → ElementsAre text rest from base known vars c s₀ item₀ words₀ s names item words (Err why)
   partly_ninth full (Malformed p) h =
       let none : 8 - length es ≡ 0 = omega arith in
       (rw none at t.reads ∙ h.1 from so_far es, h.0, t.had.only)
@@ -110,17 +114,14 @@ module _ (text rest : Bytes) (from base : ℕ) (known vars : List Place) (c : Cu
         rw e at t.reads
 
     module _ (s₂ names₂ item₂ : List ℕ) where
-      pub partly_malformed : (p : ℕ) → ElementIs text rest from base known₁ vars₁ d s item s₂ names₂ item₂ (reads.Malformed p)
-          → (words₂ : List ℕ) → ElementsAre text rest from base known vars c s₀ item₀ words₀ s₂ names₂ item₂ words₂ (Malformed p)
-      partly_malformed p h words₂ = (
+      pub partly_unread : (why : Unread) → ElementIs text rest from base known₁ vars₁ d s item s₂ names₂ item₂ (Err why)
+          → (words₂ : List ℕ) → ElementsAre text rest from base known vars c s₀ item₀ words₀ s₂ names₂ item₂ words₂ (Err why)
+      partly_unread (Malformed p) h words₂ = (
         reads_next ∙ body_malformed (7 - length es) es so_far (piece (tokens_in from rest d.at)) (from + p) h.0,
         h.1,
         only_then (item_start base) (item_end base) s₀ s s₂ t.had.only h.2,
       )
-
-      pub partly_passed : ElementIs text rest from base known₁ vars₁ d s item s₂ names₂ item₂ reads.Exceeded
-          → (words₂ : List ℕ) → ElementsAre text rest from base known vars c s₀ item₀ words₀ s₂ names₂ item₂ words₂ Exceeded
-      partly_passed h words₂ = (
+      partly_unread Exceeded h words₂ = (
         reads_next ∙ body_passed (7 - length es) es so_far (piece (tokens_in from rest d.at)) h.0,
         only_then (item_start base) (item_end base) s₀ s s₂ t.had.only h.1,
       )
@@ -170,12 +171,12 @@ module _ (text rest : Bytes) (from base : ℕ) (known vars : List Place) (c : Cu
           only = grown_only;
         }
 
-        pub partly_other : (p : ℕ) → p ≤ length rest → Stops (one_of 44 124 46) (from + p) (tokens_in from rest e.at)
-            → (words₂ : List ℕ) → ElementsAre text rest from base known vars c s₀ item₀ words₀ s₂ names₂ item₂ words₂ (Malformed p)
+        pub partly_other : (p : ℕ) → p ≤ length rest → Stops (one_of (44 ∷ 124 ∷ 46 ∷ [])) (from + p) (tokens_in from rest e.at)
+            → (words₂ : List ℕ) → ElementsAre text rest from base known vars c s₀ item₀ words₀ s₂ names₂ item₂ words₂ (Err (Malformed p))
         partly_other p small h words₂ = (
           reads_next
               ∙ body_other (7 - length es) es so_far (piece (tokens_in from rest d.at)) x now_counted (from + p) (piece (tokens_in from rest e.at)) gave.reads
-              (piece_stops (one_of 44 124 46) (from + p) (tokens_in from rest e.at) h),
+              (piece_stops (one_of (44 ∷ 124 ∷ 46 ∷ [])) (from + p) (tokens_in from rest e.at) h),
           small,
           grown_only,
         )

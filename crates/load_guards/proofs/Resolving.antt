@@ -6,13 +6,16 @@ use mathlib.Core.Bool.{Bool, true, false}
 use mathlib.Core.List.{List, [], ◌∷◌, ◌++◌, map}
 use mathlib.Core.Option.{Option, none, some}
 use native.Mathlib.Omega.{arith}
-use lib.Dec.{eqb}
+use lib.Dec.{eqb, ltb}
 use lib.ListN.{length, get_or, set, length-append}
+use Rattle.std.specs.Prelude.{Some, None}
+use Rattle.std.proofs.lemmas.Bool.{ltb-true, lt-ltb}
+use Rattle.laws.proofs.Lists.Tests.{differ}
 use Rattle.meaning.specs.Bytes.{Bytes, when◌then◌else◌}
 use Rattle.meaning.specs.Terms.{Guard}
 use Rattle.meaning.specs.Table.{Element, as_guard, as_guards, with_guard}
 use Rattle.term.specs.Frames.{Only}
-use Rattle.term.specs.Guards.{test_number, guard_word}
+use Rattle.term.specs.Guards.{test_number, guard_word, found_row}
 use Rattle.term.specs.Layout.{item_place, item_start}
 use Rattle.load_names.specs.Places.{Place, spellings, item_places}
 use Rattle.load_elements.specs.Elements.{element_word, ElementsNumbered, ElementsKnown}
@@ -40,14 +43,13 @@ unfolding prepended with_guard
 prepended_all [] = refl
 prepended_all (g ∷ gs) = rw (prepended_all gs) refl
 
--- Every row's number is at most that of no row.
-pub row_few : (e : Element) → row_number (as_guard e) ≤ 7
-unfolding row_number
-row_few e = go (as_guard e) refl
+-- A row that is found has its number.
+pub found_is : (row n : ℕ) → Some row ≡ found_row n → (row ≡ n) × (n < 7)
+found_is row n e = go (ltb n 7) refl
   where
-    go : (o : Option Guard) → as_guard e ≡ o → row_number o ≤ 7
-    go none q = omega arith
-    go (some g) q = omega (arith, (in_table (as_is e g q)).number_few)
+    go : (b : Bool) → ltb n 7 ≡ b → (row ≡ n) × (n < 7)
+    go true q = let same : Some row ≡ Some n = rw q at e in (cc, ltb-true n 7 q)
+    go false q = let none_there : Some row ≡ None = rw q at e in absurd (differ (cc))
 
 pub record Progress (base place last : ℕ) (known : List Place) (es : List Element) (i : ℕ) (s₀ s : List ℕ) : Type 0 where
   pub done : List Guard
@@ -137,26 +139,30 @@ module _ (text : Bytes) (names s₀ words : List ℕ) (n base place : ℕ) (know
             held = element_kept known base s₀ s (omega arith) p.next numbers.0 first.0 (λ k a b. apart_from k (omega (arith, a))) numbers.1 (rw left_is at p.held).0;
           }
 
-      pub stops : 7 ≡ row_number (as_guard first.0) → as_guards es ≡ none
+      pub stops : None ≡ found_row (row_number (as_guard first.0)) → as_guards es ≡ none
       unfolding row_number as_guards with_guard
       stops h = go (as_guard first.0) refl
         where
           go : (o : Option Guard) → as_guard first.0 ≡ o → as_guards es ≡ none
           go none q = p.guards_are ∙ rw (first.2, q) (prepended_none p.done)
           go (some g) q =
-              let number : 7 ≡ test_number g.row.test = rw q at h in
-              absurd (omega (arith, (in_table (as_is first.0 g q)).number_few))
+              let number : None ≡ found_row (test_number g.row.test) = rw q at h in
+              let found : None ≡ Some (test_number g.row.test) = rw (lt-ltb (test_number g.row.test) 7 (in_table (as_is first.0 g q)).number_few) at number in
+              absurd (differ (cc))
 
-      pub goes_on : (row w : ℕ) → row ≡ row_number (as_guard first.0) → row ≢ 7 → w ≡ row + 8 * (when eqb row 6 then 8 * base else get_or words i 0 / 8)
+      pub goes_on : (row w : ℕ) → Some row ≡ found_row (row_number (as_guard first.0)) → w ≡ row + 8 * (when eqb row 6 then 8 * base else get_or words i 0 / 8)
           → Progress base place l.to_number known es (i + 1) s₀ (set s (place + i) w)
       unfolding row_number as_guards HoldsElements ElementsKnown ElementsNumbered
-      goes_on row w r h v = go (as_guard first.0) refl
+      goes_on row w r v = go (as_guard first.0) refl
         where
+          found : (row ≡ row_number (as_guard first.0)) × (row_number (as_guard first.0) < 7)
+          found = found_is row (row_number (as_guard first.0)) r
+
           go : (o : Option Guard) → as_guard first.0 ≡ o → Progress base place l.to_number known es (i + 1) s₀ (set s (place + i) w)
-          go none q = absurd (h (rw q at r))
+          go none q = let seven : 7 < 7 = rw q at found.1 in absurd (omega arith)
           go (some g) q =
               let left_is = first.2 in
-              let number : row ≡ test_number g.row.test = rw q at r in
+              let number : row ≡ test_number g.row.test = rw q at found.0 in
               let word : w ≡ guard_word (item_places known base) g =
               v ∙ rw (number, alone.word_is) (sym (guard_word_is known base (as_is first.0 g q))) in
               record {

@@ -1,5 +1,5 @@
 -- A clause's guards: what stands in the scratch of the elements before its bar, the words that are set for them, and what is told of them.
-use Rattle.std.specs.Prelude.{ℕ, ◌+◌, ◌-◌, ◌/◌, ◌%◌, ◌≤◌, ◌<◌, min, ◌≡◌, Bool, true, false, List, [], ◌∷◌, map, leb, length, get_or, set}
+use Rattle.std.specs.Prelude.{ℕ, ◌+◌, ◌-◌, ◌/◌, ◌%◌, ◌≤◌, ◌<◌, min, ◌≡◌, Bool, true, false, List, [], ◌∷◌, map, eqb, leb, length, get_or, set, Option as Told, Some, None}
 use Rattle.std.proofs.Math.Option.{Option, none, some}
 use Rattle.meaning.specs.Bytes.{Bytes, when◌then◌else◌}
 use Rattle.meaning.specs.Terms.{Half, writer, reader, end, more, Named, Guard, count, as_term, all_occurrences}
@@ -98,6 +98,11 @@ pub record Resolved (s s' : List ℕ) (n base place : ℕ) (known : List Place) 
 abbrev pub ResolvedIs : (s s' : List ℕ) (n base place : ℕ) (known : List Place) (es : List Element) → Bool → Type 0
 ResolvedIs s s' n base place known es true = (gs : List Guard) × Resolved s s' n base place known es gs
 ResolvedIs s s' n base place known es false = (as_guards es ≡ none) × Only place (place + 8) s s'
+
+-- It marks the reader m, if there is one.
+abbrev pub marks : ℕ → Told ℕ → Bool
+marks m None = false
+marks m (Some n) = eqb m n
 
 -- A reader's number is marked, if it is one of 16.
 unfoldable pub marked : List ℕ → ℕ → List ℕ

@@ -60,12 +60,12 @@ pub taken_none : (s₀ : List ℕ) (place : ℕ) (places : CellPlaces) (es : Lis
 unfolding goals_set
 taken_none s₀ place places es = record { goals = []; later = es; are = refl; count_is = refl; set_is = refl }
 
-module _ (s₀ s words : List ℕ) (n place : ℕ) (places : CellPlaces) (es : List Element) (i : ℕ) (worded : Worded words n places es)
+module _ (s₀ s words : List ℕ) (place : ℕ) (places : CellPlaces) (es : List Element) (i : ℕ) (worded : Worded words places es)
     (t : Taken s₀ s place places es i) where
   enough : length es ≡ i + length t.later
   enough = ap length t.are ∙ length-append (map whole t.goals) t.later ∙ omega (arith, length-map t.goals whole, t.count_is)
 
-  pub taken_all : i ≡ n → as_goals es ≡ some t.goals
+  pub taken_all : i ≡ length words → as_goals es ≡ some t.goals
   taken_all e = go t.later refl
     where
       go : (l : List Element) → t.later ≡ l → as_goals es ≡ some t.goals
@@ -77,7 +77,7 @@ module _ (s₀ s words : List ℕ) (n place : ℕ) (places : CellPlaces) (es : L
           let more : length t.later ≡ suc (length l) = rw q refl in
           absurd (omega (arith, enough, worded.count_is, more))
 
-  module _ (room : i < n) where
+  module _ (room : i < length words) where
     here : (d : Element) (l : List Element) → t.later ≡ d ∷ l → get_or words i 0 ≡ element_word places d
     here d l q =
         let es_are : es ≡ map whole t.goals ++ (d ∷ l) = rw q at t.are in

@@ -3,10 +3,12 @@
 use Prim.Native.Nat.{ℕ, ◌≤◌, ◌<◌}
 use Prim.Native.Char.{Char}
 use mathlib.Core.Path.{◌≡◌, refl}
-use mathlib.Core.Bool.{Bool, true, false, ◌&&◌, ◌||◌, and-false}
+use mathlib.Core.Bool.{Bool, true, false, ◌&&◌, ◌||◌}
 use native.Mathlib.Omega.{arith}
 use lib.Dec.{leb, eqb}
-use borrow.Author.Tests.{leb-true, le-leb, lt-leb, eqb-true, ne_eqb}
+use borrow.Author.Tests.{leb-true, lt-leb, eqb-true, ne_eqb}
+use Rattle.std.specs.Char.{is_ascii_digit, is_ascii_lowercase, is_ascii_uppercase}
+use Rattle.std.proofs.lemmas.Bool.Decides.{nat_tests}
 use Rattle.meaning.specs.Bytes.{byte}
 use Rattle.meaning.specs.Tokens.{tokens_words, between, lowercase, uppercase, digit, separates, single_sign}
 
@@ -19,18 +21,6 @@ unfolding between
 in_between low high c e =
     let t = both (leb (byte low) c) (leb c (byte high)) e in
     (leb-true _ _ t.0, leb-true _ _ t.1)
-
-pub inside : (low high : Char) (c : ℕ) → byte low ≤ c → c ≤ byte high → between low high c ≡ true
-unfolding between
-inside low high c l h = rw (le-leb (byte low) c l, le-leb c (byte high) h)
-
-pub below : (low high : Char) (c : ℕ) → c < byte low → between low high c ≡ false
-unfolding between
-below low high c h = rw (lt-leb (byte low) c h)
-
-pub above : (low high : Char) (c : ℕ) → byte high < c → between low high c ≡ false
-unfolding between
-above low high c h = rw (lt-leb c (byte high) h, and-false (leb (byte low) c))
 
 pub lowercase_bytes : (c : ℕ) → lowercase c ≡ true → (97 ≤ c) × (c ≤ 122)
 unfolding lowercase byte
@@ -77,3 +67,16 @@ of_signs P round close square shut comma bar stop c =
     let two = one_more P c 41 (eqb c 40) (λ t. rw (eqb-true c 40 t) round) close in
     let four = one_more P c 93 _ (one_more P c 91 _ two square) shut in
     one_more P c 46 _ (one_more P c 124 _ (one_more P c 44 _ four comma) bar) stop
+
+-- The library's classes are the definitions'.
+pub digit_is : (c : ℕ) → is_ascii_digit c ≡ digit c
+unfolding tokens_words
+digit_is c = grind (arith, nat_tests)
+
+pub lowercase_is : (c : ℕ) → is_ascii_lowercase c ≡ lowercase c
+unfolding tokens_words
+lowercase_is c = grind (arith, nat_tests)
+
+pub uppercase_is : (c : ℕ) → is_ascii_uppercase c ≡ uppercase c
+unfolding tokens_words
+uppercase_is c = grind (arith, nat_tests)

@@ -14,7 +14,7 @@ use Rattle.meaning.specs.Items.{begins_term}
 use Rattle.load_tokens.specs.Fronts.{tokens_in, double_sign, behind, FrontIs}
 use Rattle.load_tokens.specs.Nexts.{one_of, Stops, StopsAt, Goes, SignAt}
 use Rattle.load_tokens.specs.declared.token.Token.{Token as Code}
-use Rattle.load_tokens.specs.declared.token.Token.TheVariants.{End, Name, Writer, Reader, Integer, Sign, Bad}
+use Rattle.load_tokens.specs.declared.token.Token.TheVariants.{Name, Writer, Reader, Integer, Sign, Bad}
 
 if_past : (b : Bool) (a : ℕ) → a < (when b then a + 2 else a + 1)
 unfolding when◌then◌else◌
@@ -75,9 +75,6 @@ module _ (rest : Bytes) (at : ℕ) where
   pub bad_cannot : (a : ℕ) → FrontIs rest at (Bad a) → (a ≤ length rest) × ((from : ℕ) → Stops begins_term (from + a) (tokens_in from rest at))
   unfolding begins_term
   bad_cannot a f = (omega (arith, f.1), λ from. rw (f.2 from).1 (refl, refl))
-
-  pub end_cannot : FrontIs rest at End → (length rest ≤ length rest) × ((from : ℕ) → Stops begins_term (from + length rest) (tokens_in from rest at))
-  end_cannot f = (omega arith, λ from. rw (f from))
 
 -- The sign in front is this one.
 pub next_sign : (rest : Bytes) (at b a x r : ℕ) → FrontIs rest at (Sign b a) → b ≡ x → r ≡ behind b a → SignAt rest at x r

@@ -16,7 +16,7 @@ ghost use Rattle.report_pairs.specs.Pairs.{NoCompound};
 ghost use Rattle.report_leaves.specs.Writes.{Writes};
 
 use report_pairs::cells::functor;
-use report_pairs::ends::fact;
+use report_pairs::ends::{NUMBER, fact};
 use report_put::put::{decimal, put, spelling, words};
 use term::scratch::word_at;
 use term::word::{View, index, look};
@@ -27,7 +27,7 @@ fn variable(s: &[u64], facts: usize, buffer: &mut [u8], at: usize, p: usize) -> 
     ensures { Puts buffer.old buffer.new at result (95 ∷ in_decimal (get_or s.now (facts + pair_facts * p + 2) 0)) }
 {
     let to = put(buffer, at, b'_');
-    decimal(buffer, to, fact(s, facts, p, 2))
+    decimal(buffer, to, fact(s, facts, p, NUMBER))
 }
 
 // An integer by its 32 bits.
@@ -82,10 +82,11 @@ pub fn opening(text: &[u8], s: &[u64], buffer: &mut [u8], at: usize, p: usize) -
     ensures { (f : Functor) → Opens s.now text.now (rest_in (get_or s.now p 0)) f
         → Puts buffer.old buffer.new at result (opening_bytes f) }
 {
-    let f = functor(s, p);
-    if f == 0 {
-        return put(buffer, at, b'[');
+    match functor(s, p) {
+        None => put(buffer, at, b'['),
+        Some(k) => {
+            let to = name(text, s, buffer, at, k);
+            put(buffer, to, b'(')
+        }
     }
-    let to = name(text, s, buffer, at, f - 1);
-    put(buffer, to, b'(')
 }

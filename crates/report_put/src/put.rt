@@ -20,12 +20,8 @@ pub fn words(buffer: &mut [u8], at: usize, bytes: &[u8]) -> usize
     requires { at + length bytes.now ≤ length buffer.old }
     ensures { Puts buffer.old buffer.new at result bytes.now }
 {
-    let mut to = at;
-    let mut i = 0;
-    while i < bytes.len() {
-        to = put(buffer, to, bytes[i]);
-        i += 1;
-    }
+    let to = at + bytes.len();
+    buffer[at..to].copy_from_slice(bytes);
     to
 }
 
@@ -34,11 +30,7 @@ pub fn again(buffer: &mut [u8], at: usize, from: usize, n: usize) -> usize
     requires { (at + n ≤ length buffer.old) × (from + n ≤ at) }
     ensures { (bs : Bytes) → n ≡ length bs → Has buffer.old from bs → Puts buffer.old buffer.new at result bs }
 {
-    let mut i = 0;
-    while i < n {
-        buffer[at + i] = buffer[from + i];
-        i += 1;
-    }
+    buffer.copy_within(from..from + n, at);
     at + n
 }
 
@@ -47,15 +39,14 @@ pub fn spelling(text: &[u8], buffer: &mut [u8], at: usize, from: usize, n: usize
     requires { (at + n ≤ length buffer.old) × (from + n ≤ length text.now) }
     ensures { Puts buffer.old buffer.new at result (slice from (from + n) text.now) }
 {
-    let to = from + n;
-    words(buffer, at, &text[from..to])
+    words(buffer, at, &text[from..from + n])
 }
 
 // A digit's byte.
 fn digit(n: u64) -> u8
     ensures { result ≡ 48 + n % 10 }
 {
-    48 + (n % 10) as u8
+    b'0' + (n % 10) as u8
 }
 
 // A number in decimal, from its last digit on.

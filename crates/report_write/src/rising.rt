@@ -5,15 +5,11 @@ ghost use Rattle.term.specs.Setting.{Setting};
 ghost use Rattle.report_pairs.specs.Facts.{Readable};
 ghost use Rattle.report_write.specs.Frames.{Behind, Frames, Rose};
 
-use report_pairs::cells::{Next, behind};
+use report_pairs::cells::behind;
 use report_put::put::put;
 
-// The place in the buffer, the next argument by its compound and its number, and how many compounds are still around it; or the place behind them all.
-#[derive(Clone, Copy)]
-pub enum Risen {
-    Goes(usize, usize, usize, usize),
-    Ends(usize),
-}
+// The place in the buffer, and the next argument by its compound and its number, with how many compounds are still around it; none behind them all.
+pub type Risen = (usize, Option<(usize, usize, usize)>);
 
 // From behind the argument up to the next one. Of each compound around it 8 times its place and the number of its argument stand in the frames.
 pub fn rise(
@@ -37,21 +33,17 @@ pub fn rise(
     let mut i = number;
     let mut depth = deep;
     loop {
-        match behind(s, facts, p, i) {
-            Next::Goes(b, q, j) => {
-                to = put(buffer, to, b);
-                return Risen::Goes(to, q, j, depth);
-            }
-            Next::Ends(b) => {
-                to = put(buffer, to, b);
-                if depth == 0 {
-                    return Risen::Ends(to);
-                }
-                depth -= 1;
-                let frame = frames[depth];
-                p = frame / 8;
-                i = frame % 8;
-            }
+        let (b, next) = behind(s, facts, p, i);
+        to = put(buffer, to, b);
+        if let Some((q, j)) = next {
+            return (to, Some((q, j, depth)));
         }
+        if depth == 0 {
+            return (to, None);
+        }
+        depth -= 1;
+        let frame = frames[depth];
+        p = frame / 8;
+        i = frame % 8;
     }
 }

@@ -12,7 +12,7 @@ ghost use Rattle.report_leaves.specs.Fits.{Fits};
 ghost use Rattle.report_leaves.specs.Writes.{Writes};
 ghost use Rattle.report_write.specs.Frames.{Before, Nothing};
 
-use crate::rising::{Risen, rise};
+use crate::rising::rise;
 use report_leaves::copy::copied;
 use report_leaves::leaf::{leaf, opening};
 use report_pairs::ends::end;
@@ -45,38 +45,29 @@ fn write_arguments(
     loop {
         let a = word_at(s, p, i);
         let e = end(s, facts, a);
-        match look(e) {
-            View::Compound(q) => {
-                if depth < 16 {
-                    let behind = copied(s, facts, buffer, to, a);
-                    if behind == to {
-                        to = opening(text, s, buffer, to, q);
-                        frames[depth] = 8 * p + i;
-                        depth += 1;
-                        p = q;
-                        i = 1;
-                        continue;
-                    }
-                    to = behind;
-                } else {
-                    to = write_term(text, s, facts, buffer, to, a);
+        to = match look(e) {
+            View::Compound(q) if depth < 16 => match copied(s, facts, buffer, to, a) {
+                Some(t) => t,
+                None => {
+                    to = opening(text, s, buffer, to, q);
+                    frames[depth] = 8 * p + i;
+                    depth += 1;
+                    p = q;
+                    i = 1;
+                    continue;
                 }
-            }
-            _ => {
-                to = leaf(text, s, facts, buffer, to, e);
-            }
-        }
-        match rise(s, facts, buffer, &frames, to, p, i, depth) {
-            Risen::Goes(t, q, j, d) => {
-                to = t;
-                p = q;
-                i = j;
-                depth = d;
-            }
-            Risen::Ends(t) => {
-                return t;
-            }
-        }
+            },
+            View::Compound(_) => write_term(text, s, facts, buffer, to, a),
+            _ => leaf(text, s, facts, buffer, to, e),
+        };
+        let (t, next) = rise(s, facts, buffer, &frames, to, p, i, depth);
+        let Some((q, j, d)) = next else {
+            return t;
+        };
+        to = t;
+        p = q;
+        i = j;
+        depth = d;
     }
 }
 
@@ -99,9 +90,8 @@ pub fn write_term(
     let e = end(s, facts, w);
     match look(e) {
         View::Compound(q) => {
-            let behind = copied(s, facts, buffer, at, w);
-            if behind != at {
-                return behind;
+            if let Some(to) = copied(s, facts, buffer, at, w) {
+                return to;
             }
             let to = opening(text, s, buffer, at, q);
             write_arguments(text, s, facts, buffer, to, q)

@@ -89,7 +89,7 @@ pub fn places(
     let mut k = open(s, p, q);
     let mut noted = n;
     let mut i = 1;
-    while i <= k {
+    'arguments: while i <= k {
         let h = argument(s, p, i);
         let a = argument(s, q, i);
         let w = follow(s, values, links, a);
@@ -105,7 +105,7 @@ pub fn places(
                     q = c;
                     k = open(s, p, q);
                     i = 1;
-                    continue;
+                    continue 'arguments;
                 }
                 noted = compounds(s, values, links, b, c, noted)?;
             }

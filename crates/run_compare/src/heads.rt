@@ -18,19 +18,21 @@ pub fn head(s: &mut [u64], values: usize, links: usize, p: usize) -> Option<usiz
         → Answers s.old s.new x y 0 lo hi (size us) (places_outcome x links us ts) result }
 {
     let mut noted = 0;
-    for i in 1..=count(s, p) {
+    'arguments: for i in 1..=count(s, p) {
         let h = argument(s, p, i);
         let w = word_at(s, FOLLOWED, i);
-        match table(s, h, w, noted) {
-            PlaceResult::Noted(m) => noted = m,
-            PlaceResult::Fails => return None,
-            PlaceResult::Below(a, b) => {
-                if differ(s, a, b) {
-                    return None;
-                }
-                noted = places(s, values, links, a, b, noted)?;
+        let (a, b) = match table(s, h, w, noted) {
+            PlaceResult::Noted(m) => {
+                noted = m;
+                continue 'arguments;
             }
+            PlaceResult::Fails => return None,
+            PlaceResult::Below(a, b) => (a, b),
+        };
+        if differ(s, a, b) {
+            return None;
         }
+        noted = places(s, values, links, a, b, noted)?;
     }
     Some(noted)
 }

@@ -171,20 +171,18 @@ fn from_unit(
         let p = index(t / TAGS);
         if tag == COMPOUND {
             let k = count(s, p);
-            let mut i = 1;
-            while i < k {
+            if k == 0 {
+                return found;
+            }
+            for i in 1..k {
                 let a = argument(s, p, i);
                 found = from_unit(s, values, marks, links, stamp, a, found);
                 settle(s, values, marks, stamp, a, found);
                 if ended(found) {
                     return found;
                 }
-                i += 1;
             }
-            if k < i {
-                return found;
-            }
-            t = argument(s, p, i);
+            t = argument(s, p, k);
             continue;
         }
         if tag > READER {
@@ -244,8 +242,7 @@ fn through(
         → Found s.old s.new x marks links stamp m o (args_result x y ts) result }
 {
     let mut found = state;
-    let mut i = 1;
-    while i <= k {
+    for i in 1..=k {
         let a = argument(s, q, i);
         if a % TAGS == COMPOUND {
             let p = index(a / TAGS);
@@ -257,7 +254,6 @@ fn through(
         if ended(found) {
             return found;
         }
-        i += 1;
     }
     found
 }

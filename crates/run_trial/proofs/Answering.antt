@@ -29,6 +29,7 @@ use Rattle.run_readers.specs.Readers.{asked_in, all_met, Readers, Met}
 use Rattle.run_readers.proofs.AllMet.{all_met_not_none}
 use Rattle.run_readers.proofs.Ranks.{listed_length}
 use Rattle.run_asked.specs.Asking.{Asking, Joined}
+use Rattle.run_trial.specs.declared.choice.TrialResult.TheVariants as results
 use Rattle.run_asked.specs.declared.asking.Hindered.{Hindered}
 use Rattle.run_asked.specs.declared.asking.Hindered.TheVariants.{Waits, Fails}
 use Rattle.run_guards.specs.Guarding.{Guarded, Earlier, GuardsAre}
@@ -143,7 +144,7 @@ module _ {s s₁ : List ℕ} {text : Bytes} {names : List Bytes} {j : Job} {limi
     }
 
     -- "If the circle test fails it": there is a circle.
-    pub circle_fails : {earlier : List ℕ} → found ≡ true → TrialIs s s₃ j limit figures at g marks readers stamp k c earlier (Err Fails)
+    pub circle_fails : {earlier : List ℕ} → found ≡ true → TrialIs s s₃ j limit figures at g marks readers stamp k c earlier results.Fails
     unfolding when◌then◌else◌ guarded
     circle_fails {earlier} e = record {
       only = trial_only_more (3 * figures.pairs) (omega arith) (trials.whole_frame t f m begun new fit cleared told none_asked answer);
@@ -185,7 +186,7 @@ module _ {s s₁ : List ℕ} {text : Bytes} {names : List Bytes} {j : Job} {limi
           → Joined s s₄ (marks + figures.pairs) figures.pairs readers ps l
       joined ps l h = joined_then tested_set (subst (λ n. Joined s₃ s₄ (marks + n) n readers ps l) t.links_are h)
 
-      pub guards_succeed : r ≡ Ok tt → TrialIs s s₄ j limit figures at g marks readers stamp k c earlier (Ok n)
+      pub guards_succeed : r ≡ Ok tt → TrialIs s s₄ j limit figures at g marks readers stamp k c earlier (results.Succeeds n)
       guards_succeed e =
           let is = rw e at asked.told in
           record {
@@ -199,7 +200,7 @@ module _ {s s₁ : List ℕ} {text : Bytes} {names : List Bytes} {j : Job} {limi
             grounds = grounds_then;
           }
 
-      guards_wait : (l : ℕ) → r ≡ Err (Waits l) → TrialIs s s₄ j limit figures at g marks readers stamp k c earlier (Err (Waits l))
+      pub guards_wait : (l : ℕ) → r ≡ Err (Waits l) → TrialIs s s₄ j limit figures at g marks readers stamp k c earlier (results.Waits l)
       guards_wait l e =
           let is = rw e at asked.told in
           record {
@@ -209,14 +210,10 @@ module _ {s s₁ : List ℕ} {text : Bytes} {names : List Bytes} {j : Job} {limi
             grounds = grounds_then;
           }
 
-      guards_fail : r ≡ Err Fails → TrialIs s s₄ j limit figures at g marks readers stamp k c earlier (Err Fails)
+      pub guards_fail : r ≡ Err Fails → TrialIs s s₄ j limit figures at g marks readers stamp k c earlier results.Fails
       guards_fail e =
           let is = rw e at asked.told in
           record { only = frame; marks_now = marks_then; told = (by_guards ∙ is.0, joined [] readers is.1); grounds = grounds_then }
-
-      pub guards_hinder : (h : Hindered) → r ≡ Err h → TrialIs s s₄ j limit figures at g marks readers stamp k c earlier (Err h)
-      guards_hinder (Waits l) e = guards_wait l e
-      guards_hinder Fails e = guards_fail e
 
   -- Where places wait, or one fails.
   module _ {s₂ : List ℕ} {stamp : ℕ} (new : MarksBelow s marks figures.pairs stamp) where
@@ -233,7 +230,7 @@ module _ {s s₁ : List ℕ} {text : Bytes} {names : List Bytes} {j : Job} {limi
         omega (arith, still)
 
     pub some_wait : (n : ℕ) (told : trials.Comparison t f m begun s₂ (Some n)) → asks_in told.told.1.notes ≢ [] → {s₃ : List ℕ} {earlier : List ℕ} (l : ℕ)
-        → Met s₂ s₃ (marks + links) links readers (asked_in s₂ n) l → TrialIs s s₃ j limit figures at g marks readers stamp k c earlier (Err (Waits l))
+        → Met s₂ s₃ (marks + links) links readers (asked_in s₂ n) l → TrialIs s s₃ j limit figures at g marks readers stamp k c earlier (results.Waits l)
     unfolding trial tested guarded
     some_wait n told asked {s₃} l met_now =
         let x = setting figures at (unit_of j limit figures g) in
@@ -264,7 +261,7 @@ module _ {s s₁ : List ℕ} {text : Bytes} {names : List Bytes} {j : Job} {limi
               (λ q h. more.only.below (marks + q) (omega arith)));
         }
 
-    pub place_fails : {earlier : List ℕ} → trials.Comparison t f m begun s₂ None → TrialIs s s₂ j limit figures at g marks readers stamp k c earlier (Err Fails)
+    pub place_fails : {earlier : List ℕ} → trials.Comparison t f m begun s₂ None → TrialIs s s₂ j limit figures at g marks readers stamp k c earlier results.Fails
     unfolding trial tested guarded
     place_fails told =
         let fails_is : compared c (unit_of j limit figures g) g.goal ≡ fails = compared_is t m ∙ told.told in

@@ -25,9 +25,10 @@ use Rattle.run_asked.specs.Asking.{AllBelow}
 use Rattle.run_index.specs.declared.leads.Leads.{Leads}
 use Rattle.run_index.specs.Left.{Idle, AllOut, Nearest, LeftFor, LeadsAre, InOrder, FurtherIs}
 use Rattle.run_index.proofs.Left.{NextLeft, left_none, left_next, left_further}
-use Rattle.std.specs.Prelude.{Some, None, Result as Outcome, Ok, Err}
+use Rattle.std.specs.Prelude.{Some, None, Ok, Err}
 use Rattle.term.specs.Words.{link_to}
-use Rattle.run_asked.specs.declared.asking.Hindered.{Hindered}
+use Rattle.run_trial.specs.declared.choice.TrialResult.{TrialResult}
+use Rattle.run_trial.specs.declared.choice.TrialResult.TheVariants as results
 use Rattle.run_asked.specs.declared.asking.Hindered.TheVariants.{Waits, Fails}
 use Rattle.run_trial.specs.Choosing.{unit_of, Trying, ArgumentsStand, MarksBelow, NewMarks, TrialOnly, Gathered, Candidate, TrialIs, ChoiceIs}
 use Rattle.run_trial.proofs.Asked.{below_both}
@@ -50,9 +51,15 @@ none_long : (l : List ℕ) → length l ≡ 0 → l ≡ []
 none_long [] e = refl
 none_long (p ∷ l) e = absurd (omega arith)
 
+-- The third of three results.
+pub else_fails : (r : TrialResult) → ((n : ℕ) → r ≡ results.Succeeds n → ⊥) → ((n : ℕ) → r ≡ results.Waits n → ⊥) → r ≡ results.Fails
+else_fails (results.Succeeds n) s w = absurd (s n refl)
+else_fails (results.Waits n) s w = absurd (w n refl)
+else_fails results.Fails s w = refl
+
 -- A trial that does not succeed: it waits, and the step has met so many readers now; or it fails, and the step has met as many as before.
-abbrev pub Passed : ℕ → Outcome ℕ Hindered → ℕ → Type 0
-Passed readers r readers' = ((n : ℕ) × (r ≡ Err (Waits n)) × (readers' ≡ n)) ⊎ ((r ≡ Err Fails) × (readers' ≡ readers))
+abbrev pub Passed : ℕ → TrialResult → ℕ → Type 0
+Passed readers r readers' = ((n : ℕ) × (r ≡ results.Waits n) × (readers' ≡ n)) ⊎ ((r ≡ results.Fails) × (readers' ≡ readers))
 
 -- How far the choice has come. Behind the clauses that were passed, tried or idle, those that are left are as they were before the first.
 pub record Walk (s₀ s : List ℕ) (names : List Bytes) (j : Job) (limit : ℕ) (figures : Room) (at : Places) (g : Goal)
@@ -177,7 +184,7 @@ module _ {s₀ s : List ℕ} {text : Bytes} {names : List Bytes} {j : Job} {limi
     pub turn_stamp : stamp + 256 ≤ first + 32768
     turn_stamp = omega (arith, turn_few, passed_few, w.stamp_to)
 
-    module _ {s₃ : List ℕ} {r : Outcome ℕ Hindered}
+    module _ {s₃ : List ℕ} {r : TrialResult}
         (told : TrialIs s s₃ j limit figures at g marks readers stamp k turn_clause w.waiting r) where
       tried_frame : TrialOnly woken_part marks (3 * figures.pairs) s₀ s₃
       tried_frame = trial_only_then w.only told.only
@@ -189,14 +196,14 @@ module _ {s₀ s : List ℕ} {text : Bytes} {names : List Bytes} {j : Job} {limi
       marks_tried a l h = omega (arith, told.marks_now a l h, turn_stamp)
 
       -- It succeeds: the goal is reduced.
-      pub turn_succeeds : (n : ℕ) → r ≡ Ok n → ChoiceIs s₀ s₃ names j limit figures at g marks first (Ok (k, n))
+      pub turn_succeeds : (n : ℕ) → r ≡ results.Succeeds n → ChoiceIs s₀ s₃ names j limit figures at g marks first (Ok (k, n))
       turn_succeeds n e = go (rw e at told)
         where
           taken : (given : List Assignment) → trial w.waiting turn_clause (unit_of j limit figures g) g.goal ≡ succeeds given
               → choice j.clauses (unit_of j limit figures g) g.goal ≡ reduces turn_clause given
           taken given q = sym same_then ∙ from_succeeds w.waiting turn_clause rest_then (unit_of j limit figures g) g.goal given q
 
-          go : TrialIs s s₃ j limit figures at g marks readers stamp k turn_clause w.waiting (Ok n)
+          go : TrialIs s s₃ j limit figures at g marks readers stamp k turn_clause w.waiting (results.Succeeds n)
               → ChoiceIs s₀ s₃ names j limit figures at g marks first (Ok (k, n))
           go is = record {
             only = trial_only_wider compounds_region (omega arith) tried_frame;
@@ -257,16 +264,16 @@ module _ {s₀ s : List ℕ} {text : Bytes} {names : List Bytes} {j : Job} {limi
               grounds = grounds_tried;
             }
 
-        turn_fails : r ≡ Err Fails → Walk s₀ s₃ names j limit figures at g marks goal first readers (stamp + 256) l'
+        turn_fails : r ≡ results.Fails → Walk s₀ s₃ names j limit figures at g marks goal first readers (stamp + 256) l'
         unfolding all_met
         turn_fails e =
-            let is : TrialIs s s₃ j limit figures at g marks readers stamp k turn_clause w.waiting (Err Fails) = rw e at told in
+            let is : TrialIs s s₃ j limit figures at g marks readers stamp k turn_clause w.waiting results.Fails = rw e at told in
             onward w.waiting readers (record { ok = is.told.1.ok; words = is.told.1.list ∙ w.gathered.words }) w.below
             (from_fails w.waiting turn_clause rest_then (unit_of j limit figures g) g.goal is.told.0)
 
-        turn_waits : (n : ℕ) → r ≡ Err (Waits n) → Walk s₀ s₃ names j limit figures at g marks goal first n (stamp + 256) l'
+        turn_waits : (n : ℕ) → r ≡ results.Waits n → Walk s₀ s₃ names j limit figures at g marks goal first n (stamp + 256) l'
         turn_waits n e =
-            let is : TrialIs s s₃ j limit figures at g marks readers stamp k turn_clause w.waiting (Err (Waits n)) = rw e at told in
+            let is : TrialIs s s₃ j limit figures at g marks readers stamp k turn_clause w.waiting (results.Waits n) = rw e at told in
             let others = is.told.0 in
             onward (w.waiting ++ others) n
             (record {

@@ -21,6 +21,8 @@ use Rattle.run_circle.specs.Ground.{stamp_in, Tells, IsSo, Grounds}
 use Rattle.run_readers.specs.Readers.{Readers, all_met}
 use Rattle.run_asked.specs.Asking.{Joined, AllBelow}
 use Rattle.run_index.specs.Index.{Indexed}
+use Rattle.run_trial.specs.declared.choice.TrialResult.{TrialResult}
+use Rattle.run_trial.specs.declared.choice.TrialResult.TheVariants as results
 use Rattle.run_asked.specs.declared.asking.Hindered.{Hindered}
 use Rattle.run_asked.specs.declared.asking.Hindered.TheVariants.{Waits, Fails}
 
@@ -100,15 +102,15 @@ pub record Succeeded (s : List ℕ) (x : Setting) (k : ℕ) (c : Clause) (given 
   pub body : GoalsNumbered body_from c.compounds c.body
 
 -- A trial in a step that has met so many readers, in a list from a word on: those that it waits on have joined them.
-abbrev pub TrialTold : List ℕ → List ℕ → Setting → ℕ → Clause → ℕ → ℕ → Result → Outcome ℕ Hindered → Type 0
-TrialTold s s' x k c list met o (Ok n) = (given : List Assignment) × (o ≡ succeeds given) × Succeeded s' x k c given n
-TrialTold s s' x k c list met o (Err (Waits n)) =
+abbrev pub TrialTold : List ℕ → List ℕ → Setting → ℕ → Clause → ℕ → ℕ → Result → TrialResult → Type 0
+TrialTold s s' x k c list met o (results.Succeeds n) = (given : List Assignment) × (o ≡ succeeds given) × Succeeded s' x k c given n
+TrialTold s s' x k c list met o (results.Waits n) =
     (readers : List ℕ) × (o ≡ waits readers) × AllBelow (length x.values) readers × Joined s s' list x.pairs met (map (λ p. x.places.pair p) readers) n
-TrialTold s s' x k c list met o (Err Fails) = (o ≡ fails) × Joined s s' list x.pairs met [] met
+TrialTold s s' x k c list met o results.Fails = (o ≡ fails) × Joined s s' list x.pairs met [] met
 
 -- The answer of a trial, in a step that has met so many readers, those on which the earlier clauses wait.
 pub record TrialIs (s s' : List ℕ) (j : Job) (limit : ℕ) (figures : Room) (places : Places) (g : Goal) (marks met stamp k : ℕ) (c : Clause) (earlier : List ℕ)
-    (r : Outcome ℕ Hindered) : Type 0 where
+    (r : TrialResult) : Type 0 where
   pub only : TrialOnly woken_part marks (3 * figures.pairs) s s'
   pub marks_now : MarksBelow s' marks figures.pairs (stamp + 256)
   pub told : TrialTold s s' (setting figures places (unit_of j limit figures g)) k c (marks + figures.pairs) met

@@ -22,6 +22,16 @@ use term::layout::{ITEM_WORDS, ITEMS, PROCEDURES, TRIAL};
 use term::scratch::word_at;
 use term::word::{index, linked};
 
+// "Each trial of a clause gives one of three results": it succeeds, with so many of the goal's pairs given a term; it waits on readers, and the step
+// has met so many then; it fails.
+// Stays an enum of three: document 01 names it, and that the loop over the clauses takes `Succeeds` apart.
+#[derive(Clone, Copy)]
+pub enum TrialResult {
+    Succeeds(usize),
+    Waits(usize),
+    Fails,
+}
+
 // The head's writers are given nothing yet. All 16 words are set, whatever the clause has: a number that the compiler knows.
 fn begin(s: &mut [u64])
     requires { compounds_region ≤ length s.old }
@@ -31,9 +41,8 @@ fn begin(s: &mut [u64])
     clear_part(s, TRIAL, 16);
 }
 
-// "Each trial of a clause gives one of three results": it succeeds, with so many of the goal's pairs given a term; it waits on readers, and the step
-// has met so many then; it fails. Clause k is tried on the goal whose arguments were followed, when the step has met so many readers: the places, the circle
-// test, the guards. Of its 256 stamps the circle test uses one for each pair that is given a term, at most 192.
+// The trial of clause k on the goal whose arguments were followed, when the step has met so many readers: the places, the circle test, the guards. Of its 256
+// stamps the circle test uses one for each pair that is given a term, at most 192.
 fn trial(
     s: &mut [u64],
     values: usize,
@@ -42,7 +51,7 @@ fn trial(
     k: usize,
     readers: usize,
     stamp: u64,
-) -> Result<usize, Hindered>
+) -> TrialResult
     requires { (text : Bytes) × (names : List Bytes) × (j : Job) × (limit : ℕ) × (figures : Room) × (at : Places) × (g : Goal) × (others : List Goal) × (goal : ℕ) × (c : Clause)
         × Trying s.old text names j limit figures at g others values marks links goal
         × ArgumentsStand s.old j limit figures at g links
@@ -59,17 +68,20 @@ fn trial(
 {
     begin(s);
     let Some(n) = head(s, values, links, ITEMS + ITEM_WORDS * k) else {
-        return Err(Hindered::Fails);
+        return TrialResult::Fails;
     };
     if asks(s, n) {
         let met = meet_all(s, marks + links, links, readers, n);
-        return Err(Hindered::Waits(met));
+        return TrialResult::Waits(met);
     }
     if circle(s, values, marks, n, stamp) {
-        return Err(Hindered::Fails);
+        return TrialResult::Fails;
     }
-    guards(s, values, marks, links, k, readers, stamp + 192)?;
-    Ok(n)
+    match guards(s, values, marks, links, k, readers, stamp + 192) {
+        Ok(()) => TrialResult::Succeeds(n),
+        Err(Hindered::Waits(m)) => TrialResult::Waits(m),
+        Err(Hindered::Fails) => TrialResult::Fails,
+    }
 }
 
 // "Name and number of arguments together select the procedure": its first clause.
@@ -104,14 +116,17 @@ pub fn choice(
     let mut stamp = first;
     follow_arguments(s, values, links, goal);
     let mut left = to_try(s, word_at(s, goal, 0), first_clause(s, goal));
-    while let Some(k) = left.next {
-        match trial(s, values, marks, links, k, readers, stamp) {
-            Ok(n) => return Ok((k, n)),
-            Err(Hindered::Waits(n)) => readers = n,
-            Err(Hindered::Fails) => {}
-        }
-        stamp += 256;
-        left = further(s, k, left);
+    'clauses: while let Some(k) = left.next {
+        let t = trial(s, values, marks, links, k, readers, stamp);
+        let TrialResult::Succeeds(n) = t else {
+            if let TrialResult::Waits(m) = t {
+                readers = m;
+            }
+            stamp += 256;
+            left = further(s, k, left);
+            continue 'clauses;
+        };
+        return Ok((k, n));
     }
     if readers == 0 {
         return Err(Hindered::Fails);

@@ -14,12 +14,12 @@ decreases-compounds l = 2 * (trial_region - l.p) + 1
 abbrev pub decreases-places : goal.decreases-places
 decreases-places l = 2 * (trial_region - l.first)
 
-abbrev pub invariant-places-loop-i : goal.invariant-places-loop-i
-invariant-places-loop-i l =
+abbrev pub invariant-places-arguments : goal.invariant-places-arguments
+invariant-places-arguments l =
     (x : Setting) (y : Template) (m : ℕ) (g : Functor) (us : Terms) (lo hi n : ℕ) (f : Functor) (ts : Terms)
     → AllAgainst l.fn.s x y l.values l.links m g us lo hi n f ts l.first l.second l.n
     → Going l.fn.s l.s x y l.values l.links l.first l.n lo hi (count us) (places_outcome x l.links us ts) l.p l.q l.k l.noted l.i
 
 -- A compound that it goes on to lies behind, and has at most 6 arguments.
-abbrev pub decreases-places-loop-i : goal.decreases-places-loop-i
-decreases-places-loop-i l = 8 * (trial_region - l.p) + (l.k + 1 - l.i)
+abbrev pub decreases-places-arguments : goal.decreases-places-arguments
+decreases-places-arguments l = 8 * (trial_region - l.p) + (l.k + 1 - l.i)

@@ -1,18 +1,16 @@
 -- The head is compared with the goal; where no place fails and none waits the circle test follows, and where it finds no circle the guards.
 use Rattle.std.proofs.Common.{Some, None, refl}
-use Rattle.std.proofs.lemmas.Result.{err_from_is_err_and}
 use Rattle.meaning.specs.Terms.{named}
 use Rattle.term.specs.States.{setting}
 use Rattle.run_trial.specs.Choosing.{unit_of, template}
-use Rattle.run_trial.proofs.Answering.{meets, circle_fails, guarding, gathered_earlier, guards_succeed, guards_hinder, some_wait, place_fails}
+use Rattle.run_trial.proofs.Answering.{meets, circle_fails, guarding, gathered_earlier, guards_succeed, guards_wait, guards_fail, some_wait, place_fails}
 use Rattle.run_trial.proofs.Trials.{to, comparing, comparison, cleared_all, large_noted, few_noted, quiet, waiting, tried_as, tried, given}
 use Rattle.run_trial.proofs.choice.trial.Goals as goal
 
 pub head-requires : goal.head-requires
 head-requires c =
     let (text, names, j, limit, figures, at, g, others, goal, k, t, f, m, new, met, fit) = c.requires in
-    let begun = c.begin.ensures.only in
-    (
+    let begun = c.begin.ensures.only in (
       setting figures at (unit_of j limit figures g),
       template c.args.k k,
       k.head.number,
@@ -86,10 +84,9 @@ guards-requires c =
       refl,
     )
 
-pub returns-in_err-guards : goal.returns-in_err-guards
-returns-in_err-guards c =
+pub returns-in-Ok : goal.returns-in-Ok
+returns-in-Ok c =
     let fit = c.requires.15 in
-    let p = err_from_is_err_and c.from_residual.result c.from_residual.ensures.1 in
     λ text names j limit figures at g others goal k earlier t f m new gathered.
     let begun = c.begin.ensures.only in
     let cleared = cleared_all t f m begun c.begin.ensures.nothing in
@@ -98,10 +95,10 @@ returns-in_err-guards c =
     let tested = c.circle.ensures (tried_as t f m begun new fit cleared told none) (tried t f m begun new fit cleared told none) in
     let guarded = c.guards.ensures (setting figures at (unit_of j limit figures g)) (template c.args.k k) k (given t f m begun new fit cleared told none)
     earlier (guarding t f m begun gathered.ok new fit cleared told none tested) refl (gathered_earlier gathered) in
-    rw (p.1, p.2) (guards_hinder t f m begun gathered.ok new fit cleared told none tested c.if-circle.false guarded _ c.in_err-guards.was)
+    guards_succeed t f m begun gathered.ok new fit cleared told none tested c.if-circle.false guarded c.in-Ok.is
 
-pub returns : goal.returns
-returns c =
+pub returns-in-Err-Waits : goal.returns-in-Err-Waits
+returns-in-Err-Waits c =
     let fit = c.requires.15 in
     λ text names j limit figures at g others goal k earlier t f m new gathered.
     let begun = c.begin.ensures.only in
@@ -111,4 +108,17 @@ returns c =
     let tested = c.circle.ensures (tried_as t f m begun new fit cleared told none) (tried t f m begun new fit cleared told none) in
     let guarded = c.guards.ensures (setting figures at (unit_of j limit figures g)) (template c.args.k k) k (given t f m begun new fit cleared told none)
     earlier (guarding t f m begun gathered.ok new fit cleared told none tested) refl (gathered_earlier gathered) in
-    guards_succeed t f m begun gathered.ok new fit cleared told none tested c.if-circle.false guarded c.in_ok-guards.was
+    guards_wait t f m begun gathered.ok new fit cleared told none tested c.if-circle.false guarded c.in-Err-Waits.m (cc)
+
+pub returns-in-Err-Fails : goal.returns-in-Err-Fails
+returns-in-Err-Fails c =
+    let fit = c.requires.15 in
+    λ text names j limit figures at g others goal k earlier t f m new gathered.
+    let begun = c.begin.ensures.only in
+    let cleared = cleared_all t f m begun c.begin.ensures.nothing in
+    let told = comparison t f m begun c.head.new.s c.head.result (Some c.in-Some.n) c.head.ensures c.in-Some.is in
+    let none = quiet t f m begun told c.asks.ensures c.if-asks.false in
+    let tested = c.circle.ensures (tried_as t f m begun new fit cleared told none) (tried t f m begun new fit cleared told none) in
+    let guarded = c.guards.ensures (setting figures at (unit_of j limit figures g)) (template c.args.k k) k (given t f m begun new fit cleared told none)
+    earlier (guarding t f m begun gathered.ok new fit cleared told none tested) refl (gathered_earlier gathered) in
+    guards_fail t f m begun gathered.ok new fit cleared told none tested c.if-circle.false guarded (cc)
