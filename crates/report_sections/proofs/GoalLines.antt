@@ -1,17 +1,15 @@
 -- The goals' lines, one more behind so many: those of a query in one of the lists.
-use Prim.Native.Nat.{ℕ, suc, ◌+◌, ◌*◌, ◌-◌, ◌/◌, ◌≤◌, ◌<◌}
+use Prim.Native.Nat.{ℕ, ◌+◌, ◌*◌, ◌-◌, ◌≤◌, ◌<◌}
 use mathlib.Core.Path.{◌≡◌, refl, sym, ap, ap₂, ◌∙◌}
 use mathlib.Core.Bool.{Bool, true, false}
 use mathlib.Core.List.{List, [], ◌∷◌, ◌++◌, map, append_assoc, append-nil}
 use native.Mathlib.Omega.{arith}
-use lib.ListN.{length, get_or, length-append}
+use lib.ListN.{length}
 use Rattle.meaning.specs.Bytes.{Bytes, bytes}
 use Rattle.meaning.specs.Terms.{writer, Term, as_term}
 use Rattle.meaning.specs.State.{Values, Goal}
 use Rattle.meaning.specs.Report.{alone, origin_bytes}
 use Rattle.laws.proofs.Lists.EachOf.{Each, each_split}
-use Rattle.term.specs.States.{round}
-use Rattle.term.specs.Holds.{Holds, HoldsFrom, CellAt}
 use Rattle.term.specs.Setting.{Setting, Within, UnitTerm}
 use Rattle.term.proofs.Holds.{holds_alike}
 use Rattle.term.proofs.Units.{within_every}
@@ -19,7 +17,6 @@ use Rattle.term.specs.Layout.{pair_facts}
 use Rattle.term.specs.Words.{compound_word}
 use Rattle.term.specs.Goals.{origin_word, packed_goal, place_in, OriginFits}
 use Rattle.term.proofs.Goals.{goal_place, goal_clause, goal_tries}
-use Rattle.meaning.specs.Terms.{more}
 use Rattle.laws.proofs.Lists.Tests.{false_not_true}
 use Rattle.report_pairs.specs.Threaded.{full, seen_after, shown, shown_goals, seen_after_goals}
 use Rattle.report_pairs.specs.Sound.{Sound}

@@ -1,5 +1,5 @@
 -- The `NAME = value` lines, one more behind so many.
-use Prim.Native.Nat.{ℕ, suc, ◌+◌, ◌*◌, ◌≤◌, ◌<◌}
+use Prim.Native.Nat.{ℕ, ◌+◌, ◌*◌, ◌<◌}
 use mathlib.Core.Path.{◌≡◌, refl, sym, ap, ap₂, ◌∙◌}
 use mathlib.Core.List.{List, [], ◌∷◌, ◌++◌, append-nil}
 use native.Mathlib.Numerals.{add-one}
@@ -13,7 +13,7 @@ use Rattle.meaning.specs.Report.{alone}
 use Rattle.term.specs.Cells.{Known}
 use Rattle.term.specs.Holds.{Holds}
 use Rattle.term.specs.Setting.{Setting, Within, Ranged}
-use Rattle.term.specs.Spellings.{HoldsSpellings, SpelledAt}
+use Rattle.term.specs.Spellings.{SpelledAt}
 use Rattle.term.proofs.Spellings.{holds_spellings_kept, holds_spelling_at}
 use Rattle.term.specs.Layout.{items_region, query_pairs_word, query_first_pair_word, query_variables_from}
 use Rattle.term.specs.Words.{writer_word}
@@ -26,7 +26,7 @@ use Rattle.report_leaves.specs.Writes.{Writes}
 use Rattle.report_sections.specs.Sections.{Variables}
 use Rattle.report_pairs.proofs.Laid.{puts_as}
 use Rattle.report_sections.proofs.Lines.{shown_values_append, seen_after_values_append}
-use Rattle.report_count.proofs.Lengths.{changed_below, counted_none, counted_then, counted_as, counts_on}
+use Rattle.report_count.proofs.Lengths.{changed_below, counted_none, counted_then, counted_as}
 
 -- The variables' words stay when facts change.
 pub variables_kept : (s s' : List ℕ) (text : Bytes) (x : Setting) (facts q : ℕ) (xs : List Bytes) → Readable s text x facts → Changed s s' x facts

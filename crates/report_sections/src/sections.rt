@@ -26,12 +26,11 @@ ghost use Rattle.report_tallies.specs.Origins.{origin_of};
 use report_count::counting::count_term;
 use report_pairs::length::further;
 use report_put::put::{put, spelling, words};
-use report_tallies::groups::{Group, active, failed, goal_at, own, waiting};
-use report_tallies::header::{header, header_length, tally};
+use report_tallies::groups::{Group, own};
+use report_tallies::header::Tallies;
 use report_tallies::origin::{origin, origin_length};
 use report_write::terms::write_term;
 use term::goal::place_of;
-use term::layout;
 use term::layout::{
     QUERIES, QUERY_FIRST_PAIR, QUERY_PAIRS, QUERY_STRIDE, QUERY_VARIABLES, Room, TRIAL,
 };
@@ -108,12 +107,9 @@ fn count_values(s: &mut [u64], facts: usize, at: usize, q: usize) -> usize
     ensures { (text : Bytes) (x : Setting) (seen : List ℕ) (xs : List Bytes) → Counts s.old text x facts seen at → Variables s.old text x q xs
         → Counted s.old s.new text x facts at seen (shown_values x.values seen 0 xs) (seen_after_values x.values seen 0 xs) result }
 {
-    let k = variables(s, q);
     let mut to = at;
-    let mut v = 0;
-    while v < k {
+    for v in 0..variables(s, q) {
         to = count_value(s, facts, to, q, v);
-        v += 1;
     }
     to
 }
@@ -144,7 +140,7 @@ fn count_goal(
         (word ++ (shown seen alone (full x.values t) ++ (origin_of (goal_in s.old g i) ++ bytes "\n")))
         (seen_after seen (full x.values t)) result) }
 {
-    let goal = goal_at(s, g, i);
+    let goal = g.goal_at(s, i);
     if own(goal, q) {
         let w = goal_term(goal);
         let behind = origin_length(goal) + 1;
@@ -162,10 +158,8 @@ fn count_goals(s: &mut [u64], facts: usize, at: usize, label: usize, g: Group, q
         → Counted s.old s.new text x facts at seen (shown_goals x.values seen word gs) (seen_after_goals x.values seen gs) result }
 {
     let mut to = at;
-    let mut i = 0;
-    while i < g.count {
+    for i in 0..g.count {
         to = count_goal(s, facts, to, label, g, q, i);
-        i += 1;
     }
     to
 }
@@ -215,12 +209,9 @@ fn write_values(
         → Fits s.now x facts order at buffer.old (written_values x.values order 0 xs)
         → Puts buffer.old buffer.new at result (written_values x.values order 0 xs) }
 {
-    let k = variables(s, q);
     let mut to = at;
-    let mut v = 0;
-    while v < k {
+    for v in 0..variables(s, q) {
         to = write_value(text, s, facts, buffer, to, q, v);
-        v += 1;
     }
     to
 }
@@ -262,12 +253,12 @@ fn count_lines(s: &mut [u64], room: Room, facts: usize, at: usize, q: usize, t: 
         → Counted s.old s.new text x facts at [] (section_bytes s.old (figures room) t x.values q xs actives ws fs)
         (lines_seen x.values xs actives ws fs) result }
 {
-    let c = tally(s, room, q, t);
-    let mut to = further(at, header_length(q, c));
+    let c = Tallies::of(s, room, q, t);
+    let mut to = further(at, c.header_length(q));
     to = count_values(s, facts, to, q);
-    to = count_goals(s, facts, to, 7, active(room, t), q);
-    to = count_goals(s, facts, to, 8, waiting(room, t), q);
-    count_goals(s, facts, to, 7, failed(room, t), q)
+    to = count_goals(s, facts, to, 7, Group::active(room, t), q);
+    to = count_goals(s, facts, to, 8, Group::waiting(room, t), q);
+    count_goals(s, facts, to, 7, Group::failed(room, t), q)
 }
 
 // The lines of a list's goals that are the query's.
@@ -290,13 +281,11 @@ fn write_goals(
         → Puts buffer.old buffer.new at result (written_goals x.values order label.now gs) }
 {
     let mut to = at;
-    let mut i = 0;
-    while i < g.count {
-        let goal = goal_at(s, g, i);
+    for i in 0..g.count {
+        let goal = g.goal_at(s, i);
         if own(goal, q) {
             to = write_goal(text, s, facts, buffer, to, label, goal);
         }
-        i += 1;
     }
     to
 }
@@ -318,7 +307,7 @@ pub fn count_section(s: &mut [u64], room: Room, at: usize, q: usize, t: Standing
         → SectionCounted s.old s.new text x (figures room) t q xs actives ws fs at result }
 {
     restart(s);
-    count_lines(s, room, layout::waiters(room), at, q, t)
+    count_lines(s, room, room.waiters(), at, q, t)
 }
 
 // A section written: its pairs have their numbers, and it fits.
@@ -343,10 +332,37 @@ pub fn write_section(
         (section_bytes s.now (figures room) t x.values q xs actives ws fs)
         → Puts buffer.old buffer.new at result (section_bytes s.now (figures room) t x.values q xs actives ws fs) }
 {
-    let facts = layout::waiters(room);
-    let mut to = header(buffer, at, q, tally(s, room, q, t));
+    let facts = room.waiters();
+    let mut to = Tallies::of(s, room, q, t).header(buffer, at, q);
     to = write_values(text, s, facts, buffer, to, q);
-    to = write_goals(text, s, facts, buffer, to, b"active ", active(room, t), q);
-    to = write_goals(text, s, facts, buffer, to, b"waiting ", waiting(room, t), q);
-    write_goals(text, s, facts, buffer, to, b"failed ", failed(room, t), q)
+    to = write_goals(
+        text,
+        s,
+        facts,
+        buffer,
+        to,
+        b"active ",
+        Group::active(room, t),
+        q,
+    );
+    to = write_goals(
+        text,
+        s,
+        facts,
+        buffer,
+        to,
+        b"waiting ",
+        Group::waiting(room, t),
+        q,
+    );
+    write_goals(
+        text,
+        s,
+        facts,
+        buffer,
+        to,
+        b"failed ",
+        Group::failed(room, t),
+        q,
+    )
 }
