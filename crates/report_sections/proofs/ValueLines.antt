@@ -57,10 +57,8 @@ shows_variable s text x q xs v w vs h e =
 
 -- How long its name is.
 pub name_size : (s : List ℕ) (text : Bytes) (x : Setting) (q : ℕ) (xs : List Bytes) (v : ℕ) → Variables s text x q xs → v < length xs
-    → SpelledAt text (get_or s (query_variables_from q + 2 * v + 0) 0) (get_or s (query_variables_from q + 2 * v + 1) 0) (get_or xs v [])
-name_size s text x q xs v vs h =
-    let none : query_variables_from q + 2 * v + 0 ≡ query_variables_from q + 2 * v = omega arith in
-    rw none (holds_spelling_at s text (query_variables_from q) v xs h vs.spelled)
+    → SpelledAt text (get_or s (query_variables_from q + 2 * v) 0) (get_or s (query_variables_from q + 2 * v + 1) 0) (get_or xs v [])
+name_size s text x q xs v vs h = holds_spelling_at s text (query_variables_from q) v xs h vs.spelled
 
 -- The bytes and the pairs of one line more.
 module _ (values : Values) (seen : List ℕ) (xs : List Bytes) (v : ℕ) (h : v < length xs) where

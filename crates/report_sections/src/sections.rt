@@ -38,6 +38,13 @@ use term::scratch::word_at;
 use term::state::Standing;
 use term::word::{COMPOUND, TAGS, WRITER, index};
 
+// What the lines of the three lists' goals begin with.
+const ACTIVE: &[u8] = b"active ";
+
+const WAITING: &[u8] = b"waiting ";
+
+const FAILED: &[u8] = b"failed ";
+
 // A line: so many bytes, a term and so many bytes.
 fn count_line(s: &mut [u64], facts: usize, at: usize, before: usize, w: u64, behind: usize) -> usize
     requires { (text : Bytes) × (x : Setting) × (seen : List ℕ) × (t : Term) × Counts s.old text x facts seen at × Shows s.old x t w }
@@ -80,11 +87,12 @@ fn variables(s: &[u64], q: usize) -> usize
 }
 
 // Where the spelling of the query's v-th variable begins, and how long it is.
-fn spelled(s: &[u64], q: usize, v: usize, i: usize) -> usize
-    requires { (q < 8) × (v < 16) × (i < 2) × (items_region ≤ length s.now) }
-    ensures { result ≡ get_or s.now (query_variables_from q + 2 * v + i) 0 }
+fn spelled(s: &[u64], q: usize, v: usize) -> (usize, usize)
+    requires { (q < 8) × (v < 16) × (items_region ≤ length s.now) }
+    ensures { (result.0 ≡ get_or s.now (query_variables_from q + 2 * v) 0) × (result.1 ≡ get_or s.now (query_variables_from q + 2 * v + 1) 0) }
 {
-    index(word_at(s, QUERIES + QUERY_STRIDE * q + QUERY_VARIABLES + 2 * v, i))
+    let at = QUERIES + QUERY_STRIDE * q + QUERY_VARIABLES + 2 * v;
+    (index(word_at(s, at, 0)), index(word_at(s, at, 1)))
 }
 
 // "`NAME = value` for each pair of the query in order of first occurrence"
@@ -97,7 +105,7 @@ fn count_value(s: &mut [u64], facts: usize, at: usize, q: usize, v: usize) -> us
         ((get_or xs v [] ++ bytes " = ") ++ (shown seen alone (full x.values (Term.variable writer v)) ++ bytes "\n"))
         (seen_after seen (full x.values (Term.variable writer v))) result }
 {
-    let n = spelled(s, q, v, 1);
+    let (_, n) = spelled(s, q, v);
     let w = variable(s, q, v);
     count_line(s, facts, at, n + 3, w, 1)
 }
@@ -126,7 +134,7 @@ fn count_goal(
     s: &mut [u64],
     facts: usize,
     at: usize,
-    label: usize,
+    label: &[u8],
     g: Group,
     q: usize,
     i: usize,
@@ -134,28 +142,26 @@ fn count_goal(
     requires { (text : Bytes) × (x : Setting) × (seen : List ℕ) × (t : Term) × Counts s.old text x facts seen at × GroupInside s.old g × (i < g.count)
         × (own_word q (goal_in s.old g i) ≡ true → Shows s.old x t (compound_word (place_in (goal_in s.old g i)))) }
     ensures { (own_word q (goal_in s.old g i) ≡ false → (result ≡ at) × (s.new ≡ s.old))
-        × ((text : Bytes) (x : Setting) (seen : List ℕ) (t : Term) (word : Bytes) → own_word q (goal_in s.old g i) ≡ true
-        → Counts s.old text x facts seen at → Shows s.old x t (compound_word (place_in (goal_in s.old g i))) → label ≡ length word
+        × ((text : Bytes) (x : Setting) (seen : List ℕ) (t : Term) → own_word q (goal_in s.old g i) ≡ true
+        → Counts s.old text x facts seen at → Shows s.old x t (compound_word (place_in (goal_in s.old g i)))
         → Counted s.old s.new text x facts at seen
-        (word ++ (shown seen alone (full x.values t) ++ (origin_of (goal_in s.old g i) ++ bytes "\n")))
+        (label.now ++ (shown seen alone (full x.values t) ++ (origin_of (goal_in s.old g i) ++ bytes "\n")))
         (seen_after seen (full x.values t)) result) }
 {
     let goal = g.goal_at(s, i);
     if own(goal, q) {
         let w = goal_term(goal);
         let behind = origin_length(goal) + 1;
-        return count_line(s, facts, at, label, w, behind);
+        return count_line(s, facts, at, label.len(), w, behind);
     }
     at
 }
 
 // "`active GOAL`, `waiting GOAL` and `failed GOAL` lines, each group in the machine's order"
-fn count_goals(s: &mut [u64], facts: usize, at: usize, label: usize, g: Group, q: usize) -> usize
-    requires { (text : Bytes) × (x : Setting) × (seen : List ℕ) × (gs : List Goal) × (word : Bytes) × Counts s.old text x facts seen at
-        × Listed s.old x facts g q gs × (label ≡ length word) }
-    ensures { (text : Bytes) (x : Setting) (seen : List ℕ) (gs : List Goal) (word : Bytes) → Counts s.old text x facts seen at
-        → Listed s.old x facts g q gs → label ≡ length word
-        → Counted s.old s.new text x facts at seen (shown_goals x.values seen word gs) (seen_after_goals x.values seen gs) result }
+fn count_goals(s: &mut [u64], facts: usize, at: usize, label: &[u8], g: Group, q: usize) -> usize
+    requires { (text : Bytes) × (x : Setting) × (seen : List ℕ) × (gs : List Goal) × Counts s.old text x facts seen at × Listed s.old x facts g q gs }
+    ensures { (text : Bytes) (x : Setting) (seen : List ℕ) (gs : List Goal) → Counts s.old text x facts seen at → Listed s.old x facts g q gs
+        → Counted s.old s.new text x facts at seen (shown_goals x.values seen label.now gs) (seen_after_goals x.values seen gs) result }
 {
     let mut to = at;
     for i in 0..g.count {
@@ -185,8 +191,7 @@ fn write_value(
         → Puts buffer.old buffer.new at result
         ((get_or xs v [] ++ bytes " = ") ++ (written order alone (full x.values (Term.variable writer v)) ++ bytes "\n")) }
 {
-    let from = spelled(s, q, v, 0);
-    let n = spelled(s, q, v, 1);
+    let (from, n) = spelled(s, q, v);
     let mut to = spelling(text, buffer, at, from, n);
     to = words(buffer, to, b" = ");
     let w = variable(s, q, v);
@@ -256,9 +261,9 @@ fn count_lines(s: &mut [u64], room: Room, facts: usize, at: usize, q: usize, t: 
     let c = Tallies::of(s, room, q, t);
     let mut to = further(at, c.header_length(q));
     to = count_values(s, facts, to, q);
-    to = count_goals(s, facts, to, 7, Group::active(room, t), q);
-    to = count_goals(s, facts, to, 8, Group::waiting(room, t), q);
-    count_goals(s, facts, to, 7, Group::failed(room, t), q)
+    to = count_goals(s, facts, to, ACTIVE, Group::active(room, t), q);
+    to = count_goals(s, facts, to, WAITING, Group::waiting(room, t), q);
+    count_goals(s, facts, to, FAILED, Group::failed(room, t), q)
 }
 
 // The lines of a list's goals that are the query's.

@@ -45,8 +45,8 @@ returns-then-own c =
     term.ensures ∙ ap (λ (w : ℕ). compound_word (place_in w)) at.ensures in
     let behind = c.origin_length-behind.ensures.0 ∙ ap (λ (w : ℕ). length (origin_of w)) at.ensures in (
       λ e. absurd (false_not_true _ e is),
-      λ text x seen t label e counts shows labelled.
-          line.ensures text x seen t label (origin_of (goal_in a.s.now a.g a.i) ++ bytes "\n") counts (rw word shows) labelled
+      λ text x seen t e counts shows.
+          line.ensures text x seen t a.label.now (origin_of (goal_in a.s.now a.g a.i) ++ bytes "\n") counts (rw word shows) refl
           (one_more (origin_of (goal_in a.s.now a.g a.i)) behind),
     )
 
@@ -54,4 +54,4 @@ pub returns : goal.returns
 returns c =
     let is : own c.args.q (goal_in c.args.s.now c.args.g c.args.i) ≡ false =
     sym (ap (own c.args.q) c.goal_at-goal.ensures) ∙ sym c.own.ensures ∙ c.if-own.false in
-    (λ e. (refl, refl), λ text x seen t label e counts shows labelled. absurd (false_not_true _ is e))
+    (λ e. (refl, refl), λ text x seen t e counts shows. absurd (false_not_true _ is e))

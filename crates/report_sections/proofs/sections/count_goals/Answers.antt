@@ -7,16 +7,16 @@ use Rattle.report_sections.proofs.sections.count_goals.Goals as goal
 pub loop-i-init : goal.loop-i-init
 loop-i-init c =
     let a = c.args in
-    λ text x seen gs word counts listed e. progress_start a.s.now a.s.now text x a.facts a.at seen a.g a.q gs word counts listed
+    λ text x seen gs counts listed. progress_start a.s.now a.s.now text x a.facts a.at seen a.g a.q gs a.label.now counts listed
 
 pub count_goal-to-requires : goal.count_goal-to-requires
 count_goal-to-requires c =
     let a = c.args in
     let l = c.loop-i in
-    let (text, x, seen, gs, word, counts, listed, e) = c.requires in
+    let (text, x, seen, gs, counts, listed) = c.requires in
     let h : l.i < a.g.count = omega arith in
-    let p = l.invariant text x seen gs word counts listed e in
-    let (t, ready, inside, shows) = goal_asks a.s.now l.s text x a.facts a.at seen a.g a.q gs word l.to l.i h counts listed p in
+    let p = l.invariant text x seen gs counts listed in
+    let (t, ready, inside, shows) = goal_asks a.s.now l.s text x a.facts a.at seen a.g a.q gs a.label.now l.to l.i h counts listed p in
     (text, x, p.counted.after, t, ready, inside, h, shows)
 
 pub loop-i-preserved : goal.loop-i-preserved
@@ -24,13 +24,13 @@ loop-i-preserved c =
     let a = c.args in
     let l = c.loop-i in
     let r = c.count_goal-to in
-    λ text x seen gs word counts listed e.
-    goal_told a.s.now l.s r.new.s text x a.facts a.at seen a.g a.q gs word a.label l.to l.i r.result (omega arith) counts listed e
-    (l.invariant text x seen gs word counts listed e) r.ensures.0 (λ seen' t label. r.ensures.1 text x seen' t label)
+    λ text x seen gs counts listed.
+    goal_told a.s.now l.s r.new.s text x a.facts a.at seen a.g a.q gs a.label.now l.to l.i r.result (omega arith) counts listed
+    (l.invariant text x seen gs counts listed) r.ensures.0 (λ seen' t. r.ensures.1 text x seen' t)
 
 pub returns : goal.returns
 returns c =
     let a = c.args in
     let l = c.loop-i in
-    λ text x seen gs word counts listed e.
-    progress_end a.s.now l.s text x a.facts a.at seen a.g a.q gs word l.to l.i (omega arith) (l.invariant text x seen gs word counts listed e)
+    λ text x seen gs counts listed.
+    progress_end a.s.now l.s text x a.facts a.at seen a.g a.q gs a.label.now l.to l.i (omega arith) (l.invariant text x seen gs counts listed)

@@ -1,8 +1,6 @@
 -- The lines of the query's goals at the places passed are counted.
-use mathlib.Core.Path.{◌≡◌}
 use mathlib.Core.List.{List}
 use Prim.Native.Nat.{ℕ}
-use lib.ListN.{length}
 use Rattle.meaning.specs.Bytes.{Bytes}
 use Rattle.meaning.specs.State.{Goal}
 use Rattle.term.specs.Setting.{Setting}
@@ -13,5 +11,5 @@ use Rattle.report_sections.proofs.sections.count_goals.Given as goal
 
 abbrev pub invariant-loop-i : goal.invariant-loop-i
 invariant-loop-i l =
-    (text : Bytes) (x : Setting) (seen : List ℕ) (gs : List Goal) (word : Bytes) → Counts l.initial.s text x l.facts seen l.at
-    → Listed l.initial.s x l.facts l.g l.q gs → l.label ≡ length word → Progress l.initial.s l.s text x l.facts l.at seen l.g l.q gs word l.to l.i
+    (text : Bytes) (x : Setting) (seen : List ℕ) (gs : List Goal) → Counts l.initial.s text x l.facts seen l.at
+    → Listed l.initial.s x l.facts l.g l.q gs → Progress l.initial.s l.s text x l.facts l.at seen l.g l.q gs l.label l.to l.i

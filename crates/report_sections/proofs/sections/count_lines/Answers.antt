@@ -1,5 +1,5 @@
 -- `report_sections::sections::count_lines` meets its contract: header, values and the goals of the three lists, each counted behind the others.
-use mathlib.Core.Path.{◌≡◌, refl, ap, ◌∙◌}
+use mathlib.Core.Path.{◌≡◌, ap, ◌∙◌}
 use mathlib.Core.List.{[]}
 use Prim.Native.Nat.{ℕ, ◌+◌}
 use lib.ListN.{length}
@@ -30,7 +30,7 @@ count_goals-to-requires c =
     let c₁ = v.ensures text x [] xs counts₀ sec.variables in
     let counts₁ = counts_on a.s.now v.new.s text x a.facts _ _ _ _ v.result c₁ in
     let listed₁ = listed_as v.new.s x a.facts _ _ a.q _ c.active.ensures (listed_kept a.s.now v.new.s text x a.facts _ a.q actives counts.readable c₁.changed sec.active) in
-    (text, x, c₁.after, actives, bytes "active ", counts₁, listed₁, refl)
+    (text, x, c₁.after, actives, counts₁, listed₁)
 
 pub count_goals-to-requires-2 : goal.count_goals-to-requires-2
 unfolding bytes
@@ -43,11 +43,11 @@ count_goals-to-requires-2 c =
     let counts₁ = counts_on a.s.now v.new.s text x a.facts _ _ _ _ v.result c₁ in
     let listed₁ = listed_as v.new.s x a.facts _ _ a.q _ c.active.ensures (listed_kept a.s.now v.new.s text x a.facts _ a.q actives counts.readable c₁.changed sec.active) in
     let g₁ = c.count_goals-to in
-    let c₂ = g₁.ensures text x c₁.after actives (bytes "active ") counts₁ listed₁ refl in
+    let c₂ = g₁.ensures text x c₁.after actives counts₁ listed₁ in
     let counts₂ = counts_on v.new.s g₁.new.s text x a.facts _ _ _ _ g₁.result c₂ in
     let changed₂ = changed_then a.s.now v.new.s g₁.new.s x a.facts c₁.changed c₂.changed in
     let listed₂ = listed_as g₁.new.s x a.facts _ _ a.q _ c.waiting.ensures (listed_kept a.s.now g₁.new.s text x a.facts _ a.q ws counts.readable changed₂ sec.waiting) in
-    (text, x, c₂.after, ws, bytes "waiting ", counts₂, listed₂, refl)
+    (text, x, c₂.after, ws, counts₂, listed₂)
 
 pub failed-requires : goal.failed-requires
 failed-requires c =
@@ -66,16 +66,16 @@ count_goals-requires c =
     let counts₁ = counts_on a.s.now v.new.s text x a.facts _ _ _ _ v.result c₁ in
     let listed₁ = listed_as v.new.s x a.facts _ _ a.q _ c.active.ensures (listed_kept a.s.now v.new.s text x a.facts _ a.q actives counts.readable c₁.changed sec.active) in
     let g₁ = c.count_goals-to in
-    let c₂ = g₁.ensures text x c₁.after actives (bytes "active ") counts₁ listed₁ refl in
+    let c₂ = g₁.ensures text x c₁.after actives counts₁ listed₁ in
     let counts₂ = counts_on v.new.s g₁.new.s text x a.facts _ _ _ _ g₁.result c₂ in
     let changed₂ = changed_then a.s.now v.new.s g₁.new.s x a.facts c₁.changed c₂.changed in
     let listed₂ = listed_as g₁.new.s x a.facts _ _ a.q _ c.waiting.ensures (listed_kept a.s.now g₁.new.s text x a.facts _ a.q ws counts.readable changed₂ sec.waiting) in
     let g₂ = c.count_goals-to-2 in
-    let c₃ = g₂.ensures text x c₂.after ws (bytes "waiting ") counts₂ listed₂ refl in
+    let c₃ = g₂.ensures text x c₂.after ws counts₂ listed₂ in
     let counts₃ = counts_on g₁.new.s g₂.new.s text x a.facts _ _ _ _ g₂.result c₃ in
     let changed₃ = changed_then a.s.now g₁.new.s g₂.new.s x a.facts changed₂ c₃.changed in
     let listed₃ = listed_as g₂.new.s x a.facts _ _ a.q _ c.failed.ensures (listed_kept a.s.now g₂.new.s text x a.facts _ a.q fs counts.readable changed₃ sec.failed) in
-    (text, x, c₃.after, fs, bytes "failed ", counts₃, listed₃, refl)
+    (text, x, c₃.after, fs, counts₃, listed₃)
 
 pub returns : goal.returns
 unfolding bytes section_bytes
@@ -88,12 +88,12 @@ returns c =
     let counts₁ = counts_on a.s.now v.new.s text x a.facts _ _ _ _ v.result c₁ in
     let listed₁ = listed_as v.new.s x a.facts _ _ a.q _ c.active.ensures (listed_kept a.s.now v.new.s text x a.facts _ a.q actives counts.readable c₁.changed sec.active) in
     let g₁ = c.count_goals-to in
-    let c₂ = g₁.ensures text x c₁.after actives (bytes "active ") counts₁ listed₁ refl in
+    let c₂ = g₁.ensures text x c₁.after actives counts₁ listed₁ in
     let counts₂ = counts_on v.new.s g₁.new.s text x a.facts _ _ _ _ g₁.result c₂ in
     let changed₂ = changed_then a.s.now v.new.s g₁.new.s x a.facts c₁.changed c₂.changed in
     let listed₂ = listed_as g₁.new.s x a.facts _ _ a.q _ c.waiting.ensures (listed_kept a.s.now g₁.new.s text x a.facts _ a.q ws counts.readable changed₂ sec.waiting) in
     let g₂ = c.count_goals-to-2 in
-    let c₃ = g₂.ensures text x c₂.after ws (bytes "waiting ") counts₂ listed₂ refl in
+    let c₃ = g₂.ensures text x c₂.after ws counts₂ listed₂ in
     let counts₃ = counts_on g₁.new.s g₂.new.s text x a.facts _ _ _ _ g₂.result c₃ in
     let changed₃ = changed_then a.s.now g₁.new.s g₂.new.s x a.facts changed₂ c₃.changed in
     let listed₃ = listed_as g₂.new.s x a.facts _ _ a.q _ c.failed.ensures (listed_kept a.s.now g₂.new.s text x a.facts _ a.q fs counts.readable changed₃ sec.failed) in
@@ -102,4 +102,4 @@ returns c =
     let head = header_of a.q (tallies_of a.s.now (figures a.room) a.q a.t) in
     section_counted a.s.now v.new.s g₁.new.s g₂.new.s c.count_goals.new.s text x a.facts a.at head
     c.further-to.result v.result g₁.result g₂.result c.count_goals.result xs actives ws fs counts first c₁ c₂ c₃
-    (c.count_goals.ensures text x c₃.after fs (bytes "failed ") counts₃ listed₃ refl)
+    (c.count_goals.ensures text x c₃.after fs counts₃ listed₃)

@@ -27,7 +27,7 @@ overflow_add-n c =
     let a = c.args in
     let (text, x, seen, xs, counts, vs, h) = c.requires in
     let spelled = name_size a.s.now text x a.q xs a.v vs h in
-    omega (arith, c.spelled-n.ensures, spelled.inside, counts.readable.short)
+    omega (arith, c.spelled-n.ensures.1, spelled.inside, counts.readable.short)
 
 pub count_line-requires : goal.count_line-requires
 count_line-requires c =
@@ -42,4 +42,4 @@ returns c =
     let spelled = name_size a.s.now text x a.q xs a.v vs h in
     c.count_line.ensures text x seen _ (get_or xs a.v [] ++ bytes " = ") (bytes "\n") counts
     (shows_variable a.s.now text x a.q xs a.v _ vs h c.variable-w.ensures)
-    (three_more (get_or xs a.v []) (c.spelled-n.ensures ∙ spelled.sized)) one
+    (three_more (get_or xs a.v []) (c.spelled-n.ensures.1 ∙ spelled.sized)) one

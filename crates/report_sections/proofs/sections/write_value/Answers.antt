@@ -16,7 +16,7 @@ spelling-to-requires c =
     let (x, order, xs, vs, h, writes, fits) = c.requires in
     let spelled = name_size a.s.now a.text.now x a.q xs a.v vs h in
     let size = value_line_size x.values order xs a.v h in
-    omega (arith, fits.room, size, spelled.sized, spelled.inside, c.spelled-n.ensures, c.spelled-from.ensures)
+    omega (arith, fits.room, size, spelled.sized, spelled.inside, c.spelled-from.ensures.1, c.spelled-from.ensures.0)
 
 pub words-to-requires : goal.words-to-requires
 words-to-requires c =
@@ -24,7 +24,7 @@ words-to-requires c =
     let (x, order, xs, vs, h, writes, fits) = c.requires in
     let spelled = name_size a.s.now a.text.now x a.q xs a.v vs h in
     let size = value_line_size x.values order xs a.v h in
-    omega (arith, fits.room, size, spelled.sized, c.spelled-n.ensures, c.spelling-to.auto.buffer, (puts_name a.text.now _ _ _ _ _ _ _ _ _ c.spelled-from.ensures c.spelled-n.ensures spelled c.spelling-to.ensures).place)
+    omega (arith, fits.room, size, spelled.sized, c.spelled-from.ensures.1, c.spelling-to.auto.buffer, (puts_name a.text.now _ _ _ _ _ _ _ _ _ c.spelled-from.ensures.0 c.spelled-from.ensures.1 spelled c.spelling-to.ensures).place)
 
 pub variable-w-requires : goal.variable-w-requires
 variable-w-requires c =
@@ -39,7 +39,7 @@ write_line-requires c =
     let a = c.args in
     let (x, order, xs, vs, h, writes, fits) = c.requires in
     let spelled = name_size a.s.now a.text.now x a.q xs a.v vs h in
-    let name = puts_name a.text.now _ _ _ _ _ _ _ _ _ c.spelled-from.ensures c.spelled-n.ensures spelled c.spelling-to.ensures in
+    let name = puts_name a.text.now _ _ _ _ _ _ _ _ _ c.spelled-from.ensures.0 c.spelled-from.ensures.1 spelled c.spelling-to.ensures in
     let same = c.words-to.auto.buffer ∙ c.spelling-to.auto.buffer in (
       x,
       order,
@@ -55,7 +55,7 @@ returns c =
     let a = c.args in
     λ x order xs vs h writes fits.
     let spelled = name_size a.s.now a.text.now x a.q xs a.v vs h in
-    let name = puts_name a.text.now _ _ _ _ _ _ _ _ _ c.spelled-from.ensures c.spelled-n.ensures spelled c.spelling-to.ensures in
+    let name = puts_name a.text.now _ _ _ _ _ _ _ _ _ c.spelled-from.ensures.0 c.spelled-from.ensures.1 spelled c.spelling-to.ensures in
     let same = c.words-to.auto.buffer ∙ c.spelling-to.auto.buffer in
     let first = puts_behind _ _ _ _ _ _ _ _ name c.words-to.ensures in
     puts_behind _ _ _ _ _ _ _ _ first
