@@ -213,9 +213,7 @@ pub fn rule(
     let (sign, behind) = next_of(rest, e.at, b":.")?;
     let d = Cursor { at: behind, ..e };
     if sign == b':' {
-        return body(
-            text, rest, from, s, names, item, tables, k, d,
-        );
+        return body(text, rest, from, s, names, item, tables, k, d);
     }
     Ok(Ruled {
         guards: 0,
