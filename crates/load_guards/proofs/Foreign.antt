@@ -2,12 +2,12 @@
 use Prim.Native.Nat.{ℕ, zero, suc, ◌+◌, ◌≤◌, ◌<◌, min}
 use mathlib.Core.Path.{◌≡◌, refl, sym, ap, ◌∙◌}
 use mathlib.Core.Bool.{Bool, true, false, not, ◌&&◌, ◌||◌}
-use mathlib.Core.List.{List, [], ◌∷◌, ◌++◌}
+use mathlib.Core.List.{List, [], ◌∷◌}
 use mathlib.Core.Option.{Option, none, some}
-use native.Mathlib.Nat.{zero-add, add-zero}
+use native.Mathlib.Nat.{zero-add}
 use native.Mathlib.Omega.{arith}
 use Rattle.std.specs.Prelude.{nat_eq}
-use Rattle.std.specs.List.{list_any, range_with_len}
+use Rattle.std.specs.List.{list_any, list_all, range_with_len}
 use lib.Dec.{leb, eqb}
 use lib.ListN.{get_or}
 use borrow.Author.Tests.{ne_eqb, le-leb}
@@ -15,7 +15,7 @@ use Rattle.meaning.specs.Bytes.{all, up_to}
 use Rattle.meaning.specs.Terms.{Half, writer, reader, Named, Guard, as_term, occurrences, all_occurrences}
 use Rattle.meaning.specs.Table.{Element, as_guard, as_guards, with_guard, of_the_head}
 use Rattle.laws.proofs.Lists.Tests.{differ}
-use Rattle.load_names.proofs.Tallies.{all_suc, swap_and}
+use Rattle.load_names.proofs.Tallies.{all_suc, all_counted, swap_and}
 use Rattle.load_openings.specs.Reading.{half_place}
 use Rattle.load_elements.specs.Elements.{element_occurrences, elements_occurrences}
 use Rattle.load_guards.specs.Judged.{head_place, Counts}
@@ -115,22 +115,11 @@ not_foul true true x = refl
 not_foul true false x = some_there x
 not_foul false b x = refl
 
--- The numbers below n as the loop goes through them.
-range_more : (a n : ℕ) → range_with_len a (suc n) ≡ range_with_len a n ++ ((a + n) ∷ [])
-range_more a zero = rw (add-zero a) refl
-range_more a (suc n) = let one : a + 1 + n ≡ a + suc n = omega arith in ap (λ l. a ∷ l) (range_more (a + 1) n ∙ rw one refl)
-
-range_is : (n : ℕ) → range_with_len 0 n ≡ up_to n
-unfolding up_to
-range_is zero = refl
-range_is (suc n) = range_more 0 n ∙ rw (range_is n, zero-add n) refl
-
-any_not : (p : ℕ → Bool) (xs : List ℕ) → list_any p xs ≡ not (all (λ n. not (p n)) xs)
-unfolding all
+any_not : (p : ℕ → Bool) (xs : List ℕ) → list_any p xs ≡ not (list_all (λ n. not (p n)) xs)
 any_not p [] = refl
 any_not p (x ∷ xs) = rw (any_not p xs) (go (p x))
   where
-    go : (b : Bool) → (b || not (all (λ n. not (p n)) xs)) ≡ not (not b && all (λ n. not (p n)) xs)
+    go : (b : Bool) → (b || not (list_all (λ n. not (p n)) xs)) ≡ not (not b && list_all (λ n. not (p n)) xs)
     go true = refl
     go false = refl
 
@@ -139,9 +128,9 @@ pub any_foul : (item heads : List ℕ) (pairs : ℕ) → pairs ≤ 16 → (head 
 unfolding half_place head_place
 any_foul item heads pairs few head es gs c e =
     any_not (foul item heads) (range_with_len 0 pairs)
-    ∙ rw (range_is pairs)
-    (ap not
-    (all_same (λ n. not (foul item heads n)) (λ n. all (sees head n) gs) pairs
+    ∙ ap not
+    (all_counted (λ n. not (foul item heads n)) pairs
+    ∙ all_same (λ n. not (foul item heads n)) (λ n. all (sees head n) gs) pairs
     (λ n l.
     rw (
       c.in_elements writer n (omega arith),
@@ -154,4 +143,4 @@ any_foul item heads pairs few head es gs c e =
       elements_count reader n es gs e,
     )
     (not_foul (eqb (occurs writer n gs) 0) (eqb (occurs reader n gs) 0) (all_occurrences writer n head.arguments) ∙ sym (all_see head n gs)))
-    ∙ sym (both_ways head pairs gs)))
+    ∙ sym (both_ways head pairs gs))

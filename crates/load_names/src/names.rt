@@ -11,41 +11,39 @@ ghost use Rattle.load_names.specs.Answers.{found, NameIs};
 
 use term::word::{index, word};
 
-// A hash below 256 of the bytes from a to e.
-fn hash(rest: &[u8], a: usize, e: usize) -> usize
-    requires { (a ≤ e) × (e ≤ length rest.now) }
-    ensures { result ≡ hash_of (slice a e rest.now) }
+// A hash below 256 of a spelling.
+fn hash(spelling: &[u8]) -> usize
+    ensures { result ≡ hash_of spelling.now }
 {
     let mut h: usize = 0;
-    for c in &rest[a..e] {
+    for c in spelling {
         h = (h * 33 + usize::from(*c)) % 4_294_967_296;
     }
     h % 256
 }
 
-// Whether the place of this number is spelled as the bytes of the rest from a to e.
-pub fn spelled(text: &[u8], rest: &[u8], table: &[u64], n: usize, a: usize, e: usize) -> bool
-    requires a_le_e { (a ≤ e) × (e ≤ length rest.now) }
+// Whether the place of this number is spelled so.
+pub fn spelled(text: &[u8], table: &[u64], n: usize, spelling: &[u8]) -> bool
     requires stands_at { (f : Bytes) × StandsAt text.now table.now n f }
-    ensures { (f : Bytes) → StandsAt text.now table.now n f → result ≡ alike (slice a e rest.now) f }
+    ensures { (f : Bytes) → StandsAt text.now table.now n f → result ≡ alike spelling.now f }
 {
     let start = index(table[2 * n]);
     let size = index(table[2 * n + 1]);
-    rest[a..e] == text[start..start + size]
+    spelling == &text[start..start + size]
 }
 
 // The number of the name that is spelled so, among those with this hash.
 #[tactic(auto, using(crate::proofs::Hashes::hash_fits))]
-fn find(text: &[u8], rest: &[u8], table: &[u64], h: usize, a: usize, e: usize) -> Option<usize>
-    requires a_le_e { (a ≤ e) × (e ≤ length rest.now) × (h ≡ hash_of (slice a e rest.now)) }
+fn find(text: &[u8], table: &[u64], h: usize, spelling: &[u8]) -> Option<usize>
+    requires hashed { h ≡ hash_of spelling.now }
     requires names_in { (places : List Place) × NamesIn text.now places table.now }
     ensures { (places : List Place) → NamesIn text.now places table.now
-        → found result ≡ place_of (slice a e rest.now) (spellings places) }
+        → found result ≡ place_of spelling.now (spellings places) }
 {
     let mut next = index(table[512 + h]);
     while next != 0 {
         let n = next - 1;
-        if spelled(text, rest, table, n, a, e) {
+        if spelled(text, table, n, spelling) {
             return Some(n);
         }
         next = index(table[768 + n]);
@@ -81,13 +79,14 @@ pub fn number(
     ensures { (places : List Place) → NamesIn text.now places table.old → count ≡ length places
         → NameIs text.now places (from + a) (slice a e rest.now) table.old table.new result }
 {
-    let h = hash(rest, a, e);
-    if let Some(n) = find(text, rest, table, h, a, e) {
+    let spelling = &rest[a..e];
+    let h = hash(spelling);
+    if let Some(n) = find(text, table, h, spelling) {
         return Some((n, count));
     }
     if 256 <= count {
         return None;
     }
-    add(table, count, h, from + a, e - a);
+    add(table, count, h, from + a, spelling.len());
     Some((count, count + 1))
 }

@@ -50,7 +50,9 @@ fn pair_rules(item: &[u64], heads: &[u64], licensed: &[u64], n: usize) -> bool
     requires { (length item.now ≡ 64) × (length heads.now ≡ 32) × (length licensed.now ≡ 16) × (n < 16) }
     ensures { result ≡ pair_kept item.now heads.now licensed.now n }
 {
-    once_in_head(heads, n) && once_unless(item, licensed, n) && both_or_none(item[32 + n], item[48 + n])
+    once_in_head(heads, n)
+        && once_unless(item, licensed, n)
+        && both_or_none(item[32 + n], item[48 + n])
 }
 
 // "No writer and no reader occurs twice", but for a licensed reader only in the head, and "a writer occurs exactly if its reader does".

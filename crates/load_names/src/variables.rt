@@ -10,15 +10,14 @@ ghost use Rattle.load_names.specs.Answers.{found, VariableIs};
 use crate::names::spelled;
 use term::word::word;
 
-// The number of the variable that is spelled as the bytes from a to e.
-pub fn find(rest: &[u8], table: &[u64], count: usize, a: usize, e: usize) -> Option<usize>
-    requires a_le_e { (a ≤ e) × (e ≤ length rest.now) }
+// The number of the variable that is spelled so.
+pub fn find(rest: &[u8], table: &[u64], count: usize, spelling: &[u8]) -> Option<usize>
     requires variables_in { (places : List Place) × VariablesIn rest.now places table.now × (count ≡ length places) }
     ensures { (places : List Place) → VariablesIn rest.now places table.now → count ≡ length places
-        → found result ≡ place_of (slice a e rest.now) (spellings places) }
+        → found result ≡ place_of spelling.now (spellings places) }
 {
     for n in 0..count {
-        if spelled(rest, rest, table, n, a, e) {
+        if spelled(rest, table, n, spelling) {
             return Some(n);
         }
     }
@@ -39,10 +38,7 @@ fn occurs(table: &mut [u64], place: usize)
     requires { (place < length table.old) × (get_or table.old place 0 ≤ 2) }
     ensures { table.new ≡ counted_half table.old place }
 {
-    let often = table[place];
-    if often < 2 {
-        table[place] = often + 1;
-    }
+    table[place] = 2.min(table[place] + 1);
 }
 
 // The number of the variable from a to e, one of whose halves occurs here, 32 for the writer and 48 for the reader, and how many variables
@@ -60,7 +56,7 @@ pub fn number(
     ensures { (places : List Place) → VariablesIn rest.now places table.old → count ≡ length places
         → VariableIs rest.now places half a (slice a e rest.now) table.old table.new result }
 {
-    if let Some(n) = find(rest, table, count, a, e) {
+    if let Some(n) = find(rest, table, count, &rest[a..e]) {
         occurs(table, half + n);
         return Some((n, count));
     }

@@ -37,7 +37,13 @@ fn go_on(s: &mut [u64], room: Room, budget: usize, first: Standing) -> (Verdict,
 
 // The loaded job with so many clauses and queries is run under a budget: how the run ended and the state in which it did, unless the queries alone pass a
 // room figure.
-pub fn run(s: &mut [u64], room: Room, budget: usize, clauses: usize, queries: usize) -> Option<(Verdict, Standing)>
+pub fn run(
+    s: &mut [u64],
+    room: Room,
+    budget: usize,
+    clauses: usize,
+    queries: usize,
+) -> Option<(Verdict, Standing)>
     requires { (text : Bytes) × (names : List Bytes) × (j : Job) × Ready s.old text names (figures room) j
         × (budget ≤ 1000000) × (clauses ≡ length j.clauses) × (queries ≡ length j.queries) }
     ensures { (text : Bytes) (names : List Bytes) (j : Job) → Ready s.old text names (figures room) j

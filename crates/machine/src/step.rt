@@ -9,8 +9,8 @@ ghost use Rattle.term.specs.States.{Atlas};
 ghost use Rattle.run_queues.specs.Log.{Slot};
 ghost use Rattle.run_between.specs.Running.{Running, StepIs};
 
-use run_reduce::reduce::reduce;
 use run_asked::asking::Hindered;
+use run_reduce::reduce::reduce;
 use run_trial::choice::choice;
 use run_unreduced::join::{join_failed, join_waiting};
 use term::goal::place_of;

@@ -26,18 +26,24 @@ ghost use Rattle.report_tallies.specs.Origins.{origin_of};
 use report_count::counting::count_term;
 use report_pairs::length::further;
 use report_put::put::{put, spelling, words};
-use report_tallies::groups::{Group, active, failed, goal_at, own, waiting};
-use report_tallies::header::{header, header_length, tally};
+use report_tallies::groups::{Group, own};
+use report_tallies::header::Tallies;
 use report_tallies::origin::{origin, origin_length};
 use report_write::terms::write_term;
 use term::goal::place_of;
-use term::layout;
 use term::layout::{
     QUERIES, QUERY_FIRST_PAIR, QUERY_PAIRS, QUERY_STRIDE, QUERY_VARIABLES, Room, TRIAL,
 };
 use term::scratch::word_at;
 use term::state::Standing;
 use term::word::{COMPOUND, TAGS, WRITER, index};
+
+// What the lines of the three lists' goals begin with.
+const ACTIVE: &[u8] = b"active ";
+
+const WAITING: &[u8] = b"waiting ";
+
+const FAILED: &[u8] = b"failed ";
 
 // A line: so many bytes, a term and so many bytes.
 fn count_line(s: &mut [u64], facts: usize, at: usize, before: usize, w: u64, behind: usize) -> usize
@@ -81,11 +87,12 @@ fn variables(s: &[u64], q: usize) -> usize
 }
 
 // Where the spelling of the query's v-th variable begins, and how long it is.
-fn spelled(s: &[u64], q: usize, v: usize, i: usize) -> usize
-    requires { (q < 8) × (v < 16) × (i < 2) × (items_region ≤ length s.now) }
-    ensures { result ≡ get_or s.now (query_variables_from q + 2 * v + i) 0 }
+fn spelled(s: &[u64], q: usize, v: usize) -> (usize, usize)
+    requires { (q < 8) × (v < 16) × (items_region ≤ length s.now) }
+    ensures { (result.0 ≡ get_or s.now (query_variables_from q + 2 * v) 0) × (result.1 ≡ get_or s.now (query_variables_from q + 2 * v + 1) 0) }
 {
-    index(word_at(s, QUERIES + QUERY_STRIDE * q + QUERY_VARIABLES + 2 * v, i))
+    let at = QUERIES + QUERY_STRIDE * q + QUERY_VARIABLES + 2 * v;
+    (index(word_at(s, at, 0)), index(word_at(s, at, 1)))
 }
 
 // "`NAME = value` for each pair of the query in order of first occurrence"
@@ -98,7 +105,7 @@ fn count_value(s: &mut [u64], facts: usize, at: usize, q: usize, v: usize) -> us
         ((get_or xs v [] ++ bytes " = ") ++ (shown seen alone (full x.values (Term.variable writer v)) ++ bytes "\n"))
         (seen_after seen (full x.values (Term.variable writer v))) result }
 {
-    let n = spelled(s, q, v, 1);
+    let (_, n) = spelled(s, q, v);
     let w = variable(s, q, v);
     count_line(s, facts, at, n + 3, w, 1)
 }
@@ -108,12 +115,9 @@ fn count_values(s: &mut [u64], facts: usize, at: usize, q: usize) -> usize
     ensures { (text : Bytes) (x : Setting) (seen : List ℕ) (xs : List Bytes) → Counts s.old text x facts seen at → Variables s.old text x q xs
         → Counted s.old s.new text x facts at seen (shown_values x.values seen 0 xs) (seen_after_values x.values seen 0 xs) result }
 {
-    let k = variables(s, q);
     let mut to = at;
-    let mut v = 0;
-    while v < k {
+    for v in 0..variables(s, q) {
         to = count_value(s, facts, to, q, v);
-        v += 1;
     }
     to
 }
@@ -130,7 +134,7 @@ fn count_goal(
     s: &mut [u64],
     facts: usize,
     at: usize,
-    label: usize,
+    label: &[u8],
     g: Group,
     q: usize,
     i: usize,
@@ -138,34 +142,30 @@ fn count_goal(
     requires { (text : Bytes) × (x : Setting) × (seen : List ℕ) × (t : Term) × Counts s.old text x facts seen at × GroupInside s.old g × (i < g.count)
         × (own_word q (goal_in s.old g i) ≡ true → Shows s.old x t (compound_word (place_in (goal_in s.old g i)))) }
     ensures { (own_word q (goal_in s.old g i) ≡ false → (result ≡ at) × (s.new ≡ s.old))
-        × ((text : Bytes) (x : Setting) (seen : List ℕ) (t : Term) (word : Bytes) → own_word q (goal_in s.old g i) ≡ true
-        → Counts s.old text x facts seen at → Shows s.old x t (compound_word (place_in (goal_in s.old g i))) → label ≡ length word
+        × ((text : Bytes) (x : Setting) (seen : List ℕ) (t : Term) → own_word q (goal_in s.old g i) ≡ true
+        → Counts s.old text x facts seen at → Shows s.old x t (compound_word (place_in (goal_in s.old g i)))
         → Counted s.old s.new text x facts at seen
-        (word ++ (shown seen alone (full x.values t) ++ (origin_of (goal_in s.old g i) ++ bytes "\n")))
+        (label.now ++ (shown seen alone (full x.values t) ++ (origin_of (goal_in s.old g i) ++ bytes "\n")))
         (seen_after seen (full x.values t)) result) }
 {
-    let goal = goal_at(s, g, i);
+    let goal = g.goal_at(s, i);
     if own(goal, q) {
         let w = goal_term(goal);
         let behind = origin_length(goal) + 1;
-        return count_line(s, facts, at, label, w, behind);
+        return count_line(s, facts, at, label.len(), w, behind);
     }
     at
 }
 
 // "`active GOAL`, `waiting GOAL` and `failed GOAL` lines, each group in the machine's order"
-fn count_goals(s: &mut [u64], facts: usize, at: usize, label: usize, g: Group, q: usize) -> usize
-    requires { (text : Bytes) × (x : Setting) × (seen : List ℕ) × (gs : List Goal) × (word : Bytes) × Counts s.old text x facts seen at
-        × Listed s.old x facts g q gs × (label ≡ length word) }
-    ensures { (text : Bytes) (x : Setting) (seen : List ℕ) (gs : List Goal) (word : Bytes) → Counts s.old text x facts seen at
-        → Listed s.old x facts g q gs → label ≡ length word
-        → Counted s.old s.new text x facts at seen (shown_goals x.values seen word gs) (seen_after_goals x.values seen gs) result }
+fn count_goals(s: &mut [u64], facts: usize, at: usize, label: &[u8], g: Group, q: usize) -> usize
+    requires { (text : Bytes) × (x : Setting) × (seen : List ℕ) × (gs : List Goal) × Counts s.old text x facts seen at × Listed s.old x facts g q gs }
+    ensures { (text : Bytes) (x : Setting) (seen : List ℕ) (gs : List Goal) → Counts s.old text x facts seen at → Listed s.old x facts g q gs
+        → Counted s.old s.new text x facts at seen (shown_goals x.values seen label.now gs) (seen_after_goals x.values seen gs) result }
 {
     let mut to = at;
-    let mut i = 0;
-    while i < g.count {
+    for i in 0..g.count {
         to = count_goal(s, facts, to, label, g, q, i);
-        i += 1;
     }
     to
 }
@@ -191,8 +191,7 @@ fn write_value(
         → Puts buffer.old buffer.new at result
         ((get_or xs v [] ++ bytes " = ") ++ (written order alone (full x.values (Term.variable writer v)) ++ bytes "\n")) }
 {
-    let from = spelled(s, q, v, 0);
-    let n = spelled(s, q, v, 1);
+    let (from, n) = spelled(s, q, v);
     let mut to = spelling(text, buffer, at, from, n);
     to = words(buffer, to, b" = ");
     let w = variable(s, q, v);
@@ -215,12 +214,9 @@ fn write_values(
         → Fits s.now x facts order at buffer.old (written_values x.values order 0 xs)
         → Puts buffer.old buffer.new at result (written_values x.values order 0 xs) }
 {
-    let k = variables(s, q);
     let mut to = at;
-    let mut v = 0;
-    while v < k {
+    for v in 0..variables(s, q) {
         to = write_value(text, s, facts, buffer, to, q, v);
-        v += 1;
     }
     to
 }
@@ -262,12 +258,12 @@ fn count_lines(s: &mut [u64], room: Room, facts: usize, at: usize, q: usize, t: 
         → Counted s.old s.new text x facts at [] (section_bytes s.old (figures room) t x.values q xs actives ws fs)
         (lines_seen x.values xs actives ws fs) result }
 {
-    let c = tally(s, room, q, t);
-    let mut to = further(at, header_length(q, c));
+    let c = Tallies::of(s, room, q, t);
+    let mut to = further(at, c.header_length(q));
     to = count_values(s, facts, to, q);
-    to = count_goals(s, facts, to, 7, active(room, t), q);
-    to = count_goals(s, facts, to, 8, waiting(room, t), q);
-    count_goals(s, facts, to, 7, failed(room, t), q)
+    to = count_goals(s, facts, to, ACTIVE, Group::active(room, t), q);
+    to = count_goals(s, facts, to, WAITING, Group::waiting(room, t), q);
+    count_goals(s, facts, to, FAILED, Group::failed(room, t), q)
 }
 
 // The lines of a list's goals that are the query's.
@@ -290,13 +286,11 @@ fn write_goals(
         → Puts buffer.old buffer.new at result (written_goals x.values order label.now gs) }
 {
     let mut to = at;
-    let mut i = 0;
-    while i < g.count {
-        let goal = goal_at(s, g, i);
+    for i in 0..g.count {
+        let goal = g.goal_at(s, i);
         if own(goal, q) {
             to = write_goal(text, s, facts, buffer, to, label, goal);
         }
-        i += 1;
     }
     to
 }
@@ -318,7 +312,7 @@ pub fn count_section(s: &mut [u64], room: Room, at: usize, q: usize, t: Standing
         → SectionCounted s.old s.new text x (figures room) t q xs actives ws fs at result }
 {
     restart(s);
-    count_lines(s, room, layout::waiters(room), at, q, t)
+    count_lines(s, room, room.waiters(), at, q, t)
 }
 
 // A section written: its pairs have their numbers, and it fits.
@@ -343,10 +337,37 @@ pub fn write_section(
         (section_bytes s.now (figures room) t x.values q xs actives ws fs)
         → Puts buffer.old buffer.new at result (section_bytes s.now (figures room) t x.values q xs actives ws fs) }
 {
-    let facts = layout::waiters(room);
-    let mut to = header(buffer, at, q, tally(s, room, q, t));
+    let facts = room.waiters();
+    let mut to = Tallies::of(s, room, q, t).header(buffer, at, q);
     to = write_values(text, s, facts, buffer, to, q);
-    to = write_goals(text, s, facts, buffer, to, b"active ", active(room, t), q);
-    to = write_goals(text, s, facts, buffer, to, b"waiting ", waiting(room, t), q);
-    write_goals(text, s, facts, buffer, to, b"failed ", failed(room, t), q)
+    to = write_goals(
+        text,
+        s,
+        facts,
+        buffer,
+        to,
+        b"active ",
+        Group::active(room, t),
+        q,
+    );
+    to = write_goals(
+        text,
+        s,
+        facts,
+        buffer,
+        to,
+        b"waiting ",
+        Group::waiting(room, t),
+        q,
+    );
+    write_goals(
+        text,
+        s,
+        facts,
+        buffer,
+        to,
+        b"failed ",
+        Group::failed(room, t),
+        q,
+    )
 }

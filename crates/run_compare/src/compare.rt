@@ -40,15 +40,7 @@ fn compounds(
 fn same(h: u64, a: u64) -> bool
     ensures { result ≡ same_word h a }
 {
-    if h != a {
-        return false;
-    }
-    match look(h) {
-        View::Integer(_) => true,
-        View::Name(_) => true,
-        View::Empty => true,
-        _ => false,
-    }
+    h == a && matches!(look(h), View::Integer(_) | View::Name(_) | View::Empty)
 }
 
 // How many arguments of two compounds are to be compared: those at the end that are the same constants agree and give nothing.
@@ -56,14 +48,10 @@ fn open(s: &[u64], p: usize, q: usize) -> usize
     requires { (p + 8 ≤ length s.now) × (q + 8 ≤ length s.now) }
     ensures { LastOpen s.now p q (tag_in (get_or s.now p 0)) result }
 {
-    let mut k = count(s, p);
-    while 0 < k {
-        let h = argument(s, p, k);
-        let a = argument(s, q, k);
-        if !same(h, a) {
+    for k in (1..=count(s, p)).rev() {
+        if !same(argument(s, p, k), argument(s, q, k)) {
             return k;
         }
-        k -= 1;
     }
     0
 }

@@ -140,10 +140,7 @@ fn enters(s: &mut [u64], marks: usize, stamp: u64, p: usize) -> bool
     ensures { Entered s.old s.new marks stamp p result }
 {
     let m = word_at(s, marks, p);
-    if m == GROUND {
-        return false;
-    }
-    if m == stamp {
+    if m == GROUND || m == stamp {
         return false;
     }
     set_at(s, marks, p, stamp);

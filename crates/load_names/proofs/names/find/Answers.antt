@@ -1,7 +1,6 @@
 -- The place at which the walk stands is one of the known places, and the next link is a place before it.
 use Rattle.std.proofs.Common.{◌≡◌, ℕ, suc, ◌+◌, ◌-◌, ◌<◌, List, Bool, true, false, length, get_or, sym, ◌∙◌, arith}
 use Rattle.std.proofs.Math.Option.{some}
-use Rattle.std.proofs.Math.Seq.{slice}
 use Rattle.meaning.specs.Bytes.{Bytes, same}
 use Rattle.meaning.specs.Items.{place_of}
 use Rattle.load_names.specs.Places.{Place, spellings}
@@ -29,13 +28,13 @@ module _ (text f : Bytes) (table : List ℕ) (places : List Place) (kept : Names
 
 pub loop-next-init : goal.loop-next-init
 loop-next-init c places kept =
-    let fits : c.args.h < 256 = rw c.requires.a_le_e.2 (hash_fits _) in
-    rw (c.index-next.ensures, kept.heads c.args.h fits, c.requires.a_le_e.2) (walk_begin (slice c.args.a c.args.e c.args.rest.now) places)
+    let fits : c.args.h < 256 = rw c.requires.hashed (hash_fits _) in
+    rw (c.index-next.ensures, kept.heads c.args.h fits, c.requires.hashed) (walk_begin c.args.spelling.now places)
 
-pub spelled-requires-clause-stands_at : goal.spelled-requires-clause-stands_at
-spelled-requires-clause-stands_at c =
+pub spelled-requires : goal.spelled-requires
+spelled-requires c =
     let (places, kept) = c.requires.names_in in
-    (_, stands c.args.text.now _ c.args.table.now places kept c.loop-next.next _ (c.loop-next.invariant places kept) (omega arith))
+    record { stands_at = (_, stands c.args.text.now _ c.args.table.now places kept c.loop-next.next _ (c.loop-next.invariant places kept) (omega arith)) }
 
 pub returns-then-spelled : goal.returns-then-spelled
 returns-then-spelled c places kept =
@@ -55,4 +54,4 @@ loop-next-preserved c places kept =
 pub returns : goal.returns
 returns c places kept =
     let ends : c.loop-next.next ≡ 0 = omega arith in
-    sym (walk_end (slice c.args.a c.args.e c.args.rest.now) places (rw ends at (c.loop-next.invariant places kept)))
+    sym (walk_end c.args.spelling.now places (rw ends at (c.loop-next.invariant places kept)))

@@ -1,12 +1,11 @@
-use Rattle.std.proofs.Common.{◌-◌, ◌%◌, ◌∙◌, take, drop, sym, ap, arith}
-use Rattle.std.proofs.lemmas.Slice.{between_is}
-use Rattle.load_names.specs.Tables.{hash_from, hash_of}
+use Rattle.std.proofs.Common.{◌%◌, ◌∙◌, sym, ap, arith}
+use Rattle.load_names.specs.Tables.{hash_of}
 use Rattle.load_names.proofs.Hashes.{hash_next, hash_ends}
 use Rattle.load_names.proofs.names.hash.Goals as goal
 
 pub loop-c-preserved : goal.loop-c-preserved
 loop-c-preserved c =
-    let part = take (c.args.e - c.args.a) (drop c.args.a c.args.rest.now) in
+    let part = c.args.spelling.now in
     record {
       small = omega arith;
       same_hash = rw c.from.ensures (hash_next part c.loop-c.h c.loop-c.c-index c.loop-c-test.true ∙ c.loop-c.invariant.same_hash);
@@ -15,6 +14,6 @@ loop-c-preserved c =
 pub returns : goal.returns
 unfolding hash_of
 returns c =
-    let part = take (c.args.e - c.args.a) (drop c.args.a c.args.rest.now) in
+    let part = c.args.spelling.now in
     let whole = sym (hash_ends part c.loop-c.h c.loop-c.c-index c.loop-c-test.false) ∙ c.loop-c.invariant.same_hash in
-    ap (λ h. h % 256) (whole ∙ ap (λ f. hash_from 0 f) (between_is c.args.rest.now c.args.a c.args.e))
+    ap (λ h. h % 256) whole

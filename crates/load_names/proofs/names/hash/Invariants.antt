@@ -4,4 +4,4 @@ use Rattle.load_names.specs.Tables.{hash_from}
 use Rattle.load_names.proofs.names.hash.Given as goal
 
 abbrev pub invariant-loop-c : goal.invariant-loop-c
-invariant-loop-c l = record { small : l.h < 4294967296; same_hash : hash_from l.h (drop l.c-index l.c-items) ≡ hash_from 0 l.c-items }
+invariant-loop-c l = record { small : l.h < 4294967296; same_hash : hash_from l.h (drop l.c-index l.spelling) ≡ hash_from 0 l.spelling }

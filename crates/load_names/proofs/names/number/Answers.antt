@@ -1,6 +1,9 @@
 -- What the search found decides which of the three answers is given.
-use Rattle.std.proofs.Common.{◌+◌, ◌-◌, sym, arith}
-use Rattle.std.proofs.Math.Seq.{slice, length-slice}
+use Rattle.std.proofs.Common.{◌+◌, length, ap, sym, ◌∙◌, arith}
+use Rattle.std.proofs.Math.Seq.{slice}
+use Rattle.std.specs.Prelude.{slice_range}
+use Rattle.std.proofs.lemmas.Slice.{between_is}
+use Rattle.load_names.specs.Tables.{hash_of}
 use Rattle.load_names.proofs.Lists.{part_behind}
 use Rattle.load_names.proofs.Hashes.{hash_fits}
 use Rattle.load_names.proofs.NameTable.{name_known, name_new, name_passed}
@@ -9,12 +12,15 @@ use Rattle.load_names.proofs.names.number.Goals as goal
 pub returns-in-Some : goal.returns-in-Some
 returns-in-Some c places kept counted =
     let a = c.args in
-    name_known a.text.now places a.table.now a.count (a.from + a.a) (slice a.a a.e a.rest.now) kept counted c.in-Some.n (sym (c.in-Some.ensures places kept))
+    let here = between_is a.rest.now a.a a.e in
+    name_known a.text.now places a.table.now a.count (a.from + a.a) (slice a.a a.e a.rest.now) kept counted c.in-Some.n (rw here at (sym (c.in-Some.ensures places kept)))
 
 pub returns-then-count-ge256 : goal.returns-then-count-ge256
 returns-then-count-ge256 c places kept counted =
     let a = c.args in
-    name_passed a.text.now places a.table.now a.count (a.from + a.a) (slice a.a a.e a.rest.now) kept counted (sym (c.in_default.ensures places kept)) c.if-count-ge256.true
+    let here = between_is a.rest.now a.a a.e in
+    name_passed a.text.now places a.table.now a.count (a.from + a.a) (slice a.a a.e a.rest.now) kept counted (rw here at (sym (c.in_default.ensures places kept)))
+    c.if-count-ge256.true
 
 pub add-requires : goal.add-requires
 add-requires c = (c.if-count-ge256.false, rw c.hash-h.ensures (hash_fits _), c.requires.names_in.1.size)
@@ -23,6 +29,8 @@ pub returns : goal.returns
 returns c places kept counted =
     let a = c.args in
     let r = c.requires.from_in_bounds in
-    name_new a.text.now places a.table.now a.count (a.from + a.a) (slice a.a a.e a.rest.now) kept counted c.hash-h.result (a.e - a.a) c.add.new.table
-    (sym (c.in_default.ensures places kept)) c.if-count-ge256.false
-    (part_behind a.text.now a.rest.now a.from a.a a.e r.0 r.1 (omega arith) r.3) c.hash-h.ensures (sym (length-slice a.a a.e a.rest.now r.3)) c.add.ensures
+    let here = between_is a.rest.now a.a a.e in
+    let size = ap length here in
+    name_new a.text.now places a.table.now a.count (a.from + a.a) (slice a.a a.e a.rest.now) kept counted c.hash-h.result (length (slice_range a.rest.now a.a a.e)) c.add.new.table
+    (rw here at (sym (c.in_default.ensures places kept))) c.if-count-ge256.false
+    (part_behind a.text.now a.rest.now a.from a.a a.e r.0 r.1 (omega arith) r.3) (c.hash-h.ensures ∙ ap hash_of here) size c.add.ensures

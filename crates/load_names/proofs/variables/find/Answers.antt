@@ -1,19 +1,18 @@
 use Rattle.std.proofs.Common.{sym, ◌∙◌, arith}
-use Rattle.std.proofs.Math.Seq.{slice}
 use borrow.Author.Count.{below_more}
 use Rattle.load_names.proofs.Spellings.{place_at, place_none}
 use Rattle.load_names.proofs.VariableTable.{variable_stands}
 use Rattle.load_names.proofs.variables.find.Goals as goal
 
-pub spelled-requires-clause-stands_at : goal.spelled-requires-clause-stands_at
-spelled-requires-clause-stands_at c =
+pub spelled-requires : goal.spelled-requires
+spelled-requires c =
     let (places, kept, counted) = c.requires.variables_in in
-    (_, variable_stands c.args.rest.now places c.args.table.now kept c.loop-n.n (omega arith))
+    record { stands_at = (_, variable_stands c.args.rest.now places c.args.table.now kept c.loop-n.n (omega arith)) }
 
 pub returns-then-spelled : goal.returns-then-spelled
 returns-then-spelled c places kept counted =
     let stands = variable_stands c.args.rest.now places c.args.table.now kept c.loop-n.n (omega arith) in
-    sym (place_at (slice c.args.a c.args.e c.args.rest.now) places c.loop-n.n (omega arith) (sym (c.spelled.ensures _ stands) ∙ c.if-spelled.true)
+    sym (place_at c.args.spelling.now places c.loop-n.n (omega arith) (sym (c.spelled.ensures _ stands) ∙ c.if-spelled.true)
     (c.loop-n.invariant places kept counted))
 
 pub loop-n-preserved : goal.loop-n-preserved
@@ -23,4 +22,4 @@ loop-n-preserved c places kept counted =
 
 pub returns : goal.returns
 returns c places kept counted =
-    sym (place_none (slice c.args.a c.args.e c.args.rest.now) places (λ m h. c.loop-n.invariant places kept counted m (omega arith)))
+    sym (place_none c.args.spelling.now places (λ m h. c.loop-n.invariant places kept counted m (omega arith)))

@@ -1,10 +1,8 @@
 -- `run_enter::enter::fit` meets its contract: figure by figure.
-use Prim.Native.Nat.{ℕ, ◌+◌, ◌≤◌, ◌<◌}
-use mathlib.Core.Path.{◌≡◌, refl, sym, ap, ◌∙◌}
+use Prim.Native.Nat.{◌+◌}
+use mathlib.Core.Path.{◌≡◌, ap, ◌∙◌}
 use native.Mathlib.Omega.{arith}
 use lib.Dec.{leb}
-use lib.ListN.{length}
-use borrow.Author.Rules.{rules}
 use Rattle.term.specs.Layout.{figures, query_record}
 use Rattle.run_enter.proofs.Summing.{sum_pairs, sum_compounds, sum_goals, small_counts, fit_no_pairs, fit_no_compounds, fit_goals}
 use Rattle.run_enter.proofs.enter.fit.Statement.{statement}
