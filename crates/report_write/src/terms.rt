@@ -22,18 +22,15 @@ use term::word::{View, look};
 // alternate: `write_term` calls this function, and this function calls `write_term`, each time with fewer bytes of the buffer left. The places of up to 16
 // compounds, one in the other, are kept in the frames, so only a compound deeper in is such a call. A value that stands in the buffer already is copied.
 #[cycle(write_arguments_write_term)]
-fn write_arguments(
-    source: &Source,
-    buffer: &mut [u8],
-    at: usize,
-    first: usize,
-) -> usize
+fn write_arguments(source: &Source, buffer: &mut [u8], at: usize, first: usize) -> usize
     requires { (x : Setting) × (order : List ℕ) × (bs : Bytes) × Readable source.now.s.now source.now.text.now x source.now.facts
         × Before Nothing source.now.s.now x source.now.facts order first 1 bs × Fits source.now.s.now x source.now.facts order at buffer.old bs }
     ensures { (x : Setting) (order : List ℕ) (bs : Bytes) → Readable source.now.s.now source.now.text.now x source.now.facts
         → Before Nothing source.now.s.now x source.now.facts order first 1 bs → Fits source.now.s.now x source.now.facts order at buffer.old bs
         → Puts buffer.old buffer.new at result bs }
 {
+    // Stays packed, eight times a place and an argument's number in one word: pairs would take 128 bytes of stack more of each call, and the deepest value is
+    // written by thousands of calls, one in the other.
     let mut frames = [0usize; 16];
     let mut depth = 0;
     let mut to = at;
@@ -70,12 +67,7 @@ fn write_arguments(
 
 // A term, standing alone.
 #[cycle(write_arguments_write_term)]
-pub fn write_term(
-    source: &Source,
-    buffer: &mut [u8],
-    at: usize,
-    w: u64,
-) -> usize
+pub fn write_term(source: &Source, buffer: &mut [u8], at: usize, w: u64) -> usize
     requires { (x : Setting) × (order : List ℕ) × (t : Term) × Writes source.now.s.now source.now.text.now x source.now.facts order t at (length buffer.old) × Shows source.now.s.now x t w
         × Fits source.now.s.now x source.now.facts order at buffer.old (written order alone (full x.values t)) }
     ensures { (x : Setting) (order : List ℕ) (t : Term) → Writes source.now.s.now source.now.text.now x source.now.facts order t at (length buffer.old)
