@@ -6,4 +6,5 @@
 
 pub mod names;
 pub mod rules;
+pub mod source;
 pub mod variables;

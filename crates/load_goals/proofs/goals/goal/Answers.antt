@@ -9,5 +9,5 @@ returns c = λ known vars st.
     let f = c.in_ok-n in
     let o = f.ensures known vars a.item.now st in
     let r = c.compound in
-    goal_is a.text.now a.rest.now a.from a.base known vars a.c f.d a.s.now c.goal_name.new.names a.item.now r.new.s r.new.names r.new.item f.n o.1 o.2 o.0 o.3 r.result
+    goal_is a.src.text.now a.src.rest.now a.src.from a.base known vars a.c f.d a.s.now c.goal_name.new.names a.item.now r.new.s r.new.names r.new.item f.n o.1 o.2 o.0 o.3 r.result
     (r.ensures (with_place o.1 o.0 known) vars o.3.stands o.0 o.3.number_is)
