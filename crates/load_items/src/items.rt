@@ -114,16 +114,7 @@ fn clause(
         in_guards: [0; 64],
         licensed: [0; 16],
     };
-    let ruled = rule(
-        src,
-        s,
-        names,
-        item,
-        heads,
-        &mut tables,
-        k,
-        first(known, 0),
-    )?;
+    let ruled = rule(src, s, names, item, heads, &mut tables, k, first(known, 0))?;
     judged(src.rest, s, item, &tables, k, ruled)
 }
 
@@ -158,7 +149,15 @@ fn query(
     )?;
     if !nothing_twice(item, c.variables) {
         let licensed = [0u64; 16];
-        let fault = first_fault(src.rest, item, c.variables, false, begins + 2, None, &licensed);
+        let fault = first_fault(
+            src.rest,
+            item,
+            c.variables,
+            false,
+            begins + 2,
+            None,
+            &licensed,
+        );
         return Err(Refused::Broken(fault));
     }
     s[record] = count;
@@ -195,14 +194,8 @@ pub fn next_item(
         → ItemIs src.entry.text.now src.entry.rest.now src.entry.from places clauses queries s.old heads.old s.new names.old names.new heads.new result }
 {
     match front(src.rest, 0) {
-        Token::Name(a, _) => begun(
-            a,
-            clause(src, s, names, item, heads, clauses, known),
-        ),
-        Token::Sign(b'?', a) => begun(
-            a,
-            query(src, s, names, item, queries, known, a),
-        ),
+        Token::Name(a, _) => begun(a, clause(src, s, names, item, heads, clauses, known)),
+        Token::Sign(b'?', a) => begun(a, query(src, s, names, item, queries, known, a)),
         Token::Sign(_, a)
         | Token::Writer(a, _)
         | Token::Reader(a, _)

@@ -208,9 +208,7 @@ pub fn rule(
     let (sign, behind) = next_of(src.rest, e.at, b":.")?;
     let d = Cursor { at: behind, ..e };
     if sign == b':' {
-        return body(
-            src, s, names, item, tables, k, d,
-        );
+        return body(src, s, names, item, tables, k, d);
     }
     Ok(Ruled {
         guards: 0,

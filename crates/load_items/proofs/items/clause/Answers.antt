@@ -57,7 +57,7 @@ judged-requires-clause-judging c =
       stop = got.3;
     } in
     let j : Judging a.src.rest.now c.rule.new.s c.rule.new.item c.rule.new.tables.in_head c.rule.new.tables.in_guards c.rule.new.tables.licensed a.k c.in_ok-ruled.ruled w =
-        record { was_read = got.4; empty = b.empty; at_first = (f.0, f.3); tokens = t.tokens } in
+    record { was_read = got.4; empty = b.empty; at_first = (f.0, f.3); tokens = t.tokens } in
     (w, j)
 
 pub returns : goal.returns
@@ -85,5 +85,5 @@ returns c = λ known queries begins name ts b t.
       stop = got.3;
     } in
     let j : Judging a.src.rest.now c.rule.new.s c.rule.new.item c.rule.new.tables.in_head c.rule.new.tables.in_guards c.rule.new.tables.licensed a.k c.in_ok-ruled.ruled w =
-        record { was_read = got.4; empty = b.empty; at_first = (f.0, f.3); tokens = t.tokens } in
+    record { was_read = got.4; empty = b.empty; at_first = (f.0, f.3); tokens = t.tokens } in
     c.judged.ensures w j queries

@@ -8,10 +8,12 @@ use Rattle.load_items.proofs.items.judged.Goals as goal
 pub returns-then-foreign : goal.returns-then-foreign
 returns-then-foreign c = λ w j queries.
     let a = c.args in
-    let few = c.requires.k_bound.0 in
-    (clause_strange a.rest.now a.s.now a.item.now a.tables.now.in_head a.tables.now.in_guards a.tables.now.licensed a.k a.ruled w few j (take 32 (drop 32 a.tables.now.in_head)) (part_counts a.tables.now.in_head 32 (omega (arith, j.was_read.head_size))) queries
-    c.foreign.result
-    (c.foreign.ensures w.rule.head w.rule.body.guards w.guards (counts_are a.rest.now a.s.now a.item.now a.tables.now.in_head a.tables.now.in_guards a.tables.now.licensed a.k a.ruled w few j (take 32 (drop 32 a.tables.now.in_head)) (part_counts a.tables.now.in_head 32 (omega (arith, j.was_read.head_size)))) j.was_read.guards_are.in_table) c.if-foreign.true, j.was_read.ended.only)
+    let few = c.requires.k_bound.0 in (
+      clause_strange a.rest.now a.s.now a.item.now a.tables.now.in_head a.tables.now.in_guards a.tables.now.licensed a.k a.ruled w few j (take 32 (drop 32 a.tables.now.in_head)) (part_counts a.tables.now.in_head 32 (omega (arith, j.was_read.head_size))) queries
+          c.foreign.result
+          (c.foreign.ensures w.rule.head w.rule.body.guards w.guards (counts_are a.rest.now a.s.now a.item.now a.tables.now.in_head a.tables.now.in_guards a.tables.now.licensed a.k a.ruled w few j (take 32 (drop 32 a.tables.now.in_head)) (part_counts a.tables.now.in_head 32 (omega (arith, j.was_read.head_size)))) j.was_read.guards_are.in_table) c.if-foreign.true,
+      j.was_read.ended.only,
+    )
 
 pub first_fault-fault-requires-clause-by_index : goal.first_fault-fault-requires-clause-by_index
 first_fault-fault-requires-clause-by_index c =

@@ -11,9 +11,12 @@ pub elements-requires-clause-stands : goal.elements-requires-clause-stands
 elements-requires-clause-stands c =
     let a = c.args in
     let p = c.requires.stands in
-    let fresh = rw c.requires.none_counted.0 at c.copy_counts.ensures in
-    (p.0, p.1, fresh_stands a.k c.requires.k_bound.0 a.src.text.now a.src.rest.now a.src.from p.0 p.1 a.c a.s.now a.names.now a.item.now a.tables.now.in_head c.requires.by_index p.2
-    c.copy_counts.new.table c.copy_counts.auto.table fresh)
+    let fresh = rw c.requires.none_counted.0 at c.copy_counts.ensures in (
+      p.0,
+      p.1,
+      fresh_stands a.k c.requires.k_bound.0 a.src.text.now a.src.rest.now a.src.from p.0 p.1 a.c a.s.now a.names.now a.item.now a.tables.now.in_head c.requires.by_index p.2
+          c.copy_counts.new.table c.copy_counts.auto.table fresh,
+    )
 
 pub returns-in_err-n-clause-read : goal.returns-in_err-n-clause-read
 returns-in_err-n-clause-read c = λ known vars st.
@@ -82,10 +85,13 @@ tested-found-requires-clause-listed c =
     let now = c.in-Bar in
     let told = rw now.is at (c.in_ok-n.ensures known vars (fresh_stands a.k c.requires.k_bound.0 a.src.text.now a.src.rest.now a.src.from known vars a.c a.s.now a.names.now a.item.now a.tables.now.in_head c.requires.by_index st
     c.copy_counts.new.table c.copy_counts.auto.table fresh)) in
-    let many : 8 ≤ length c.elements.new.words = omega (arith, c.elements.auto.words) in
-    (names_over told.1 known, told.0, listed a.k c.requires.k_bound.0 a.src.text.now a.src.rest.now a.src.from known vars a.c a.s.now a.names.now a.item.now a.tables.now.in_head c.requires.by_index st
-    c.copy_counts.new.table c.copy_counts.auto.table fresh
-    (replicate 8 0) c.elements.new.s c.elements.new.names c.elements.new.item c.elements.new.words now.n now.d told.0 told.1 told.2 told.3 c.requires.k_bound.1 many)
+    let many : 8 ≤ length c.elements.new.words = omega (arith, c.elements.auto.words) in (
+      names_over told.1 known,
+      told.0,
+      listed a.k c.requires.k_bound.0 a.src.text.now a.src.rest.now a.src.from known vars a.c a.s.now a.names.now a.item.now a.tables.now.in_head c.requires.by_index st
+          c.copy_counts.new.table c.copy_counts.auto.table fresh
+          (replicate 8 0) c.elements.new.s c.elements.new.names c.elements.new.item c.elements.new.words now.n now.d told.0 told.1 told.2 told.3 c.requires.k_bound.1 many,
+    )
 
 pub guarded-requires-clause-stands : goal.guarded-requires-clause-stands
 guarded-requires-clause-stands c =
@@ -98,11 +104,14 @@ guarded-requires-clause-stands c =
     let kept_guards = rw c.requires.none_counted.0 at c.copy_counts-in-Bar.ensures in
     let were : length a.tables.now.in_guards ≡ 64 = rw c.requires.none_counted.0 (length-replicate {A = ℕ} 64 0) in
     let size_g : length c.copy_counts-in-Bar.new.table ≡ 64 = c.copy_counts-in-Bar.auto.table ∙ were in
-    let back = c.copy_counts-in-Bar-2 in
-    (names_over told.1 known, variables_over a.src.from told.1 vars, bar_stands a.k c.requires.k_bound.0 a.src.text.now a.src.rest.now a.src.from known vars a.c a.s.now a.names.now a.item.now a.tables.now.in_head c.requires.by_index st
-    c.copy_counts.new.table c.copy_counts.auto.table fresh
-    (replicate 8 0) c.elements.new.s c.elements.new.names c.elements.new.item c.elements.new.words now.n now.d told.0 told.1 told.2 told.3 c.requires.k_bound.1
-    c.copy_counts-in-Bar.new.table back.new.table back.new.table size_g kept_guards back.auto.table back.ensures)
+    let back = c.copy_counts-in-Bar-2 in (
+      names_over told.1 known,
+      variables_over a.src.from told.1 vars,
+      bar_stands a.k c.requires.k_bound.0 a.src.text.now a.src.rest.now a.src.from known vars a.c a.s.now a.names.now a.item.now a.tables.now.in_head c.requires.by_index st
+          c.copy_counts.new.table c.copy_counts.auto.table fresh
+          (replicate 8 0) c.elements.new.s c.elements.new.names c.elements.new.item c.elements.new.words now.n now.d told.0 told.1 told.2 told.3 c.requires.k_bound.1
+          c.copy_counts-in-Bar.new.table back.new.table back.new.table size_g kept_guards back.auto.table back.ensures,
+    )
 
 pub returns-else-not-set_goals-clause-read : goal.returns-else-not-set_goals-clause-read
 returns-else-not-set_goals-clause-read c = λ known vars st.
