@@ -8,6 +8,7 @@ use lib.ListN.{length, get_or, set}
 use lib.Seq.{get_or-set_other}
 use Rattle.std.specs.Prelude.{Err}
 use Rattle.std.proofs.lemmas.Bool.Decides.{nat_tests}
+use Rattle.std.proofs.lemmas.List.{length_push}
 use Rattle.meaning.specs.Bytes.{Bytes, byte, among, when◌then◌else◌}
 use Rattle.meaning.specs.Terms.{Half}
 use Rattle.meaning.specs.Tokens.{sign, Tokens, ends, token}
@@ -31,7 +32,6 @@ use Rattle.load_elements.specs.Listed.{GaveElements, AtBar, AtStop, ElementsAre}
 use Rattle.load_elements.specs.Sides.{NinthIs}
 use Rattle.load_elements.proofs.Bodies.{body_malformed, body_passed, body_comma, body_bar, body_stop, body_other}
 use Rattle.load_elements.proofs.Lists.{
-  length_snoc,
   stored_snoc,
   occurrences_snoc,
   known_snoc,
@@ -149,7 +149,7 @@ module _ (text rest : Bytes) (from base : ℕ) (known vars : List Place) (c : Cu
         grown_words i l =
             words_snoc (element_word (item_places known₂ base)) es x words w gave.word_is (omega arith)
             (λ j k. rw (still_words known₁ known₂ base (names_more qs known₁) es t.had.known_names) (t.had.words_are j k))
-            i (omega (arith, length_snoc es x))
+            i (omega (arith, length_push es x))
 
         grown_only : Only (item_start base) (item_end base) s₀ s₂
         grown_only =
@@ -163,7 +163,7 @@ module _ (text rest : Bytes) (from base : ℕ) (known vars : List Place) (c : Cu
         grown_had b inside = record {
           stands = stands_moved b gave.stands inside;
           words_are = grown_words;
-          words_rest = λ i l. get_or-set_other words (length es) i w 0 (λ q. omega (arith, length_snoc es x)) ∙ t.had.words_rest i (omega (arith, length_snoc es x));
+          words_rest = λ i l. get_or-set_other words (length es) i w 0 (λ q. omega (arith, length_push es x)) ∙ t.had.words_rest i (omega (arith, length_push es x));
           stored_is = gave.stored_is ∙ rw (stored_snoc (item_places known₂ base) es x s₀, still_stored known₁ known₂ base (names_more qs known₁) es s₀ t.had.known_names, ← t.had.stored_is);
           numbered = numbered_snoc c.compounds d.compounds e.compounds es x t.had.numbered gave.numbered;
           known_names = known_snoc (spellings known₂) es x (still_known known₁ known₂ base (names_more qs known₁) es t.had.known_names) gave.known_names;
@@ -186,7 +186,7 @@ module _ (text rest : Bytes) (from base : ℕ) (known vars : List Place) (c : Cu
             → Partly text rest from base known vars c s₀ item₀ words₀ s₂ names₂ item₂ (set words (length es) w) (moved_to e b) grown known₂ vars₂
             ((ps ++ qs) ++ (sign_placed from rest next ∷ []))
         partly_comma b next =
-            let fewer : 8 - length grown ≡ 7 - length es = omega (arith, length_snoc es x) in
+            let fewer : 8 - length grown ≡ 7 - length es = omega (arith, length_push es x) in
             record {
               reads = rw fewer
                   (reads_next
@@ -202,7 +202,7 @@ module _ (text rest : Bytes) (from base : ℕ) (known vars : List Place) (c : Cu
             → GaveElements text rest from base known vars c s₀ item₀ words₀ s₂ names₂ item₂ (set words (length es) w) n (moved_to e b) grown (ps ++ qs)
         told b n count inside forward =
             let had = grown_had b inside in
-            let all : length grown ≡ n = length_snoc es x ∙ sym count in
+            let all : length grown ≡ n = length_push es x ∙ sym count in
             record {
               stands = rw (here_moves.names, here_moves.variables) had.stands;
               forward = forward;

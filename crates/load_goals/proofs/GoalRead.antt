@@ -7,9 +7,11 @@ use Rattle.meaning.specs.Bytes.{Bytes, byte}
 use Rattle.meaning.specs.Terms.{as_term}
 use Rattle.meaning.specs.Tokens.{name, sign, token}
 use Rattle.meaning.specs.Items.{is, compound_of, term, goal}
+use Rattle.term.proofs.Frames.{only_same}
+use Rattle.term.specs.Layout.{item_start, item_end}
 use Rattle.load_names.specs.Places.{Place, with_place, with_name, with_variable, before, names_over, variables_over}
 use Rattle.load_openings.specs.Reading.{ReadIs, Open}
-use Rattle.load_openings.specs.Openings.{Opens}
+use Rattle.load_openings.specs.Openings.{Opens, OpeningIs}
 use Rattle.load_openings.specs.declared.cursor.Cursor.{Cursor}
 use Rattle.load_openings.specs.declared.cursor.Unread.{Unread}
 use Rattle.load_openings.specs.declared.cursor.Unread.TheVariants.{Malformed, Exceeded}
@@ -37,3 +39,10 @@ module _ (text rest : Bytes) (from base : ℕ) (known vars : List Place) (c c₂
   )
   goal_is (Err (Malformed place)) (e, inside, only) = (o.reads ∙ e, inside, only)
   goal_is (Err Exceeded) (e, only) = (o.reads ∙ e, only)
+
+-- Where no goal begins, nothing of the scratch has changed.
+module _ (text rest : Bytes) (from base : ℕ) (known vars : List Place) (c : Cursor) (s names item : List ℕ) where
+  pub goal_unread : (u : Unread) → OpeningIs text rest from names item known vars c (Err u)
+      → ReadIs as_term goal text rest from base known vars c s item s names item (Err u)
+  goal_unread (Malformed place) (e, inside) = (e, inside, only_same (item_start base) (item_end base) s)
+  goal_unread Exceeded e = (e, only_same (item_start base) (item_end base) s)

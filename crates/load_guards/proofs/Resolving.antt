@@ -6,9 +6,10 @@ use mathlib.Core.List.{List, [], ◌∷◌, ◌++◌, map}
 use mathlib.Core.Option.{Option, none, some}
 use native.Mathlib.Omega.{arith}
 use lib.Dec.{eqb, ltb}
-use lib.ListN.{length, get_or, set, length-append}
+use lib.ListN.{length, get_or, take, set, length-append}
 use Rattle.std.specs.Prelude.{Option as Told, Some, None}
 use Rattle.std.proofs.lemmas.Bool.{ltb-true, lt-ltb}
+use Rattle.std.proofs.lemmas.List.{get_or-take, length-take-le}
 use Rattle.laws.proofs.Lists.Tests.{differ}
 use Rattle.meaning.specs.Bytes.{Bytes, when◌then◌else◌}
 use Rattle.meaning.specs.Terms.{Guard}
@@ -183,3 +184,24 @@ module _ (text : Bytes) (names s₀ words : List ℕ) (n base place : ℕ) (know
                   known_names = (rw left_is at p.known_names).1;
                   numbered = (rw left_is at p.numbered).2;
                 }
+
+-- The first n words are the elements'.
+pub listed_front : (text : Bytes) (names s words : List ℕ) (n base place : ℕ) (known : List Place) (es : List Element) → Listed text names s words n base place known es
+    → Listed text names s (take n words) (length (take n words)) base place known es
+listed_front text names s words n base place known es l =
+    let size : length (take n words) ≡ n = length-take-le n words l.kept in
+    rw size (record {
+      names_in = l.names_in;
+      count_is = l.count_is;
+      few = l.few;
+      kept = omega (arith, size);
+      words_are = λ i h. get_or-take n words i 0 h ∙ l.words_are i h;
+      from_number = l.from_number;
+      to_number = l.to_number;
+      numbered = l.numbered;
+      numbers_few = l.numbers_few;
+      known_names = l.known_names;
+      held = l.held;
+      apart = l.apart;
+      inside = l.inside;
+    })

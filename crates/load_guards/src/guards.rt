@@ -67,23 +67,21 @@ fn test_word(row: usize, w: u64, base: usize) -> u64
     word(row) + TAGS * (w / TAGS)
 }
 
-// The n elements before the bar, whose words these are, as guards: their words are set from a place of the scratch on, if the table has every one.
+// The elements before the bar, whose words these are, as guards: their words are set from a place of the scratch on, if the table has every one.
 pub fn resolve(
     text: &[u8],
     names: &[u64],
     s: &mut [u64],
     words: &[u64],
-    n: usize,
     base: usize,
     place: usize,
 ) -> bool
     requires s_len_bound { length s.old < 1152921504606846976 }
-    requires listed { (known : List Place) × (es : List Element) × Listed text.now names.now s.old words.now n base place known es }
-    ensures { (known : List Place) (es : List Element) → Listed text.now names.now s.old words.now n base place known es
-        → ResolvedIs s.old s.new n base place known es result }
+    requires listed { (known : List Place) × (es : List Element) × Listed text.now names.now s.old words.now (length words.now) base place known es }
+    ensures { (known : List Place) (es : List Element) → Listed text.now names.now s.old words.now (length words.now) base place known es
+        → ResolvedIs s.old s.new (length words.now) base place known es result }
 {
-    for i in 0..n {
-        let w = words[i];
+    for (i, &w) in words.iter().enumerate() {
         let Some(row) = row_for(text, names, s, w) else {
             return false;
         };

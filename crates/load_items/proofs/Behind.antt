@@ -31,6 +31,7 @@ use Rattle.load_elements.specs.Elements.{elements_stored, elements_occurrences}
 use Rattle.load_elements.specs.Listed.{GaveElements, AtBar, AtStop, ElementsAre}
 use Rattle.load_guards.specs.Judged.{Listed, tests_set, Licences}
 use Rattle.load_guards.proofs.Stored.{elements_stored_hold}
+use Rattle.load_guards.proofs.Resolving.{listed_front}
 use Rattle.load_items.specs.Counts.{Copied, Added}
 use Rattle.load_items.specs.Rules.{Worded, goals_set, SetIs, TestedIs, perhaps_goals, GuardedIs, body_part, GuardsAre, BodyIs}
 use Rattle.load_items.specs.Refusing.{refused_as}
@@ -170,10 +171,10 @@ module _ (k : ℕ) (few : k < 128) (text rest : Bytes) (from : ℕ) (known vars 
 
     -- At the bar.
     module _ (bar : ℕ) (t : AtBar text rest from base known vars c s item₁ words s₂ names₂ item₂ words₂ n d es ps bar) (large : trial_region ≤ length s) where
-      pub listed : 8 ≤ length words₂ → Listed text names₂ s₂ words₂ n base (clause_tests_from k) known₂ es
+      pub listed : 8 ≤ length words₂ → Listed text names₂ s₂ (take n words₂) (length (take n words₂)) base (clause_tests_from k) known₂ es
       listed many =
           let gave = t.gave in
-          record {
+          listed_front text names₂ s₂ words₂ n base (clause_tests_from k) known₂ es (record {
             names_in = gave.stands.names_in;
             count_is = gave.count_is;
             few = gave.few;
@@ -187,7 +188,7 @@ module _ (k : ℕ) (few : k < 128) (text rest : Bytes) (from : ℕ) (known vars 
             held = rw gave.stored_is (elements_stored_hold known₂ base c.compounds d.compounds es s gave.numbered (omega (arith, gave.stands.compounds_few)));
             apart = omega arith;
             inside = omega (arith, gave.only.size);
-          }
+          })
 
       module _ (in_guards item₃ item₄ : List ℕ) (size_g : length in_guards ≡ 64) (kept_guards : Copied item₂ (replicate 64 0) in_guards)
           (size₄ : length item₄ ≡ length item₂) (back : Copied in_head item₂ item₄) where

@@ -7,6 +7,7 @@ use mathlib.Core.List.{List, [], ◌∷◌, ◌++◌, map, append_assoc}
 use mathlib.Core.Option.{Option, none, some}
 use native.Mathlib.Omega.{arith}
 use lib.ListN.{length, get_or, set, length-append, length-map}
+use Rattle.std.proofs.lemmas.List.{append-nil}
 use Rattle.meaning.specs.Terms.{Named, as_term}
 use Rattle.meaning.specs.Table.{Element, whole, bare, equals, as_goals}
 use Rattle.term.specs.Cells.{Places as CellPlaces, term_word}
@@ -44,10 +45,6 @@ goals_set_more places place (f ∷ gs) g s =
     goals_set_more places (place + 1) gs g s₁
     ∙ set_at (goals_set places (place + 1) gs s₁) (term_word places (as_term g)) (place + 1 + length gs) (place + suc (length gs)) (omega arith)
 
-append_none : (l : List Element) → l ++ [] ≡ l
-append_none [] = refl
-append_none (d ∷ l) = ap (λ m. d ∷ m) (append_none l)
-
 -- The first i elements are goals, and their words are set.
 pub record Taken (s₀ s : List ℕ) (place : ℕ) (places : CellPlaces) (es : List Element) (i : ℕ) : Type 0 where
   pub goals : List Named
@@ -71,7 +68,7 @@ module _ (s₀ s words : List ℕ) (place : ℕ) (places : CellPlaces) (es : Lis
       go : (l : List Element) → t.later ≡ l → as_goals es ≡ some t.goals
       go [] q =
           let es_are : es ≡ map whole t.goals ++ [] = rw q at t.are in
-          let no_more : map whole t.goals ++ [] ≡ map whole t.goals = append_none (map whole t.goals) in
+          let no_more : map whole t.goals ++ [] ≡ map whole t.goals = append-nil (map whole t.goals) in
           rw (es_are, no_more) (as_goals_all t.goals)
       go (d ∷ l) q =
           let more : length t.later ≡ suc (length l) = rw q refl in

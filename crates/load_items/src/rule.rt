@@ -61,20 +61,19 @@ fn tested(
     names: &[u64],
     s: &mut [u64],
     words: &[u64],
-    n: usize,
     base: usize,
     place: usize,
     licensed: &mut [u64],
 ) -> bool
     requires licensed_value { (licensed.old ≡ replicate 16 0) × (length s.old < 1152921504606846976) }
-    requires listed { (known : List Place) × (es : List Element) × Listed text.now names.now s.old words.now n base place known es }
-    ensures { (known : List Place) (es : List Element) → Listed text.now names.now s.old words.now n base place known es
-        → TestedIs s.old s.new licensed.new n base place known es result }
+    requires listed { (known : List Place) × (es : List Element) × Listed text.now names.now s.old words.now (length words.now) base place known es }
+    ensures { (known : List Place) (es : List Element) → Listed text.now names.now s.old words.now (length words.now) base place known es
+        → TestedIs s.old s.new licensed.new (length words.now) base place known es result }
 {
-    if !resolve(text, names, s, words, n, base, place) {
+    if !resolve(text, names, s, words, base, place) {
         return false;
     }
-    licences(s, place, n, licensed);
+    licences(s, place, words.len(), licensed);
     true
 }
 
@@ -172,8 +171,7 @@ fn body(
                 src.text,
                 names,
                 s,
-                &words,
-                n,
+                &words[..n],
                 base,
                 record + CLAUSE_TESTS,
                 &mut tables.licensed,

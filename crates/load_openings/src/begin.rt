@@ -49,7 +49,7 @@ fn behind_bracket(rest: &[u8], left: usize, d: Cursor) -> Result<Begun, Unread>
 
 // The halves of a variable.
 #[derive(Clone, Copy)]
-enum Half {
+pub enum Half {
     Writer,
     Reader,
 }

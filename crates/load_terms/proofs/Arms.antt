@@ -11,7 +11,7 @@ use Rattle.load_names.specs.Places.{Place}
 use Rattle.load_tokens.specs.Nexts.{one_of, Stops, Goes}
 use Rattle.load_openings.specs.Reading.{counted_at, closed}
 use Rattle.load_openings.proofs.Begins.{term_end, term_bad, term_sign}
-use Rattle.load_openings.proofs.Expected.{never, either_stops, expect_stops}
+use Rattle.load_openings.proofs.Expected.{either_stops, expect_stops}
 use Rattle.load_openings.proofs.Readers.{count_compound_with, count_compound_passed, standing_goes, standing_stops}
 
 -- Arguments: the next one stops, is followed by another, is the last, or by neither sign.
@@ -86,9 +86,9 @@ module _ (element : Reader Term) (left : ℕ) (known vars : List Place) (k : ℕ
 -- Where the element is a term, it need not be asked first whether the token can begin one.
 term_cannot : (depth : ℕ) (counted : Counted) (p : ℕ) (t : Token) (ts : Tokens) → begins_term t ≡ false → term depth counted (token p t ts) ≡ malformed p
 unfolding begins_term byte
-term_cannot depth counted p (name f) ts h = never h
-term_cannot depth counted p (variable k x) ts h = never h
-term_cannot depth counted p (integer i) ts h = never h
+term_cannot depth counted p (name f) ts h = cc
+term_cannot depth counted p (variable k x) ts h = cc
+term_cannot depth counted p (integer i) ts h = cc
 term_cannot depth counted p (sign b) ts h = term_sign depth counted p b ts h
 term_cannot depth counted p bad ts h = term_bad depth counted p ts
 

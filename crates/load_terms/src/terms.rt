@@ -28,7 +28,7 @@ fn functor(name: usize, count: u64) -> u64
 // The place of the compound n of the item, whose compounds have places from 8 * base on: its own word stands there,
 // and one for each argument behind it.
 fn place(base: usize, n: usize) -> usize
-    requires { (base < 144115188075855872) × (n ≤ 32) }
+    requires { item_place base n ≤ usize.MAX }
     ensures { result ≡ item_place base n }
 {
     COMPOUND_WORDS * (base + n)
@@ -44,7 +44,7 @@ fn compound_word(base: usize, n: usize) -> u64
 
 // The words of the list cell n: its element, its tail and its functor.
 fn store_cell(s: &mut [u64], base: usize, n: usize, element: u64, tail: u64)
-    requires { (item_place base n + 2 < length s.old) × (length s.old < 1152921504606846976) × (n ≤ 32) }
+    requires { (item_place base n + 2 < length s.old) × (length s.old < 1152921504606846976) }
     ensures { s.new ≡ set (set (set s.old (item_place base n + 1 + 0) element) (item_place base n + 1 + 1) tail) (item_place base n) 2 }
 {
     let here = place(base, n);

@@ -7,6 +7,7 @@ use native.Mathlib.Omega.{arith}
 use lib.ListN.{length, get_or, take, drop, replicate, length-drop, length-take, length-map}
 use lib.Seq.{ext_get_or, get_or-drop, get_or-take}
 use borrow.Author.Tests.{le-leb}
+use Rattle.std.proofs.lemmas.List.{append-nil}
 use Rattle.meaning.specs.Bytes.{Bytes, same, any, when◌then◌else◌}
 use Rattle.meaning.specs.Terms.{Clause, Job, count, named}
 use Rattle.meaning.specs.Tokens.{Tokens, ends, token, tokens}
@@ -90,10 +91,6 @@ shifted_none (p ∷ ps) =
     let e : 0 + p.at ≡ p.at = omega arith in
     rw (e, shifted_none ps)
 
-append_none : (es : List Entry) → es ++ [] ≡ es
-append_none [] = refl
-append_none (e ∷ es) = ap (λ l. e ∷ l) (append_none es)
-
 items_end : (places : List Place) (clauses queries n : ℕ) → items (so_far places clauses queries) (pieces (ends n)) ≡ job (record { clauses = []; queries = [] })
 unfolding items pieces item
 items_end places clauses queries n = refl
@@ -133,7 +130,7 @@ module _ (text : Bytes) (s₀ s names heads : List ℕ) (from clauses queries kn
   unfolding text_entries
   entries_all =
       r.entries_are ∙ ap (λ ts. done ++ entries places clauses queries (pieces ts)) nothing_left
-      ∙ ap (λ l. done ++ l) (entries_end places clauses queries n) ∙ append_none done
+      ∙ ap (λ l. done ++ l) (entries_end places clauses queries n) ∙ append-nil done
 
   image_all : image text s₀ ≡ places_stored 0 places (linked 0 (head_words places (clauses_of done)) (entries_stored places 0 0 done s₀))
   unfolding image

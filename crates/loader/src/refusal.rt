@@ -1,6 +1,7 @@
 // Why a text is refused: 4, 11, 5, 9, 10 or 6, under the names of the definitions' `Answer`. One enum from the reading to the exported call.
 ghost use Rattle.std.specs.Prelude.{◌≡◌};
-ghost use Rattle.meaning.specs.Call.{number as number_of, line_of, offset_of};
+ghost use Rattle.meaning.specs.Call.{rule_number as number_of_rule, number as number_of, line_of, offset_of};
+ghost use Rattle.load_faults.specs.Finding.{rule_of};
 ghost use Rattle.loader.specs.Refusals.{refusal_answer};
 
 use load_faults::faults::Broken;
@@ -14,18 +15,27 @@ pub enum Refusal {
     FigurePassed(usize),
 }
 
+// "5 (the same half twice), 9 (a writer without its reader) and 10 (a reader without its writer)."
+#[tactic(auto, unfolding(meaning::specs::Call::rule_number))]
+pub fn rule_number(rule: Broken) -> u32
+    ensures { result ≡ number_of_rule (rule_of rule) }
+{
+    match rule {
+        Broken::Twice => 5,
+        Broken::WriterAlone => 9,
+        Broken::ReaderAlone => 10,
+    }
+}
+
 impl Refusal {
-    // "5 (the same half twice), 9 (a writer without its reader) and 10 (a reader without its writer)."
-    #[tactic(auto, unfolding(meaning::specs::Call::number, meaning::specs::Call::rule_number))]
+    #[tactic(auto, unfolding(meaning::specs::Call::number))]
     pub fn number(self) -> u32
         ensures { result ≡ number_of (refusal_answer self) }
     {
         match self {
             Refusal::NoItems(_, _) => 4,
             Refusal::GuardRefused(_) => 11,
-            Refusal::OccurrenceBroken(Broken::Twice, _, _) => 5,
-            Refusal::OccurrenceBroken(Broken::WriterAlone, _, _) => 9,
-            Refusal::OccurrenceBroken(Broken::ReaderAlone, _, _) => 10,
+            Refusal::OccurrenceBroken(rule, _, _) => rule_number(rule),
             Refusal::FigurePassed(_) => 6,
         }
     }

@@ -23,6 +23,9 @@ use term::layout::TRIAL;
 use term::scratch::word_at;
 use term::word::{View, index, look};
 
+// Stays two parameters, the scratch and where its facts begin: counting changes the scratch, so no struct can lend it for reading as `Source` of crate
+// `report_leaves` does for writing, and each reading call would build such a struct anew.
+
 // "In order of first appearance in the section": the pair's number, the next one if it has none.
 fn number(s: &mut [u64], facts: usize, p: usize) -> u64
     requires { (text : Bytes) × (x : Setting) × (seen : List ℕ) × (n : ℕ) × Readable s.old text x facts × Counting s.old x facts seen

@@ -13,6 +13,7 @@ use term::layout::{PAIR_FACTS, TRIAL};
 use term::word::{View, look};
 
 // The four words of a pair: its chain's end, its value's length, its number, and its value's place.
+// Stays numbers in the lent scratch, which is all the memory that there is: in each word 0 says that nothing is kept.
 pub const END: usize = 0;
 
 pub const LENGTH: usize = 1;

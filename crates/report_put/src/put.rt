@@ -50,6 +50,7 @@ fn digit(n: u64) -> u8
 }
 
 // A number in decimal, from its last digit on.
+// Stays by hand: `Display` writes to a formatter of text, and its output names no place of a buffer of bytes, as `Puts` does.
 pub fn decimal(buffer: &mut [u8], at: usize, n: u64) -> usize
     requires { at + length (in_decimal n) ≤ length buffer.old }
     ensures { Puts buffer.old buffer.new at result (in_decimal n) }

@@ -24,6 +24,7 @@ ghost use Rattle.term.specs.Goals.{place_in};
 ghost use Rattle.report_tallies.specs.Origins.{origin_of};
 
 use report_count::counting::count_term;
+use report_leaves::source::Source;
 use report_pairs::length::further;
 use report_put::put::{put, spelling, words};
 use report_tallies::groups::{Group, own};
@@ -59,14 +60,14 @@ fn count_line(s: &mut [u64], facts: usize, at: usize, before: usize, w: u64, beh
 }
 
 // A term and an LF.
-fn write_line(text: &[u8], s: &[u64], facts: usize, buffer: &mut [u8], at: usize, w: u64) -> usize
-    requires { (x : Setting) × (order : List ℕ) × (t : Term) × Writes s.now text.now x facts order t at (length buffer.old) × Shows s.now x t w
-        × Fits s.now x facts order at buffer.old (written order alone (full x.values t) ++ bytes "\n") }
-    ensures { (x : Setting) (order : List ℕ) (t : Term) → Writes s.now text.now x facts order t at (length buffer.old)
-        → Shows s.now x t w → Fits s.now x facts order at buffer.old (written order alone (full x.values t) ++ bytes "\n")
+fn write_line(source: &Source, buffer: &mut [u8], at: usize, w: u64) -> usize
+    requires { (x : Setting) × (order : List ℕ) × (t : Term) × Writes source.now.s.now source.now.text.now x source.now.facts order t at (length buffer.old) × Shows source.now.s.now x t w
+        × Fits source.now.s.now x source.now.facts order at buffer.old (written order alone (full x.values t) ++ bytes "\n") }
+    ensures { (x : Setting) (order : List ℕ) (t : Term) → Writes source.now.s.now source.now.text.now x source.now.facts order t at (length buffer.old)
+        → Shows source.now.s.now x t w → Fits source.now.s.now x source.now.facts order at buffer.old (written order alone (full x.values t) ++ bytes "\n")
         → Puts buffer.old buffer.new at result (written order alone (full x.values t) ++ bytes "\n") }
 {
-    let to = write_term(text, s, facts, buffer, at, w);
+    let to = write_term(source, buffer, at, w);
     put(buffer, to, b'\n')
 }
 
@@ -171,80 +172,57 @@ fn count_goals(s: &mut [u64], facts: usize, at: usize, label: &[u8], g: Group, q
 }
 
 // A variable's name, ` = `, its value and an LF.
-fn write_value(
-    text: &[u8],
-    s: &[u64],
-    facts: usize,
-    buffer: &mut [u8],
-    at: usize,
-    q: usize,
-    v: usize,
-) -> usize
-    requires { (x : Setting) × (order : List ℕ) × (xs : List Bytes) × Variables s.now text.now x q xs × (v < length xs)
-        × Writes s.now text.now x facts order (Term.variable writer v) (at + length (get_or xs v []) + 3) (length buffer.old)
-        × Fits s.now x facts order at buffer.old
+fn write_value(source: &Source, buffer: &mut [u8], at: usize, q: usize, v: usize) -> usize
+    requires { (x : Setting) × (order : List ℕ) × (xs : List Bytes) × Variables source.now.s.now source.now.text.now x q xs × (v < length xs)
+        × Writes source.now.s.now source.now.text.now x source.now.facts order (Term.variable writer v) (at + length (get_or xs v []) + 3) (length buffer.old)
+        × Fits source.now.s.now x source.now.facts order at buffer.old
         ((get_or xs v [] ++ bytes " = ") ++ (written order alone (full x.values (Term.variable writer v)) ++ bytes "\n")) }
-    ensures { (x : Setting) (order : List ℕ) (xs : List Bytes) → Variables s.now text.now x q xs → v < length xs
-        → Writes s.now text.now x facts order (Term.variable writer v) (at + length (get_or xs v []) + 3) (length buffer.old)
-        → Fits s.now x facts order at buffer.old
+    ensures { (x : Setting) (order : List ℕ) (xs : List Bytes) → Variables source.now.s.now source.now.text.now x q xs → v < length xs
+        → Writes source.now.s.now source.now.text.now x source.now.facts order (Term.variable writer v) (at + length (get_or xs v []) + 3) (length buffer.old)
+        → Fits source.now.s.now x source.now.facts order at buffer.old
         ((get_or xs v [] ++ bytes " = ") ++ (written order alone (full x.values (Term.variable writer v)) ++ bytes "\n"))
         → Puts buffer.old buffer.new at result
         ((get_or xs v [] ++ bytes " = ") ++ (written order alone (full x.values (Term.variable writer v)) ++ bytes "\n")) }
 {
-    let (from, n) = spelled(s, q, v);
-    let mut to = spelling(text, buffer, at, from, n);
+    let (from, n) = spelled(source.s, q, v);
+    let mut to = spelling(source.text, buffer, at, from, n);
     to = words(buffer, to, b" = ");
-    let w = variable(s, q, v);
-    write_line(text, s, facts, buffer, to, w)
+    let w = variable(source.s, q, v);
+    write_line(source, buffer, to, w)
 }
 
-fn write_values(
-    text: &[u8],
-    s: &[u64],
-    facts: usize,
-    buffer: &mut [u8],
-    at: usize,
-    q: usize,
-) -> usize
-    requires { (x : Setting) × (order : List ℕ) × (xs : List Bytes) × Readable s.now text.now x facts × Variables s.now text.now x q xs
-        × ((n : ℕ) → n < length xs → Numbered s.now x facts order (full x.values (Term.variable writer n)))
-        × Fits s.now x facts order at buffer.old (written_values x.values order 0 xs) }
-    ensures { (x : Setting) (order : List ℕ) (xs : List Bytes) → Readable s.now text.now x facts → Variables s.now text.now x q xs
-        → ((n : ℕ) → n < length xs → Numbered s.now x facts order (full x.values (Term.variable writer n)))
-        → Fits s.now x facts order at buffer.old (written_values x.values order 0 xs)
+fn write_values(source: &Source, buffer: &mut [u8], at: usize, q: usize) -> usize
+    requires { (x : Setting) × (order : List ℕ) × (xs : List Bytes) × Readable source.now.s.now source.now.text.now x source.now.facts × Variables source.now.s.now source.now.text.now x q xs
+        × ((n : ℕ) → n < length xs → Numbered source.now.s.now x source.now.facts order (full x.values (Term.variable writer n)))
+        × Fits source.now.s.now x source.now.facts order at buffer.old (written_values x.values order 0 xs) }
+    ensures { (x : Setting) (order : List ℕ) (xs : List Bytes) → Readable source.now.s.now source.now.text.now x source.now.facts → Variables source.now.s.now source.now.text.now x q xs
+        → ((n : ℕ) → n < length xs → Numbered source.now.s.now x source.now.facts order (full x.values (Term.variable writer n)))
+        → Fits source.now.s.now x source.now.facts order at buffer.old (written_values x.values order 0 xs)
         → Puts buffer.old buffer.new at result (written_values x.values order 0 xs) }
 {
     let mut to = at;
-    for v in 0..variables(s, q) {
-        to = write_value(text, s, facts, buffer, to, q, v);
+    for v in 0..variables(source.s, q) {
+        to = write_value(source, buffer, to, q, v);
     }
     to
 }
 
 // The line of a goal, with its origin behind it.
-fn write_goal(
-    text: &[u8],
-    s: &[u64],
-    facts: usize,
-    buffer: &mut [u8],
-    at: usize,
-    label: &[u8],
-    goal: u64,
-) -> usize
-    requires { (x : Setting) × (order : List ℕ) × (t : Term) × Writes s.now text.now x facts order t (at + length label.now) (length buffer.old)
-        × Shows s.now x t (compound_word (place_in goal))
-        × Fits s.now x facts order at buffer.old (label.now ++ (written order alone (full x.values t) ++ (origin_of goal ++ bytes "\n"))) }
+fn write_goal(source: &Source, buffer: &mut [u8], at: usize, label: &[u8], goal: u64) -> usize
+    requires { (x : Setting) × (order : List ℕ) × (t : Term) × Writes source.now.s.now source.now.text.now x source.now.facts order t (at + length label.now) (length buffer.old)
+        × Shows source.now.s.now x t (compound_word (place_in goal))
+        × Fits source.now.s.now x source.now.facts order at buffer.old (label.now ++ (written order alone (full x.values t) ++ (origin_of goal ++ bytes "\n"))) }
     ensures { (x : Setting) (order : List ℕ) (t : Term)
-        → Writes s.now text.now x facts order t (at + length label.now) (length buffer.old)
-        → Shows s.now x t (compound_word (place_in goal))
-        → Fits s.now x facts order at buffer.old
+        → Writes source.now.s.now source.now.text.now x source.now.facts order t (at + length label.now) (length buffer.old)
+        → Shows source.now.s.now x t (compound_word (place_in goal))
+        → Fits source.now.s.now x source.now.facts order at buffer.old
         (label.now ++ (written order alone (full x.values t) ++ (origin_of goal ++ bytes "\n")))
         → Puts buffer.old buffer.new at result
         (label.now ++ (written order alone (full x.values t) ++ (origin_of goal ++ bytes "\n"))) }
 {
     let mut to = words(buffer, at, label);
     let w = goal_term(goal);
-    to = write_term(text, s, facts, buffer, to, w);
+    to = write_term(source, buffer, to, w);
     to = origin(buffer, to, goal);
     put(buffer, to, b'\n')
 }
@@ -268,28 +246,26 @@ fn count_lines(s: &mut [u64], room: Room, facts: usize, at: usize, q: usize, t: 
 
 // The lines of a list's goals that are the query's.
 fn write_goals(
-    text: &[u8],
-    s: &[u64],
-    facts: usize,
+    source: &Source,
     buffer: &mut [u8],
     at: usize,
     label: &[u8],
     g: Group,
     q: usize,
 ) -> usize
-    requires { (x : Setting) × (order : List ℕ) × (gs : List Goal) × Readable s.now text.now x facts × Listed s.now x facts g q gs
-        × Numbers s.now x facts order × AllIn x.values order gs
-        × Fits s.now x facts order at buffer.old (written_goals x.values order label.now gs) }
-    ensures { (x : Setting) (order : List ℕ) (gs : List Goal) → Readable s.now text.now x facts
-        → Listed s.now x facts g q gs → Numbers s.now x facts order → AllIn x.values order gs
-        → Fits s.now x facts order at buffer.old (written_goals x.values order label.now gs)
+    requires { (x : Setting) × (order : List ℕ) × (gs : List Goal) × Readable source.now.s.now source.now.text.now x source.now.facts × Listed source.now.s.now x source.now.facts g q gs
+        × Numbers source.now.s.now x source.now.facts order × AllIn x.values order gs
+        × Fits source.now.s.now x source.now.facts order at buffer.old (written_goals x.values order label.now gs) }
+    ensures { (x : Setting) (order : List ℕ) (gs : List Goal) → Readable source.now.s.now source.now.text.now x source.now.facts
+        → Listed source.now.s.now x source.now.facts g q gs → Numbers source.now.s.now x source.now.facts order → AllIn x.values order gs
+        → Fits source.now.s.now x source.now.facts order at buffer.old (written_goals x.values order label.now gs)
         → Puts buffer.old buffer.new at result (written_goals x.values order label.now gs) }
 {
     let mut to = at;
     for i in 0..g.count {
-        let goal = g.goal_at(s, i);
+        let goal = g.goal_at(source.s, i);
         if own(goal, q) {
-            to = write_goal(text, s, facts, buffer, to, label, goal);
+            to = write_goal(source, buffer, to, label, goal);
         }
     }
     to
@@ -338,36 +314,10 @@ pub fn write_section(
         → Puts buffer.old buffer.new at result (section_bytes s.now (figures room) t x.values q xs actives ws fs) }
 {
     let facts = room.waiters();
+    let source = Source { text, s, facts };
     let mut to = Tallies::of(s, room, q, t).header(buffer, at, q);
-    to = write_values(text, s, facts, buffer, to, q);
-    to = write_goals(
-        text,
-        s,
-        facts,
-        buffer,
-        to,
-        b"active ",
-        Group::active(room, t),
-        q,
-    );
-    to = write_goals(
-        text,
-        s,
-        facts,
-        buffer,
-        to,
-        b"waiting ",
-        Group::waiting(room, t),
-        q,
-    );
-    write_goals(
-        text,
-        s,
-        facts,
-        buffer,
-        to,
-        b"failed ",
-        Group::failed(room, t),
-        q,
-    )
+    to = write_values(&source, buffer, to, q);
+    to = write_goals(&source, buffer, to, ACTIVE, Group::active(room, t), q);
+    to = write_goals(&source, buffer, to, WAITING, Group::waiting(room, t), q);
+    write_goals(&source, buffer, to, FAILED, Group::failed(room, t), q)
 }

@@ -5,14 +5,14 @@ ghost use Rattle.term.specs.Words.{view, compound_word, packed, tag_in, rest_in}
 ghost use Rattle.run_effects.specs.Build.{PairFits, moved_word, Item, Original, Aside, Laid, Copied};
 
 use term::scratch::{argument, count};
-use term::word::{COMPOUND, READER, TAGS, View, WRITER, look};
+use term::word::{COMPOUND, READER, TAGS, View, WRITER, look, word};
 
 // The word of one half of a pair, or of a compound, by its tag and place.
 fn placed(tag: u64, place: usize) -> u64
     requires { (tag < 8) × (place ≤ 1152921504606846976) }
     ensures { result ≡ packed tag place }
 {
-    tag + TAGS * (place as u64)
+    tag + TAGS * word(place)
 }
 
 // The word of the copy of a term that is no compound.

@@ -42,6 +42,7 @@ pub fn assign_goal(s: &mut [u64], values: usize, pair: usize, to: usize, n: usiz
 }
 
 // A place of the log joins the list of so many, in which places rise.
+// Stays a walk from the end: the list lies in fixed memory, and a place that is found later mostly stands further back.
 fn insert(s: &mut [u64], place: usize, woken: usize)
     requires { Inserts s.old place woken }
     ensures { Inserted s.old s.new place woken }

@@ -15,6 +15,7 @@ pub const BUCKETS: u64 = 128;
 const KEYS: u64 = 1099511627776;
 
 // What tells a term apart from others at the same place: a constant's word, a compound's functor; 0 for a writer, and READER for a reader.
+// Stays a number: a key holds it, and keys are words of the scratch, compared as they stand.
 pub fn kind(s: &[u64], w: u64) -> u64
     requires { KindReads s.now w }
     ensures { result ≡ kind_of s.now w }

@@ -16,6 +16,7 @@ use term::word::{READER, linked};
 
 // What is left to try: two chains of clauses, each by its first clause, if it has one, and the word of a record by which it goes on. The clause to try next is
 // the first of the first chain; the other chain has none before it.
+// Stays a number, how a chain goes on: it is the place of a word in each clause's record, and is added to the record's as it stands.
 #[derive(Clone, Copy)]
 pub struct Leads {
     pub next: Option<usize>,

@@ -3,12 +3,14 @@
 // over the same scratch, so what one leaves behind must not matter to the next. More than once is for measuring.
 #![tactic(auto)]
 
-ghost use Rattle.std.specs.Prelude.{◌≡◌, ◌≤◌, ◌<◌, length};
-ghost use Rattle.term.specs.Layout.{need_for};
+ghost use Rattle.std.specs.Prelude.{◌≤◌, length};
 
 use loader::load::load;
 use loader::refusal::Refusal;
 use term::layout::{COMPOUND_WORDS, COMPOUNDS, Room};
+
+// As many words as the smallest room needs.
+const NEED: usize = COMPOUNDS + COMPOUND_WORDS + 7 + 6;
 
 fn digit(c: u8) -> usize
     ensures { result ≤ 9 }
@@ -20,9 +22,7 @@ fn digit(c: u8) -> usize
 }
 
 // The number of six digits in front of the input, unless it ends there.
-fn number(line: &mut [u8]) -> Option<usize>
-    requires { 7 ≤ length line.old }
-{
+fn number(line: &mut [u8; 7]) -> Option<usize> {
     if io::read_full(0, line) < 7 {
         return None;
     }
@@ -30,8 +30,8 @@ fn number(line: &mut [u8]) -> Option<usize>
     Some(high + digit(line[3]) * 100 + digit(line[4]) * 10 + digit(line[5]))
 }
 
-fn once(text: &[u8], n: usize, s: &mut [u64]) -> Result<(usize, usize), Refusal>
-    requires { (n ≤ length text.now) × (need_for 1 1 1 ≤ length s.old) }
+fn once(text: &[u8], n: usize, s: &mut [u64; NEED]) -> Result<(usize, usize), Refusal>
+    requires { n ≤ length text.now }
 {
     let room = Room {
         pairs: 1,
@@ -42,8 +42,8 @@ fn once(text: &[u8], n: usize, s: &mut [u64]) -> Result<(usize, usize), Refusal>
 }
 
 // The first n bytes loaded so many times: the last answer.
-fn many(text: &[u8], n: usize, s: &mut [u64], times: usize) -> Result<(usize, usize), Refusal>
-    requires { (n ≤ length text.now) × (need_for 1 1 1 ≤ length s.old) }
+fn many(text: &[u8], n: usize, s: &mut [u64; NEED], times: usize) -> Result<(usize, usize), Refusal>
+    requires { n ≤ length text.now }
 {
     let mut answer = Ok((0, 0));
     for _ in 0..times {
@@ -69,8 +69,8 @@ fn show(answer: Result<(usize, usize), Refusal>) {
 }
 
 // One frame, if there is one.
-fn frame(line: &mut [u8], text: &mut [u8], s: &mut [u64]) -> Option<()>
-    requires { (7 ≤ length line.old) × (20001 ≤ length text.old) × (need_for 1 1 1 ≤ length s.old) }
+fn frame(line: &mut [u8; 7], text: &mut [u8], s: &mut [u64; NEED]) -> Option<()>
+    requires { 20001 ≤ length text.old }
 {
     let times = number(line)?;
     let n = number(line)?;
@@ -86,8 +86,8 @@ fn frame(line: &mut [u8], text: &mut [u8], s: &mut [u64]) -> Option<()>
 }
 
 // Up to a hundred thousand frames.
-fn frames(line: &mut [u8], text: &mut [u8], s: &mut [u64])
-    requires { (7 ≤ length line.old) × (20001 ≤ length text.old) × (need_for 1 1 1 ≤ length s.old) }
+fn frames(line: &mut [u8; 7], text: &mut [u8], s: &mut [u64; NEED])
+    requires { 20001 ≤ length text.old }
 {
     for _ in 0..100000 {
         if frame(line, text, s).is_none() {
@@ -96,19 +96,10 @@ fn frames(line: &mut [u8], text: &mut [u8], s: &mut [u64])
     }
 }
 
-// As many words as the smallest room needs.
-const NEED: usize = COMPOUNDS + COMPOUND_WORDS + 7 + 6;
-
-// Scratch that holds something already.
-fn scratch() -> [u64; NEED]
-    ensures { need_for 1 1 1 ≡ length result }
-{
-    [7; NEED]
-}
-
 fn main() {
     let mut line = [0u8; 7];
     let mut text = io::large_buffer();
-    let mut s = scratch();
+    // Scratch that holds something already.
+    let mut s = [7; NEED];
     frames(&mut line, &mut text, &mut s);
 }

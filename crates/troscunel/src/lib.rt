@@ -11,6 +11,9 @@ ghost use Rattle.troscunel.specs.Exported.{Exports};
 
 use job::call::call;
 
+// The number of a call that has a report.
+const RAN: u32 = 0;
+
 // Text, budget, room figures, scratch in 64-bit words, report buffer; a slice is a pointer and a length.
 pub fn troscunel_call(
     text: &[u8],
@@ -33,7 +36,7 @@ pub fn troscunel_call(
             *line = 0;
             *length = n;
             *offset = 0;
-            0
+            RAN
         }
         Err(why) => {
             *line = why.line();

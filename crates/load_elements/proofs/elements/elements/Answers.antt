@@ -1,7 +1,7 @@
 -- One element more, with what comes behind it, or what stops the reading.
 use Rattle.std.proofs.Common.{◌+◌, ◌-◌, ◌<◌, ◌≤◌, ℕ, [], length, set, refl, ap, ◌∙◌, arith}
 use Rattle.std.proofs.lemmas.Result.{err_from_is_err_and}
-use Rattle.load_elements.proofs.Lists.{length_snoc}
+use Rattle.std.proofs.lemmas.List.{length_push}
 use Rattle.load_elements.proofs.Partly.{comma_left, partly_none, partly_ninth, partly_unread, partly_other, partly_comma, partly_bar, partly_stop}
 use Rattle.load_elements.proofs.elements.elements.Goals as goal
 
@@ -91,7 +91,7 @@ loop-i-preserved c = λ known vars st.
     let new = partly_comma a.src.text.now a.src.rest.now a.src.from a.base known vars a.c a.s.now a.item.now a.words.now l.s l.names l.item l.words l.d t.0 t.1 t.2 t.3 t.5 room
     c.element.new.s c.element.new.names c.element.new.item w.w w.e gave.0 gave.1 gave.2 long
     c.in_ok-sign.behind next in
-    (_, _, _, _, length_snoc t.0 gave.0 ∙ ap (λ (n : ℕ). n + 1) t.4, rw t.4 at new)
+    (_, _, _, _, length_push t.0 gave.0 ∙ ap (λ (n : ℕ). n + 1) t.4, rw t.4 at new)
 
 pub ninth-requires : goal.ninth-requires
 ninth-requires c =

@@ -24,6 +24,12 @@ returns-in_err-w c = λ known vars st.
     rw (e.1, e.2) (partly_unread a.src.text.now a.src.rest.now a.src.from a.base a.place known vars a.c a.s.now a.item.now l.s l.names l.item l.d t.0 t.1 t.3 room c.in_err-w.field-0.0 o.new.s o.new.names o.new.item (omega arith)
     (c.in_err-w.ensures (names_over t.1 known) (variables_over a.src.from t.1 vars) t.3.stands))
 
+pub next_of-requires : goal.next_of-requires
+next_of-requires c =
+    let p = c.requires.stands in
+    let t = c.loop-i.invariant p.0 p.1 p.2 in
+    (c.in_ok-w.ensures (names_over t.1 p.0) (variables_over c.args.from t.1 p.1) t.3.stands).2.stands.inside
+
 pub returns-in_err-sign : goal.returns-in_err-sign
 returns-in_err-sign c = λ known vars st.
     let a = c.args in

@@ -1,6 +1,7 @@
 -- The elements behind `:-` are the goals at the full stop, and at the bar the guards.
 use Rattle.std.proofs.Common.{◌≡◌, ◌∙◌, ◌≤◌, ℕ, length, refl, arith}
 use Rattle.std.proofs.Math.ListN.{replicate, length-replicate, length-take}
+use Rattle.std.proofs.lemmas.List.{length-take-le}
 use Rattle.std.proofs.lemmas.Result.{err_from_is_err_and}
 use Rattle.term.specs.Layout.{clause_base}
 use Rattle.load_names.specs.Places.{names_over, variables_over, item_places}
@@ -77,6 +78,28 @@ add_counts-requires-clause-by_index c =
     c.copy_counts.new.table c.copy_counts.auto.table fresh)) in
     λ i l. (omega (arith, c.requires.by_index i l, st.variables_in.counted i l), told.2.gave.stands.variables_in.counted i l)
 
+pub slice_bounds-words-end-in-Bar : goal.slice_bounds-words-end-in-Bar
+slice_bounds-words-end-in-Bar c =
+    let a = c.args in
+    let fresh = rw c.requires.none_counted.0 at c.copy_counts.ensures in
+    let (known, vars, st) = c.requires.stands in
+    let now = c.in-Bar in
+    let told = rw now.is at (c.in_ok-n.ensures known vars (fresh_stands a.k c.requires.k_bound.0 a.src.text.now a.src.rest.now a.src.from known vars a.c a.s.now a.names.now a.item.now a.tables.now.in_head c.requires.by_index st
+    c.copy_counts.new.table c.copy_counts.auto.table fresh)) in
+    let many : 8 ≤ length c.elements.new.words = omega (arith, c.elements.auto.words) in
+    omega (arith, told.3.gave.few, many)
+
+pub slice_bounds-tested-end : goal.slice_bounds-tested-end
+slice_bounds-tested-end c =
+    let a = c.args in
+    let fresh = rw c.requires.none_counted.0 at c.copy_counts.ensures in
+    let (known, vars, st) = c.requires.stands in
+    let now = c.in-Bar in
+    let told = rw now.is at (c.in_ok-n.ensures known vars (fresh_stands a.k c.requires.k_bound.0 a.src.text.now a.src.rest.now a.src.from known vars a.c a.s.now a.names.now a.item.now a.tables.now.in_head c.requires.by_index st
+    c.copy_counts.new.table c.copy_counts.auto.table fresh)) in
+    let many : 8 ≤ length c.elements.new.words = omega (arith, c.elements.auto.words) in
+    omega (arith, length-take now.n c.elements.new.words, told.3.gave.few, many)
+
 pub tested-found-requires-clause-listed : goal.tested-found-requires-clause-listed
 tested-found-requires-clause-listed c =
     let a = c.args in
@@ -144,9 +167,10 @@ returns-in-Bar-clause-read c = λ known vars st.
     let back = c.copy_counts-in-Bar-2 in
     let known' = names_over told.1 known in
     let vars' = variables_over a.src.from told.1 vars in
-    let tested_told = c.tested-found.ensures known' told.0 (listed a.k c.requires.k_bound.0 a.src.text.now a.src.rest.now a.src.from known vars a.c a.s.now a.names.now a.item.now a.tables.now.in_head c.requires.by_index st
+    let size = length-take-le now.n c.elements.new.words (omega (arith, told.3.gave.few, many)) in
+    let tested_told = rw size at (c.tested-found.ensures known' told.0 (listed a.k c.requires.k_bound.0 a.src.text.now a.src.rest.now a.src.from known vars a.c a.s.now a.names.now a.item.now a.tables.now.in_head c.requires.by_index st
     c.copy_counts.new.table c.copy_counts.auto.table fresh
-    (replicate 8 0) c.elements.new.s c.elements.new.names c.elements.new.item c.elements.new.words now.n now.d told.0 told.1 told.2 told.3 c.requires.k_bound.1 many) in
+    (replicate 8 0) c.elements.new.s c.elements.new.names c.elements.new.item c.elements.new.words now.n now.d told.0 told.1 told.2 told.3 c.requires.k_bound.1 many)) in
     at_bar a.k c.requires.k_bound.0 a.src.text.now a.src.rest.now a.src.from known vars a.c a.s.now a.names.now a.item.now a.tables.now.in_head c.requires.by_index st
     c.copy_counts.new.table c.copy_counts.auto.table fresh
     (replicate 8 0) c.elements.new.s c.elements.new.names c.elements.new.item c.elements.new.words now.n now.d told.0 told.1 told.2 told.3 c.requires.k_bound.1

@@ -21,7 +21,7 @@ write_term-to-requires c =
     let label = c.words-to in
     let (x, order, t, writes, shows, fits) = S.requires in
     let first = fits_behind a.label.now _ fits label.ensures in
-    let ready = writes_as a.s.now a.text.now x a.facts order t _ _ _ _ (sym label.ensures.place) (sym label.auto.buffer) writes in
+    let ready = writes_as a.source.now.s.now a.source.now.text.now x a.source.now.facts order t _ _ _ _ (sym label.ensures.place) (sym label.auto.buffer) writes in
     (x, order, t, ready, rw term.ensures shows, fits_front _ _ first)
 
 pub origin-to-requires : goal.origin-to-requires
@@ -33,7 +33,7 @@ origin-to-requires c =
     let shown = c.write_term-to in
     let (x, order, t, writes, shows, fits) = S.requires in
     let first = fits_behind a.label.now _ fits label.ensures in
-    let ready = writes_as a.s.now a.text.now x a.facts order t _ _ _ _ (sym label.ensures.place) (sym label.auto.buffer) writes in
+    let ready = writes_as a.source.now.s.now a.source.now.text.now x a.source.now.facts order t _ _ _ _ (sym label.ensures.place) (sym label.auto.buffer) writes in
     let puts = shown.ensures x order t ready (rw term.ensures shows) (fits_front _ _ first) in
     (fits_front (origin_of a.goal) (bytes "\n") (fits_behind _ _ first puts)).room
 
@@ -46,7 +46,7 @@ put-requires c =
     let shown = c.write_term-to in
     let (x, order, t, writes, shows, fits) = S.requires in
     let first = fits_behind a.label.now _ fits label.ensures in
-    let ready = writes_as a.s.now a.text.now x a.facts order t _ _ _ _ (sym label.ensures.place) (sym label.auto.buffer) writes in
+    let ready = writes_as a.source.now.s.now a.source.now.text.now x a.source.now.facts order t _ _ _ _ (sym label.ensures.place) (sym label.auto.buffer) writes in
     let puts = shown.ensures x order t ready (rw term.ensures shows) (fits_front _ _ first) in
     line_room (fits_behind _ _ (fits_behind _ _ first puts) c.origin-to.ensures)
 
@@ -60,7 +60,7 @@ returns c =
     let shown = c.write_term-to in
     λ x order t writes shows fits.
     let first = fits_behind a.label.now _ fits label.ensures in
-    let ready = writes_as a.s.now a.text.now x a.facts order t _ _ _ _ (sym label.ensures.place) (sym label.auto.buffer) writes in
+    let ready = writes_as a.source.now.s.now a.source.now.text.now x a.source.now.facts order t _ _ _ _ (sym label.ensures.place) (sym label.auto.buffer) writes in
     let puts = shown.ensures x order t ready (rw term.ensures shows) (fits_front _ _ first) in
     puts_behind _ _ _ _ _ _ _ _ label.ensures
     (puts_behind _ _ _ _ _ _ _ _ puts (puts_behind _ _ _ _ _ _ _ _ c.origin-to.ensures c.put.ensures))

@@ -13,6 +13,6 @@ use Rattle.report_sections.proofs.sections.write_goals.Given as goal
 
 abbrev pub invariant-loop-i : goal.invariant-loop-i
 invariant-loop-i l =
-    (x : Setting) (order : List ℕ) (gs : List Goal) → Readable l.s l.text x l.facts → Listed l.s x l.facts l.g l.q gs
-    → Numbers l.s x l.facts order → AllIn x.values order gs → Fits l.s x l.facts order l.at l.initial.buffer (written_goals x.values order l.label gs)
-    → Wrote l.s x order l.initial.buffer l.buffer l.at l.g l.q gs l.label l.to l.i
+    (x : Setting) (order : List ℕ) (gs : List Goal) → Readable l.source.s.now l.source.text.now x l.source.facts → Listed l.source.s.now x l.source.facts l.g l.q gs
+    → Numbers l.source.s.now x l.source.facts order → AllIn x.values order gs → Fits l.source.s.now x l.source.facts order l.at l.initial.buffer (written_goals x.values order l.label gs)
+    → Wrote l.source.s.now x order l.initial.buffer l.buffer l.at l.g l.q gs l.label l.to l.i

@@ -14,7 +14,7 @@ pub spelling-to-requires : goal.spelling-to-requires
 spelling-to-requires c =
     let a = c.args in
     let (x, order, xs, vs, h, writes, fits) = c.requires in
-    let spelled = name_size a.s.now a.text.now x a.q xs a.v vs h in
+    let spelled = name_size a.source.now.s.now a.source.now.text.now x a.q xs a.v vs h in
     let size = value_line_size x.values order xs a.v h in
     omega (arith, fits.room, size, spelled.sized, spelled.inside, c.spelled-from.ensures.1, c.spelled-from.ensures.0)
 
@@ -22,15 +22,15 @@ pub words-to-requires : goal.words-to-requires
 words-to-requires c =
     let a = c.args in
     let (x, order, xs, vs, h, writes, fits) = c.requires in
-    let spelled = name_size a.s.now a.text.now x a.q xs a.v vs h in
+    let spelled = name_size a.source.now.s.now a.source.now.text.now x a.q xs a.v vs h in
     let size = value_line_size x.values order xs a.v h in
-    omega (arith, fits.room, size, spelled.sized, c.spelled-from.ensures.1, c.spelling-to.auto.buffer, (puts_name a.text.now _ _ _ _ _ _ _ _ _ c.spelled-from.ensures.0 c.spelled-from.ensures.1 spelled c.spelling-to.ensures).place)
+    omega (arith, fits.room, size, spelled.sized, c.spelled-from.ensures.1, c.spelling-to.auto.buffer, (puts_name a.source.now.text.now _ _ _ _ _ _ _ _ _ c.spelled-from.ensures.0 c.spelled-from.ensures.1 spelled c.spelling-to.ensures).place)
 
 pub variable-w-requires : goal.variable-w-requires
 variable-w-requires c =
     let a = c.args in
     let (x, order, xs, vs, h, writes, fits) = c.requires in
-    let spelled = name_size a.s.now a.text.now x a.q xs a.v vs h in
+    let spelled = name_size a.source.now.s.now a.source.now.text.now x a.q xs a.v vs h in
     omega (arith, vs.small, vs.few, h, vs.low a.v h, vs.pair a.v h, writes.readable.inside, writes.readable.behind)
 
 pub write_line-requires : goal.write_line-requires
@@ -38,14 +38,14 @@ unfolding bytes
 write_line-requires c =
     let a = c.args in
     let (x, order, xs, vs, h, writes, fits) = c.requires in
-    let spelled = name_size a.s.now a.text.now x a.q xs a.v vs h in
-    let name = puts_name a.text.now _ _ _ _ _ _ _ _ _ c.spelled-from.ensures.0 c.spelled-from.ensures.1 spelled c.spelling-to.ensures in
+    let spelled = name_size a.source.now.s.now a.source.now.text.now x a.q xs a.v vs h in
+    let name = puts_name a.source.now.text.now _ _ _ _ _ _ _ _ _ c.spelled-from.ensures.0 c.spelled-from.ensures.1 spelled c.spelling-to.ensures in
     let same = c.words-to.auto.buffer ∙ c.spelling-to.auto.buffer in (
       x,
       order,
       _,
-      writes_as a.s.now a.text.now x a.facts order _ _ _ _ _ (omega (arith, name.place, c.words-to.ensures.place)) (sym same) writes,
-      shows_variable a.s.now a.text.now x a.q xs a.v _ vs h c.variable-w.ensures,
+      writes_as a.source.now.s.now a.source.now.text.now x a.source.now.facts order _ _ _ _ _ (omega (arith, name.place, c.words-to.ensures.place)) (sym same) writes,
+      shows_variable a.source.now.s.now a.source.now.text.now x a.q xs a.v _ vs h c.variable-w.ensures,
       fits_behind (get_or xs a.v [] ++ bytes " = ") _ fits (puts_behind _ _ _ _ _ _ _ _ name c.words-to.ensures),
     )
 
@@ -54,11 +54,11 @@ unfolding bytes
 returns c =
     let a = c.args in
     λ x order xs vs h writes fits.
-    let spelled = name_size a.s.now a.text.now x a.q xs a.v vs h in
-    let name = puts_name a.text.now _ _ _ _ _ _ _ _ _ c.spelled-from.ensures.0 c.spelled-from.ensures.1 spelled c.spelling-to.ensures in
+    let spelled = name_size a.source.now.s.now a.source.now.text.now x a.q xs a.v vs h in
+    let name = puts_name a.source.now.text.now _ _ _ _ _ _ _ _ _ c.spelled-from.ensures.0 c.spelled-from.ensures.1 spelled c.spelling-to.ensures in
     let same = c.words-to.auto.buffer ∙ c.spelling-to.auto.buffer in
     let first = puts_behind _ _ _ _ _ _ _ _ name c.words-to.ensures in
     puts_behind _ _ _ _ _ _ _ _ first
-    (c.write_line.ensures x order _ (writes_as a.s.now a.text.now x a.facts order _ _ _ _ _ (omega (arith, name.place, c.words-to.ensures.place)) (sym same) writes)
-    (shows_variable a.s.now a.text.now x a.q xs a.v _ vs h c.variable-w.ensures)
+    (c.write_line.ensures x order _ (writes_as a.source.now.s.now a.source.now.text.now x a.source.now.facts order _ _ _ _ _ (omega (arith, name.place, c.words-to.ensures.place)) (sym same) writes)
+    (shows_variable a.source.now.s.now a.source.now.text.now x a.q xs a.v _ vs h c.variable-w.ensures)
     (fits_behind (get_or xs a.v [] ++ bytes " = ") _ fits first))

@@ -32,7 +32,7 @@ write_value-to-requires c =
     let h : l.v < length xs = omega arith in
     let fit = value_fits x.values order xs l.v h fits puts in
     let size = value_line_size x.values order xs l.v h in
-    let writes : Writes a.s.now a.text.now x a.facts order (Term.variable writer l.v) (l.to + length (get_or xs l.v []) + 3) (length l.buffer) =
+    let writes : Writes a.source.now.s.now a.source.now.text.now x a.source.now.facts order (Term.variable writer l.v) (l.to + length (get_or xs l.v []) + 3) (length l.buffer) =
     record { readable = readable; numbered = numbered l.v h; fits = omega (arith, fit.room, size) } in
     (x, order, xs, vs, h, writes, fit)
 
@@ -46,7 +46,7 @@ loop-v-preserved c =
     let h : l.v < length xs = omega arith in
     let fit = value_fits x.values order xs l.v h fits puts in
     let size = value_line_size x.values order xs l.v h in
-    let writes : Writes a.s.now a.text.now x a.facts order (Term.variable writer l.v) (l.to + length (get_or xs l.v []) + 3) (length l.buffer) =
+    let writes : Writes a.source.now.s.now a.source.now.text.now x a.source.now.facts order (Term.variable writer l.v) (l.to + length (get_or xs l.v []) + 3) (length l.buffer) =
     record { readable = readable; numbered = numbered l.v h; fits = omega (arith, fit.room, size) } in (
       all,
       puts_as _ _ a.buffer.now r.new.buffer a.at r.result (values_more x.values order xs l.v h)

@@ -16,7 +16,7 @@ use Rattle.report_sections.proofs.sections.write_values.Given as goal
 
 abbrev pub invariant-loop-v : goal.invariant-loop-v
 invariant-loop-v l =
-    (x : Setting) (order : List ℕ) (xs : List Bytes) → Readable l.s l.text x l.facts → Variables l.s l.text x l.q xs
-    → ((n : ℕ) → n < length xs → Numbered l.s x l.facts order (full x.values (Term.variable writer n)))
-    → Fits l.s x l.facts order l.at l.initial.buffer (written_values x.values order 0 xs)
+    (x : Setting) (order : List ℕ) (xs : List Bytes) → Readable l.source.s.now l.source.text.now x l.source.facts → Variables l.source.s.now l.source.text.now x l.q xs
+    → ((n : ℕ) → n < length xs → Numbered l.source.s.now x l.source.facts order (full x.values (Term.variable writer n)))
+    → Fits l.source.s.now x l.source.facts order l.at l.initial.buffer (written_values x.values order 0 xs)
     → (l.v-end ≡ length xs) × Puts l.initial.buffer l.buffer l.at l.to (written_values x.values order 0 (take l.v xs))

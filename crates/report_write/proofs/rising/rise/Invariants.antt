@@ -10,9 +10,9 @@ use Rattle.report_write.proofs.rising.rise.Given as goal
 
 abbrev pub invariant-loop-q : goal.invariant-loop-q
 invariant-loop-q l =
-    (text : Bytes) (x : Setting) (order : List ℕ) (bs : Bytes) → Readable l.s text x l.facts
-    → Behind (Frames l.frames l.s x l.facts order l.deep) l.s x l.facts order l.place l.number bs
-    → Rising l.frames l.s x l.facts order l.initial.buffer l.buffer l.at l.to l.p l.i l.depth l.deep bs
+    (text : Bytes) (x : Setting) (order : List ℕ) (bs : Bytes) → Readable l.source.s.now text x l.source.facts
+    → Behind (Frames l.frames l.source.s.now x l.source.facts order l.deep) l.source.s.now x l.source.facts order l.place l.number bs
+    → Rising l.frames l.source.s.now x l.source.facts order l.initial.buffer l.buffer l.at l.to l.p l.i l.depth l.deep bs
 
 abbrev pub decreases-loop-q : goal.decreases-loop-q
 decreases-loop-q l = l.depth

@@ -23,9 +23,9 @@ use Rattle.term.proofs.scratch.word_at.Reads as word_at_reads
 use Rattle.report_pairs.proofs.ends.end.Reads as end_reads
 use Rattle.term.proofs.word.look.Reads as look_reads
 use Rattle.report_write.proofs.rising.rise.Reads as rise_reads
-use Rattle.report_leaves.proofs.copy.copied.Reads as copied_reads
-use Rattle.report_leaves.proofs.leaf.leaf.Reads as leaf_reads
-use Rattle.report_leaves.proofs.leaf.opening.Reads as opening_reads
+use Rattle.report_leaves.proofs.source.Source.copied.Reads as copied_reads
+use Rattle.report_leaves.proofs.source.Source.leaf.Reads as leaf_reads
+use Rattle.report_leaves.proofs.source.Source.opening.Reads as opening_reads
 use Rattle.report_write.proofs.terms.+write_arguments_write_term.Goals.{write_arguments-in-Compound+in-Some, write_arguments-in-Compound-2, write_arguments-in_default}
 use Rattle.report_write.proofs.terms.+write_arguments_write_term.Goals as goal
 
@@ -78,12 +78,12 @@ asked : (text s : List ℕ) (facts : ℕ) (buffer : List ℕ) (at first : ℕ)
     → AskedThere text s facts buffer at first
 asked text s facts buffer at first (x, order, bs, r, b, f) = record { x = x; order = order; bs = bs; readable = r; before = b; fits = f }
 
-met : (t : ℕ) (c : Met t) (o : AskedThere c.args.text.now c.args.s.now c.args.facts c.args.buffer.now c.args.at c.args.first)
+met : (t : ℕ) (c : Met t) (o : AskedThere c.args.source.now.text.now c.args.source.now.s.now c.args.source.now.facts c.args.buffer.now c.args.at c.args.first)
     → Puts c.loop-q.buffer c.match-look.buffer c.loop-q.to c.match-look.to
     (here o.readable o.fits (c.loop-q.invariant o.x o.order o.bs o.readable o.before o.fits))
 met t c o =
     let S = c.args in let G = c.loop-q.invariant o.x o.order o.bs o.readable o.before o.fits in
-    let k : Shows S.s.now o.x G.before.u c.word_at-a.result = rw c.word_at-a.ensures (going_shows o.readable o.fits G) in
+    let k : Shows S.source.now.s.now o.x G.before.u c.word_at-a.result = rw c.word_at-a.ensures (going_shows o.readable o.fits G) in
     let l = c.end-e.ensures _ o.x G.before.u o.readable k in
     elim c.match-look.branch [
       | write_arguments-in-Compound+in-Some v ↦
@@ -97,35 +97,35 @@ met t c o =
 
 pub write_arguments-loop-q-init : goal.write_arguments-loop-q-init
 write_arguments-loop-q-init t c x order bs r b f =
-    let S = c.args in going_first _ S.s.now x S.facts order bs S.buffer.now S.at S.first refl b
+    let S = c.args in going_first _ S.source.now.s.now x S.source.now.facts order bs S.buffer.now S.at S.first refl b
 
 pub write_arguments-word_at-a-requires : goal.write_arguments-word_at-a-requires
 write_arguments-word_at-a-requires t c =
-    let S = c.args in let o = asked S.text.now S.s.now S.facts S.buffer.now S.at S.first c.requires in
+    let S = c.args in let o = asked S.source.now.text.now S.source.now.s.now S.source.now.facts S.buffer.now S.at S.first c.requires in
     going_inside o.readable o.fits (c.loop-q.invariant o.x o.order o.bs o.readable o.before o.fits)
 
 pub write_arguments-end-e-requires : goal.write_arguments-end-e-requires
 write_arguments-end-e-requires t c =
-    let S = c.args in let o = asked S.text.now S.s.now S.facts S.buffer.now S.at S.first c.requires in
+    let S = c.args in let o = asked S.source.now.text.now S.source.now.s.now S.source.now.facts S.buffer.now S.at S.first c.requires in
     let G = c.loop-q.invariant o.x o.order o.bs o.readable o.before o.fits in
-    let k : Shows S.s.now o.x G.before.u c.word_at-a.result = rw c.word_at-a.ensures (going_shows o.readable o.fits G) in
+    let k : Shows S.source.now.s.now o.x G.before.u c.word_at-a.result = rw c.word_at-a.ensures (going_shows o.readable o.fits G) in
     (_, o.x, G.before.u, o.readable, k)
 
 -- An argument that is a compound: whether it can be copied.
 pub write_arguments-copied-requires : goal.write_arguments-copied-requires
 write_arguments-copied-requires t c =
-    let S = c.args in let o = asked S.text.now S.s.now S.facts S.buffer.now S.at S.first c.requires in
+    let S = c.args in let o = asked S.source.now.text.now S.source.now.s.now S.source.now.facts S.buffer.now S.at S.first c.requires in
     let G = c.loop-q.invariant o.x o.order o.bs o.readable o.before o.fits in
-    let k : Shows S.s.now o.x G.before.u c.word_at-a.result = rw c.word_at-a.ensures (going_shows o.readable o.fits G) in
+    let k : Shows S.source.now.s.now o.x G.before.u c.word_at-a.result = rw c.word_at-a.ensures (going_shows o.readable o.fits G) in
     (_, o.x, o.order, G.before.u, o.readable, k, going_room o.readable o.fits G)
 
 -- It can not: its opening is put, and its place stands in the frames.
 pub write_arguments-opening-to-requires : goal.write_arguments-opening-to-requires
 unfolding going_still
 write_arguments-opening-to-requires t c =
-    let S = c.args in let o = asked S.text.now S.s.now S.facts S.buffer.now S.at S.first c.requires in
+    let S = c.args in let o = asked S.source.now.text.now S.source.now.s.now S.source.now.facts S.buffer.now S.at S.first c.requires in
     let G = c.loop-q.invariant o.x o.order o.bs o.readable o.before o.fits in
-    let k : Shows S.s.now o.x G.before.u c.word_at-a.result = rw c.word_at-a.ensures (going_shows o.readable o.fits G) in
+    let k : Shows S.source.now.s.now o.x G.before.u c.word_at-a.result = rw c.word_at-a.ensures (going_shows o.readable o.fits G) in
     let l = c.end-e.ensures _ o.x G.before.u o.readable k in
     let tried = c.in-None.ensures _ o.x o.order G.before.u o.readable k (going_room o.readable o.fits G) in
     let q = c.in-Compound.q in let z : seen c.end-e.result ≡ Compound q = sym c.look.ensures ∙ c.in-Compound.is in
@@ -134,40 +134,40 @@ write_arguments-opening-to-requires t c =
 
 pub write_arguments-overflow_mul-frames : goal.write_arguments-overflow_mul-frames
 write_arguments-overflow_mul-frames t c =
-    let S = c.args in let o = asked S.text.now S.s.now S.facts S.buffer.now S.at S.first c.requires in
+    let S = c.args in let o = asked S.source.now.text.now S.source.now.s.now S.source.now.facts S.buffer.now S.at S.first c.requires in
     let G = c.loop-q.invariant o.x o.order o.bs o.readable o.before o.fits in
     omega (arith, going_inside o.readable o.fits G, G.few, G.size, c.if-depth-lt16.true)
 
 pub write_arguments-overflow_add-frames : goal.write_arguments-overflow_add-frames
 write_arguments-overflow_add-frames t c =
-    let S = c.args in let o = asked S.text.now S.s.now S.facts S.buffer.now S.at S.first c.requires in
+    let S = c.args in let o = asked S.source.now.text.now S.source.now.s.now S.source.now.facts S.buffer.now S.at S.first c.requires in
     let G = c.loop-q.invariant o.x o.order o.bs o.readable o.before o.fits in
     omega (arith, going_inside o.readable o.fits G, G.few, G.size, c.if-depth-lt16.true)
 
 pub write_arguments-offset_bounds-frames-depth : goal.write_arguments-offset_bounds-frames-depth
 write_arguments-offset_bounds-frames-depth t c =
-    let S = c.args in let o = asked S.text.now S.s.now S.facts S.buffer.now S.at S.first c.requires in
+    let S = c.args in let o = asked S.source.now.text.now S.source.now.s.now S.source.now.facts S.buffer.now S.at S.first c.requires in
     let G = c.loop-q.invariant o.x o.order o.bs o.readable o.before o.fits in
     omega (arith, going_inside o.readable o.fits G, G.few, G.size, c.if-depth-lt16.true)
 
 pub write_arguments-bounds-frames-depth : goal.write_arguments-bounds-frames-depth
 write_arguments-bounds-frames-depth t c =
-    let S = c.args in let o = asked S.text.now S.s.now S.facts S.buffer.now S.at S.first c.requires in
+    let S = c.args in let o = asked S.source.now.text.now S.source.now.s.now S.source.now.facts S.buffer.now S.at S.first c.requires in
     let G = c.loop-q.invariant o.x o.order o.bs o.readable o.before o.fits in
     omega (arith, going_inside o.readable o.fits G, G.few, G.size, c.if-depth-lt16.true)
 
 pub write_arguments-overflow_add-depth : goal.write_arguments-overflow_add-depth
 write_arguments-overflow_add-depth t c =
-    let S = c.args in let o = asked S.text.now S.s.now S.facts S.buffer.now S.at S.first c.requires in
+    let S = c.args in let o = asked S.source.now.text.now S.source.now.s.now S.source.now.facts S.buffer.now S.at S.first c.requires in
     let G = c.loop-q.invariant o.x o.order o.bs o.readable o.before o.fits in
     omega (arith, going_inside o.readable o.fits G, G.few, G.size, c.if-depth-lt16.true)
 
 pub write_arguments-loop-q-smaller-in-None : goal.write_arguments-loop-q-smaller-in-None
 unfolding going_still
 write_arguments-loop-q-smaller-in-None t c =
-    let S = c.args in let o = asked S.text.now S.s.now S.facts S.buffer.now S.at S.first c.requires in
+    let S = c.args in let o = asked S.source.now.text.now S.source.now.s.now S.source.now.facts S.buffer.now S.at S.first c.requires in
     let G = c.loop-q.invariant o.x o.order o.bs o.readable o.before o.fits in
-    let k : Shows S.s.now o.x G.before.u c.word_at-a.result = rw c.word_at-a.ensures (going_shows o.readable o.fits G) in
+    let k : Shows S.source.now.s.now o.x G.before.u c.word_at-a.result = rw c.word_at-a.ensures (going_shows o.readable o.fits G) in
     let l = c.end-e.ensures _ o.x G.before.u o.readable k in
     let tried = c.in-None.ensures _ o.x o.order G.before.u o.readable k (going_room o.readable o.fits G) in
     let q = c.in-Compound.q in let z : seen c.end-e.result ≡ Compound q = sym c.look.ensures ∙ c.in-Compound.is in
@@ -178,9 +178,9 @@ write_arguments-loop-q-smaller-in-None t c =
 pub write_arguments-loop-q-preserved-in-None : goal.write_arguments-loop-q-preserved-in-None
 unfolding going_still
 write_arguments-loop-q-preserved-in-None t c x order bs r b f =
-    let S = c.args in let o : AskedThere S.text.now S.s.now S.facts S.buffer.now S.at S.first = record { x = x; order = order; bs = bs; readable = r; before = b; fits = f } in
+    let S = c.args in let o : AskedThere S.source.now.text.now S.source.now.s.now S.source.now.facts S.buffer.now S.at S.first = record { x = x; order = order; bs = bs; readable = r; before = b; fits = f } in
     let G = c.loop-q.invariant o.x o.order o.bs o.readable o.before o.fits in
-    let k : Shows S.s.now o.x G.before.u c.word_at-a.result = rw c.word_at-a.ensures (going_shows o.readable o.fits G) in
+    let k : Shows S.source.now.s.now o.x G.before.u c.word_at-a.result = rw c.word_at-a.ensures (going_shows o.readable o.fits G) in
     let l = c.end-e.ensures _ o.x G.before.u o.readable k in
     let tried = c.in-None.ensures _ o.x o.order G.before.u o.readable k (going_room o.readable o.fits G) in
     let q = c.in-Compound.q in let z : seen c.end-e.result ≡ Compound q = sym c.look.ensures ∙ c.in-Compound.is in
@@ -191,9 +191,9 @@ write_arguments-loop-q-preserved-in-None t c x order bs r b f =
 -- No frame is free.
 pub write_arguments-write_term-to-requires : goal.write_arguments-write_term-to-requires
 write_arguments-write_term-to-requires t c =
-    let S = c.args in let o = asked S.text.now S.s.now S.facts S.buffer.now S.at S.first c.requires in
+    let S = c.args in let o = asked S.source.now.text.now S.source.now.s.now S.source.now.facts S.buffer.now S.at S.first c.requires in
     let G = c.loop-q.invariant o.x o.order o.bs o.readable o.before o.fits in
-    let k : Shows S.s.now o.x G.before.u c.word_at-a.result = rw c.word_at-a.ensures (going_shows o.readable o.fits G) in (
+    let k : Shows S.source.now.s.now o.x G.before.u c.word_at-a.result = rw c.word_at-a.ensures (going_shows o.readable o.fits G) in (
       fall (2 * (length c.loop-q.buffer - c.loop-q.to)) (2 * (length S.buffer.now - S.at) + 1) t c.decreases
           (omega (arith, (going_falls o.readable o.fits G).1, puts_length G.puts)),
       (o.x, o.order, G.before.u, going_writes o.readable o.fits G, k, going_room o.readable o.fits G),
@@ -202,23 +202,23 @@ write_arguments-write_term-to-requires t c =
 -- An argument that is none.
 pub write_arguments-leaf-to-requires : goal.write_arguments-leaf-to-requires
 write_arguments-leaf-to-requires t c =
-    let S = c.args in let o = asked S.text.now S.s.now S.facts S.buffer.now S.at S.first c.requires in
+    let S = c.args in let o = asked S.source.now.text.now S.source.now.s.now S.source.now.facts S.buffer.now S.at S.first c.requires in
     let G = c.loop-q.invariant o.x o.order o.bs o.readable o.before o.fits in
-    let k : Shows S.s.now o.x G.before.u c.word_at-a.result = rw c.word_at-a.ensures (going_shows o.readable o.fits G) in
+    let k : Shows S.source.now.s.now o.x G.before.u c.word_at-a.result = rw c.word_at-a.ensures (going_shows o.readable o.fits G) in
     let l = c.end-e.ensures _ o.x G.before.u o.readable k in
     let other : NoCompound (seen c.end-e.result) = λ q e. c.in_default.not-Compound q (c.look.ensures ∙ e) in
     (o.x, o.order, G.before.u, going_writes o.readable o.fits G, l, other)
 
 pub write_arguments-rise-t-requires : goal.write_arguments-rise-t-requires
 write_arguments-rise-t-requires t c =
-    let S = c.args in let o = asked S.text.now S.s.now S.facts S.buffer.now S.at S.first c.requires in
+    let S = c.args in let o = asked S.source.now.text.now S.source.now.s.now S.source.now.facts S.buffer.now S.at S.first c.requires in
     let G = c.loop-q.invariant o.x o.order o.bs o.readable o.before o.fits in
     (_, o.x, o.order, later_bytes o.readable o.fits G, o.readable, going_behind o.readable o.fits G, going_fits o.readable o.fits G (met t c.before.before.before o), G.few)
 
 -- Another argument.
 pub write_arguments-loop-q-smaller : goal.write_arguments-loop-q-smaller
 write_arguments-loop-q-smaller t c =
-    let S = c.args in let o = asked S.text.now S.s.now S.facts S.buffer.now S.at S.first c.requires in
+    let S = c.args in let o = asked S.source.now.text.now S.source.now.s.now S.source.now.facts S.buffer.now S.at S.first c.requires in
     let G = c.loop-q.invariant o.x o.order o.bs o.readable o.before o.fits in
     let P = met t c.before.before.before.before.before.before.before o in
     let R = rose_as _ _ o.x _ o.order _ _ _ _ _ c.rise-t.result _ c.in-Some-next.is (c.rise-t.ensures _ o.x o.order (later_bytes o.readable o.fits G) o.readable (going_behind o.readable o.fits G)) in
@@ -226,7 +226,7 @@ write_arguments-loop-q-smaller t c =
 
 pub write_arguments-loop-q-preserved : goal.write_arguments-loop-q-preserved
 write_arguments-loop-q-preserved t c x order bs r b f =
-    let S = c.args in let o : AskedThere S.text.now S.s.now S.facts S.buffer.now S.at S.first = record { x = x; order = order; bs = bs; readable = r; before = b; fits = f } in
+    let S = c.args in let o : AskedThere S.source.now.text.now S.source.now.s.now S.source.now.facts S.buffer.now S.at S.first = record { x = x; order = order; bs = bs; readable = r; before = b; fits = f } in
     let G = c.loop-q.invariant o.x o.order o.bs o.readable o.before o.fits in
     let P = met t c.before.before.before.before.before.before.before o in
     let R = rose_as _ _ o.x _ o.order _ _ _ _ _ c.rise-t.result _ c.in-Some-next.is (c.rise-t.ensures _ o.x o.order (later_bytes o.readable o.fits G) o.readable (going_behind o.readable o.fits G)) in
@@ -235,7 +235,7 @@ write_arguments-loop-q-preserved t c x order bs r b f =
 -- The last one.
 pub write_arguments-returns-in_default-next : goal.write_arguments-returns-in_default-next
 write_arguments-returns-in_default-next t c x order bs r b f =
-    let S = c.args in let o : AskedThere S.text.now S.s.now S.facts S.buffer.now S.at S.first = record { x = x; order = order; bs = bs; readable = r; before = b; fits = f } in
+    let S = c.args in let o : AskedThere S.source.now.text.now S.source.now.s.now S.source.now.facts S.buffer.now S.at S.first = record { x = x; order = order; bs = bs; readable = r; before = b; fits = f } in
     let G = c.loop-q.invariant o.x o.order o.bs o.readable o.before o.fits in
     let P = met t c.before.before.before.before.before.before.before o in
     let R = rose_as _ _ o.x _ o.order _ _ _ _ _ c.rise-t.result None c.in_default-next.is (c.rise-t.ensures _ o.x o.order (later_bytes o.readable o.fits G) o.readable (going_behind o.readable o.fits G)) in

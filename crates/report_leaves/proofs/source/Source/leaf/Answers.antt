@@ -1,4 +1,4 @@
--- `report_leaves::leaf::leaf` meets its contract: by what the word shows.
+-- `report_leaves::source::Source::leaf` meets its contract: by what the word shows.
 use mathlib.Core.Path.{◌≡◌, ◌∙◌, sym, ap}
 use native.Mathlib.Omega.{arith}
 use lib.ListN.{length}
@@ -8,7 +8,7 @@ use Rattle.report_put.proofs.Putting.{puts_two, puts_is, puts_length}
 use Rattle.report_pairs.proofs.Told.{seen, other_leaf}
 use Rattle.report_pairs.proofs.Leaves.{leaf_integer, leaf_name, leaf_empty, leaf_nothing, integer_written, name_written, empty_written}
 use Rattle.report_leaves.proofs.LeafWrites.{write_writer, write_reader, writer_fits, reader_fits}
-use Rattle.report_leaves.proofs.leaf.leaf.Goals as goal
+use Rattle.report_leaves.proofs.source.Source.leaf.Goals as goal
 
 pub variable-requires : goal.variable-requires
 variable-requires c =
