@@ -17,4 +17,4 @@ pub returns-in_err-n : goal.returns-in_err-n
 returns-in_err-n c = λ known vars st.
     let a = c.args in
     let e = err_from_is_err_and c.from_residual.result c.from_residual.ensures.1 in
-    rw (e.1, e.2) (goal_unread a.text.now a.rest.now a.from a.base known vars a.c a.s.now c.goal_name.new.names a.item.now c.in_err-n.field-0.0 (c.in_err-n.ensures known vars a.item.now st))
+    rw (e.1, e.2) (goal_unread a.src.text.now a.src.rest.now a.src.from a.base known vars a.c a.s.now c.goal_name.new.names a.item.now c.in_err-n.field-0.0 (c.in_err-n.ensures known vars a.item.now st))

@@ -28,7 +28,7 @@ pub next_of-requires : goal.next_of-requires
 next_of-requires c =
     let p = c.requires.stands in
     let t = c.loop-i.invariant p.0 p.1 p.2 in
-    (c.in_ok-w.ensures (names_over t.1 p.0) (variables_over c.args.from t.1 p.1) t.3.stands).2.stands.inside
+    (c.in_ok-w.ensures (names_over t.1 p.0) (variables_over c.args.src.from t.1 p.1) t.3.stands).2.stands.inside
 
 pub returns-in_err-sign : goal.returns-in_err-sign
 returns-in_err-sign c = λ known vars st.
