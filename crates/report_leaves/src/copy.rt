@@ -16,9 +16,11 @@ use term::word::index;
 impl Source<'_> {
     // The value of a variable put again, if it stands before this place as a whole: the place behind it.
     pub fn copied(&self, buffer: &mut [u8], at: usize, w: u64) -> Option<usize>
-        requires { (text : Bytes) × (x : Setting) × (order : List ℕ) × (t : Term) × Readable self.now.s.now text x self.now.facts × Shows self.now.s.now x t w
+        requires { (text : Bytes) × (x : Setting) × (order : List ℕ) × (t : Term) × Readable self.now.s.now text x self.now.facts
+            × Shows self.now.s.now x t w
             × Fits self.now.s.now x self.now.facts order at buffer.old (written order alone (full x.values t)) }
-        ensures { (text : Bytes) (x : Setting) (order : List ℕ) (t : Term) → Readable self.now.s.now text x self.now.facts → Shows self.now.s.now x t w
+        ensures { (text : Bytes) (x : Setting) (order : List ℕ) (t : Term) → Readable self.now.s.now text x self.now.facts
+            → Shows self.now.s.now x t w
             → Fits self.now.s.now x self.now.facts order at buffer.old (written order alone (full x.values t))
             → Copied buffer.old buffer.new at result (written order alone (full x.values t)) }
     {

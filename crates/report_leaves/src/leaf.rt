@@ -37,7 +37,8 @@ fn integer(buffer: &mut [u8], at: usize, n: u64) -> usize
 impl Source<'_> {
     // "An unassigned pair is `_1`, `_2`, .."
     fn variable(&self, buffer: &mut [u8], at: usize, p: usize) -> usize
-        requires { (self.now.facts + pair_facts * p + 2 < length self.now.s.now) × (at + 1 + length (in_decimal (get_or self.now.s.now (self.now.facts + pair_facts * p + 2) 0)) ≤ length buffer.old) }
+        requires { (self.now.facts + pair_facts * p + 2 < length self.now.s.now)
+            × (at + 1 + length (in_decimal (get_or self.now.s.now (self.now.facts + pair_facts * p + 2) 0)) ≤ length buffer.old) }
         ensures { Puts buffer.old buffer.new at result (95 ∷ in_decimal (get_or self.now.s.now (self.now.facts + pair_facts * p + 2) 0)) }
     {
         let to = put(buffer, at, b'_');
@@ -46,7 +47,8 @@ impl Source<'_> {
 
     // A name by its number.
     fn name(&self, buffer: &mut [u8], at: usize, k: usize) -> usize
-        requires { (f : Bytes) × (2 * k + 1 < length self.now.s.now) × SpelledAt self.now.text.now (get_or self.now.s.now (2 * k) 0) (get_or self.now.s.now (2 * k + 1) 0) f
+        requires { (f : Bytes) × (2 * k + 1 < length self.now.s.now)
+            × SpelledAt self.now.text.now (get_or self.now.s.now (2 * k) 0) (get_or self.now.s.now (2 * k + 1) 0) f
             × (at + length f ≤ length buffer.old) }
         ensures { (f : Bytes) → SpelledAt self.now.text.now (get_or self.now.s.now (2 * k) 0) (get_or self.now.s.now (2 * k + 1) 0) f
             → Puts buffer.old buffer.new at result f }
@@ -58,7 +60,8 @@ impl Source<'_> {
 
     // A term that is no compound, and no assigned variable.
     pub fn leaf(&self, buffer: &mut [u8], at: usize, w: u64) -> usize
-        requires { (x : Setting) × (order : List ℕ) × (t : Term) × Writes self.now.s.now self.now.text.now x self.now.facts order t at (length buffer.old) × Led self.now.s.now x t w
+        requires { (x : Setting) × (order : List ℕ) × (t : Term)
+            × Writes self.now.s.now self.now.text.now x self.now.facts order t at (length buffer.old) × Led self.now.s.now x t w
             × NoCompound (view (tag_in w) (rest_in w)) }
         ensures { (x : Setting) (order : List ℕ) (t : Term) → Writes self.now.s.now self.now.text.now x self.now.facts order t at (length buffer.old)
             → Led self.now.s.now x t w → NoCompound (view (tag_in w) (rest_in w))

@@ -61,10 +61,13 @@ fn count_line(s: &mut [u64], facts: usize, at: usize, before: usize, w: u64, beh
 
 // A term and an LF.
 fn write_line(source: &Source, buffer: &mut [u8], at: usize, w: u64) -> usize
-    requires { (x : Setting) × (order : List ℕ) × (t : Term) × Writes source.now.s.now source.now.text.now x source.now.facts order t at (length buffer.old) × Shows source.now.s.now x t w
+    requires { (x : Setting) × (order : List ℕ) × (t : Term)
+        × Writes source.now.s.now source.now.text.now x source.now.facts order t at (length buffer.old) × Shows source.now.s.now x t w
         × Fits source.now.s.now x source.now.facts order at buffer.old (written order alone (full x.values t) ++ bytes "\n") }
-    ensures { (x : Setting) (order : List ℕ) (t : Term) → Writes source.now.s.now source.now.text.now x source.now.facts order t at (length buffer.old)
-        → Shows source.now.s.now x t w → Fits source.now.s.now x source.now.facts order at buffer.old (written order alone (full x.values t) ++ bytes "\n")
+    ensures { (x : Setting) (order : List ℕ) (t : Term)
+        → Writes source.now.s.now source.now.text.now x source.now.facts order t at (length buffer.old)
+        → Shows source.now.s.now x t w
+        → Fits source.now.s.now x source.now.facts order at buffer.old (written order alone (full x.values t) ++ bytes "\n")
         → Puts buffer.old buffer.new at result (written order alone (full x.values t) ++ bytes "\n") }
 {
     let to = write_term(source, buffer, at, w);
@@ -112,7 +115,8 @@ fn count_value(s: &mut [u64], facts: usize, at: usize, q: usize, v: usize) -> us
 }
 
 fn count_values(s: &mut [u64], facts: usize, at: usize, q: usize) -> usize
-    requires { (text : Bytes) × (x : Setting) × (seen : List ℕ) × (xs : List Bytes) × Counts s.old text x facts seen at × Variables s.old text x q xs }
+    requires { (text : Bytes) × (x : Setting) × (seen : List ℕ) × (xs : List Bytes) × Counts s.old text x facts seen at
+        × Variables s.old text x q xs }
     ensures { (text : Bytes) (x : Setting) (seen : List ℕ) (xs : List Bytes) → Counts s.old text x facts seen at → Variables s.old text x q xs
         → Counted s.old s.new text x facts at seen (shown_values x.values seen 0 xs) (seen_after_values x.values seen 0 xs) result }
 {
@@ -192,10 +196,12 @@ fn write_value(source: &Source, buffer: &mut [u8], at: usize, q: usize, v: usize
 }
 
 fn write_values(source: &Source, buffer: &mut [u8], at: usize, q: usize) -> usize
-    requires { (x : Setting) × (order : List ℕ) × (xs : List Bytes) × Readable source.now.s.now source.now.text.now x source.now.facts × Variables source.now.s.now source.now.text.now x q xs
+    requires { (x : Setting) × (order : List ℕ) × (xs : List Bytes) × Readable source.now.s.now source.now.text.now x source.now.facts
+        × Variables source.now.s.now source.now.text.now x q xs
         × ((n : ℕ) → n < length xs → Numbered source.now.s.now x source.now.facts order (full x.values (Term.variable writer n)))
         × Fits source.now.s.now x source.now.facts order at buffer.old (written_values x.values order 0 xs) }
-    ensures { (x : Setting) (order : List ℕ) (xs : List Bytes) → Readable source.now.s.now source.now.text.now x source.now.facts → Variables source.now.s.now source.now.text.now x q xs
+    ensures { (x : Setting) (order : List ℕ) (xs : List Bytes) → Readable source.now.s.now source.now.text.now x source.now.facts
+        → Variables source.now.s.now source.now.text.now x q xs
         → ((n : ℕ) → n < length xs → Numbered source.now.s.now x source.now.facts order (full x.values (Term.variable writer n)))
         → Fits source.now.s.now x source.now.facts order at buffer.old (written_values x.values order 0 xs)
         → Puts buffer.old buffer.new at result (written_values x.values order 0 xs) }
@@ -209,7 +215,8 @@ fn write_values(source: &Source, buffer: &mut [u8], at: usize, q: usize) -> usiz
 
 // The line of a goal, with its origin behind it.
 fn write_goal(source: &Source, buffer: &mut [u8], at: usize, label: &[u8], goal: u64) -> usize
-    requires { (x : Setting) × (order : List ℕ) × (t : Term) × Writes source.now.s.now source.now.text.now x source.now.facts order t (at + length label.now) (length buffer.old)
+    requires { (x : Setting) × (order : List ℕ) × (t : Term)
+        × Writes source.now.s.now source.now.text.now x source.now.facts order t (at + length label.now) (length buffer.old)
         × Shows source.now.s.now x t (compound_word (place_in goal))
         × Fits source.now.s.now x source.now.facts order at buffer.old (label.now ++ (written order alone (full x.values t) ++ (origin_of goal ++ bytes "\n"))) }
     ensures { (x : Setting) (order : List ℕ) (t : Term)
@@ -229,7 +236,8 @@ fn write_goal(source: &Source, buffer: &mut [u8], at: usize, label: &[u8], goal:
 
 // The length of the section behind so many bytes; every pair that it shows has its number.
 fn count_lines(s: &mut [u64], room: Room, facts: usize, at: usize, q: usize, t: Standing) -> usize
-    requires { (text : Bytes) × (x : Setting) × (xs : List Bytes) × (actives : List Goal) × (ws : List Goal) × (fs : List Goal) × Counts s.old text x facts [] at
+    requires { (text : Bytes) × (x : Setting) × (xs : List Bytes) × (actives : List Goal) × (ws : List Goal) × (fs : List Goal)
+        × Counts s.old text x facts [] at
         × SectionAt s.old text x facts (figures room) t q xs actives ws fs }
     ensures { (text : Bytes) (x : Setting) (xs : List Bytes) (actives ws fs : List Goal) → Counts s.old text x facts [] at
         → SectionAt s.old text x facts (figures room) t q xs actives ws fs
@@ -253,7 +261,8 @@ fn write_goals(
     g: Group,
     q: usize,
 ) -> usize
-    requires { (x : Setting) × (order : List ℕ) × (gs : List Goal) × Readable source.now.s.now source.now.text.now x source.now.facts × Listed source.now.s.now x source.now.facts g q gs
+    requires { (x : Setting) × (order : List ℕ) × (gs : List Goal) × Readable source.now.s.now source.now.text.now x source.now.facts
+        × Listed source.now.s.now x source.now.facts g q gs
         × Numbers source.now.s.now x source.now.facts order × AllIn x.values order gs
         × Fits source.now.s.now x source.now.facts order at buffer.old (written_goals x.values order label.now gs) }
     ensures { (x : Setting) (order : List ℕ) (gs : List Goal) → Readable source.now.s.now source.now.text.now x source.now.facts

@@ -23,7 +23,8 @@ pub fn rise(
     deep: usize,
 ) -> Risen
     requires { (text : Bytes) × (x : Setting) × (order : List ℕ) × (bs : Bytes) × Readable source.now.s.now text x source.now.facts
-        × Behind (Frames frames.now source.now.s.now x source.now.facts order deep) source.now.s.now x source.now.facts order place number bs × (at + length bs ≤ length buffer.old) × (deep ≤ 16) }
+        × Behind (Frames frames.now source.now.s.now x source.now.facts order deep) source.now.s.now x source.now.facts order place number bs
+        × (at + length bs ≤ length buffer.old) × (deep ≤ 16) }
     ensures { (text : Bytes) (x : Setting) (order : List ℕ) (bs : Bytes) → Readable source.now.s.now text x source.now.facts
         → Behind (Frames frames.now source.now.s.now x source.now.facts order deep) source.now.s.now x source.now.facts order place number bs
         → Rose frames.now source.now.s.now x source.now.facts order buffer.old buffer.new at deep bs result }

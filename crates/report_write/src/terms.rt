@@ -68,9 +68,11 @@ fn write_arguments(source: &Source, buffer: &mut [u8], at: usize, first: usize) 
 // A term, standing alone.
 #[cycle(write_arguments_write_term)]
 pub fn write_term(source: &Source, buffer: &mut [u8], at: usize, w: u64) -> usize
-    requires { (x : Setting) × (order : List ℕ) × (t : Term) × Writes source.now.s.now source.now.text.now x source.now.facts order t at (length buffer.old) × Shows source.now.s.now x t w
+    requires { (x : Setting) × (order : List ℕ) × (t : Term)
+        × Writes source.now.s.now source.now.text.now x source.now.facts order t at (length buffer.old) × Shows source.now.s.now x t w
         × Fits source.now.s.now x source.now.facts order at buffer.old (written order alone (full x.values t)) }
-    ensures { (x : Setting) (order : List ℕ) (t : Term) → Writes source.now.s.now source.now.text.now x source.now.facts order t at (length buffer.old)
+    ensures { (x : Setting) (order : List ℕ) (t : Term)
+        → Writes source.now.s.now source.now.text.now x source.now.facts order t at (length buffer.old)
         → Shows source.now.s.now x t w → Fits source.now.s.now x source.now.facts order at buffer.old (written order alone (full x.values t))
         → Puts buffer.old buffer.new at result (written order alone (full x.values t)) }
 {

@@ -1,7 +1,7 @@
 -- Following a term of the unit: each term found is a term of the unit again, has the same end and is nearer to it.
 use Prim.Native.Nat.{ℕ, suc, ◌+◌, ◌-◌, ◌*◌, ◌<◌}
 use mathlib.Core.Path.{◌≡◌, refl, ◌∙◌, sym, ap}
-use mathlib.Core.Logic.{◌≢◌}
+use mathlib.Core.Logic.{◌≢◌, ◌⊎◌, inl, inr}
 use mathlib.Core.List.{List}
 use mathlib.Core.Option.{Option, none, some}
 use native.Mathlib.Omega.{arith}
@@ -75,19 +75,24 @@ module _ (s : List ℕ) (x : Setting) (from links : ℕ) where
   unfolding Within
   pair_at n w p h r e = record { chained = r.chained; inside = r.term.of.within; place = e }
 
-  pub writer_pair : (t : Term) (w p : ℕ) → Reads s x from links t w → seen w ≡ Writer p
+  writer_pair : (t : Term) (w p : ℕ) → Reads s x from links t w → seen w ≡ Writer p
       → (n : ℕ) × (t ≡ Term.variable writer n) × PairAt s x from links n p
   writer_pair t w p r e = go (seen_writer x.places t w p r.word e)
     where
       go : (n : ℕ) × (t ≡ Term.variable writer n) × (p ≡ x.places.pair n) → (n : ℕ) × (t ≡ Term.variable writer n) × PairAt s x from links n p
       go (n, a, b) = (n, a, pair_at n w p writer (rw a at r) b)
 
-  pub reader_pair : (t : Term) (w p : ℕ) → Reads s x from links t w → seen w ≡ Reader p
+  reader_pair : (t : Term) (w p : ℕ) → Reads s x from links t w → seen w ≡ Reader p
       → (n : ℕ) × (t ≡ Term.variable reader n) × PairAt s x from links n p
   reader_pair t w p r e = go (seen_reader x.places t w p r.word e)
     where
       go : (n : ℕ) × (t ≡ Term.variable reader n) × (p ≡ x.places.pair n) → (n : ℕ) × (t ≡ Term.variable reader n) × PairAt s x from links n p
       go (n, a, b) = (n, a, pair_at n w p reader (rw a at r) b)
+
+  pub variable_pair : (t : Term) (w p : ℕ) → Reads s x from links t w → (seen w ≡ Writer p) ⊎ (seen w ≡ Reader p)
+      → (h : Half) × (n : ℕ) × (t ≡ Term.variable h n) × PairAt s x from links n p
+  variable_pair t w p r (inl e) = let (n, a, b) = writer_pair t w p r e in (writer, n, a, b)
+  variable_pair t w p r (inr e) = let (n, a, b) = reader_pair t w p r e in (reader, n, a, b)
 
   pub other_ahead : (t : Term) (w : ℕ) → Reads s x from links t w → ((p : ℕ) → seen w ≡ Writer p → ⊥) → ((p : ℕ) → seen w ≡ Reader p → ⊥)
       → value_of x.values t ≡ none

@@ -32,8 +32,7 @@ fn keep_end(s: &mut [u64], values: usize, links: usize, w: u64)
     ensures { (x : Setting) (t : Term) → KeepsOf s.old x values links t w → EndsKept s.old s.new x values links }
 {
     match look(w) {
-        View::Writer(p) => keep(s, values, links, w, p),
-        View::Reader(p) => keep(s, values, links, w, p),
+        View::Writer(p) | View::Reader(p) => keep(s, values, links, w, p),
         _ => {}
     }
 }

@@ -29,8 +29,7 @@ fn ahead(s: &[u64], values: usize, links: usize, w: u64) -> Option<u64>
     ensures { (x : Setting) (t : Term) → Reads s.now x values links t w → Ahead s.now x values links t result }
 {
     match look(w) {
-        View::Writer(p) => led(s, values, links, p),
-        View::Reader(p) => led(s, values, links, p),
+        View::Writer(p) | View::Reader(p) => led(s, values, links, p),
         _ => None,
     }
 }

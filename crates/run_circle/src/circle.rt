@@ -213,6 +213,7 @@ fn visit(
 // Whether pair z is reached from a term: the head's, whose variables stand for what they are given, or the goal's. A pair with this search's stamp was
 // visited. The search goes on to a compound's last argument that leads on and to a pair's value in its loop, and descends into the other arguments:
 // `later` is the last one so far that leads on, or 0, and is searched when the next one is met.
+// Stays with its places one by one: a struct of them is handed over by a pointer, and the deepest search would pass 8 MiB of stack.
 fn from_term(
     s: &mut [u64],
     values: usize,

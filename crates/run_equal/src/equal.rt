@@ -121,6 +121,8 @@ fn root(s: &[u64], lists: usize, links: usize, taken: usize, w: u64) -> u64
 
 // What a root is looked into as: of a variable, the compound that it is linked to, where the other one is no variable; else its value, followed. That
 // compound was met last, so its parts are the likeliest to be linked to the other's: in a doubling whose levels are cut at different places, they are.
+// In line, so that the comparison keeps 144 bytes of stack a level.
+#[inline(always)]
 fn opened(s: &[u64], values: usize, lists: usize, links: usize, taken: usize, c: u64, d: u64) -> u64
     requires { (x : Scene) × (v : Term) × Working s.now x values lists links taken × Means x c v }
     ensures { (x : Scene) (v : Term) → Working s.now x values lists links taken → Means x c v
@@ -186,6 +188,7 @@ fn matches(s: &[u64], e: u64, f: u64) -> bool
 
 // Compares two terms, no deeper than `depth`: neither is deeper, and only links that are not true could lead on further. It goes on to the last arguments
 // of two compounds in its loop, and descends into the others.
+// Stays with its places one by one: a struct of them is handed over by a pointer, and the deepest comparison would take more stack.
 fn same(
     s: &mut [u64],
     values: usize,
@@ -224,7 +227,7 @@ fn same(
         if k == 0 {
             return taken;
         }
-        // Stays a loop over places: an index beside both takes more of each level's stack.
+        // Stays a loop over places: an index beside both is one number more that each level keeps on the stack.
         while 1 < k {
             p += 1;
             q += 1;

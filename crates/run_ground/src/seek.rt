@@ -36,8 +36,9 @@ use term::word::{COMPOUND, READER, TAGS, WRITER, index};
 // The mark of a pair from which no unassigned pair is reached. Stamps are greater.
 const GROUND: u64 = 1;
 
-// What a walk has found so far, as one number, since an enum is handed over by a pointer and the deepest walk would pass 8 MiB of stack: four times one
-// more than how many pairs the set of readers has, 2 if the first unassigned variable decides, and PENDING if an unassigned reader was met; or FAILED.
+// What a walk has found so far, as one number: four times one more than how many pairs the set of readers has, 2 if the first unassigned variable decides,
+// and PENDING if an unassigned reader was met; or FAILED.
+// Stays a number: an enum is handed over by a pointer, and the deepest walk would pass 8 MiB of stack.
 const PENDING: usize = 1;
 
 const FAILED: usize = 3;
@@ -148,6 +149,7 @@ fn enters(s: &mut [u64], marks: usize, stamp: u64, p: usize) -> bool
 }
 
 // Through a term of the unit. The walk goes on to a compound's last argument and to a pair's value in its loop, and descends into the other arguments.
+// Stays with its places one by one: a struct of them is handed over by a pointer, and the deepest walk would pass 8 MiB of stack.
 fn from_unit(
     s: &mut [u64],
     values: usize,

@@ -1,18 +1,7 @@
 -- `run_chains::follow::follow` meets its contract.
 use Rattle.std.proofs.Common.{◌-◌, ◌+◌, ◌≡◌, arith}
-use Rattle.run_chains.proofs.Following.{start_passed, pass_on, pass_end, passed_all}
+use Rattle.run_chains.proofs.Following.{pass_on, pass_end, passed_all}
 use Rattle.run_chains.proofs.follow.follow.Goals as goal
-
-pub loop-init : goal.loop-init
-loop-init c x u r =
-    let all : c.args.links - 0 ≡ c.args.links = omega arith in
-    rw all (start_passed c.args.s.now x c.args.values c.args.links u c.args.w r)
-
-pub ahead-requires : goal.ahead-requires
-ahead-requires c =
-    let p = c.requires in
-    let P = c.loop.invariant p.0 p.1 p.2 in
-    (p.0, P.term, P.reads)
 
 pub returns-in_default : goal.returns-in_default
 returns-in_default c x u r =

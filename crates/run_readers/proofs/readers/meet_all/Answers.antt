@@ -8,16 +8,6 @@ use Rattle.run_readers.proofs.readers.meet_all.Goals.{then-word_at-eq0, else-wor
 pub loop-i-init : goal.loop-i-init
 loop-i-init c = rw (asked_none c.args.s.now) (met_none c.args.s.now c.args.readers c.args.pairs c.args.first c.requires.0)
 
-pub meet-met-requires : goal.meet-met-requires
-meet-met-requires c =
-    let a = c.args in
-    let L = c.loop-i in
-    let m = L.invariant in
-    let few : L.i < 192 = omega arith in
-    let waits = sym (noted_term a.s.now L.s a.readers a.pairs a.first L.i L.met c.requires.1 few m) ∙ sym c.word_at.ensures ∙ c.if-word_at-eq0.true in
-    let same = c.index.ensures ∙ c.word_at-then-word_at-eq0.ensures ∙ noted_pair a.s.now L.s a.readers a.pairs a.first L.i L.met c.requires.1 few m in
-    (m.ok, rw same (c.requires.3 L.i c.loop-i-test.true waits))
-
 pub loop-i-preserved : goal.loop-i-preserved
 loop-i-preserved c =
     let a = c.args in
@@ -33,8 +23,3 @@ loop-i-preserved c =
           (met_less a.s.now L.s a.readers a.pairs a.first L.i L.met c.requires.1 few L.invariant
           (λ e. w.if-word_at-eq0.false (c.word_at.ensures ∙ e)))
     ]
-
-pub returns : goal.returns
-returns c =
-    let all : c.loop-i.i ≡ c.args.n = omega arith in
-    rw all at c.loop-i.invariant

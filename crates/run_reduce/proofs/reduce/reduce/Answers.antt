@@ -13,8 +13,7 @@ fits-requires c =
     let (text, names, j, limit, atlas, slots, g, others, clause, given, taken, red) = c.requires in
     let e_pairs = c.index-pairs.ensures ∙ c.word_at.ensures ∙ red.at.held.pairs in
     let e_compounds = c.index-compounds.ensures ∙ c.word_at-2.ensures ∙ red.at.held.compounds in
-    let e_body = c.index-body.ensures ∙ c.word_at-3.ensures ∙ red.at.held.goals in
-    (
+    let e_body = c.index-body.ensures ∙ c.word_at-3.ensures ∙ red.at.held.goals in (
       calls.counted taken,
       omega (arith, e_pairs, red.at.held.laid.few_pairs),
       omega (arith, e_compounds, red.at.held.laid.few_compounds),

@@ -8,10 +8,6 @@ use Rattle.run_table.proofs.Seen.{seen}
 use Rattle.run_table.proofs.Rows.{row_other}
 use Rattle.run_table.proofs.table.table.Goals as goal
 
-pub against_writer-requires : goal.against_writer-requires
-against_writer-requires c =
-    (omega arith, c.requires.2 c.in-Writer.x (sym c.look.ensures ∙ c.in-Writer.is))
-
 pub returns-in-Writer : goal.returns-in-Writer
 unfolding writer_row reader_row constant_row compound_row equal_row row answer behind
 returns-in-Writer c =
