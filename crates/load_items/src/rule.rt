@@ -33,7 +33,7 @@ pub struct Ruled {
 }
 
 // What the halves of a clause are counted in while it is read, apart from the item's table, and which of its readers are licensed.
-#[derive(Clone, Copy)]
+#[derive(Drop)]
 pub struct Tables {
     pub in_head: [u64; 64],
     pub in_guards: [u64; 64],
