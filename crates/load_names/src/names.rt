@@ -41,6 +41,7 @@ fn find(text: &[u8], table: &[u64], h: usize, spelling: &[u8]) -> Option<usize>
     ensures { (places : List Place) → NamesIn text.now places table.now
         → found result ≡ place_of spelling.now (spellings places) }
 {
+    // Stays a number: a link is a word of the table, 0 for none.
     let mut next = index(table[512 + h]);
     while next != 0 {
         let n = next - 1;
@@ -64,6 +65,7 @@ fn add(table: &mut [u64], count: usize, h: usize, start: usize, size: usize)
     table[512 + h] = word(count + 1);
 }
 
+// Stays a table with its count beside it: fixed memory, lent by the loader; the count goes on by value in the cursor.
 // The number of the name from a to e of the rest, which begins at an offset of the text, and how many names there are then; none where a new
 // name passes the figure.
 pub fn number(
