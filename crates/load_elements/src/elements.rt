@@ -58,9 +58,12 @@ fn right_side(
     c: Cursor,
 ) -> Result<(u64, Cursor), Unread>
     requires base_in_bounds { (item_end base ≤ length s.old) × (length s.old < 1152921504606846976) }
-    requires stands { (known : List Place) × (vars : List Place) × Stands src.text.now src.rest.now src.from names.old item.old c known vars }
-    ensures { (known : List Place) (vars : List Place) → Stands src.entry.text.now src.entry.rest.now src.entry.from names.old item.old c known vars
-        → RightIs left src.entry.text.now src.entry.rest.now src.entry.from base known vars c s.old item.old s.new names.new item.new result }
+    requires stands { (known : List Place) × (vars : List Place)
+        × Stands src.text.now src.rest.now src.from names.old item.old c known vars }
+    ensures { (known : List Place) (vars : List Place)
+        → Stands src.entry.text.now src.entry.rest.now src.entry.from names.old item.old c known vars
+        → RightIs left src.entry.text.now src.entry.rest.now src.entry.from base known vars c s.old item.old
+        s.new names.new item.new result }
 {
     let n = c.compounds;
     if ITEM_COMPOUNDS <= n {
@@ -85,9 +88,12 @@ pub fn element(
     c: Cursor,
 ) -> Result<(u64, Cursor), Unread>
     requires base_in_bounds { (item_end base ≤ length s.old) × (length s.old < 1152921504606846976) }
-    requires stands { (known : List Place) × (vars : List Place) × Stands src.text.now src.rest.now src.from names.old item.old c known vars }
-    ensures { (known : List Place) (vars : List Place) → Stands src.entry.text.now src.entry.rest.now src.entry.from names.old item.old c known vars
-        → ElementIs src.entry.text.now src.entry.rest.now src.entry.from base known vars c s.old item.old s.new names.new item.new result }
+    requires stands { (known : List Place) × (vars : List Place)
+        × Stands src.text.now src.rest.now src.from names.old item.old c known vars }
+    ensures { (known : List Place) (vars : List Place)
+        → Stands src.entry.text.now src.entry.rest.now src.entry.from names.old item.old c known vars
+        → ElementIs src.entry.text.now src.entry.rest.now src.entry.from base known vars c s.old item.old
+        s.new names.new item.new result }
 {
     let (w, d) = term(src, s, names, item, base, 16, c)?;
     match next_is(src.rest, d.at, b'=') {
@@ -127,8 +133,10 @@ pub fn elements(
     c: Cursor,
 ) -> Result<Elements, Unread>
     requires base_in_bounds { (item_end base ≤ length s.old) × (length s.old < 1152921504606846976) × (8 ≤ length words.old) }
-    requires stands { (known : List Place) × (vars : List Place) × Stands src.text.now src.rest.now src.from names.old item.old c known vars }
-    ensures { (known : List Place) (vars : List Place) → Stands src.entry.text.now src.entry.rest.now src.entry.from names.old item.old c known vars
+    requires stands { (known : List Place) × (vars : List Place)
+        × Stands src.text.now src.rest.now src.from names.old item.old c known vars }
+    ensures { (known : List Place) (vars : List Place)
+        → Stands src.entry.text.now src.entry.rest.now src.entry.from names.old item.old c known vars
         → ElementsAre src.entry.text.now src.entry.rest.now src.entry.from base known vars c s.old item.old words.old
         s.new names.new item.new words.new result }
 {

@@ -25,9 +25,12 @@ pub fn goal(
     c: Cursor,
 ) -> Result<(u64, Cursor), Unread>
     requires base_in_bounds { (item_end base ≤ length s.old) × (length s.old < 1152921504606846976) }
-    requires stands { (known : List Place) × (vars : List Place) × Stands src.text.now src.rest.now src.from names.old item.old c known vars }
-    ensures { (known : List Place) (vars : List Place) → Stands src.entry.text.now src.entry.rest.now src.entry.from names.old item.old c known vars
-        → ReadIs as_term goal_reader src.entry.text.now src.entry.rest.now src.entry.from base known vars c s.old item.old s.new names.new item.new result }
+    requires stands { (known : List Place) × (vars : List Place)
+        × Stands src.text.now src.rest.now src.from names.old item.old c known vars }
+    ensures { (known : List Place) (vars : List Place)
+        → Stands src.entry.text.now src.entry.rest.now src.entry.from names.old item.old c known vars
+        → ReadIs as_term goal_reader src.entry.text.now src.entry.rest.now src.entry.from base known vars c
+        s.old item.old s.new names.new item.new result }
 {
     let (n, d) = goal_name(src, names, c)?;
     compound(src, s, names, item, base, 15, n, d)
@@ -60,9 +63,12 @@ pub fn goals(
     c: Cursor,
 ) -> Result<(u64, Cursor), Unread>
     requires item_compounds_bound { (base + item_compounds ≤ trial_base) × (place + 8 ≤ trial_region) × (trial_region ≤ length s.old) × (length s.old < 1152921504606846976) }
-    requires stands { (known : List Place) × (vars : List Place) × Stands src.text.now src.rest.now src.from names.old item.old c known vars }
-    ensures { (known : List Place) (vars : List Place) → Stands src.entry.text.now src.entry.rest.now src.entry.from names.old item.old c known vars
-        → EndIs (goals_part place) (goals_reader 8) src.entry.text.now src.entry.rest.now src.entry.from base known vars c s.old item.old s.new names.new item.new result }
+    requires stands { (known : List Place) × (vars : List Place)
+        × Stands src.text.now src.rest.now src.from names.old item.old c known vars }
+    ensures { (known : List Place) (vars : List Place)
+        → Stands src.entry.text.now src.entry.rest.now src.entry.from names.old item.old c known vars
+        → EndIs (goals_part place) (goals_reader 8) src.entry.text.now src.entry.rest.now src.entry.from base
+        known vars c s.old item.old s.new names.new item.new result }
 {
     let mut d = c;
     for i in 0..8 {

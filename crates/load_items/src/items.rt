@@ -100,11 +100,15 @@ fn clause(
     known: usize,
 ) -> Result<Item, Refused>
     requires lent { Lent s.old heads.old }
-    requires begins { (places : List Place) × Begins src.text.now src.rest.now src.from names.old item.old known places }
-    requires first_token { (begins : ℕ) × (f : Bytes) × (ts : Tokens) × FirstName src.rest.now src.from begins f ts }
-    ensures { (places : List Place) (queries begins : ℕ) (f : Bytes) (ts : Tokens) → Begins src.entry.text.now src.entry.rest.now src.entry.from names.old item.old known places
+    requires begins { (places : List Place)
+        × Begins src.text.now src.rest.now src.from names.old item.old known places }
+    requires first_token { (begins : ℕ) × (f : Bytes) × (ts : Tokens)
+        × FirstName src.rest.now src.from begins f ts }
+    ensures { (places : List Place) (queries begins : ℕ) (f : Bytes) (ts : Tokens)
+        → Begins src.entry.text.now src.entry.rest.now src.entry.from names.old item.old known places
         → FirstName src.entry.rest.now src.entry.from begins f ts
-        → BegunIs src.entry.text.now src.entry.rest.now src.entry.from places k queries begins s.old heads.old s.new names.new heads.new result }
+        → BegunIs src.entry.text.now src.entry.rest.now src.entry.from places k queries begins s.old heads.old
+        s.new names.new heads.new result }
 {
     if 128 <= k {
         return Err(Refused::Exceeded);
@@ -129,10 +133,14 @@ fn query(
     begins: usize,
 ) -> Result<Item, Refused>
     requires lent { (trial_region ≤ length s.old) × (length s.old < 1152921504606846976) }
-    requires begins { (places : List Place) × Begins src.text.now src.rest.now src.from names.old item.old known places }
-    requires begins_in_bounds { (begins + 2 ≤ length src.rest.now) × (tokens_in src.from src.rest.now 0 ≡ token (src.from + begins) (sign 63) (tokens_in src.from src.rest.now (begins + 2))) }
-    ensures { (places : List Place) (clauses : ℕ) (heads : List ℕ) → Begins src.entry.text.now src.entry.rest.now src.entry.from names.old item.old known places
-        → BegunIs src.entry.text.now src.entry.rest.now src.entry.from places clauses k begins s.old heads s.new names.new heads result }
+    requires begins { (places : List Place)
+        × Begins src.text.now src.rest.now src.from names.old item.old known places }
+    requires begins_in_bounds { (begins + 2 ≤ length src.rest.now)
+        × (tokens_in src.from src.rest.now 0 ≡ token (src.from + begins) (sign 63) (tokens_in src.from src.rest.now (begins + 2))) }
+    ensures { (places : List Place) (clauses : ℕ) (heads : List ℕ)
+        → Begins src.entry.text.now src.entry.rest.now src.entry.from names.old item.old known places
+        → BegunIs src.entry.text.now src.entry.rest.now src.entry.from places clauses k begins s.old heads
+        s.new names.new heads result }
 {
     if 8 <= k {
         return Err(Refused::Exceeded);
@@ -189,9 +197,12 @@ pub fn next_item(
     known: usize,
 ) -> Result<Option<Item>, Unfit>
     requires lent { Lent s.old heads.old }
-    requires begins { (places : List Place) × Begins src.text.now src.rest.now src.from names.old item.old known places }
-    ensures { (places : List Place) → Begins src.entry.text.now src.entry.rest.now src.entry.from names.old item.old known places
-        → ItemIs src.entry.text.now src.entry.rest.now src.entry.from places clauses queries s.old heads.old s.new names.old names.new heads.new result }
+    requires begins { (places : List Place)
+        × Begins src.text.now src.rest.now src.from names.old item.old known places }
+    ensures { (places : List Place)
+        → Begins src.entry.text.now src.entry.rest.now src.entry.from names.old item.old known places
+        → ItemIs src.entry.text.now src.entry.rest.now src.entry.from places clauses queries s.old heads.old
+        s.new names.old names.new heads.new result }
 {
     match front(src.rest, 0) {
         Token::Name(a, _) => begun(a, clause(src, s, names, item, heads, clauses, known)),

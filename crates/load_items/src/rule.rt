@@ -87,9 +87,12 @@ fn perhaps_goals(
     c: Cursor,
 ) -> Result<(u64, Cursor), Unread>
     requires k_bound { (k < 128) × (trial_region ≤ length s.old) × (length s.old < 1152921504606846976) }
-    requires stands { (known : List Place) × (vars : List Place) × Stands src.text.now src.rest.now src.from names.old item.old c known vars }
-    ensures { (known : List Place) (vars : List Place) → Stands src.entry.text.now src.entry.rest.now src.entry.from names.old item.old c known vars
-        → EndIs (goals_part (clause_goals_from k)) perhaps_goals_of src.entry.text.now src.entry.rest.now src.entry.from (clause_base k) known vars c s.old item.old
+    requires stands { (known : List Place) × (vars : List Place)
+        × Stands src.text.now src.rest.now src.from names.old item.old c known vars }
+    ensures { (known : List Place) (vars : List Place)
+        → Stands src.entry.text.now src.entry.rest.now src.entry.from names.old item.old c known vars
+        → EndIs (goals_part (clause_goals_from k)) perhaps_goals_of
+        src.entry.text.now src.entry.rest.now src.entry.from (clause_base k) known vars c s.old item.old
         s.new names.new item.new result }
 {
     let place = CLAUSES + CLAUSE_STRIDE * k + CLAUSE_BODY;
@@ -112,9 +115,12 @@ fn guarded(
     c: Cursor,
 ) -> Result<Ruled, Refused>
     requires k_bound { (k < 128) × (trial_region ≤ length s.old) × (length s.old < 1152921504606846976) }
-    requires stands { (known : List Place) × (vars : List Place) × Stands src.text.now src.rest.now src.from names.old item.old c known vars }
-    ensures { (known : List Place) (vars : List Place) → Stands src.entry.text.now src.entry.rest.now src.entry.from names.old item.old c known vars
-        → GuardedIs k n found src.entry.text.now src.entry.rest.now src.entry.from known vars c s.old item.old s.new names.new item.new result }
+    requires stands { (known : List Place) × (vars : List Place)
+        × Stands src.text.now src.rest.now src.from names.old item.old c known vars }
+    ensures { (known : List Place) (vars : List Place)
+        → Stands src.entry.text.now src.entry.rest.now src.entry.from names.old item.old c known vars
+        → GuardedIs k n found src.entry.text.now src.entry.rest.now src.entry.from known vars c s.old item.old
+        s.new names.new item.new result }
 {
     let (goals, cursor) = perhaps_goals(src, s, names, item, k, c)?;
     if !found {
@@ -141,8 +147,10 @@ fn body(
     requires k_bound { (k < 128) × (trial_region ≤ length s.old) × (length s.old < 1152921504606846976) }
     requires none_counted { (tables.old.in_guards ≡ replicate 64 0) × (tables.old.licensed ≡ replicate 16 0) }
     requires by_index { (i : ℕ) → i < 32 → get_or tables.old.in_head (32 + i) 0 ≡ get_or item.old (32 + i) 0 }
-    requires stands { (known : List Place) × (vars : List Place) × Stands src.text.now src.rest.now src.from names.old item.old c known vars }
-    ensures read { (known : List Place) (vars : List Place) → Stands src.entry.text.now src.entry.rest.now src.entry.from names.old item.old c known vars
+    requires stands { (known : List Place) × (vars : List Place)
+        × Stands src.text.now src.rest.now src.from names.old item.old c known vars }
+    ensures read { (known : List Place) (vars : List Place)
+        → Stands src.entry.text.now src.entry.rest.now src.entry.from names.old item.old c known vars
         → BodyIs k src.entry.text.now src.entry.rest.now src.entry.from known vars c s.old item.old
         s.new names.new item.new tables.new.in_guards tables.new.licensed result }
     ensures head_stays { tables.new.in_head ≡ tables.old.in_head }
@@ -194,8 +202,10 @@ pub fn rule(
 ) -> Result<Ruled, Refused>
     requires k_bound { (k < 128) × (trial_region ≤ length s.old) × (length s.old < 1152921504606846976) × (length heads.old ≡ 128) × (c.compounds ≡ 0) }
     requires none_counted { (tables.old.in_guards ≡ replicate 64 0) × (tables.old.licensed ≡ replicate 16 0) }
-    requires stands { (known : List Place) × (vars : List Place) × Stands src.text.now src.rest.now src.from names.old item.old c known vars }
-    ensures { (known : List Place) (vars : List Place) → Stands src.entry.text.now src.entry.rest.now src.entry.from names.old item.old c known vars
+    requires stands { (known : List Place) × (vars : List Place)
+        × Stands src.text.now src.rest.now src.from names.old item.old c known vars }
+    ensures { (known : List Place) (vars : List Place)
+        → Stands src.entry.text.now src.entry.rest.now src.entry.from names.old item.old c known vars
         → RuledIs k src.entry.text.now src.entry.rest.now src.entry.from known vars c s.old item.old heads.old
         s.new names.new item.new heads.new tables.new.in_head tables.new.in_guards tables.new.licensed result }
 {

@@ -1,6 +1,6 @@
-// The text that is read, and how far.
+// What the loader reads.
 
-// The whole text, and the rest of it, which begins at an offset.
+// A text, and the rest of it, which begins at an offset: that it does is said by each reader's contract.
 #[derive(Clone, Copy)]
 pub struct Source<'a> {
     pub text: &'a [u8],

@@ -105,9 +105,12 @@ pub fn begin(
     left: usize,
     c: Cursor,
 ) -> Result<Begun, Unread>
-    requires { (known : List Place) × (vars : List Place) × Stands src.text.now src.rest.now src.from names.old item.old c known vars }
-    ensures { (known : List Place) (vars : List Place) → Stands src.entry.text.now src.entry.rest.now src.entry.from names.old item.old c known vars
-        → BegunIs left src.entry.text.now src.entry.rest.now src.entry.from known vars c item.old names.new item.new result }
+    requires { (known : List Place) × (vars : List Place)
+        × Stands src.text.now src.rest.now src.from names.old item.old c known vars }
+    ensures { (known : List Place) (vars : List Place)
+        → Stands src.entry.text.now src.entry.rest.now src.entry.from names.old item.old c known vars
+        → BegunIs left src.entry.text.now src.entry.rest.now src.entry.from
+        known vars c item.old names.new item.new result }
 {
     match front(src.rest, c.at) {
         Token::Name(a, e) => {

@@ -12,8 +12,10 @@ use load_tokens::token::{Token, front};
 
 // "Heads and goals are compounds with a name": the name's number, and the cursor behind its parenthesis.
 pub fn goal_name(src: Source<'_>, names: &mut [u64], c: Cursor) -> Result<(usize, Cursor), Unread>
-    requires { (known : List Place) × (vars : List Place) × (item : List ℕ) × Stands src.text.now src.rest.now src.from names.old item c known vars }
-    ensures { (known : List Place) (vars : List Place) (item : List ℕ) → Stands src.entry.text.now src.entry.rest.now src.entry.from names.old item c known vars
+    requires { (known : List Place) × (vars : List Place) × (item : List ℕ)
+        × Stands src.text.now src.rest.now src.from names.old item c known vars }
+    ensures { (known : List Place) (vars : List Place) (item : List ℕ)
+        → Stands src.entry.text.now src.entry.rest.now src.entry.from names.old item c known vars
         → OpeningIs src.entry.text.now src.entry.rest.now src.entry.from names.new item known vars c result }
 {
     match front(src.rest, c.at) {

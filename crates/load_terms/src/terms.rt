@@ -65,9 +65,12 @@ pub fn term(
     c: Cursor,
 ) -> Result<(u64, Cursor), Unread>
     requires left_bound { (left ≤ 16) × (item_end base ≤ length s.old) × (length s.old < 1152921504606846976) }
-    requires stands { (known : List Place) × (vars : List Place) × Stands src.text.now src.rest.now src.from names.old item.old c known vars }
-    ensures { (known : List Place) (vars : List Place) → Stands src.entry.text.now src.entry.rest.now src.entry.from names.old item.old c known vars
-        → ReadIs (λ (t : Term). t) (term_reader left) src.entry.text.now src.entry.rest.now src.entry.from base known vars c s.old item.old s.new names.new item.new result }
+    requires stands { (known : List Place) × (vars : List Place)
+        × Stands src.text.now src.rest.now src.from names.old item.old c known vars }
+    ensures { (known : List Place) (vars : List Place)
+        → Stands src.entry.text.now src.entry.rest.now src.entry.from names.old item.old c known vars
+        → ReadIs (λ (t : Term). t) (term_reader left)
+        src.entry.text.now src.entry.rest.now src.entry.from base known vars c s.old item.old s.new names.new item.new result }
 {
     match begin(src, names, item, left, c)? {
         Begun::Got(w, d) => Ok((w, d)),
@@ -89,9 +92,14 @@ pub fn compound(
     c: Cursor,
 ) -> Result<(u64, Cursor), Unread>
     requires left_bound { (left ≤ 15) × (item_end base ≤ length s.old) × (length s.old < 1152921504606846976) }
-    requires stands { (known : List Place) × (vars : List Place) × Stands src.text.now src.rest.now src.from names.old item.old c known vars × (f : Bytes) × (place_of f (spellings known) ≡ some name) }
-    ensures { (known : List Place) (vars : List Place) → Stands src.entry.text.now src.entry.rest.now src.entry.from names.old item.old c known vars
-        → (f : Bytes) → place_of f (spellings known) ≡ some name → ReadIs as_term (compound_of (term_reader left) f) src.entry.text.now src.entry.rest.now src.entry.from base known vars c s.old item.old s.new names.new item.new result }
+    requires stands { (known : List Place) × (vars : List Place)
+        × Stands src.text.now src.rest.now src.from names.old item.old c known vars × (f : Bytes)
+        × (place_of f (spellings known) ≡ some name) }
+    ensures { (known : List Place) (vars : List Place)
+        → Stands src.entry.text.now src.entry.rest.now src.entry.from names.old item.old c known vars
+        → (f : Bytes) → place_of f (spellings known) ≡ some name
+        → ReadIs as_term (compound_of (term_reader left) f)
+        src.entry.text.now src.entry.rest.now src.entry.from base known vars c s.old item.old s.new names.new item.new result }
 {
     let n = c.compounds;
     if ITEM_COMPOUNDS <= n {
@@ -119,9 +127,12 @@ fn arguments(
     c: Cursor,
 ) -> Result<(u64, Cursor), Unread>
     requires left_bound { (left ≤ 15) × (item_end base ≤ length s.old) × (length s.old < 1152921504606846976) × (n < c.compounds) }
-    requires stands { (known : List Place) × (vars : List Place) × Stands src.text.now src.rest.now src.from names.old item.old c known vars }
-    ensures { (known : List Place) (vars : List Place) → Stands src.entry.text.now src.entry.rest.now src.entry.from names.old item.old c known vars
-        → ArgumentsAre n 0 (arguments_reader (term_reader left) 6) src.entry.text.now src.entry.rest.now src.entry.from base known vars c s.old item.old s.new names.new item.new result }
+    requires stands { (known : List Place) × (vars : List Place)
+        × Stands src.text.now src.rest.now src.from names.old item.old c known vars }
+    ensures { (known : List Place) (vars : List Place)
+        → Stands src.entry.text.now src.entry.rest.now src.entry.from names.old item.old c known vars
+        → ArgumentsAre n 0 (arguments_reader (term_reader left) 6)
+        src.entry.text.now src.entry.rest.now src.entry.from base known vars c s.old item.old s.new names.new item.new result }
 {
     let mut d = c;
     for i in 0..6 {
@@ -150,9 +161,13 @@ fn elements(
     c: Cursor,
 ) -> Result<(u64, Cursor), Unread>
     requires left_bound { (left ≤ 15) × (item_end base ≤ length s.old) × (length s.old < 1152921504606846976) }
-    requires stands { (known : List Place) × (vars : List Place) × Stands src.text.now src.rest.now src.from names.old item.old c known vars }
-    ensures { (known : List Place) (vars : List Place) → Stands src.entry.text.now src.entry.rest.now src.entry.from names.old item.old c known vars
-        → (left_over : ℕ) → 32 ≤ left_over + c.compounds → ReadIs (λ (t : Term). t) (elements_reader (term_reader left) left_over) src.entry.text.now src.entry.rest.now src.entry.from base known vars c s.old item.old s.new names.new item.new result }
+    requires stands { (known : List Place) × (vars : List Place)
+        × Stands src.text.now src.rest.now src.from names.old item.old c known vars }
+    ensures { (known : List Place) (vars : List Place)
+        → Stands src.entry.text.now src.entry.rest.now src.entry.from names.old item.old c known vars
+        → (left_over : ℕ) → 32 ≤ left_over + c.compounds
+        → ReadIs (λ (t : Term). t) (elements_reader (term_reader left) left_over)
+        src.entry.text.now src.entry.rest.now src.entry.from base known vars c s.old item.old s.new names.new item.new result }
 {
     let first = c.compounds;
     let mut d = c;
@@ -194,9 +209,12 @@ fn last_tail(
     c: Cursor,
 ) -> Result<(u64, Cursor), Unread>
     requires left_bound { (left ≤ 15) × (item_end base ≤ length s.old) × (length s.old < 1152921504606846976) }
-    requires stands { (known : List Place) × (vars : List Place) × Stands src.text.now src.rest.now src.from names.old item.old c known vars }
-    ensures { (known : List Place) (vars : List Place) → Stands src.entry.text.now src.entry.rest.now src.entry.from names.old item.old c known vars
-        → ReadIs (λ (t : Term). t) (closed (term_reader left)) src.entry.text.now src.entry.rest.now src.entry.from base known vars c s.old item.old s.new names.new item.new result }
+    requires stands { (known : List Place) × (vars : List Place)
+        × Stands src.text.now src.rest.now src.from names.old item.old c known vars }
+    ensures { (known : List Place) (vars : List Place)
+        → Stands src.entry.text.now src.entry.rest.now src.entry.from names.old item.old c known vars
+        → ReadIs (λ (t : Term). t) (closed (term_reader left))
+        src.entry.text.now src.entry.rest.now src.entry.from base known vars c s.old item.old s.new names.new item.new result }
 {
     let (w, e) = term(src, s, names, item, base, left, c)?;
     let at = next_is(src.rest, e.at, b']')?;
