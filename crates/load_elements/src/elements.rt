@@ -10,6 +10,7 @@ ghost use Rattle.load_elements.specs.Elements.{ElementIs};
 ghost use Rattle.load_elements.specs.Listed.{ElementsAre};
 
 use crate::answer::Elements;
+use load_names::source::Source;
 use load_openings::cursor::{Cursor, Unread};
 use load_terms::terms::term;
 use load_tokens::next::{next_is, next_of, starts};
@@ -48,9 +49,7 @@ fn equals_word(base: usize, n: usize) -> u64
 
 // What stands behind `==`, whose left side has this word: it is counted as a compound at its token, and its right side may open 16 brackets of its own.
 fn right_side(
-    text: &[u8],
-    rest: &[u8],
-    from: usize,
+    src: Source<'_>,
     s: &mut [u64],
     names: &mut [u64],
     item: &mut [u64],
@@ -59,9 +58,12 @@ fn right_side(
     c: Cursor,
 ) -> Result<(u64, Cursor), Unread>
     requires base_in_bounds { (item_end base ≤ length s.old) × (length s.old < 1152921504606846976) }
-    requires stands { (known : List Place) × (vars : List Place) × Stands text.now rest.now from names.old item.old c known vars }
-    ensures { (known : List Place) (vars : List Place) → Stands text.now rest.now from names.old item.old c known vars
-        → RightIs left text.now rest.now from base known vars c s.old item.old s.new names.new item.new result }
+    requires stands { (known : List Place) × (vars : List Place)
+        × Stands src.text.now src.rest.now src.from names.old item.old c known vars }
+    ensures { (known : List Place) (vars : List Place)
+        → Stands src.entry.text.now src.entry.rest.now src.entry.from names.old item.old c known vars
+        → RightIs left src.entry.text.now src.entry.rest.now src.entry.from base known vars c s.old item.old
+        s.new names.new item.new result }
 {
     let n = c.compounds;
     if ITEM_COMPOUNDS <= n {
@@ -71,16 +73,14 @@ fn right_side(
         compounds: n + 1,
         ..c
     };
-    let (right, e) = term(text, rest, from, s, names, item, base, 16, d)?;
+    let (right, e) = term(src, s, names, item, base, 16, d)?;
     store_sides(s, base, n, left, right);
     Ok((equals_word(base, n), e))
 }
 
 // An element: a compound with a name, a bare name, or two terms with `==` between them. Behind any other term the next token cannot stand.
 pub fn element(
-    text: &[u8],
-    rest: &[u8],
-    from: usize,
+    src: Source<'_>,
     s: &mut [u64],
     names: &mut [u64],
     item: &mut [u64],
@@ -88,15 +88,18 @@ pub fn element(
     c: Cursor,
 ) -> Result<(u64, Cursor), Unread>
     requires base_in_bounds { (item_end base ≤ length s.old) × (length s.old < 1152921504606846976) }
-    requires stands { (known : List Place) × (vars : List Place) × Stands text.now rest.now from names.old item.old c known vars }
-    ensures { (known : List Place) (vars : List Place) → Stands text.now rest.now from names.old item.old c known vars
-        → ElementIs text.now rest.now from base known vars c s.old item.old s.new names.new item.new result }
+    requires stands { (known : List Place) × (vars : List Place)
+        × Stands src.text.now src.rest.now src.from names.old item.old c known vars }
+    ensures { (known : List Place) (vars : List Place)
+        → Stands src.entry.text.now src.entry.rest.now src.entry.from names.old item.old c known vars
+        → ElementIs src.entry.text.now src.entry.rest.now src.entry.from base known vars c s.old item.old
+        s.new names.new item.new result }
 {
-    let (w, d) = term(text, rest, from, s, names, item, base, 16, c)?;
-    match next_is(rest, d.at, b'=') {
+    let (w, d) = term(src, s, names, item, base, 16, c)?;
+    match next_is(src.rest, d.at, b'=') {
         Ok(behind) => {
             let e = Cursor { at: behind, ..d };
-            right_side(text, rest, from, s, names, item, base, w, e)
+            right_side(src, s, names, item, base, w, e)
         }
         Err(other) => {
             if stands_alone(s, w) {
@@ -121,9 +124,7 @@ fn ninth(rest: &[u8], at: usize) -> Unread
 // "With 1 to 8 guards", or 8 body goals: the elements behind `:-` up to the bar or the full stop, their words from the first of `words` on. Whether they
 // can be guards or goals is not judged here.
 pub fn elements(
-    text: &[u8],
-    rest: &[u8],
-    from: usize,
+    src: Source<'_>,
     s: &mut [u64],
     names: &mut [u64],
     item: &mut [u64],
@@ -132,16 +133,18 @@ pub fn elements(
     c: Cursor,
 ) -> Result<Elements, Unread>
     requires base_in_bounds { (item_end base ≤ length s.old) × (length s.old < 1152921504606846976) × (8 ≤ length words.old) }
-    requires stands { (known : List Place) × (vars : List Place) × Stands text.now rest.now from names.old item.old c known vars }
-    ensures { (known : List Place) (vars : List Place) → Stands text.now rest.now from names.old item.old c known vars
-        → ElementsAre text.now rest.now from base known vars c s.old item.old words.old
+    requires stands { (known : List Place) × (vars : List Place)
+        × Stands src.text.now src.rest.now src.from names.old item.old c known vars }
+    ensures { (known : List Place) (vars : List Place)
+        → Stands src.entry.text.now src.entry.rest.now src.entry.from names.old item.old c known vars
+        → ElementsAre src.entry.text.now src.entry.rest.now src.entry.from base known vars c s.old item.old words.old
         s.new names.new item.new words.new result }
 {
     let mut d = c;
     for i in 0..8 {
-        let (w, e) = element(text, rest, from, s, names, item, base, d)?;
+        let (w, e) = element(src, s, names, item, base, d)?;
         words[i] = w;
-        let (sign, behind) = next_of(rest, e.at, b",|.")?;
+        let (sign, behind) = next_of(src.rest, e.at, b",|.")?;
         d = Cursor { at: behind, ..e };
         match sign {
             b'|' => return Ok(Elements::Bar(i + 1, d)),
@@ -149,5 +152,5 @@ pub fn elements(
             _ => {}
         }
     }
-    Err(ninth(rest, d.at))
+    Err(ninth(src.rest, d.at))
 }

@@ -7,6 +7,7 @@ ghost use Rattle.load_names.specs.Places.{Place};
 ghost use Rattle.load_openings.specs.Reading.{Stands, ReadIs};
 ghost use Rattle.load_goals.specs.Endings.{NinthIs, EndIs, goals_part};
 
+use load_names::source::Source;
 use load_openings::cursor::{Cursor, Unread};
 use load_openings::goal::goal_name;
 use load_terms::terms::compound;
@@ -16,9 +17,7 @@ use term::word::word;
 
 // A goal; the parenthesis is the first of the 16 brackets.
 pub fn goal(
-    text: &[u8],
-    rest: &[u8],
-    from: usize,
+    src: Source<'_>,
     s: &mut [u64],
     names: &mut [u64],
     item: &mut [u64],
@@ -26,12 +25,15 @@ pub fn goal(
     c: Cursor,
 ) -> Result<(u64, Cursor), Unread>
     requires base_in_bounds { (item_end base ≤ length s.old) × (length s.old < 1152921504606846976) }
-    requires stands { (known : List Place) × (vars : List Place) × Stands text.now rest.now from names.old item.old c known vars }
-    ensures { (known : List Place) (vars : List Place) → Stands text.now rest.now from names.old item.old c known vars
-        → ReadIs as_term goal_reader text.now rest.now from base known vars c s.old item.old s.new names.new item.new result }
+    requires stands { (known : List Place) × (vars : List Place)
+        × Stands src.text.now src.rest.now src.from names.old item.old c known vars }
+    ensures { (known : List Place) (vars : List Place)
+        → Stands src.entry.text.now src.entry.rest.now src.entry.from names.old item.old c known vars
+        → ReadIs as_term goal_reader src.entry.text.now src.entry.rest.now src.entry.from base known vars c
+        s.old item.old s.new names.new item.new result }
 {
-    let (n, d) = goal_name(text, rest, from, names, c)?;
-    compound(text, rest, from, s, names, item, base, 15, n, d)
+    let (n, d) = goal_name(src, names, c)?;
+    compound(src, s, names, item, base, 15, n, d)
 }
 
 // The ninth goal's name passes the figure, if the token can stand there at all.
@@ -52,9 +54,7 @@ fn ninth(rest: &[u8], at: usize) -> Unread
 
 // "8 body or query goals", up to the full stop: their words stand from a place on, and how many there are is the answer.
 pub fn goals(
-    text: &[u8],
-    rest: &[u8],
-    from: usize,
+    src: Source<'_>,
     s: &mut [u64],
     names: &mut [u64],
     item: &mut [u64],
@@ -63,19 +63,22 @@ pub fn goals(
     c: Cursor,
 ) -> Result<(u64, Cursor), Unread>
     requires item_compounds_bound { (base + item_compounds ≤ trial_base) × (place + 8 ≤ trial_region) × (trial_region ≤ length s.old) × (length s.old < 1152921504606846976) }
-    requires stands { (known : List Place) × (vars : List Place) × Stands text.now rest.now from names.old item.old c known vars }
-    ensures { (known : List Place) (vars : List Place) → Stands text.now rest.now from names.old item.old c known vars
-        → EndIs (goals_part place) (goals_reader 8) text.now rest.now from base known vars c s.old item.old s.new names.new item.new result }
+    requires stands { (known : List Place) × (vars : List Place)
+        × Stands src.text.now src.rest.now src.from names.old item.old c known vars }
+    ensures { (known : List Place) (vars : List Place)
+        → Stands src.entry.text.now src.entry.rest.now src.entry.from names.old item.old c known vars
+        → EndIs (goals_part place) (goals_reader 8) src.entry.text.now src.entry.rest.now src.entry.from base
+        known vars c s.old item.old s.new names.new item.new result }
 {
     let mut d = c;
     for i in 0..8 {
-        let (w, e) = goal(text, rest, from, s, names, item, base, d)?;
+        let (w, e) = goal(src, s, names, item, base, d)?;
         s[place + i] = w;
-        let (sign, at) = next_of(rest, e.at, &[b',', b'.'])?;
+        let (sign, at) = next_of(src.rest, e.at, &[b',', b'.'])?;
         d = Cursor { at, ..e };
         if sign == b'.' {
             return Ok((word(i + 1), d));
         }
     }
-    Err(ninth(rest, d.at))
+    Err(ninth(src.rest, d.at))
 }

@@ -15,6 +15,7 @@ use load_goals::goals::goals;
 use load_guards::guards::foreign;
 use load_image::keep::keep_places;
 use load_names::rules::{clause_rules, nothing_twice};
+use load_names::source::Source;
 use load_openings::cursor::Cursor;
 use load_tokens::token::{Token, front};
 use term::layout::{
@@ -90,9 +91,7 @@ fn judged(
 
 // The clause of this number, whose first token is a name.
 fn clause(
-    text: &[u8],
-    rest: &[u8],
-    from: usize,
+    src: Source<'_>,
     s: &mut [u64],
     names: &mut [u64],
     item: &mut [u64],
@@ -101,11 +100,15 @@ fn clause(
     known: usize,
 ) -> Result<Item, Refused>
     requires lent { Lent s.old heads.old }
-    requires begins { (places : List Place) × Begins text.now rest.now from names.old item.old known places }
-    requires first_token { (begins : ℕ) × (f : Bytes) × (ts : Tokens) × FirstName rest.now from begins f ts }
-    ensures { (places : List Place) (queries begins : ℕ) (f : Bytes) (ts : Tokens) → Begins text.now rest.now from names.old item.old known places
-        → FirstName rest.now from begins f ts
-        → BegunIs text.now rest.now from places k queries begins s.old heads.old s.new names.new heads.new result }
+    requires begins { (places : List Place)
+        × Begins src.text.now src.rest.now src.from names.old item.old known places }
+    requires first_token { (begins : ℕ) × (f : Bytes) × (ts : Tokens)
+        × FirstName src.rest.now src.from begins f ts }
+    ensures { (places : List Place) (queries begins : ℕ) (f : Bytes) (ts : Tokens)
+        → Begins src.entry.text.now src.entry.rest.now src.entry.from names.old item.old known places
+        → FirstName src.entry.rest.now src.entry.from begins f ts
+        → BegunIs src.entry.text.now src.entry.rest.now src.entry.from places k queries begins s.old heads.old
+        s.new names.new heads.new result }
 {
     if 128 <= k {
         return Err(Refused::Exceeded);
@@ -115,26 +118,13 @@ fn clause(
         in_guards: [0; 64],
         licensed: [0; 16],
     };
-    let ruled = rule(
-        text,
-        rest,
-        from,
-        s,
-        names,
-        item,
-        heads,
-        &mut tables,
-        k,
-        first(known, 0),
-    )?;
-    judged(rest, s, item, &tables, k, ruled)
+    let ruled = rule(src, s, names, item, heads, &mut tables, k, first(known, 0))?;
+    judged(src.rest, s, item, &tables, k, ruled)
 }
 
 // The query of this number, whose `?-` is at an offset of the rest.
 fn query(
-    text: &[u8],
-    rest: &[u8],
-    from: usize,
+    src: Source<'_>,
     s: &mut [u64],
     names: &mut [u64],
     item: &mut [u64],
@@ -143,19 +133,21 @@ fn query(
     begins: usize,
 ) -> Result<Item, Refused>
     requires lent { (trial_region ≤ length s.old) × (length s.old < 1152921504606846976) }
-    requires begins { (places : List Place) × Begins text.now rest.now from names.old item.old known places }
-    requires begins_in_bounds { (begins + 2 ≤ length rest.now) × (tokens_in from rest.now 0 ≡ token (from + begins) (sign 63) (tokens_in from rest.now (begins + 2))) }
-    ensures { (places : List Place) (clauses : ℕ) (heads : List ℕ) → Begins text.now rest.now from names.old item.old known places
-        → BegunIs text.now rest.now from places clauses k begins s.old heads s.new names.new heads result }
+    requires begins { (places : List Place)
+        × Begins src.text.now src.rest.now src.from names.old item.old known places }
+    requires begins_in_bounds { (begins + 2 ≤ length src.rest.now)
+        × (tokens_in src.from src.rest.now 0 ≡ token (src.from + begins) (sign 63) (tokens_in src.from src.rest.now (begins + 2))) }
+    ensures { (places : List Place) (clauses : ℕ) (heads : List ℕ)
+        → Begins src.entry.text.now src.entry.rest.now src.entry.from names.old item.old known places
+        → BegunIs src.entry.text.now src.entry.rest.now src.entry.from places clauses k begins s.old heads
+        s.new names.new heads result }
 {
     if 8 <= k {
         return Err(Refused::Exceeded);
     }
     let record = QUERIES + QUERY_STRIDE * k;
     let (count, c) = goals(
-        text,
-        rest,
-        from,
+        src,
         s,
         names,
         item,
@@ -165,13 +157,21 @@ fn query(
     )?;
     if !nothing_twice(item, c.variables) {
         let licensed = [0u64; 16];
-        let fault = first_fault(rest, item, c.variables, false, begins + 2, None, &licensed);
+        let fault = first_fault(
+            src.rest,
+            item,
+            c.variables,
+            false,
+            begins + 2,
+            None,
+            &licensed,
+        );
         return Err(Refused::Broken(fault));
     }
     s[record] = count;
     s[record + QUERY_PAIRS] = word(c.variables);
     s[record + QUERY_COMPOUNDS] = word(c.compounds);
-    keep_places(s, item, from, record + QUERY_VARIABLES, c.variables);
+    keep_places(s, item, src.from, record + QUERY_VARIABLES, c.variables);
     Ok(Item::Query(c.at, c.names))
 }
 
@@ -187,9 +187,7 @@ fn begun(begins: usize, read: Result<Item, Refused>) -> Result<Option<Item>, Unf
 
 // The item in front of the rest of the text, which begins at the byte after the full stop before it, or that nothing is left.
 pub fn next_item(
-    text: &[u8],
-    rest: &[u8],
-    from: usize,
+    src: Source<'_>,
     s: &mut [u64],
     names: &mut [u64],
     item: &mut [u64],
@@ -199,19 +197,16 @@ pub fn next_item(
     known: usize,
 ) -> Result<Option<Item>, Unfit>
     requires lent { Lent s.old heads.old }
-    requires begins { (places : List Place) × Begins text.now rest.now from names.old item.old known places }
-    ensures { (places : List Place) → Begins text.now rest.now from names.old item.old known places
-        → ItemIs text.now rest.now from places clauses queries s.old heads.old s.new names.old names.new heads.new result }
+    requires begins { (places : List Place)
+        × Begins src.text.now src.rest.now src.from names.old item.old known places }
+    ensures { (places : List Place)
+        → Begins src.entry.text.now src.entry.rest.now src.entry.from names.old item.old known places
+        → ItemIs src.entry.text.now src.entry.rest.now src.entry.from places clauses queries s.old heads.old
+        s.new names.old names.new heads.new result }
 {
-    match front(rest, 0) {
-        Token::Name(a, _) => begun(
-            a,
-            clause(text, rest, from, s, names, item, heads, clauses, known),
-        ),
-        Token::Sign(b'?', a) => begun(
-            a,
-            query(text, rest, from, s, names, item, queries, known, a),
-        ),
+    match front(src.rest, 0) {
+        Token::Name(a, _) => begun(a, clause(src, s, names, item, heads, clauses, known)),
+        Token::Sign(b'?', a) => begun(a, query(src, s, names, item, queries, known, a)),
         Token::Sign(_, a)
         | Token::Writer(a, _)
         | Token::Reader(a, _)

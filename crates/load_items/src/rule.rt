@@ -15,6 +15,7 @@ use load_elements::answer::Elements;
 use load_elements::elements::elements;
 use load_goals::goals::{goal, goals};
 use load_guards::guards::{licences, resolve};
+use load_names::source::Source;
 use load_openings::cursor::{Cursor, Unread};
 use load_tokens::next::{next_is, next_of};
 use term::layout::{
@@ -32,7 +33,7 @@ pub struct Ruled {
 }
 
 // What the halves of a clause are counted in while it is read, apart from the item's table, and which of its readers are licensed.
-#[derive(Clone, Copy)]
+#[derive(Drop)]
 pub struct Tables {
     pub in_head: [u64; 64],
     pub in_guards: [u64; 64],
@@ -78,9 +79,7 @@ fn tested(
 
 // Behind the bar, "perhaps no goal": the full stop, or goals.
 fn perhaps_goals(
-    text: &[u8],
-    rest: &[u8],
-    from: usize,
+    src: Source<'_>,
     s: &mut [u64],
     names: &mut [u64],
     item: &mut [u64],
@@ -88,24 +87,25 @@ fn perhaps_goals(
     c: Cursor,
 ) -> Result<(u64, Cursor), Unread>
     requires k_bound { (k < 128) × (trial_region ≤ length s.old) × (length s.old < 1152921504606846976) }
-    requires stands { (known : List Place) × (vars : List Place) × Stands text.now rest.now from names.old item.old c known vars }
-    ensures { (known : List Place) (vars : List Place) → Stands text.now rest.now from names.old item.old c known vars
-        → EndIs (goals_part (clause_goals_from k)) perhaps_goals_of text.now rest.now from (clause_base k) known vars c s.old item.old
+    requires stands { (known : List Place) × (vars : List Place)
+        × Stands src.text.now src.rest.now src.from names.old item.old c known vars }
+    ensures { (known : List Place) (vars : List Place)
+        → Stands src.entry.text.now src.entry.rest.now src.entry.from names.old item.old c known vars
+        → EndIs (goals_part (clause_goals_from k)) perhaps_goals_of
+        src.entry.text.now src.entry.rest.now src.entry.from (clause_base k) known vars c s.old item.old
         s.new names.new item.new result }
 {
     let place = CLAUSES + CLAUSE_STRIDE * k + CLAUSE_BODY;
     let base = ITEMS / COMPOUND_WORDS + ITEM_COMPOUNDS * k;
-    match next_is(rest, c.at, b'.') {
+    match next_is(src.rest, c.at, b'.') {
         Ok(behind) => Ok((0, Cursor { at: behind, ..c })),
-        Err(_) => goals(text, rest, from, s, names, item, base, place, c),
+        Err(_) => goals(src, s, names, item, base, place, c),
     }
 }
 
 // Behind the bar, which ends where the cursor stands: the n guards are in the table, or not.
 fn guarded(
-    text: &[u8],
-    rest: &[u8],
-    from: usize,
+    src: Source<'_>,
     s: &mut [u64],
     names: &mut [u64],
     item: &mut [u64],
@@ -115,11 +115,14 @@ fn guarded(
     c: Cursor,
 ) -> Result<Ruled, Refused>
     requires k_bound { (k < 128) × (trial_region ≤ length s.old) × (length s.old < 1152921504606846976) }
-    requires stands { (known : List Place) × (vars : List Place) × Stands text.now rest.now from names.old item.old c known vars }
-    ensures { (known : List Place) (vars : List Place) → Stands text.now rest.now from names.old item.old c known vars
-        → GuardedIs k n found text.now rest.now from known vars c s.old item.old s.new names.new item.new result }
+    requires stands { (known : List Place) × (vars : List Place)
+        × Stands src.text.now src.rest.now src.from names.old item.old c known vars }
+    ensures { (known : List Place) (vars : List Place)
+        → Stands src.entry.text.now src.entry.rest.now src.entry.from names.old item.old c known vars
+        → GuardedIs k n found src.entry.text.now src.entry.rest.now src.entry.from known vars c s.old item.old
+        s.new names.new item.new result }
 {
-    let (goals, cursor) = perhaps_goals(text, rest, from, s, names, item, k, c)?;
+    let (goals, cursor) = perhaps_goals(src, s, names, item, k, c)?;
     if !found {
         return Err(Refused::Unknown);
     }
@@ -133,9 +136,7 @@ fn guarded(
 
 // What stands behind `:-`, whose head's halves are counted in the tables' `in_head` as in the item's table; those of the elements before a bar are counted apart.
 fn body(
-    text: &[u8],
-    rest: &[u8],
-    from: usize,
+    src: Source<'_>,
     s: &mut [u64],
     names: &mut [u64],
     item: &mut [u64],
@@ -146,9 +147,11 @@ fn body(
     requires k_bound { (k < 128) × (trial_region ≤ length s.old) × (length s.old < 1152921504606846976) }
     requires none_counted { (tables.old.in_guards ≡ replicate 64 0) × (tables.old.licensed ≡ replicate 16 0) }
     requires by_index { (i : ℕ) → i < 32 → get_or tables.old.in_head (32 + i) 0 ≡ get_or item.old (32 + i) 0 }
-    requires stands { (known : List Place) × (vars : List Place) × Stands text.now rest.now from names.old item.old c known vars }
-    ensures read { (known : List Place) (vars : List Place) → Stands text.now rest.now from names.old item.old c known vars
-        → BodyIs k text.now rest.now from known vars c s.old item.old
+    requires stands { (known : List Place) × (vars : List Place)
+        × Stands src.text.now src.rest.now src.from names.old item.old c known vars }
+    ensures read { (known : List Place) (vars : List Place)
+        → Stands src.entry.text.now src.entry.rest.now src.entry.from names.old item.old c known vars
+        → BodyIs k src.entry.text.now src.entry.rest.now src.entry.from known vars c s.old item.old
         s.new names.new item.new tables.new.in_guards tables.new.licensed result }
     ensures head_stays { tables.new.in_head ≡ tables.old.in_head }
 {
@@ -156,7 +159,7 @@ fn body(
     let record = CLAUSES + CLAUSE_STRIDE * k;
     let base = ITEMS / COMPOUND_WORDS + ITEM_COMPOUNDS * k;
     copy_counts(&tables.in_guards, item);
-    match elements(text, rest, from, s, names, item, base, &mut words, c)? {
+    match elements(src, s, names, item, base, &mut words, c)? {
         Elements::Stop(n, a, d) => {
             if !set_goals(s, &words[..n], record + CLAUSE_BODY) {
                 return Err(Refused::Malformed(a));
@@ -173,7 +176,7 @@ fn body(
             copy_counts(item, &mut tables.in_guards);
             copy_counts(&tables.in_head, item);
             let found = tested(
-                text,
+                src.text,
                 names,
                 s,
                 &words[..n],
@@ -181,16 +184,14 @@ fn body(
                 record + CLAUSE_TESTS,
                 &mut tables.licensed,
             );
-            guarded(text, rest, from, s, names, item, k, n, found, d)
+            guarded(src, s, names, item, k, n, found, d)
         }
     }
 }
 
 // Head and body of the clause of this number. The head's own word is noted for it, and its halves are counted in `in_head`.
 pub fn rule(
-    text: &[u8],
-    rest: &[u8],
-    from: usize,
+    src: Source<'_>,
     s: &mut [u64],
     names: &mut [u64],
     item: &mut [u64],
@@ -201,19 +202,21 @@ pub fn rule(
 ) -> Result<Ruled, Refused>
     requires k_bound { (k < 128) × (trial_region ≤ length s.old) × (length s.old < 1152921504606846976) × (length heads.old ≡ 128) × (c.compounds ≡ 0) }
     requires none_counted { (tables.old.in_guards ≡ replicate 64 0) × (tables.old.licensed ≡ replicate 16 0) }
-    requires stands { (known : List Place) × (vars : List Place) × Stands text.now rest.now from names.old item.old c known vars }
-    ensures { (known : List Place) (vars : List Place) → Stands text.now rest.now from names.old item.old c known vars
-        → RuledIs k text.now rest.now from known vars c s.old item.old heads.old
+    requires stands { (known : List Place) × (vars : List Place)
+        × Stands src.text.now src.rest.now src.from names.old item.old c known vars }
+    ensures { (known : List Place) (vars : List Place)
+        → Stands src.entry.text.now src.entry.rest.now src.entry.from names.old item.old c known vars
+        → RuledIs k src.entry.text.now src.entry.rest.now src.entry.from known vars c s.old item.old heads.old
         s.new names.new item.new heads.new tables.new.in_head tables.new.in_guards tables.new.licensed result }
 {
     let base = ITEMS / COMPOUND_WORDS + ITEM_COMPOUNDS * k;
-    let (_, e) = goal(text, rest, from, s, names, item, base, c)?;
+    let (_, e) = goal(src, s, names, item, base, c)?;
     heads[k] = s[COMPOUND_WORDS * base];
     copy_counts(item, &mut tables.in_head);
-    let (sign, behind) = next_of(rest, e.at, b":.")?;
+    let (sign, behind) = next_of(src.rest, e.at, b":.")?;
     let d = Cursor { at: behind, ..e };
     if sign == b':' {
-        return body(text, rest, from, s, names, item, tables, k, d);
+        return body(src, s, names, item, tables, k, d);
     }
     Ok(Ruled {
         guards: 0,

@@ -9,6 +9,7 @@ ghost use Rattle.load_names.specs.Places.{Place, spellings};
 ghost use Rattle.load_names.specs.Tables.{hash_of, StandsAt, NamesIn, stored_name};
 ghost use Rattle.load_names.specs.Answers.{found, NameIs};
 
+use crate::source::Source;
 use term::word::{index, word};
 
 // A hash below 256 of a spelling.
@@ -40,6 +41,7 @@ fn find(text: &[u8], table: &[u64], h: usize, spelling: &[u8]) -> Option<usize>
     ensures { (places : List Place) → NamesIn text.now places table.now
         → found result ≡ place_of spelling.now (spellings places) }
 {
+    // Stays a number: a link is a word of the table, 0 for none.
     let mut next = index(table[512 + h]);
     while next != 0 {
         let n = next - 1;
@@ -63,30 +65,31 @@ fn add(table: &mut [u64], count: usize, h: usize, start: usize, size: usize)
     table[512 + h] = word(count + 1);
 }
 
+// Stays a table with its count beside it: fixed memory, lent by the loader; the count goes on by value in the cursor.
 // The number of the name from a to e of the rest, which begins at an offset of the text, and how many names there are then; none where a new
 // name passes the figure.
 pub fn number(
-    text: &[u8],
-    rest: &[u8],
-    from: usize,
+    src: Source<'_>,
     table: &mut [u64],
     count: usize,
     a: usize,
     e: usize,
 ) -> Option<(usize, usize)>
-    requires from_in_bounds { (from ≤ length text.now) × (rest.now ≡ drop from text.now) × (a < e) × (e ≤ length rest.now) × (e ≤ a + 31) }
-    requires names_in { (places : List Place) × NamesIn text.now places table.old × (count ≡ length places) }
-    ensures { (places : List Place) → NamesIn text.now places table.old → count ≡ length places
-        → NameIs text.now places (from + a) (slice a e rest.now) table.old table.new result }
+    requires from_in_bounds { (src.from ≤ length src.text.now) × (src.rest.now ≡ drop src.from src.text.now)
+        × (a < e) × (e ≤ length src.rest.now) × (e ≤ a + 31) }
+    requires names_in { (places : List Place) × NamesIn src.text.now places table.old × (count ≡ length places) }
+    ensures { (places : List Place) → NamesIn src.entry.text.now places table.old → count ≡ length places
+        → NameIs src.entry.text.now places (src.entry.from + a) (slice a e src.entry.rest.now)
+        table.old table.new result }
 {
-    let spelling = &rest[a..e];
+    let spelling = &src.rest[a..e];
     let h = hash(spelling);
-    if let Some(n) = find(text, table, h, spelling) {
+    if let Some(n) = find(src.text, table, h, spelling) {
         return Some((n, count));
     }
     if 256 <= count {
         return None;
     }
-    add(table, count, h, from + a, spelling.len());
+    add(table, count, h, src.from + a, spelling.len());
     Some((count, count + 1))
 }

@@ -2,6 +2,8 @@
 ghost use Rattle.std.specs.Prelude.{◌≡◌, ◌+◌, ◌≤◌, ◌<◌, min, eqb, length};
 ghost use Rattle.load_names.specs.Rules.{none_twice, halves_alike, once_in_head as once_in_head_meant, once_unless as once_unless_meant, pair_kept, clause_kept};
 
+// Stay slices, each contract with their lengths: the readers lend the item's table as one, and what it holds says its length there.
+
 // "No writer and no reader occurs twice", for each of so many pairs.
 pub fn nothing_twice(item: &[u64], pairs: usize) -> bool
     requires { (length item.now ≡ 64) × (pairs ≤ 16) }

@@ -41,6 +41,8 @@ fn occurs(table: &mut [u64], place: usize)
     table[place] = 2.min(table[place] + 1);
 }
 
+// Stays a table with its count beside it: fixed memory, lent by the loader; the count goes on by value in the cursor.
+// Stays a number for the half: it is the place from which on the table counts it, so an enum would only be turned back into it here.
 // The number of the variable from a to e, one of whose halves occurs here, 32 for the writer and 48 for the reader, and how many variables
 // there are then; none where a new one passes the figure.
 pub fn number(

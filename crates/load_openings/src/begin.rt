@@ -7,6 +7,7 @@ ghost use Rattle.load_openings.specs.Begun.{BehindName, BehindBracket, VariableB
 ghost use Rattle.load_openings.specs.Reading.{Stands, BegunIs};
 
 use crate::cursor::{Cursor, Unread};
+use load_names::source::Source;
 use load_names::{names, variables};
 use load_tokens::next::next_is;
 use load_tokens::token::{Token, front};
@@ -98,29 +99,30 @@ fn variable(
 
 // "A term is a writer, a reader, a constant, a compound or a list", by its first token, and by the next where that is a name or `[`.
 pub fn begin(
-    text: &[u8],
-    rest: &[u8],
-    from: usize,
+    src: Source<'_>,
     names: &mut [u64],
     item: &mut [u64],
     left: usize,
     c: Cursor,
 ) -> Result<Begun, Unread>
-    requires { (known : List Place) × (vars : List Place) × Stands text.now rest.now from names.old item.old c known vars }
-    ensures { (known : List Place) (vars : List Place) → Stands text.now rest.now from names.old item.old c known vars
-        → BegunIs left text.now rest.now from known vars c item.old names.new item.new result }
+    requires { (known : List Place) × (vars : List Place)
+        × Stands src.text.now src.rest.now src.from names.old item.old c known vars }
+    ensures { (known : List Place) (vars : List Place)
+        → Stands src.entry.text.now src.entry.rest.now src.entry.from names.old item.old c known vars
+        → BegunIs left src.entry.text.now src.entry.rest.now src.entry.from
+        known vars c item.old names.new item.new result }
 {
-    match front(rest, c.at) {
+    match front(src.rest, c.at) {
         Token::Name(a, e) => {
-            let numbered = names::number(text, rest, from, names, c.names, a, e);
+            let numbered = names::number(src, names, c.names, a, e);
             let (n, names) = numbered.ok_or(Unread::Exceeded)?;
-            behind_name(rest, left, n, Cursor { at: e, names, ..c })
+            behind_name(src.rest, left, n, Cursor { at: e, names, ..c })
         }
-        Token::Writer(a, e) => variable(rest, item, Half::Writer, a, e, e, c),
-        Token::Reader(a, e) => variable(rest, item, Half::Reader, a, e, e + 1, c),
+        Token::Writer(a, e) => variable(src.rest, item, Half::Writer, a, e, e, c),
+        Token::Reader(a, e) => variable(src.rest, item, Half::Reader, a, e, e + 1, c),
         Token::Integer(w, _, e) => Ok(Begun::Got(INTEGER + TAGS * w, Cursor { at: e, ..c })),
-        Token::Sign(b'[', a) => behind_bracket(rest, left, Cursor { at: a + 1, ..c }),
+        Token::Sign(b'[', a) => behind_bracket(src.rest, left, Cursor { at: a + 1, ..c }),
         Token::Sign(_, a) | Token::Bad(a) => Err(Unread::Malformed(a)),
-        Token::End => Err(Unread::Malformed(rest.len())),
+        Token::End => Err(Unread::Malformed(src.rest.len())),
     }
 }

@@ -10,6 +10,7 @@ ghost use Rattle.term.specs.Words.{compound_word as compound_word_meant, packed}
 ghost use Rattle.load_names.specs.Places.{Place, spellings};
 ghost use Rattle.load_openings.specs.Reading.{Stands, ReadIs, ArgumentsAre, closed};
 
+use load_names::source::Source;
 use load_openings::begin::{Begun, begin};
 use load_openings::cursor::{Cursor, Unread};
 use load_tokens::next::{next_is, next_of, starts};
@@ -55,9 +56,7 @@ fn store_cell(s: &mut [u64], base: usize, n: usize, element: u64, tail: u64)
 // A term inside which so many brackets more may open.
 #[cycle(arguments_compound_elements_last_tail_term)]
 pub fn term(
-    text: &[u8],
-    rest: &[u8],
-    from: usize,
+    src: Source<'_>,
     s: &mut [u64],
     names: &mut [u64],
     item: &mut [u64],
@@ -66,23 +65,24 @@ pub fn term(
     c: Cursor,
 ) -> Result<(u64, Cursor), Unread>
     requires left_bound { (left ≤ 16) × (item_end base ≤ length s.old) × (length s.old < 1152921504606846976) }
-    requires stands { (known : List Place) × (vars : List Place) × Stands text.now rest.now from names.old item.old c known vars }
-    ensures { (known : List Place) (vars : List Place) → Stands text.now rest.now from names.old item.old c known vars
-        → ReadIs (λ (t : Term). t) (term_reader left) text.now rest.now from base known vars c s.old item.old s.new names.new item.new result }
+    requires stands { (known : List Place) × (vars : List Place)
+        × Stands src.text.now src.rest.now src.from names.old item.old c known vars }
+    ensures { (known : List Place) (vars : List Place)
+        → Stands src.entry.text.now src.entry.rest.now src.entry.from names.old item.old c known vars
+        → ReadIs (λ (t : Term). t) (term_reader left)
+        src.entry.text.now src.entry.rest.now src.entry.from base known vars c s.old item.old s.new names.new item.new result }
 {
-    match begin(text, rest, from, names, item, left, c)? {
+    match begin(src, names, item, left, c)? {
         Begun::Got(w, d) => Ok((w, d)),
-        Begun::Round(n, d) => compound(text, rest, from, s, names, item, base, left - 1, n, d),
-        Begun::Square(d) => elements(text, rest, from, s, names, item, base, left - 1, d),
+        Begun::Round(n, d) => compound(src, s, names, item, base, left - 1, n, d),
+        Begun::Square(d) => elements(src, s, names, item, base, left - 1, d),
     }
 }
 
 // "A compound `name(T,..)` with 1 to 6 arguments", behind its opening parenthesis.
 #[cycle(arguments_compound_elements_last_tail_term)]
 pub fn compound(
-    text: &[u8],
-    rest: &[u8],
-    from: usize,
+    src: Source<'_>,
     s: &mut [u64],
     names: &mut [u64],
     item: &mut [u64],
@@ -92,9 +92,14 @@ pub fn compound(
     c: Cursor,
 ) -> Result<(u64, Cursor), Unread>
     requires left_bound { (left ≤ 15) × (item_end base ≤ length s.old) × (length s.old < 1152921504606846976) }
-    requires stands { (known : List Place) × (vars : List Place) × Stands text.now rest.now from names.old item.old c known vars × (f : Bytes) × (place_of f (spellings known) ≡ some name) }
-    ensures { (known : List Place) (vars : List Place) → Stands text.now rest.now from names.old item.old c known vars
-        → (f : Bytes) → place_of f (spellings known) ≡ some name → ReadIs as_term (compound_of (term_reader left) f) text.now rest.now from base known vars c s.old item.old s.new names.new item.new result }
+    requires stands { (known : List Place) × (vars : List Place)
+        × Stands src.text.now src.rest.now src.from names.old item.old c known vars × (f : Bytes)
+        × (place_of f (spellings known) ≡ some name) }
+    ensures { (known : List Place) (vars : List Place)
+        → Stands src.entry.text.now src.entry.rest.now src.entry.from names.old item.old c known vars
+        → (f : Bytes) → place_of f (spellings known) ≡ some name
+        → ReadIs as_term (compound_of (term_reader left) f)
+        src.entry.text.now src.entry.rest.now src.entry.from base known vars c s.old item.old s.new names.new item.new result }
 {
     let n = c.compounds;
     if ITEM_COMPOUNDS <= n {
@@ -104,7 +109,7 @@ pub fn compound(
         compounds: n + 1,
         ..c
     };
-    let (count, d) = arguments(text, rest, from, s, names, item, base, left, n, inside)?;
+    let (count, d) = arguments(src, s, names, item, base, left, n, inside)?;
     s[place(base, n)] = functor(name, count);
     Ok((compound_word(base, n), d))
 }
@@ -112,9 +117,7 @@ pub fn compound(
 // The arguments of the compound n, one after the other, and how many it has.
 #[cycle(arguments_compound_elements_last_tail_term)]
 fn arguments(
-    text: &[u8],
-    rest: &[u8],
-    from: usize,
+    src: Source<'_>,
     s: &mut [u64],
     names: &mut [u64],
     item: &mut [u64],
@@ -124,21 +127,24 @@ fn arguments(
     c: Cursor,
 ) -> Result<(u64, Cursor), Unread>
     requires left_bound { (left ≤ 15) × (item_end base ≤ length s.old) × (length s.old < 1152921504606846976) × (n < c.compounds) }
-    requires stands { (known : List Place) × (vars : List Place) × Stands text.now rest.now from names.old item.old c known vars }
-    ensures { (known : List Place) (vars : List Place) → Stands text.now rest.now from names.old item.old c known vars
-        → ArgumentsAre n 0 (arguments_reader (term_reader left) 6) text.now rest.now from base known vars c s.old item.old s.new names.new item.new result }
+    requires stands { (known : List Place) × (vars : List Place)
+        × Stands src.text.now src.rest.now src.from names.old item.old c known vars }
+    ensures { (known : List Place) (vars : List Place)
+        → Stands src.entry.text.now src.entry.rest.now src.entry.from names.old item.old c known vars
+        → ArgumentsAre n 0 (arguments_reader (term_reader left) 6)
+        src.entry.text.now src.entry.rest.now src.entry.from base known vars c s.old item.old s.new names.new item.new result }
 {
     let mut d = c;
     for i in 0..6 {
-        let (w, e) = term(text, rest, from, s, names, item, base, left, d)?;
+        let (w, e) = term(src, s, names, item, base, left, d)?;
         s[place(base, n) + 1 + i] = w;
-        let (sign, at) = next_of(rest, e.at, &[b',', b')'])?;
+        let (sign, at) = next_of(src.rest, e.at, &[b',', b')'])?;
         d = Cursor { at, ..e };
         if sign == b')' {
             return Ok((word(i + 1), d));
         }
     }
-    starts(rest, d.at)?;
+    starts(src.rest, d.at)?;
     Err(Unread::Exceeded)
 }
 
@@ -146,9 +152,7 @@ fn arguments(
 // whose tail is the next compound, the term behind the `|`, or `[]`.
 #[cycle(arguments_compound_elements_last_tail_term)]
 fn elements(
-    text: &[u8],
-    rest: &[u8],
-    from: usize,
+    src: Source<'_>,
     s: &mut [u64],
     names: &mut [u64],
     item: &mut [u64],
@@ -157,9 +161,13 @@ fn elements(
     c: Cursor,
 ) -> Result<(u64, Cursor), Unread>
     requires left_bound { (left ≤ 15) × (item_end base ≤ length s.old) × (length s.old < 1152921504606846976) }
-    requires stands { (known : List Place) × (vars : List Place) × Stands text.now rest.now from names.old item.old c known vars }
-    ensures { (known : List Place) (vars : List Place) → Stands text.now rest.now from names.old item.old c known vars
-        → (left_over : ℕ) → 32 ≤ left_over + c.compounds → ReadIs (λ (t : Term). t) (elements_reader (term_reader left) left_over) text.now rest.now from base known vars c s.old item.old s.new names.new item.new result }
+    requires stands { (known : List Place) × (vars : List Place)
+        × Stands src.text.now src.rest.now src.from names.old item.old c known vars }
+    ensures { (known : List Place) (vars : List Place)
+        → Stands src.entry.text.now src.entry.rest.now src.entry.from names.old item.old c known vars
+        → (left_over : ℕ) → 32 ≤ left_over + c.compounds
+        → ReadIs (λ (t : Term). t) (elements_reader (term_reader left) left_over)
+        src.entry.text.now src.entry.rest.now src.entry.from base known vars c s.old item.old s.new names.new item.new result }
 {
     let first = c.compounds;
     let mut d = c;
@@ -169,13 +177,13 @@ fn elements(
             compounds: cell + 1,
             ..d
         };
-        let (w, e) = term(text, rest, from, s, names, item, base, left, inside)?;
-        let (sign, at) = next_of(rest, e.at, &[b',', b'|', b']'])?;
+        let (w, e) = term(src, s, names, item, base, left, inside)?;
+        let (sign, at) = next_of(src.rest, e.at, &[b',', b'|', b']'])?;
         d = Cursor { at, ..e };
         match sign {
             b',' => store_cell(s, base, cell, w, compound_word(base, d.compounds)),
             b'|' => {
-                let (tail, f) = last_tail(text, rest, from, s, names, item, base, left, d)?;
+                let (tail, f) = last_tail(src, s, names, item, base, left, d)?;
                 store_cell(s, base, cell, w, tail);
                 return Ok((compound_word(base, first), f));
             }
@@ -185,16 +193,14 @@ fn elements(
             }
         }
     }
-    starts(rest, d.at)?;
+    starts(src.rest, d.at)?;
     Err(Unread::Exceeded)
 }
 
 // The term behind a list's `|`, and its closing bracket.
 #[cycle(arguments_compound_elements_last_tail_term)]
 fn last_tail(
-    text: &[u8],
-    rest: &[u8],
-    from: usize,
+    src: Source<'_>,
     s: &mut [u64],
     names: &mut [u64],
     item: &mut [u64],
@@ -203,11 +209,14 @@ fn last_tail(
     c: Cursor,
 ) -> Result<(u64, Cursor), Unread>
     requires left_bound { (left ≤ 15) × (item_end base ≤ length s.old) × (length s.old < 1152921504606846976) }
-    requires stands { (known : List Place) × (vars : List Place) × Stands text.now rest.now from names.old item.old c known vars }
-    ensures { (known : List Place) (vars : List Place) → Stands text.now rest.now from names.old item.old c known vars
-        → ReadIs (λ (t : Term). t) (closed (term_reader left)) text.now rest.now from base known vars c s.old item.old s.new names.new item.new result }
+    requires stands { (known : List Place) × (vars : List Place)
+        × Stands src.text.now src.rest.now src.from names.old item.old c known vars }
+    ensures { (known : List Place) (vars : List Place)
+        → Stands src.entry.text.now src.entry.rest.now src.entry.from names.old item.old c known vars
+        → ReadIs (λ (t : Term). t) (closed (term_reader left))
+        src.entry.text.now src.entry.rest.now src.entry.from base known vars c s.old item.old s.new names.new item.new result }
 {
-    let (w, e) = term(text, rest, from, s, names, item, base, left, c)?;
-    let at = next_is(rest, e.at, b']')?;
+    let (w, e) = term(src, s, names, item, base, left, c)?;
+    let at = next_is(src.rest, e.at, b']')?;
     Ok((w, Cursor { at, ..e }))
 }

@@ -11,6 +11,7 @@ use crate::refusal::Refusal;
 use load_image::keep::{keep_places, link};
 use load_items::items::{Item, Unfit, next_item};
 use load_items::refused::Refused;
+use load_names::source::Source;
 use load_tokens::lines::line;
 use term::clear::clear;
 use term::layout::Room;
@@ -53,9 +54,8 @@ fn item_at(
 {
     let mut item = [0u64; 64];
     let rest = &text[from..];
-    match next_item(
-        text, rest, from, s, names, &mut item, heads, clauses, queries, known,
-    ) {
+    let src = Source { text, rest, from };
+    match next_item(src, s, names, &mut item, heads, clauses, queries, known) {
         Ok(found) => Ok(found),
         Err(unfit) => Err(told(text, from, unfit)),
     }

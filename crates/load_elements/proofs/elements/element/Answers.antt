@@ -10,7 +10,7 @@ pub returns-in_err-w : goal.returns-in_err-w
 returns-in_err-w c = λ known vars st.
     let a = c.args in
     let p = err_from_is_err_and c.from_residual.result c.from_residual.ensures.1 in
-    rw (p.1, p.2) (one_unread a.text.now a.rest.now a.from a.base known vars a.c a.s.now a.item.now c.term.new.s c.term.new.names c.term.new.item _
+    rw (p.1, p.2) (one_unread a.src.text.now a.src.rest.now a.src.from a.base known vars a.c a.s.now a.item.now c.term.new.s c.term.new.names c.term.new.item _
     (c.in_err-w.ensures known vars st))
 
 pub next_is-requires : goal.next_is-requires
@@ -22,7 +22,7 @@ pub right_side-requires-clause-stands : goal.right_side-requires-clause-stands
 right_side-requires-clause-stands c =
     let p = c.requires.stands in
     let b = c.in_ok-w.ensures p.0 p.1 p.2 in
-    (names_over b.1 p.0, variables_over c.args.from b.1 p.1, stands_moved c.in-Ok.behind b.2.stands c.in-Ok.ensures.inside)
+    (names_over b.1 p.0, variables_over c.args.src.from b.1 p.1, stands_moved c.in-Ok.behind b.2.stands c.in-Ok.ensures.inside)
 
 pub stands_alone-requires : goal.stands_alone-requires
 stands_alone-requires c =
@@ -43,9 +43,9 @@ returns-in-Ok c = λ known vars st.
     let a = c.args in
     let w = c.in_ok-w in
     let b = w.ensures known vars st in
-    one_equals a.text.now a.rest.now a.from a.base known vars a.c a.s.now a.item.now c.term.new.s c.term.new.names c.term.new.item w.w w.d b.0 b.1 b.2
+    one_equals a.src.text.now a.src.rest.now a.src.from a.base known vars a.c a.s.now a.item.now c.term.new.s c.term.new.names c.term.new.item w.w w.d b.0 b.1 b.2
     c.in-Ok.behind c.in-Ok.ensures c.right_side.new.s c.right_side.new.names c.right_side.new.item c.right_side.result
-    (c.right_side.ensures (names_over b.1 known) (variables_over a.from b.1 vars) (stands_moved c.in-Ok.behind b.2.stands c.in-Ok.ensures.inside))
+    (c.right_side.ensures (names_over b.1 known) (variables_over a.src.from b.1 vars) (stands_moved c.in-Ok.behind b.2.stands c.in-Ok.ensures.inside))
 
 pub returns-then-stands_alone : goal.returns-then-stands_alone
 returns-then-stands_alone c = λ known vars st.
@@ -56,8 +56,8 @@ returns-then-stands_alone c = λ known vars st.
     let b = w.ensures known vars st in
     let own = stored_own (names_over b.1 known) a.base a.c.compounds w.d.compounds w.w b.0 a.s.now c.term.new.s b.2.word_is b.2.stored_is b.2.numbered
     b.2.stands.compounds_few (omega (arith, l, c.requires.base_in_bounds.0)) in
-    one_alone a.text.now a.rest.now a.from a.base known vars a.c a.s.now a.item.now c.term.new.s c.term.new.names c.term.new.item w.w w.d b.0 b.1 b.2
-    c.in-Err.other.0 (stops.1 a.from) (sym (c.stands_alone.ensures (names_over b.1 known) a.base b.0 own) ∙ c.if-stands_alone.true)
+    one_alone a.src.text.now a.src.rest.now a.src.from a.base known vars a.c a.s.now a.item.now c.term.new.s c.term.new.names c.term.new.item w.w w.d b.0 b.1 b.2
+    c.in-Err.other.0 (stops.1 a.src.from) (sym (c.stands_alone.ensures (names_over b.1 known) a.base b.0 own) ∙ c.if-stands_alone.true)
 
 pub returns-else-stands_alone : goal.returns-else-stands_alone
 returns-else-stands_alone c = λ known vars st.
@@ -68,5 +68,5 @@ returns-else-stands_alone c = λ known vars st.
     let b = w.ensures known vars st in
     let own = stored_own (names_over b.1 known) a.base a.c.compounds w.d.compounds w.w b.0 a.s.now c.term.new.s b.2.word_is b.2.stored_is b.2.numbered
     b.2.stands.compounds_few (omega (arith, l, c.requires.base_in_bounds.0)) in
-    rw c.from.ensures (one_not a.text.now a.rest.now a.from a.base known vars a.c a.s.now a.item.now c.term.new.s c.term.new.names c.term.new.item w.w w.d b.0 b.1 b.2
-    c.in-Err.other.0 (stops.1 a.from) stops.0 (sym (c.stands_alone.ensures (names_over b.1 known) a.base b.0 own) ∙ c.if-stands_alone.false))
+    rw c.from.ensures (one_not a.src.text.now a.src.rest.now a.src.from a.base known vars a.c a.s.now a.item.now c.term.new.s c.term.new.names c.term.new.item w.w w.d b.0 b.1 b.2
+    c.in-Err.other.0 (stops.1 a.src.from) stops.0 (sym (c.stands_alone.ensures (names_over b.1 known) a.base b.0 own) ∙ c.if-stands_alone.false))

@@ -7,6 +7,6 @@ use Rattle.load_goals.specs.Endings.{Partly}
 use Rattle.load_goals.proofs.goals.goals.Given as goal
 
 abbrev pub invariant-loop-i : goal.invariant-loop-i
-invariant-loop-i l = (known : List Place) (vars : List Place) → Stands l.text l.rest l.from l.fn.names l.fn.item l.fn.c known vars
+invariant-loop-i l = (known : List Place) (vars : List Place) → Stands l.src.text.now l.src.rest.now l.src.from l.fn.names l.fn.item l.fn.c known vars
     → (gs : List Named) × (ps : List Placed) × (length gs ≡ l.i)
-    × Partly l.text l.rest l.from l.base l.place known vars l.fn.c l.fn.s l.fn.item l.s l.names l.item l.d gs ps
+    × Partly l.src.text.now l.src.rest.now l.src.from l.base l.place known vars l.fn.c l.fn.s l.fn.item l.s l.names l.item l.d gs ps

@@ -9,7 +9,7 @@ returns-in_err-goals c = λ known vars st.
     let a = c.args in
     let r = c.perhaps_goals in
     let p = err_from_is_err_and c.from_residual.result c.from_residual.ensures.1 in
-    rw (p.1, p.2) (bar_unread a.k a.n a.found a.text.now a.rest.now a.from known vars a.c a.s.now a.item.now r.new.s r.new.names r.new.item _
+    rw (p.1, p.2) (bar_unread a.k a.n a.found a.src.text.now a.src.rest.now a.src.from known vars a.c a.s.now a.item.now r.new.s r.new.names r.new.item _
     (c.in_err-goals.ensures known vars st))
 
 pub returns-then-not-found : goal.returns-then-not-found

@@ -12,14 +12,14 @@ use Rattle.load_names.proofs.names.number.Goals as goal
 pub returns-in-Some : goal.returns-in-Some
 returns-in-Some c places kept counted =
     let a = c.args in
-    let here = between_is a.rest.now a.a a.e in
-    name_known a.text.now places a.table.now a.count (a.from + a.a) (slice a.a a.e a.rest.now) kept counted c.in-Some.n (rw here at (sym (c.in-Some.ensures places kept)))
+    let here = between_is a.src.rest.now a.a a.e in
+    name_known a.src.text.now places a.table.now a.count (a.src.from + a.a) (slice a.a a.e a.src.rest.now) kept counted c.in-Some.n (rw here at (sym (c.in-Some.ensures places kept)))
 
 pub returns-then-count-ge256 : goal.returns-then-count-ge256
 returns-then-count-ge256 c places kept counted =
     let a = c.args in
-    let here = between_is a.rest.now a.a a.e in
-    name_passed a.text.now places a.table.now a.count (a.from + a.a) (slice a.a a.e a.rest.now) kept counted (rw here at (sym (c.in_default.ensures places kept)))
+    let here = between_is a.src.rest.now a.a a.e in
+    name_passed a.src.text.now places a.table.now a.count (a.src.from + a.a) (slice a.a a.e a.src.rest.now) kept counted (rw here at (sym (c.in_default.ensures places kept)))
     c.if-count-ge256.true
 
 pub add-requires : goal.add-requires
@@ -29,8 +29,8 @@ pub returns : goal.returns
 returns c places kept counted =
     let a = c.args in
     let r = c.requires.from_in_bounds in
-    let here = between_is a.rest.now a.a a.e in
+    let here = between_is a.src.rest.now a.a a.e in
     let size = ap length here in
-    name_new a.text.now places a.table.now a.count (a.from + a.a) (slice a.a a.e a.rest.now) kept counted c.hash-h.result (length (slice_range a.rest.now a.a a.e)) c.add.new.table
+    name_new a.src.text.now places a.table.now a.count (a.src.from + a.a) (slice a.a a.e a.src.rest.now) kept counted c.hash-h.result (length (slice_range a.src.rest.now a.a a.e)) c.add.new.table
     (rw here at (sym (c.in_default.ensures places kept))) c.if-count-ge256.false
-    (part_behind a.text.now a.rest.now a.from a.a a.e r.0 r.1 (omega arith) r.3) (c.hash-h.ensures ∙ ap hash_of here) size c.add.ensures
+    (part_behind a.src.text.now a.src.rest.now a.src.from a.a a.e r.0 r.1 (omega arith) r.3) (c.hash-h.ensures ∙ ap hash_of here) size c.add.ensures

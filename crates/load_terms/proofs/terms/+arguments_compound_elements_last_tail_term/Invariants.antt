@@ -24,13 +24,13 @@ abbrev pub decreases-term : goal.decreases-term
 decreases-term l = 4 * l.left
 
 abbrev pub invariant-arguments-loop-i : goal.invariant-arguments-loop-i
-invariant-arguments-loop-i l = (known : List Place) (vars : List Place) → Stands l.text l.rest l.from l.fn.names l.fn.item l.fn.c known vars
-    → Reached (term_reader l.left) l.n l.i l.text l.rest l.from l.base known vars l.fn.c l.fn.s l.fn.item l.d l.s l.names l.item
+invariant-arguments-loop-i l = (known : List Place) (vars : List Place) → Stands l.src.text.now l.src.rest.now l.src.from l.fn.names l.fn.item l.fn.c known vars
+    → Reached (term_reader l.left) l.n l.i l.src.text.now l.src.rest.now l.src.from l.base known vars l.fn.c l.fn.s l.fn.item l.d l.s l.names l.item
 
 abbrev pub invariant-elements-loop-d : goal.invariant-elements-loop-d
-invariant-elements-loop-d l = (known : List Place) (vars : List Place) → Stands l.text l.rest l.from l.fn.names l.fn.item l.fn.c known vars
+invariant-elements-loop-d l = (known : List Place) (vars : List Place) → Stands l.src.text.now l.src.rest.now l.src.from l.fn.names l.fn.item l.fn.c known vars
     → (left_over : ℕ) → 32 ≤ left_over + l.fn.c.compounds
-    → Linked l.left left_over l.text l.rest l.from l.base known vars l.fn.c l.fn.s l.fn.item l.d l.s l.names l.item
+    → Linked l.left left_over l.src.text.now l.src.rest.now l.src.from l.base known vars l.fn.c l.fn.s l.fn.item l.d l.s l.names l.item
 
 abbrev pub decreases-elements-loop-d : goal.decreases-elements-loop-d
 decreases-elements-loop-d l = 32 - l.d.compounds
