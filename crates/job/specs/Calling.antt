@@ -1,5 +1,5 @@
 -- The call's contract: its answer and both buffers at exit are the definition's.
-use Rattle.std.specs.Prelude.{ℕ, min, ◌≤◌, ◌≡◌, Bool, ◌&&◌, List, leb, length, Result, Ok, Err}
+use Rattle.std.specs.Prelude.{ℕ, min, ◌≤◌, ◌≡◌, ◌&&◌, List, leb, length, Result, Ok, Err}
 use Rattle.meaning.specs.Bytes.{Bytes, when◌then◌else◌}
 use Rattle.meaning.specs.State.{Room}
 use Rattle.meaning.specs.Call.{

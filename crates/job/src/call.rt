@@ -40,6 +40,7 @@ impl From<Refusal> for Unreported {
 
 impl Unreported {
     // Document 01's number of it.
+    #[tactic(auto, unfolding(meaning::specs::Call::number))]
     pub fn number(self) -> u32
         ensures { result ≡ number_of (answer_of (Err self)) }
     {
@@ -54,37 +55,53 @@ impl Unreported {
     }
 
     // The line, where the text is refused; else 0.
+    #[tactic(auto, unfolding(meaning::specs::Call::line_of))]
     pub fn line(self) -> usize
         ensures { result ≡ line_of (answer_of (Err self)) }
     {
         match self {
             Unreported::Refused(why) => why.line(),
-            _ => 0,
+            Unreported::OutOfRange
+            | Unreported::ScratchShort
+            | Unreported::TextLong
+            | Unreported::QueriesPassRoom
+            | Unreported::ReportLong(_) => 0,
         }
     }
 
     // "4, 5, 9 and 10 also return a byte offset, 0 with every other number."
+    #[tactic(auto, unfolding(meaning::specs::Call::offset_of))]
     pub fn offset(self) -> usize
         ensures { result ≡ offset_of (answer_of (Err self)) }
     {
         match self {
             Unreported::Refused(why) => why.offset(),
-            _ => 0,
+            Unreported::OutOfRange
+            | Unreported::ScratchShort
+            | Unreported::TextLong
+            | Unreported::QueriesPassRoom
+            | Unreported::ReportLong(_) => 0,
         }
     }
 
     // The length of the report that was too long; else 0.
+    #[tactic(auto, unfolding(meaning::specs::Call::length_of))]
     pub fn length(self) -> usize
         ensures { result ≡ length_of (answer_of (Err self)) }
     {
         match self {
             Unreported::ReportLong(n) => n,
-            _ => 0,
+            Unreported::OutOfRange
+            | Unreported::ScratchShort
+            | Unreported::TextLong
+            | Unreported::Refused(_)
+            | Unreported::QueriesPassRoom => 0,
         }
     }
 }
 
 // "A budget (0 to 1,000,000), three room figures (each 1 to 65,535)."
+#[tactic(auto, unfolding(meaning::specs::Call::in_range))]
 fn within(budget: usize, room: Room) -> bool
     ensures { result ≡ in_range budget (figures room) }
 {
