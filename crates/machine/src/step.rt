@@ -42,7 +42,7 @@ pub fn step(s: &mut [u64], room: Room, t: Standing) -> Option<Standing>
         word(t.steps) * 32768 + 2,
     ) {
         Ok((k, n)) => reduce(s, room, t, query, k, n),
-        Err(Hindered::Waits(readers)) => join_waiting(s, room, t, goal, query, readers),
-        Err(Hindered::Fails) => join_failed(s, room, t, goal, query),
+        Err(Hindered::Waits(readers)) => Some(join_waiting(s, room, t, goal, query, readers)),
+        Err(Hindered::Fails) => Some(join_failed(s, room, t, goal, query)),
     }
 }

@@ -39,7 +39,11 @@ fn show(answer: Result<usize, Unreported>, buffer: &[u8])
 fn digit(c: u8) -> usize
     ensures { result ≤ 9 }
 {
-    if c.is_ascii_digit() { usize::from(c - b'0') } else { 0 }
+    if c.is_ascii_digit() {
+        usize::from(c - b'0')
+    } else {
+        0
+    }
 }
 
 fn with_digit(n: usize, c: u8) -> usize
@@ -141,12 +145,7 @@ fn frame(one: &mut [u8], text: &mut [u8], s: &mut [u64], buffer: &mut [u8]) -> b
     }
     io::read_full(0, &mut text[..h.n + 1]);
     let words = lent_words(h.pairs, h.compounds, h.goals, h.scratch, h.need, s.len());
-    asked(
-        &text[..h.n],
-        h,
-        &mut s[..words],
-        &mut buffer[..h.size],
-    );
+    asked(&text[..h.n], h, &mut s[..words], &mut buffer[..h.size]);
     true
 }
 

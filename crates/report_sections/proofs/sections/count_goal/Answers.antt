@@ -1,7 +1,7 @@
 -- `report_sections::sections::count_goal` meets its contract: the goal's line, if it is the query's.
 use Prim.Native.Nat.{ℕ, ◌+◌}
 use mathlib.Core.Path.{◌≡◌, refl, sym, ap, ◌∙◌}
-use mathlib.Core.Bool.{true, false}
+use mathlib.Core.Bool.{true}
 use native.Mathlib.Omega.{arith}
 use mathlib.Core.List.{◌++◌}
 use lib.ListN.{length, length-append}
@@ -16,22 +16,6 @@ use Rattle.report_sections.proofs.sections.count_goal.Goals as goal
 one_more : {n : ℕ} (origin : Bytes) → n ≡ length origin → n + 1 ≡ length (origin ++ bytes "\n")
 unfolding bytes
 one_more origin e = simp length-append (omega arith)
-
-pub overflow_add-behind : goal.overflow_add-behind
-overflow_add-behind c = omega (arith, c.origin_length-behind.ensures.1)
-
-pub count_line-requires : goal.count_line-requires
-count_line-requires c =
-    let S = c in
-    let a = S.args in
-    let at = c.goal_at-goal in
-    let term = c.goal_term-w in
-    let (text, x, seen, t, counts, inside, h, shows) = S.requires in
-    let is : own a.q (goal_in a.s.now a.g a.i) ≡ true =
-    sym (ap (own a.q) at.ensures) ∙ sym c.own.ensures ∙ c.if-own.true in
-    let word : term.result ≡ compound_word (place_in (goal_in a.s.now a.g a.i)) =
-    term.ensures ∙ ap (λ (w : ℕ). compound_word (place_in w)) at.ensures in
-    (text, x, seen, t, counts, rw word (shows is))
 
 pub returns-then-own : goal.returns-then-own
 returns-then-own c =
@@ -49,9 +33,3 @@ returns-then-own c =
           line.ensures text x seen t a.label.now (origin_of (goal_in a.s.now a.g a.i) ++ bytes "\n") counts (rw word shows) refl
           (one_more (origin_of (goal_in a.s.now a.g a.i)) behind),
     )
-
-pub returns : goal.returns
-returns c =
-    let is : own c.args.q (goal_in c.args.s.now c.args.g c.args.i) ≡ false =
-    sym (ap (own c.args.q) c.goal_at-goal.ensures) ∙ sym c.own.ensures ∙ c.if-own.false in
-    (λ e. (refl, refl), λ text x seen t e counts shows. absurd (false_not_true _ is e))

@@ -6,11 +6,6 @@ use Rattle.report_pairs.specs.Laid.{capped}
 use Rattle.report_count.proofs.Lengths.{counts_further, counted_line}
 use Rattle.report_sections.proofs.sections.count_line.Goals as goal
 
-pub count_term-to-requires : goal.count_term-to-requires
-count_term-to-requires c =
-    let (text, x, seen, t, counts, shows) = c.requires in
-    (text, x, seen, t, counts_further _ text x _ seen _ _ _ counts c.further-from.ensures, shows)
-
 pub further-requires : goal.further-requires
 further-requires c =
     let (text, x, seen, t, counts, shows) = c.requires in

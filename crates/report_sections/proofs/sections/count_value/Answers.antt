@@ -16,12 +16,6 @@ one : 1 ≡ length (bytes "\n")
 unfolding bytes
 one = refl
 
-pub variable-w-requires : goal.variable-w-requires
-variable-w-requires c =
-    let a = c.args in
-    let (text, x, seen, xs, counts, vs, h) = c.requires in
-    omega (arith, vs.small, vs.few, h, vs.low a.v h, vs.pair a.v h, counts.readable.inside, counts.readable.behind)
-
 pub overflow_add-n : goal.overflow_add-n
 overflow_add-n c =
     let a = c.args in

@@ -8,11 +8,6 @@ use Rattle.report_count.proofs.Lengths.{counts_on, counted_as}
 use Rattle.report_sections.proofs.ValueLines.{variables_kept, value_counted, no_values}
 use Rattle.report_sections.proofs.sections.count_values.Goals as goal
 
-pub variables-v-end-requires : goal.variables-v-end-requires
-variables-v-end-requires c =
-    let (text, x, seen, xs, counts, vs) = c.requires in
-    omega (arith, vs.small, counts.readable.inside, counts.readable.behind)
-
 pub loop-v-init : goal.loop-v-init
 loop-v-init c =
     let a = c.args in

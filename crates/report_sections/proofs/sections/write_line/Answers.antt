@@ -5,11 +5,6 @@ use Rattle.report_pairs.proofs.Laid.{puts_behind}
 use Rattle.report_sections.proofs.WrittenLines.{line_room}
 use Rattle.report_sections.proofs.sections.write_line.Goals as goal
 
-pub write_term-to-requires : goal.write_term-to-requires
-write_term-to-requires c =
-    let (x, order, t, writes, shows, fits) = c.requires in
-    (x, order, t, writes, shows, fits_front _ (bytes "\n") fits)
-
 pub put-requires : goal.put-requires
 put-requires c =
     let (x, order, t, writes, shows, fits) = c.requires in

@@ -26,13 +26,6 @@ words-to-requires c =
     let size = value_line_size x.values order xs a.v h in
     omega (arith, fits.room, size, spelled.sized, c.spelled-from.ensures.1, c.spelling-to.auto.buffer, (puts_name a.source.now.text.now _ _ _ _ _ _ _ _ _ c.spelled-from.ensures.0 c.spelled-from.ensures.1 spelled c.spelling-to.ensures).place)
 
-pub variable-w-requires : goal.variable-w-requires
-variable-w-requires c =
-    let a = c.args in
-    let (x, order, xs, vs, h, writes, fits) = c.requires in
-    let spelled = name_size a.source.now.s.now a.source.now.text.now x a.q xs a.v vs h in
-    omega (arith, vs.small, vs.few, h, vs.low a.v h, vs.pair a.v h, writes.readable.inside, writes.readable.behind)
-
 pub write_line-requires : goal.write_line-requires
 unfolding bytes
 write_line-requires c =
