@@ -1,4 +1,5 @@
 // Elements, each read into the item's compounds: one, or up to eight with commas between, up to the bar or the full stop.
+// Stays three slices, scratch, names and item: tried as one struct of `&mut`s, and what they hold is lost where the loan ends.
 ghost use Rattle.std.specs.Prelude.{◌≡◌, List, ℕ, ◌+◌, ◌*◌, ◌≤◌, ◌<◌, length, set};
 ghost use Rattle.meaning.specs.Terms.{Term};
 ghost use Rattle.term.specs.Layout.{item_end, item_place};
@@ -123,6 +124,7 @@ fn ninth(rest: &[u8], at: usize) -> Unread
 
 // "With 1 to 8 guards", or 8 body goals: the elements behind `:-` up to the bar or the full stop, their words from the first of `words` on. Whether they
 // can be guards or goals is not judged here.
+// Stays a lent buffer, with how many words in the answer: there is no heap for a list.
 pub fn elements(
     src: Source<'_>,
     s: &mut [u64],

@@ -2,7 +2,7 @@
 use Prim.Native.Nat.{ℕ, ◌+◌, ◌-◌, ◌≤◌, ◌<◌, min}
 use mathlib.Core.Path.{◌≡◌, refl, sym, ◌∙◌}
 use mathlib.Core.Logic.{◌≢◌}
-use mathlib.Core.Bool.{Bool, true, false, not, ◌&&◌, ◌||◌}
+use mathlib.Core.Bool.{Bool, true, false, not, ◌&&◌, ◌||◌, or-true, or-false, and-false}
 use mathlib.Core.List.{List, [], ◌∷◌}
 use mathlib.Core.Option.{Option, none, some}
 use native.Mathlib.Omega.{arith}
@@ -63,14 +63,6 @@ itself : (h : Half) (x : Bytes) → is_half h x (variable h x) ≡ true
 unfolding is_half same_half
 itself writer x = same_refl x
 itself reader x = same_refl x
-
-or_false : (b : Bool) → (b || false) ≡ b
-or_false true = refl
-or_false false = refl
-
-and_false : (b : Bool) → (b && false) ≡ false
-and_false true = refl
-and_false false = refl
 
 -- What is left of the tokens that count for the pairing: up to the `:-` and then behind the bar; behind the `:-` all of them.
 unfoldable pub left_at : Bool → Option Tokens → Tokens → Tokens
@@ -170,13 +162,13 @@ module _ (both : Bool) (places : List Place) (free : Bytes → Bool) (whole : To
         → Reached both places free whole implied seen (left_at implied after (piece ts)) f
     unfolding is_half broken_by is
     over_name after p g ts r =
-        rw (or_false implied) at (over_other p (name g) (left_at implied after (piece ts)) (λ h x. refl) (λ w. refl) (rw (open_token implied after p (name g) ts refl refl) at r))
+        rw (or-false implied) at (over_other p (name g) (left_at implied after (piece ts)) (λ h x. refl) (λ w. refl) (rw (open_token implied after p (name g) ts refl refl) at r))
 
     pub over_integer : (after : Option Tokens) (p : ℕ) (i : Integer) (ts : Tokens) → Reached both places free whole implied seen (left_at implied after (piece (token p (integer i) ts))) f
         → Reached both places free whole implied seen (left_at implied after (piece ts)) f
     unfolding is_half broken_by is
     over_integer after p i ts r =
-        rw (or_false implied) at (over_other p (integer i) (left_at implied after (piece ts)) (λ h x. refl) (λ w. refl) (rw (open_token implied after p (integer i) ts refl refl) at r))
+        rw (or-false implied) at (over_other p (integer i) (left_at implied after (piece ts)) (λ h x. refl) (λ w. refl) (rw (open_token implied after p (integer i) ts refl refl) at r))
 
     -- Behind the full stop nothing is left.
     pub over_sign : (rest : Bytes) (from : ℕ) (bar : Perhaps ℕ) (after : Option Tokens) → BarIs rest from bar after → (p c a : ℕ)
@@ -186,24 +178,20 @@ module _ (both : Bool) (places : List Place) (free : Bytes → Bool) (whole : To
     unfolding is_half broken_by
     over_sign rest from bar after b p c a r = go (is ":" (sign c)) refl (is "." (sign c)) refl
       where
-        or_true : (i : Bool) → (i || true) ≡ true
-        or_true true = refl
-        or_true false = refl
-
         go : (n : Bool) → is ":" (sign c) ≡ n → (e : Bool) → is "." (sign c) ≡ e
             → Reached both places free whole (implied || is ":" (sign c)) seen
             (left_at (implied || is ":" (sign c)) after (piece (tokens_in from rest (on_at c a implied bar)))) f
         go true n e q =
             let on = over_other p (sign c) (left_at true after (piece (tokens_in from rest (on_at c a implied bar)))) (λ h x. refl) (λ w. refl)
             (rw (neck_token rest from bar p c a implied after n (neck_no_stop c n) b) at r) in
-            rw (n, or_true implied) (rw (n, or_true implied) at on)
+            rw (n, or-true implied) (rw (n, or-true implied) at on)
         go false n true q =
             absurd (no_end_here (implied || is ":" (sign c)) seen f p
             (over_other p (sign c) (ends p) (λ h x. refl) (λ w. refl) (rw (stop_token implied after p (sign c) (tokens_in from rest (behind c a)) q n) at r)))
         go false n false q =
             let on = over_other p (sign c) (left_at implied after (piece (tokens_in from rest (behind c a)))) (λ h x. refl) (λ w. refl)
             (rw (open_token implied after p (sign c) (tokens_in from rest (behind c a)) q n) at r) in
-            rw (n, or_false implied, other_sign c a bar implied n) (rw (n, or_false implied) at on)
+            rw (n, or-false implied, other_sign c a bar implied n) (rw (n, or-false implied) at on)
 
     -- A variable is no full stop and no `:-`.
     pub at_variable : (after : Option Tokens) (p : ℕ) (h : Half) (x : Bytes) (ts : Tokens) → Reached both places free whole implied seen (left_at implied after (piece (token p (variable h x) ts))) f
@@ -228,7 +216,7 @@ module _ (both : Bool) (places : List Place) (free : Bytes → Bool) (whole : To
       pardoned_is = go h
         where
           go : (h : Half) → (pardons implied h && not (eqb (get_or licensed n 0) 0)) ≡ (implied && pardoned free h x)
-          go writer = sym (and_false implied)
+          go writer = sym (and-false implied)
           go reader = rw (searched.frees x n here) refl
 
       module _ (again : get_or seen (half_from h + n) 0 ≢ 0) where
@@ -263,7 +251,7 @@ module _ (both : Bool) (places : List Place) (free : Bytes → Bool) (whole : To
               size = r.size;
               was = with_seen (variable h x) r.was;
               noted = noted_still;
-              finds = rw (seen_before, pardon, or_false implied) at r.finds;
+              finds = rw (seen_before, pardon, or-false implied) at r.finds;
               walkable = r.walkable.1;
             }
 
@@ -312,7 +300,7 @@ module _ (both : Bool) (places : List Place) (free : Bytes → Bool) (whole : To
               size = length-set seen (half_from h + n) 1 ∙ r.size;
               was = with_seen (variable h x) r.was;
               noted = noted_now;
-              finds = rw (unseen, missing, e, or_false implied) at r.finds;
+              finds = rw (unseen, missing, e, or-false implied) at r.finds;
               walkable = r.walkable.1;
             }
 
@@ -378,5 +366,5 @@ sign_less size at c a None implied forward h =
     less (weight (implied || eqb c (byte ":")) size) (weight implied size) size at (behind c a) (lighter implied (eqb c (byte ":")) size) (omega (arith, behind_more c a)) h
 sign_less size at c a (Some bar) true forward h =
     let l : at < behind c a = omega (arith, behind_more c a) in
-    rw (and_false (eqb c (byte ":"))) (not_less (weight true size) size at bar (behind c a) l h)
+    rw (and-false (eqb c (byte ":"))) (not_less (weight true size) size at bar (behind c a) l h)
 sign_less size at c a (Some bar) false forward h = either_less (eqb c (byte ":")) size at bar (behind c a) (omega (arith, behind_more c a)) h

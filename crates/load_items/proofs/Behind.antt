@@ -1,5 +1,5 @@
 -- What stands behind a clause's `:-`: elements up to the full stop, which are its goals; or up to the bar, and its goals behind that.
-use Prim.Native.Nat.{ℕ, ◌+◌, ◌*◌, ◌≤◌, ◌<◌, min}
+use Prim.Native.Nat.{ℕ, ◌+◌, ◌≤◌, ◌<◌, min}
 use mathlib.Core.Path.{◌≡◌, refl, ap, sym, ◌∙◌}
 use mathlib.Core.Bool.{Bool, true, false}
 use mathlib.Core.List.{List, [], ◌∷◌, ◌++◌}
@@ -12,10 +12,9 @@ use Rattle.meaning.specs.Bytes.{Bytes, byte}
 use Rattle.meaning.specs.Terms.{Half, Named, Guard, goals_occurrences}
 use Rattle.meaning.specs.Tokens.{sign, Tokens, ends, token}
 use Rattle.meaning.specs.Table.{Element, as_goals, as_guards}
-use Rattle.meaning.specs.Items.{Counted, Body, Read, read, malformed, passed, read_on, ◌>>=◌, give, cannot_stand, is, unguarded, here, guarded, body}
+use Rattle.meaning.specs.Items.{Counted, Body, read, malformed, passed, read_on, ◌>>=◌, give, cannot_stand, is, unguarded, here, guarded}
 use Rattle.term.specs.Frames.{Only}
-use Rattle.term.specs.Jobs.{GoalsKnown}
-use Rattle.term.specs.Layout.{trial_region, item_start, item_end, item_place, clause_base, clause_goals_from, clause_tests_from}
+use Rattle.term.specs.Layout.{trial_region, item_start, item_end, clause_base, clause_goals_from, clause_tests_from}
 use Rattle.term.proofs.Frames.{only_then, only_wider}
 use Rattle.load_tokens.specs.Fronts.{tokens_in}
 use Rattle.load_names.specs.Places.{Place, Placed, spellings, before, with_name, with_variable, names_over, variables_over, item_places}
@@ -25,20 +24,20 @@ use Rattle.load_openings.specs.declared.cursor.Cursor.{Cursor}
 use Rattle.load_openings.specs.declared.cursor.Unread.{Unread}
 use Rattle.load_openings.specs.declared.cursor.Unread.TheVariants as unread
 use Rattle.load_openings.proofs.Expected.{never}
-use Rattle.load_openings.proofs.Passing.{More, names_append, variables_append, before_append, open_append, names_more}
+use Rattle.load_openings.proofs.Passing.{names_append, variables_append, before_append, open_append, names_more}
 use Rattle.load_goals.specs.Endings.{goals_part, Ended}
-use Rattle.load_elements.specs.Elements.{elements_stored, elements_occurrences}
+use Rattle.load_elements.specs.Elements.{elements_occurrences}
 use Rattle.load_elements.specs.Listed.{GaveElements, AtBar, AtStop, ElementsAre}
 use Rattle.load_guards.specs.Judged.{Listed, tests_set, Licences}
 use Rattle.load_guards.proofs.Stored.{elements_stored_hold}
 use Rattle.load_guards.proofs.Resolving.{listed_front}
 use Rattle.load_items.specs.Counts.{Copied, Added}
-use Rattle.load_items.specs.Rules.{Worded, goals_set, SetIs, TestedIs, perhaps_goals, GuardedIs, body_part, GuardsAre, BodyIs}
+use Rattle.load_items.specs.Rules.{Worded, goals_set, SetIs, TestedIs, perhaps_goals, GuardedIs, body_part, BodyIs}
 use Rattle.load_items.specs.Refusing.{refused_as}
 use Rattle.load_items.specs.declared.rule.Ruled.{Ruled}
 use Rattle.load_items.specs.declared.refused.Refused.{Refused}
 use Rattle.load_items.specs.declared.refused.Refused.TheVariants.{Malformed, Unknown, Broken, Exceeded}
-use Rattle.load_items.proofs.Counted.{counts_stand, by_half, none_at, half_few, no_guards}
+use Rattle.load_items.proofs.Counted.{counts_stand, by_half, none_at, no_guards}
 use Rattle.load_items.proofs.StoredElements.{guards_named, goals_known, goals_occur, goals_length, guards_so, goals_so}
 use Rattle.load_items.proofs.MoreNames.{still_guards, still_named_guards}
 

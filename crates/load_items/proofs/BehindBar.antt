@@ -1,30 +1,28 @@
 -- Behind a clause's bar: its full stop, or goals up to it.
-use Prim.Native.Nat.{ℕ, ◌+◌, ◌≤◌, ◌<◌, min}
-use mathlib.Core.Path.{◌≡◌, refl, ap, sym, ◌∙◌}
+use Prim.Native.Nat.{ℕ, ◌+◌}
+use mathlib.Core.Path.{◌≡◌, refl, ◌∙◌}
 use mathlib.Core.Bool.{Bool}
 use mathlib.Core.List.{List, [], ◌∷◌}
 use native.Mathlib.Omega.{arith}
-use lib.ListN.{length, get_or}
 use Rattle.std.specs.Prelude.{Result, Ok, Err}
 use Rattle.meaning.specs.Bytes.{Bytes, byte, when◌then◌else◌}
-use Rattle.meaning.specs.Terms.{Half, Named, goals_occurrences}
+use Rattle.meaning.specs.Terms.{goals_occurrences}
 use Rattle.meaning.specs.Tokens.{sign, Tokens, ends, token}
-use Rattle.meaning.specs.Items.{Counted, Reader, read, malformed, passed, give, is, if_next, goals}
-use Rattle.term.specs.Frames.{Only}
+use Rattle.meaning.specs.Items.{Counted, read, give, is, if_next, goals}
 use Rattle.term.specs.Jobs.{GoalsKnown}
 use Rattle.term.specs.Layout.{trial_region, clause_base, clause_goals_from}
 use Rattle.term.proofs.Frames.{only_same}
 use Rattle.load_tokens.specs.Fronts.{tokens_in}
 use Rattle.load_tokens.specs.Nexts.{SignAt, one_of, Stops}
-use Rattle.load_names.specs.Places.{Place, Placed, before, names_over, variables_over, item_places}
+use Rattle.load_names.specs.Places.{Place, before, names_over, variables_over}
 use Rattle.load_image.specs.Image.{goals_stored}
-use Rattle.load_openings.specs.Reading.{piece, counted_at, half_place, Stands, Open}
+use Rattle.load_openings.specs.Reading.{piece, counted_at, Stands, Open}
 use Rattle.load_openings.specs.declared.cursor.Cursor.{Cursor}
 use Rattle.load_openings.specs.declared.cursor.Unread.{Unread}
 use Rattle.load_openings.specs.declared.cursor.Unread.TheVariants as unread
 use Rattle.load_openings.proofs.Expected.{piece_stop, if_next_other}
 use Rattle.load_openings.proofs.Passing.{piece_stops}
-use Rattle.load_goals.specs.Endings.{goals_part, Ended, EndIs}
+use Rattle.load_goals.specs.Endings.{goals_part, EndIs}
 use Rattle.load_openings.proofs.Moves.{moved_to, stands_moved}
 use Rattle.load_items.proofs.Counted.{half_few}
 use Rattle.load_items.specs.Rules.{perhaps_goals, GuardedIs}

@@ -1,5 +1,5 @@
 -- A clause read: its guards and the rules are judged after its full stop, and its words are the definitions'.
-use Prim.Native.Nat.{ℕ, ◌+◌, ◌-◌, ◌*◌, ◌≤◌, ◌<◌, min}
+use Prim.Native.Nat.{ℕ, ◌+◌, ◌≤◌, ◌<◌, min}
 use mathlib.Core.Path.{◌≡◌, refl, ap, sym, ◌∙◌}
 use mathlib.Core.Bool.{Bool, true, false, not, ◌&&◌}
 use mathlib.Core.List.{List, [], ◌∷◌}
@@ -41,13 +41,13 @@ use Rattle.term.proofs.Frames.{only_set, only_then}
 use Rattle.term.specs.Layout.{trial_region, clause_base, clause_pairs_word, clause_compounds_word, clause_goals_word, clause_guards_word}
 use Rattle.load_tokens.specs.Fronts.{tokens_in}
 use Rattle.load_names.specs.Places.{Place, Placed, spellings, names_over, variables_over}
-use Rattle.load_openings.specs.Reading.{piece, counted_at, half_place, Stands}
+use Rattle.load_openings.specs.Reading.{piece, counted_at, half_place}
 use Rattle.load_names.specs.Rules.{clause_kept}
-use Rattle.load_image.specs.Image.{so_far, clause_stored, head_word}
+use Rattle.load_image.specs.Image.{so_far, clause_stored}
 use Rattle.load_goals.specs.Endings.{Ended}
 use Rattle.load_guards.specs.Judged.{head_place, Counts}
-use Rattle.load_items.specs.Rules.{rule_part, GuardsAre, RuleRead, RuledIs}
-use Rattle.load_items.specs.Outcomes.{Begins, TookClause, Took, RefusedIs}
+use Rattle.load_items.specs.Rules.{rule_part, RuledIs}
+use Rattle.load_items.specs.Outcomes.{TookClause, RefusedIs}
 use Rattle.load_items.specs.declared.refused.Refused.{Refused}
 use Rattle.load_items.specs.declared.refused.Refused.TheVariants.{Malformed, Unknown, Broken, Exceeded}
 use Rattle.load_items.specs.Judging.{Whole, Judging}

@@ -1,6 +1,6 @@
 -- The item's table where its counts are other ones: it still holds the variables' places. A clause without guards has nothing counted for them.
-use Prim.Native.Nat.{ℕ, ◌+◌, ◌*◌, ◌≤◌, ◌<◌, min}
-use mathlib.Core.Path.{◌≡◌, refl, sym, ◌∙◌}
+use Prim.Native.Nat.{ℕ, ◌+◌, ◌*◌, ◌≤◌, ◌<◌}
+use mathlib.Core.Path.{◌≡◌, refl, ◌∙◌}
 use mathlib.Core.List.{List, []}
 use mathlib.Core.Option.{none}
 use Rattle.std.specs.Prelude.{None}
@@ -15,7 +15,6 @@ use Rattle.load_names.specs.Tables.{VariablesIn}
 use Rattle.load_openings.specs.Reading.{half_place, Stands}
 use Rattle.load_openings.specs.declared.cursor.Cursor.{Cursor}
 use Rattle.load_elements.specs.Elements.{elements_occurrences}
-use Rattle.load_guards.specs.Judged.{Licences}
 use Rattle.load_items.specs.Rules.{GuardsNamed, GuardsAre}
 
 pub counts_stand : (text rest : Bytes) (from : ℕ) (names item item' : List ℕ) (c : Cursor) (known vars : List Place) → Stands text rest from names item c known vars

@@ -1,9 +1,9 @@
 -- An item that was read: its tokens hold what its terms hold, so it has a fault exactly if the rules are broken, and then the walk finds the least.
 -- Its variables are told apart, its tokens' places rise, none of them is bad: what the search for the fault asks.
-use Prim.Native.Nat.{ℕ, zero, suc, ◌+◌, ◌-◌, ◌≤◌, ◌<◌, min}
-use mathlib.Core.Path.{◌≡◌, refl, sym, ap, ◌∙◌}
+use Prim.Native.Nat.{ℕ, ◌+◌, ◌-◌, ◌<◌, min}
+use mathlib.Core.Path.{◌≡◌, refl, ap, ◌∙◌}
 use mathlib.Core.Bool.{Bool, true, false, not, ◌&&◌}
-use mathlib.Core.List.{List, [], ◌∷◌, ◌++◌}
+use mathlib.Core.List.{List, [], ◌∷◌}
 use mathlib.Core.Option.{Option, none, some}
 use native.Mathlib.Omega.{arith}
 use lib.Dec.{eqb}
@@ -30,8 +30,7 @@ use Rattle.load_names.specs.Tables.{VariablesIn}
 use Rattle.load_names.proofs.Numbering.{spellings_snoc, with_known, with_new}
 use Rattle.load_names.proofs.Spellings.{has_place}
 use Rattle.load_openings.specs.Reading.{piece, half_place}
-use Rattle.load_openings.proofs.Expected.{piece_open, piece_stop}
-use Rattle.load_faults.specs.Finding.{BarIs, Searched, Searches}
+use Rattle.load_faults.specs.Finding.{BarIs, Searches}
 use Rattle.load_faults.proofs.Sound.{Sound, walkable}
 
 -- The variables' spellings are told apart.

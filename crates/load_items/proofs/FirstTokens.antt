@@ -1,24 +1,22 @@
 -- The first token of an item, as the code finds it.
-use Prim.Native.Nat.{ℕ, ◌+◌, ◌≤◌, ◌<◌}
-use mathlib.Core.Path.{◌≡◌, refl, ap, sym, ◌∙◌}
-use mathlib.Core.Bool.{Bool, true, false, ◌||◌}
+use Prim.Native.Nat.{ℕ, ◌+◌, ◌≤◌}
+use mathlib.Core.Path.{◌≡◌, refl}
 use mathlib.Core.List.{List}
 use native.Mathlib.Omega.{arith}
-use lib.Dec.{eqb}
 use lib.ListN.{length}
 use lib.Seq.{slice}
 use Rattle.std.specs.Prelude.{Option, None, Result, Ok, Err}
 use borrow.Author.Tests.{ne_eqb}
 use Rattle.meaning.specs.Bytes.{Bytes, byte, when◌then◌else◌}
 use Rattle.meaning.specs.Terms.{writer, reader}
-use Rattle.meaning.specs.Tokens.{variable, integer, sign, bad, Tokens, ends, token}
+use Rattle.meaning.specs.Tokens.{variable, integer, sign, bad, token}
 use Rattle.meaning.specs.Items.{is, is_name}
 use Rattle.term.proofs.Frames.{only_same}
 use Rattle.term.specs.Layout.{trial_region}
 use Rattle.load_tokens.specs.Fronts.{tokens_in, behind, double_sign, FrontIs}
 use Rattle.load_names.specs.Places.{Place}
 use Rattle.load_items.specs.Outcomes.{BegunIs, ItemIs, begun_at}
-use Rattle.load_tokens.specs.declared.token.Token.TheVariants.{End, Name, Writer, Reader, Integer as AnInteger, Sign, Bad}
+use Rattle.load_tokens.specs.declared.token.Token.TheVariants.{End, Writer, Reader, Integer as AnInteger, Sign, Bad}
 use Rattle.load_items.specs.declared.items.Item.{Item}
 use Rattle.load_items.specs.declared.items.Unfit.{Unfit}
 use Rattle.load_items.specs.declared.refused.Refused.{Refused}

@@ -1,7 +1,6 @@
 -- A clause's head, and behind it its body, a full stop, or something that cannot stand.
-use Prim.Native.Nat.{ℕ, zero, suc, ◌+◌, ◌*◌, ◌-◌, ◌≤◌, ◌<◌, min}
+use Prim.Native.Nat.{ℕ, ◌+◌, ◌≤◌, ◌<◌, min}
 use mathlib.Core.Path.{◌≡◌, refl, ap, sym, ◌∙◌, subst}
-use mathlib.Core.Bool.{Bool, true, false}
 use mathlib.Core.List.{List, [], ◌∷◌, ◌++◌}
 use mathlib.Core.Option.{none}
 use native.Mathlib.Omega.{arith}
@@ -10,18 +9,18 @@ use lib.Seq.{get_or-set_same}
 use Rattle.std.specs.Prelude.{None, Result, Ok, Err}
 use Rattle.meaning.specs.Bytes.{Bytes, byte, when◌then◌else◌}
 use Rattle.meaning.specs.Terms.{Half, Named, Guard, named, as_term, count, goals_occurrences, occurrences, all_occurrences}
-use Rattle.meaning.specs.Tokens.{Token, sign, Tokens, ends, token}
-use Rattle.meaning.specs.Items.{Counted, Read, Body, Rule, read, malformed, passed, read_on, ◌>>=◌, give, is, either, goal, body, rule}
+use Rattle.meaning.specs.Tokens.{sign, Tokens, ends, token}
+use Rattle.meaning.specs.Items.{Counted, Body, read, malformed, passed, read_on, ◌>>=◌, give, is, either, goal, body, rule}
 use Rattle.term.specs.Cells.{functor_word, stored, arguments_stored, Known, Numbered}
 use Rattle.term.specs.Frames.{Only}
 use Rattle.term.proofs.Frames.{only_then, only_wider}
 use Rattle.term.proofs.Cells.{arguments_stored_only}
 use Rattle.term.proofs.Names.{functor_word_more}
 use Rattle.term.specs.Jobs.{GoalsKnown}
-use Rattle.term.specs.Layout.{trial_region, trial_base, item_start, item_end, item_place, item_compounds, clause_base, clause_goals_from, clause_tests_from}
+use Rattle.term.specs.Layout.{trial_region, item_start, item_end, item_place, clause_base}
 use Rattle.load_tokens.specs.Fronts.{tokens_in}
 use Rattle.load_names.specs.Places.{Place, Placed, spellings, before, with_name, with_variable, names_over, variables_over, item_places}
-use Rattle.load_openings.specs.Reading.{piece, counted_at, half_place, Stands, Open, Gave, ReadIs}
+use Rattle.load_openings.specs.Reading.{piece, counted_at, half_place, Open, Gave, ReadIs}
 use Rattle.load_tokens.specs.Nexts.{SignAt, one_of, Stops}
 use Rattle.load_image.specs.Image.{goals_stored, guards_stored, head_word}
 use Rattle.load_goals.specs.Endings.{Ended}
@@ -34,7 +33,7 @@ use Rattle.load_goals.proofs.GoalLists.{places_more, still_stored, still_named}
 use Rattle.load_openings.proofs.Given.{gave_only}
 use Rattle.load_openings.proofs.Moves.{moved_to, stands_moved}
 use Rattle.load_items.specs.Counts.{Copied}
-use Rattle.load_items.specs.Rules.{body_part, rule_part, GuardsAre, BodyIs, RuleRead, RuledIs}
+use Rattle.load_items.specs.Rules.{body_part, rule_part, BodyIs, RuledIs}
 use Rattle.load_items.specs.Refusing.{refused_as}
 use Rattle.load_items.specs.declared.rule.Ruled.{Ruled}
 use Rattle.load_items.specs.declared.refused.Refused.{Refused}

@@ -1,45 +1,28 @@
 -- A query read: nothing occurs twice in it, and its words are the definitions', with where its variables first stand.
-use Prim.Native.Nat.{ℕ, zero, suc, ◌+◌, ◌*◌, ◌≤◌, ◌<◌, min}
+use Prim.Native.Nat.{ℕ, zero, suc, ◌+◌, ◌≤◌, ◌<◌}
 use mathlib.Core.Path.{◌≡◌, refl, ap, sym, ◌∙◌}
-use mathlib.Core.Bool.{Bool, true, false, ◌&&◌}
+use mathlib.Core.Bool.{true, false}
 use mathlib.Core.List.{List, [], ◌∷◌, map}
 use mathlib.Core.Option.{none, some}
 use native.Mathlib.Omega.{arith}
 use lib.ListN.{length, get_or, set, replicate, length-replicate}
 use Rattle.std.specs.Prelude.{None, Err}
-use Rattle.meaning.specs.Bytes.{Bytes, byte, when◌then◌else◌}
+use Rattle.meaning.specs.Bytes.{Bytes, byte}
 use Rattle.meaning.specs.Terms.{Half, Named, Query, goals_occurrences}
 use Rattle.meaning.specs.Tokens.{sign, Tokens, ends, token}
 use Rattle.meaning.specs.Faults.{Fault, occurs_at, pairing, query_faults, least}
-use Rattle.meaning.specs.Items.{
-  Counted,
-  Piece,
-  query,
-  refused,
-  no_item,
-  occurrence_rule,
-  figure,
-  read,
-  malformed,
-  passed,
-  is,
-  goals,
-  place_of,
-  unless_broken,
-  query_piece,
-  item,
-}
+use Rattle.meaning.specs.Items.{query, refused, no_item, occurrence_rule, figure, read, malformed, passed, is, goals, place_of, unless_broken, query_piece, item}
 use Rattle.term.specs.Frames.{Only}
 use Rattle.term.proofs.Frames.{only_set, only_then}
 use Rattle.term.specs.Layout.{trial_region, query_record, query_base, query_pairs_word, query_compounds_word, query_goals_from, query_variables_from}
 use Rattle.load_tokens.specs.Fronts.{tokens_in}
 use Rattle.load_names.specs.Places.{Place, Placed, spellings, before, names_over, variables_over, with_name, with_variable}
-use Rattle.load_openings.specs.Reading.{piece, counted_at, Stands, Open}
+use Rattle.load_openings.specs.Reading.{piece, counted_at, Open}
 use Rattle.load_names.specs.Rules.{none_twice}
 use Rattle.load_image.specs.Kept.{pairs_kept}
 use Rattle.load_image.specs.Image.{so_far, query_stored, places_stored}
 use Rattle.load_goals.specs.Endings.{goals_part, Ended, EndIs}
-use Rattle.load_items.specs.Outcomes.{Begins, TookQuery, Took, RefusedIs, shifted}
+use Rattle.load_items.specs.Outcomes.{Begins, TookQuery, RefusedIs, shifted}
 use Rattle.load_items.specs.Refusing.{refused_as}
 use Rattle.load_openings.specs.declared.cursor.Cursor.{Cursor}
 use Rattle.load_openings.specs.declared.cursor.Unread.{Unread}

@@ -1,19 +1,17 @@
 -- Elements taken as goals one by one, by their words: a compound's tag tells one that can be.
-use Prim.Native.Nat.{ℕ, suc, ◌+◌, ◌*◌, ◌%◌, ◌≤◌, ◌<◌}
+use Prim.Native.Nat.{ℕ, suc, ◌+◌, ◌%◌, ◌<◌}
 use mathlib.Core.Path.{◌≡◌, refl, ap, sym, ◌∙◌}
 use mathlib.Core.Logic.{◌≢◌}
-use mathlib.Core.Bool.{Bool, true, false}
-use mathlib.Core.List.{List, [], ◌∷◌, ◌++◌, map, append_assoc}
-use mathlib.Core.Option.{Option, none, some}
+use mathlib.Core.List.{List, [], ◌∷◌, ◌++◌, map}
+use mathlib.Core.Option.{none, some}
 use native.Mathlib.Omega.{arith}
 use lib.ListN.{length, get_or, set, length-append, length-map}
 use Rattle.std.proofs.lemmas.List.{append-nil}
 use Rattle.meaning.specs.Terms.{Named, as_term}
 use Rattle.meaning.specs.Table.{Element, whole, bare, equals, as_goals}
 use Rattle.term.specs.Cells.{Places as CellPlaces, term_word}
-use Rattle.term.specs.Frames.{Only}
 use Rattle.load_elements.specs.Elements.{element_word}
-use Rattle.load_items.specs.Rules.{Worded, goals_set, SetIs}
+use Rattle.load_items.specs.Rules.{Worded, goals_set}
 
 as_goals_all : (gs : List Named) → as_goals (map whole gs) ≡ some gs
 unfolding as_goals

@@ -1,5 +1,5 @@
 -- A clause that was read, as it is judged behind its full stop.
-use Rattle.std.specs.Prelude.{ℕ, ◌+◌, ◌≤◌, ◌≡◌, List, [], length, replicate, Result}
+use Rattle.std.specs.Prelude.{ℕ, ◌+◌, ◌≡◌, List, [], replicate, Result}
 use Rattle.meaning.specs.Bytes.{Bytes}
 use Rattle.meaning.specs.Terms.{Guard}
 use Rattle.meaning.specs.Tokens.{Tokens, token, name}

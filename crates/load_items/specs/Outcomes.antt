@@ -4,7 +4,7 @@ use Rattle.meaning.specs.Bytes.{Bytes}
 use Rattle.meaning.specs.Terms.{Clause, Query, count}
 use Rattle.meaning.specs.Tokens.{Tokens, ends, token, name, sign}
 use Rattle.meaning.specs.Faults.{Fault}
-use Rattle.meaning.specs.Items.{Piece, clause, query, refused, no_item, guard_rule, occurrence_rule, figure, item}
+use Rattle.meaning.specs.Items.{clause, query, refused, no_item, guard_rule, occurrence_rule, figure, item}
 use Rattle.term.specs.Frames.{Only}
 use Rattle.term.specs.Jobs.{GoalsKnown}
 use Rattle.term.specs.Layout.{trial_region}

@@ -1,4 +1,5 @@
 // Items: "`head.`, `head :- goal,..,goal.` or `?- goal,..,goal.`", each read into its places of the scratch and judged behind its full stop.
+// Stays four slices, scratch, names, item and heads: tried as one struct of `&mut`s, and what they hold is lost where the loan ends.
 ghost use Rattle.std.specs.Prelude.{◌≡◌, List, ℕ, ◌+◌, ◌*◌, ◌≤◌, ◌<◌, length};
 ghost use Rattle.load_names.specs.Places.{Place};
 ghost use Rattle.meaning.specs.Bytes.{Bytes};

@@ -75,8 +75,7 @@ pub fn number(
     a: usize,
     e: usize,
 ) -> Option<(usize, usize)>
-    requires from_in_bounds { (src.from ≤ length src.text.now) × (src.rest.now ≡ drop src.from src.text.now)
-        × (a < e) × (e ≤ length src.rest.now) × (e ≤ a + 31) }
+    requires in_rest { (a < e) × (e ≤ length src.rest.now) × (e ≤ a + 31) }
     requires names_in { (places : List Place) × NamesIn src.text.now places table.old × (count ≡ length places) }
     ensures { (places : List Place) → NamesIn src.entry.text.now places table.old → count ≡ length places
         → NameIs src.entry.text.now places (src.entry.from + a) (slice a e src.entry.rest.now)

@@ -1,55 +1,43 @@
 -- The classes of bytes by the numbers of their bytes: a byte of one class lies outside the others.
 -- A test that passes bounds the byte, and a byte out of bounds fails the test.
 use Prim.Native.Nat.{ℕ, ◌≤◌, ◌<◌}
-use Prim.Native.Char.{Char}
 use mathlib.Core.Path.{◌≡◌, refl}
-use mathlib.Core.Bool.{Bool, true, false, ◌&&◌, ◌||◌}
+use mathlib.Core.Bool.{Bool, true, false, ◌||◌}
 use native.Mathlib.Omega.{arith}
-use lib.Dec.{leb, eqb}
-use borrow.Author.Tests.{leb-true, lt-leb, eqb-true, ne_eqb}
+use lib.Dec.{eqb}
+use borrow.Author.Tests.{eqb-true}
 use Rattle.std.specs.Char.{is_ascii_digit, is_ascii_lowercase, is_ascii_uppercase}
 use Rattle.std.proofs.lemmas.Bool.Decides.{nat_tests}
 use Rattle.meaning.specs.Bytes.{byte}
-use Rattle.meaning.specs.Tokens.{tokens_words, between, lowercase, uppercase, digit, separates, single_sign}
-
-pub both : (a b : Bool) → (a && b) ≡ true → (a ≡ true) × (b ≡ true)
-both true b e = (refl, e)
-both false b e = (e, cc)
-
-in_between : (low high : Char) (c : ℕ) → between low high c ≡ true → (byte low ≤ c) × (c ≤ byte high)
-unfolding between
-in_between low high c e =
-    let t = both (leb (byte low) c) (leb c (byte high)) e in
-    (leb-true _ _ t.0, leb-true _ _ t.1)
+use Rattle.meaning.specs.Tokens.{tokens_words, lowercase, uppercase, digit, separates, single_sign}
 
 pub lowercase_bytes : (c : ℕ) → lowercase c ≡ true → (97 ≤ c) × (c ≤ 122)
-unfolding lowercase byte
-lowercase_bytes c e = in_between "a" "z" c e
+unfolding tokens_words
+lowercase_bytes c e = (grind (arith, nat_tests), grind (arith, nat_tests))
 
 pub uppercase_bytes : (c : ℕ) → uppercase c ≡ true → (65 ≤ c) × (c ≤ 90)
-unfolding uppercase byte
-uppercase_bytes c e = in_between "A" "Z" c e
+unfolding tokens_words
+uppercase_bytes c e = (grind (arith, nat_tests), grind (arith, nat_tests))
 
 pub digit_bytes : (c : ℕ) → digit c ≡ true → (48 ≤ c) × (c ≤ 57)
-unfolding digit byte
-digit_bytes c e = in_between "0" "9" c e
+unfolding tokens_words
+digit_bytes c e = (grind (arith, nat_tests), grind (arith, nat_tests))
 
 pub not_lowercase : (c : ℕ) → c < 97 → lowercase c ≡ false
 unfolding tokens_words
-not_lowercase c h = rw (lt-leb 97 c h)
+not_lowercase c h = grind (arith, nat_tests)
 
 pub not_uppercase : (c : ℕ) → c < 65 → uppercase c ≡ false
 unfolding tokens_words
-not_uppercase c h = rw (lt-leb 65 c h)
+not_uppercase c h = grind (arith, nat_tests)
 
 pub not_separates : (c : ℕ) → 32 < c → separates c ≡ false
 unfolding tokens_words
-not_separates c h =
-    rw (ne_eqb c 32 (λ e. omega arith), ne_eqb c 9 (λ e. omega arith), ne_eqb c 13 (λ e. omega arith), ne_eqb c 10 (λ e. omega arith))
+not_separates c h = grind (arith, nat_tests)
 
 pub not_remark : (c : ℕ) → 37 < c → eqb c (byte "%") ≡ false
 unfolding byte
-not_remark c h = ne_eqb c 37 (λ e. omega arith)
+not_remark c h = grind (arith, nat_tests)
 
 pub either : (a b : Bool) → (a || b) ≡ false → (a ≡ false) × (b ≡ false)
 either true b e = (cc, cc)

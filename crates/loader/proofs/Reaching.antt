@@ -1,16 +1,16 @@
 -- From one item to the next: the definitions' reading goes on behind the full stop, and the scratch has one entry more.
-use Prim.Native.Nat.{ℕ, zero, suc, ◌+◌, ◌*◌, ◌-◌, ◌≤◌, ◌<◌}
+use Prim.Native.Nat.{ℕ, ◌+◌, ◌≤◌, ◌<◌}
 use mathlib.Core.Path.{◌≡◌, refl, ap, sym, ◌∙◌}
 use mathlib.Core.List.{List, [], ◌∷◌, ◌++◌, map, append_assoc}
 use native.Mathlib.Omega.{arith}
 use native.Mathlib.Numerals.{add-one}
-use lib.ListN.{length, get_or, take, drop, set, replicate, length-drop, length-set, length-append, length-replicate, get_or-replicate}
+use lib.ListN.{length, drop, replicate, length-drop, length-set, length-replicate, get_or-replicate}
 use lib.Seq.{take-suc-set}
 use Rattle.std.proofs.lemmas.List.{append-nil, length_push}
 use Rattle.meaning.specs.Bytes.{Bytes}
-use Rattle.meaning.specs.Terms.{Clause, Query, count}
+use Rattle.meaning.specs.Terms.{Clause, Query}
 use Rattle.meaning.specs.Tokens.{Tokens, ends, token, sign, tokens}
-use Rattle.meaning.specs.Items.{Reading, Piece, clause, query, nothing, job, refused, Refusal, SoFar, with_clause, with_query, item, items, pieces}
+use Rattle.meaning.specs.Items.{Piece, clause, query, refused, Refusal, with_clause, with_query, item, items, pieces}
 use Rattle.term.proofs.Frames.{only_same, only_then}
 use Rattle.term.specs.Frames.{Only}
 use Rattle.term.specs.Layout.{trial_region}

@@ -1,4 +1,4 @@
-use Rattle.std.proofs.Common.{◌+◌, ◌≤◌, ◌≡◌, ◌∙◌, ap, min, get_or, arith}
+use Rattle.std.proofs.Common.{◌+◌, ◌≤◌, min, get_or, arith}
 use Rattle.load_items.proofs.Halfway.{halfway_none, halfway_next, by_place}
 use Rattle.load_items.proofs.counts.add_counts.Goals as goal
 

@@ -1,5 +1,5 @@
 -- The first token says whether it is a clause, a query, none, or nothing at all.
-use Rattle.std.proofs.Common.{refl, arith}
+use Rattle.std.proofs.Common.{arith}
 use Rattle.load_items.proofs.FirstTokens.{item_begun, query_sign, starts_sign, starts_writer, starts_reader, starts_integer, starts_bad}
 use Rattle.load_items.proofs.items.next_item.Goals as goal
 

@@ -1,5 +1,5 @@
 -- Too many queries, or the goals are read and judged after their full stop.
-use Rattle.std.proofs.Common.{◌≡◌, ◌≤◌, ◌<◌, ℕ, [], length, ap, sym, ◌∙◌, arith}
+use Rattle.std.proofs.Common.{◌<◌, [], length, ap, sym, ◌∙◌, arith}
 use Rattle.std.proofs.Math.ListN.{length-drop, length-set}
 use Rattle.std.proofs.Math.Option.{none}
 use Rattle.std.proofs.lemmas.Result.{err_from_is_err_and}

@@ -1,10 +1,10 @@
 -- Behind the head come its body, a full stop, or something that cannot stand.
-use Rattle.std.proofs.Common.{◌≡◌, ◌∙◌, arith}
+use Rattle.std.proofs.Common.{arith}
 use Rattle.std.proofs.lemmas.Result.{err_from_is_err_and}
 use Rattle.load_names.specs.Places.{names_over, variables_over}
 use Rattle.load_tokens.proofs.InFront.{last_of_two}
 use Rattle.load_openings.proofs.Moves.{stands_moved}
-use Rattle.load_items.proofs.Heads.{head_unread, same_counts, head_other, head_stop, head_body}
+use Rattle.load_items.proofs.Heads.{head_unread, head_other, head_stop, head_body}
 use Rattle.load_items.proofs.rule.rule.Goals as goal
 
 pub returns-in_err-e : goal.returns-in_err-e

@@ -28,9 +28,9 @@ add-requires c = (c.if-count-ge256.false, rw c.hash-h.ensures (hash_fits _), c.r
 pub returns : goal.returns
 returns c places kept counted =
     let a = c.args in
-    let r = c.requires.from_in_bounds in
+    let r = c.requires.in_rest in
     let here = between_is a.src.rest.now a.a a.e in
     let size = ap length here in
     name_new a.src.text.now places a.table.now a.count (a.src.from + a.a) (slice a.a a.e a.src.rest.now) kept counted c.hash-h.result (length (slice_range a.src.rest.now a.a a.e)) c.add.new.table
     (rw here at (sym (c.in_default.ensures places kept))) c.if-count-ge256.false
-    (part_behind a.src.text.now a.src.rest.now a.src.from a.a a.e r.0 r.1 (omega arith) r.3) (c.hash-h.ensures ∙ ap hash_of here) size c.add.ensures
+    (part_behind a.src.text.now a.src.rest.now a.src.from a.a a.e a.src.part.0 a.src.part.1 (omega arith) r.1) (c.hash-h.ensures ∙ ap hash_of here) size c.add.ensures

@@ -1,5 +1,5 @@
 -- Each item moves on; the first that is refused decides, and where nothing is left it matters whether there is a query.
-use Rattle.std.proofs.Common.{[], refl, sym, ◌∙◌, arith}
+use Rattle.std.proofs.Common.{[], refl, sym, ◌∙◌}
 use Rattle.std.proofs.lemmas.Result.{err_from_is_err_and}
 use Rattle.meaning.specs.Items.{no_query}
 use Rattle.meaning.specs.Call.{refusal}

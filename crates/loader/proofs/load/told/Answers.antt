@@ -1,8 +1,7 @@
 -- Each refusal holds the line of the item, or of the token that cannot stand.
-use Rattle.std.proofs.Common.{◌+◌, refl, ap}
+use Rattle.std.proofs.Common.{◌+◌, ap}
 use Rattle.meaning.specs.Items.{no_item, guard_rule, occurrence_rule, figure}
-use Rattle.meaning.specs.Call.{Answer, no_items, guard_refused, occurrence_broken, figure_passed, refusal}
-use Rattle.load_faults.specs.Finding.{rule_of}
+use Rattle.meaning.specs.Call.{no_items, guard_refused, occurrence_broken, figure_passed, refusal}
 use Rattle.loader.proofs.load.told.Goals as goal
 
 pub returns-in-Malformed : goal.returns-in-Malformed
