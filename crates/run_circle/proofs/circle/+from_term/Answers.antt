@@ -11,12 +11,6 @@ use Rattle.run_circle.proofs.Measure.{term_weight, lighter, no_heavier}
 use Rattle.run_circle.proofs.circle.+from_term.Goals as goal
 use Rattle.run_circle.proofs.circle.+from_term.Goals.{else-leads, then-leads+else-later-ne0, then-leads+then-later-ne0+else-r-eq-REACHED}
 
-pub loop-s-init : goal.loop-s-init
-loop-s-init t c =
-    let a = c.args in let s₀ = a.s.now in let vs = a.values in let ms = a.marks in let z = a.z in
-    let st = a.stamp in let o = c.begun-state.result in
-    (calls.going_first s₀ vs ms z st a.head a.w o, omega arith)
-
 pub count-k-requires : goal.count-k-requires
 count-k-requires t c =
     let a = c.args in let s₀ = a.s.now in let vs = a.values in let ms = a.marks in let z = a.z in let st = a.stamp in let s = c.loop-s.s in
@@ -252,15 +246,6 @@ visit-t-requires t c =
     let false_keeps : calls.StateAsks s vs ms z st false u n = rw c.if-side.false at keeps in
     calls.visit_asks s vs ms z st u p c.index-p.ensures c.if-tag-eq-COMPOUND.false c.if-tag-eq0.false c.if-tag-gt-READER.false
     c.word_at-m.result n c.word_at-m.ensures c.if-p-z.false c.if-m-eq-GROUND.false c.if-m-stamp.false false_keeps
-
-pub since-state-requires : goal.since-state-requires
-since-state-requires t c =
-    let a = c.args in
-    let s₀ = a.s.now in let vs = a.values in let ms = a.marks in let z = a.z in let st = a.stamp in let s = c.loop-s.s in let b = c.loop-s.side in
-    let u = c.loop-s.t in let n = c.loop-s.state in let o = c.begun-state.result in let going = c.loop-s.invariant.0 in let p = c.index-p.result in
-    let asks = calls.going_asks s₀ vs ms z st a.head a.w o s b u n going c.begun-state.ensures c.requires in
-    let false_asks : calls.TermAsks s vs ms z st false u = rw c.if-side.false at asks in
-    omega (arith, calls.mark_at s vs ms z st u p c.index-p.ensures c.if-tag-eq-COMPOUND.false c.if-tag-eq0.false c.if-tag-gt-READER.false false_asks, c.loop-s.auto.s, c.well_formed.0.1)
 
 pub given_term-t-requires : goal.given_term-t-requires
 given_term-t-requires t c =

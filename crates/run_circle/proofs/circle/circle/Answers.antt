@@ -7,10 +7,6 @@ hold-requires c =
     let a = c.args in
     entries_of a.s.now c.requires.0 a.values a.marks a.n a.stamp c.requires.1
 
-pub from_entries-found-requires : goal.from_entries-found-requires
-from_entries-found-requires c =
-    (c.requires.0, c.args.s.now, c.requires.1, c.hold.ensures)
-
 pub hold-requires-2 : goal.hold-requires-2
 hold-requires-2 c =
     let a = c.args in

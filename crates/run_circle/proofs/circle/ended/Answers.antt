@@ -1,8 +1,6 @@
 -- `run_circle::circle::ended` meets its contract: the pair that the state names, if any, is marked.
-use Prim.Native.Nat.{◌%◌}
 use mathlib.Core.Path.{sym, ◌∙◌}
-use native.Mathlib.Omega.{arith}
-use borrow.Author.Tests.{ltb-true, eqb-true, eqb-false}
+use borrow.Author.Tests.{ltb-true}
 use Rattle.run_circle.proofs.Settle.{settled_same}
 use Rattle.run_circle.proofs.circle.ended.Goals as goal
 use Rattle.run_circle.proofs.circle.ended.Goals.{else-visited_one, then-visited_one}
@@ -16,25 +14,20 @@ settle-requires c =
     let (x, place, goal, h, names) = c.requires in
     (x, place, goal, h, names c.first_visited.result c.first_visited.ensures)
 
-pub returns-then-met_open : goal.returns-then-met_open
-returns-then-met_open c =
-    let a = c.args in record {
-      settled = elim c.if-visited_one.branch [
-        | then-visited_one w ↦ rw w.s-is (λ x place goal h names.
-            w.settle.ensures x place goal h (names w.first_visited.result w.first_visited.ensures))
-        | else-visited_one w ↦ rw w.s-is (λ x place goal h names. settled_same x a.marks a.stamp a.s.now)
-      ];
-      parity = sym (eqb-true (a.state % 2) 1 (sym c.met_open.ensures ∙ c.if-met_open.true));
-    }
-
-pub returns-else-met_open : goal.returns-else-met_open
-returns-else-met_open c =
+pub returns-then-met_open-clause-settled : goal.returns-then-met_open-clause-settled
+returns-then-met_open-clause-settled c =
     let a = c.args in
-    let even = eqb-false (a.state % 2) 1 (sym c.met_open.ensures ∙ c.if-met_open.false) in record {
-      settled = elim c.if-visited_one.branch [
-        | then-visited_one w ↦ rw w.s-is (λ x place goal h names.
-            w.settle.ensures x place goal h (names w.first_visited.result w.first_visited.ensures))
-        | else-visited_one w ↦ rw w.s-is (λ x place goal h names. settled_same x a.marks a.stamp a.s.now)
-      ];
-      parity = omega (arith, even);
-    }
+    elim c.if-visited_one.branch [
+      | then-visited_one w ↦ rw w.s-is (λ x place goal h names.
+          w.settle.ensures x place goal h (names w.first_visited.result w.first_visited.ensures))
+      | else-visited_one w ↦ rw w.s-is (λ x place goal h names. settled_same x a.marks a.stamp a.s.now)
+    ]
+
+pub returns-else-met_open-clause-settled : goal.returns-else-met_open-clause-settled
+returns-else-met_open-clause-settled c =
+    let a = c.args in
+    elim c.if-visited_one.branch [
+      | then-visited_one w ↦ rw w.s-is (λ x place goal h names.
+          w.settle.ensures x place goal h (names w.first_visited.result w.first_visited.ensures))
+      | else-visited_one w ↦ rw w.s-is (λ x place goal h names. settled_same x a.marks a.stamp a.s.now)
+    ]

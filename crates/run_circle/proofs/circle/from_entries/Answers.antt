@@ -8,31 +8,6 @@ loop-i-init c =
     let a = c.args in
     λ y s₀ tried held. starts.passed_none s₀ a.s.now y a.values a.marks a.n a.stamp tried held
 
-pub entry_pair-z-requires : goal.entry_pair-z-requires
-entry_pair-z-requires c =
-    let a = c.args in
-    omega (
-      arith,
-      starts.entry_at a.s.now a.values a.marks a.n a.stamp c.loop-i.s c.loop-i.i c.loop-i.invariant
-          c.loop-i-test.true c.requires,
-    )
-
-pub given_term-h-requires : goal.given_term-h-requires
-given_term-h-requires c =
-    let a = c.args in
-    starts.entry_at a.s.now a.values a.marks a.n a.stamp c.loop-i.s c.loop-i.i c.loop-i.invariant
-    c.loop-i-test.true c.requires
-
-pub overflow_add-stamp : goal.overflow_add-stamp
-overflow_add-stamp c =
-    let a = c.args in
-    omega (
-      arith,
-      c.word.ensures,
-      starts.stamp_fits a.s.now a.values a.marks a.n a.stamp c.loop-i.s c.loop-i.i c.loop-i.invariant
-          c.loop-i-test.true c.requires,
-    )
-
 pub from_term-requires : goal.from_term-requires
 from_term-requires c =
     let a = c.args in

@@ -5,16 +5,8 @@ use mathlib.Core.Path.{sym, ap, ◌∙◌}
 use native.Mathlib.Omega.{arith}
 use Rattle.term.specs.Words.{writer_word}
 use Rattle.run_circle.specs.Ground.{stamp_in}
-use Rattle.run_circle.proofs.Settle.{settle_small, settling_first, settling_last, settle_count, settling_argument, argument_lighter, settle_mark, settle_value, value_lighter, settling_value}
+use Rattle.run_circle.proofs.Settle.{settling_first, settling_last, settle_count, settling_argument, argument_lighter, settle_mark, value_lighter, settling_value}
 use Rattle.run_circle.proofs.circle.settle.Goals as goal
-
-pub overflow_mul-t : goal.overflow_mul-t
-overflow_mul-t c =
-    omega (arith, c.word.ensures, settle_small c.args.s.now c.args.values c.args.marks c.args.stamp c.args.pair c.requires, c.well_formed.0.1)
-
-pub overflow_add-t : goal.overflow_add-t
-overflow_add-t c =
-    omega (arith, c.word.ensures, settle_small c.args.s.now c.args.values c.args.marks c.args.stamp c.args.pair c.requires, c.well_formed.0.1)
 
 pub loop-q-init : goal.loop-q-init
 loop-q-init c =
@@ -59,17 +51,6 @@ word_at-m-requires c =
 pub returns-then-m-stamp : goal.returns-then-m-stamp
 returns-then-m-stamp c =
     settling_last c.args.s.now c.args.values c.args.marks c.args.stamp c.args.pair c.loop-q.s c.loop-q.t c.loop-q.invariant
-
-pub set_at-requires : goal.set_at-requires
-set_at-requires c =
-    settle_mark c.args.s.now c.args.values c.args.marks c.args.stamp c.args.pair c.loop-q.s c.loop-q.t c.loop-q.invariant c.if-t-eq-COMPOUND.false (rw
-    c.loop-q-test.true at c.leads.ensures) c.index-q.result c.index-q.ensures c.requires
-
-pub word_at-t-requires : goal.word_at-t-requires
-word_at-t-requires c =
-    settle_value c.args.s.now c.args.values c.args.marks c.args.stamp c.args.pair c.loop-q.s c.loop-q.t c.loop-q.invariant c.if-t-eq-COMPOUND.false (rw
-    c.loop-q-test.true at c.leads.ensures) c.index-q.result c.index-q.ensures (ap (λ m. stamp_in m) (sym c.word_at-m.ensures) ∙ c.if-m-stamp.false)
-    c.set_at.new.s c.set_at.ensures c.requires
 
 pub loop-q-smaller : goal.loop-q-smaller
 loop-q-smaller c =

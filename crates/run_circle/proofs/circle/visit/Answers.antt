@@ -1,31 +1,14 @@
 -- `run_circle::circle::visit` meets its contract: the search goes on from the pair that the mark tells, or from the value.
 use native.Mathlib.Omega.{arith}
 use Rattle.run_circle.proofs.Settle.{settled_same}
-use Rattle.run_circle.proofs.Visiting.{visit_mark, visit_fits, visit_searching, visit_value, visits_via, visits_value}
+use Rattle.run_circle.proofs.Visiting.{visit_fits, visit_searching, visits_via, visits_value}
 use Rattle.run_circle.proofs.circle.visit.Goals as goal
-
-pub overflow_add-end : goal.overflow_add-end
-overflow_add-end c =
-    let (x, place, goal, n, v) = c.requires in
-    omega (arith, v.searching.stamp_below, c.well_formed)
-
-pub set_at-requires : goal.set_at-requires
-set_at-requires c =
-    let a = c.args in
-    let (x, place, goal, n, v) = c.requires in
-    visit_mark a.s.now x a.values a.marks place a.stamp goal a.state a.p a.m n v
 
 pub returns-then-end-ne0 : goal.returns-then-end-ne0
 returns-then-end-ne0 c =
     let a = c.args in λ x place goal n v.
     visits_via a.s.now x a.values a.marks place a.stamp goal a.state a.p a.m n v c.if-end-ne0.true c.set_at.new.s _
     c.set_at.ensures (omega arith)
-
-pub word_at-t-requires : goal.word_at-t-requires
-word_at-t-requires c =
-    let a = c.args in
-    let (x, place, goal, n, v) = c.requires in
-    visit_value a.s.now x a.values a.marks place a.stamp goal a.state a.p a.m n v c.set_at.new.s c.set_at.ensures
 
 pub note-requires : goal.note-requires
 note-requires c =

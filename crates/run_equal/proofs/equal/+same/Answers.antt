@@ -3,8 +3,6 @@ use mathlib.Core.Bool.{not}
 use mathlib.Core.Path.{◌≡◌, ap}
 use Prim.Native.Nat.{◌+◌, ◌-◌, ◌≤◌}
 use native.Mathlib.Omega.{arith}
-use mir.Syntax.{w64}
-use mir.Val.{Fits}
 use Rattle.run_equal.proofs.Calls as calls
 use Prim.Native.Nat.{ℕ, ◌<◌}
 use Rattle.run_equal.proofs.equal.+same.Goals as goal
@@ -13,20 +11,11 @@ use Rattle.run_equal.proofs.equal.+same.Goals as goal
 above : (k : ℕ) → (k ≡ 0 → ⊥) → 0 < k
 above k d = omega arith
 
-fits_next : (p k : ℕ) → 0 < k → p + k < 4294967296 → Fits w64 (p + 1)
-fits_next p k some h = record { fits = omega arith }
-
 less : (depth deep t : ℕ) → depth ≡ t → 0 < deep → deep ≤ depth → deep - 1 < t
 less depth deep t e some h = omega arith
 
 one_more : (k : ℕ) → 0 < k → k - 1 + 1 ≡ k
 one_more k h = omega arith
-
-fewer : (k : ℕ) → 1 < k → k - 1 < k
-fewer k h = omega arith
-
-lower : (k : ℕ) → 0 < k → k - 1 < k
-lower k h = omega arith
 
 left_over : (k : ℕ) → 1 < k → 0 < k - 1
 left_over k h = omega arith
@@ -37,17 +26,8 @@ same_sum p k some h = omega arith
 last_one : (k : ℕ) → 0 < k → k ≤ 1 → k ≡ 1
 last_one k some h = omega arith
 
-no_more : (deep depth : ℕ) → deep ≤ depth → deep - 1 ≤ depth
-no_more deep depth h = omega arith
-
 none : (k : ℕ) → k ≤ 0 → k ≡ 0
 none k h = omega arith
-
-pub loop-deep-init : goal.loop-deep-init
-loop-deep-init t c =
-    let A = c.args in let s₀ = A.s.now in let vs = A.values in let ls = A.lists in let ks = A.links in let n₀ = A.first in
-    let dp = A.depth in let x = A.left in let y = A.right in
-    calls.goes_first s₀ vs ls ks n₀ dp x y
 
 pub root-c-requires : goal.root-c-requires
 root-c-requires t c =
@@ -170,15 +150,6 @@ loop-k-init t c =
           c.index-q.ensures c.count-k.ensures,
     )
 
-pub overflow_add-p : goal.overflow_add-p
-overflow_add-p t c = fits_next c.loop-k.p c.loop-k.k c.loop-k.invariant.1 c.loop-k.invariant.2.0
-
-pub overflow_add-q : goal.overflow_add-q
-overflow_add-q t c = fits_next c.loop-k.q c.loop-k.k c.loop-k.invariant.1 c.loop-k.invariant.2.1
-
-pub overflow_sub-k : goal.overflow_sub-k
-overflow_sub-k t c = omega (arith, c.loop-k-test.true)
-
 pub part-t-requires : goal.part-t-requires
 part-t-requires t c =
     let A = c.args in let s₀ = A.s.now in let vs = A.values in let ls = A.lists in let ks = A.links in
@@ -236,9 +207,6 @@ returns-then-r-eq-UNEQUAL t c =
     c.part-t.ensures c.part-u.ensures c.same-r.new.s (h - 1) c.same-r.result c.same-r.ensures c.if-r-eq-UNEQUAL.true
     (one_more h c.loop-deep-test.true)
 
-pub loop-k-smaller : goal.loop-k-smaller
-loop-k-smaller t c = fewer c.loop-k.k c.loop-k-test.true
-
 pub loop-k-preserved : goal.loop-k-preserved
 loop-k-preserved t c =
     let A = c.args in let s₀ = A.s.now in
@@ -258,9 +226,6 @@ loop-k-preserved t c =
       (same_sum p k some c.loop-k.invariant.2.0, same_sum q k some c.loop-k.invariant.2.1),
     )
 
-pub overflow_add-p-in-loop-deep : goal.overflow_add-p-in-loop-deep
-overflow_add-p-in-loop-deep t c = fits_next c.loop-k.p c.loop-k.k c.loop-k.invariant.1 c.loop-k.invariant.2.0
-
 pub part-a-requires : goal.part-a-requires
 part-a-requires t c =
     let A = c.args in let s₀ = A.s.now in let vs = A.values in let ls = A.lists in let ks = A.links in
@@ -273,9 +238,6 @@ part-a-requires t c =
     let n₂ = c.loop-k.taken in let p = c.loop-k.p in let q = c.loop-k.q in let k = c.loop-k.k in let walks = c.loop-k.invariant.0 in
     let some = c.loop-k.invariant.1 in
     (calls.part_asks s₀ vs ls ks n₀ dp x y s n a b h goes s₁ n₁ e f opens is match yes s₂ n₂ p q k walks some c.requires).0
-
-pub overflow_add-q-in-loop-deep : goal.overflow_add-q-in-loop-deep
-overflow_add-q-in-loop-deep t c = fits_next c.loop-k.q c.loop-k.k c.loop-k.invariant.1 c.loop-k.invariant.2.1
 
 pub part-b-requires : goal.part-b-requires
 part-b-requires t c =

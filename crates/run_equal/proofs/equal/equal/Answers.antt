@@ -1,21 +1,8 @@
 -- `run_equal::equal::equal` meets its contract.
 use mathlib.Core.Path.{refl}
-use native.Mathlib.Omega.{arith}
 use Rattle.run_equal.specs.Equal.{filled}
-use Rattle.run_equal.proofs.Answers.{scene, depth_fits, first_readable, second_readable, first_means, second_means, begins, says}
+use Rattle.run_equal.proofs.Answers.{scene, first_readable, second_readable, first_means, second_means, begins, says}
 use Rattle.run_equal.proofs.equal.equal.Goals as goal
-
-pub overflow_mul-depth : goal.overflow_mul-depth
-overflow_mul-depth c =
-    let a = c.args in
-    let (x, y, given, n, t, u, E) = c.requires in
-    record { fits = omega (arith, depth_fits a.s.now x y given a.values a.marks a.links a.met n a.place t u E) }
-
-pub overflow_add-depth-3 : goal.overflow_add-depth-3
-overflow_add-depth-3 c =
-    let a = c.args in
-    let (x, y, given, n, t, u, E) = c.requires in
-    record { fits = depth_fits a.s.now x y given a.values a.marks a.links a.met n a.place t u E }
 
 pub given-t-requires : goal.given-t-requires
 given-t-requires c =

@@ -10,11 +10,6 @@ use Rattle.run_ground.proofs.Found.{not_three}
 use Rattle.run_ground.proofs.Words.{weight}
 use Rattle.run_ground.proofs.seek.+from_unit.Goals as goal
 
-pub loop-s-init : goal.loop-s-init
-loop-s-init t c =
-    let a = c.args in let s₀ = a.s.now in let vs = a.values in let ms = a.marks in let ls = a.links in let st = a.stamp in
-    (calls.going_first vs ms ls st s₀ a.w a.state, omega arith)
-
 pub count-k-requires : goal.count-k-requires
 count-k-requires t c =
     let a = c.args in

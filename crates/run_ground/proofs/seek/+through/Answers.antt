@@ -9,20 +9,6 @@ use Rattle.run_ground.proofs.Through as calls
 use Rattle.run_ground.proofs.seek.+through.Goals as goal
 use Rattle.run_ground.proofs.seek.+through.Goals.{else-a-eq-COMPOUND, then-a-eq-COMPOUND}
 
-pub loop-i-init : goal.loop-i-init
-loop-i-init t c =
-    let a = c.args in let s₀ = a.s.now in let vs = a.values in let ms = a.marks in let ls = a.links in let st = a.stamp in
-    let q = a.q in let k = a.k in
-    (calls.passing_first vs ms ls st s₀ q k a.state)
-
-pub argument-a-requires : goal.argument-a-requires
-argument-a-requires t c =
-    let a = c.args in let s₀ = a.s.now in
-    let vs = a.values in let ms = a.marks in let ls = a.links in let st = a.stamp in let q = a.q in let k = a.k in let s = c.loop-i.s in
-    let i = c.loop-i.i in let f = c.loop-i.found in let passing = c.loop-i.invariant in
-    let low : i ≤ k = omega (arith, c.loop-i-test.true) in
-    calls.args_at vs ms ls st s₀ q k a.state s i f passing low c.requires
-
 pub count-n-requires : goal.count-n-requires
 count-n-requires t c =
     let a = c.args in let s₀ = a.s.now in let vs = a.values in let ms = a.marks in

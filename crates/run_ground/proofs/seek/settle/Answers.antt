@@ -1,29 +1,13 @@
 -- `run_ground::seek::settle` meets its contract: the term at hand has ground pairs only, and the weight of what is left falls.
-use mathlib.Core.Path.{refl, sym, ◌∙◌}
-use Rattle.run_ground.proofs.Found.{even_of}
-use Rattle.run_ground.proofs.Settle.{settle_not, settling_first, settling_last, settle_count, settle_argument, settling_argument, argument_lighter, settle_mark, settle_value, value_lighter, settling_value}
+use mathlib.Core.Path.{sym, ◌∙◌}
+use Rattle.run_ground.proofs.Settle.{settle_count, settle_argument, settling_argument, argument_lighter, settle_mark, value_lighter, settling_value}
 use Rattle.run_ground.proofs.seek.settle.Goals as goal
-
-pub returns-then-pending : goal.returns-then-pending
-returns-then-pending c =
-    let a = c.args in
-    settle_not a.s.now a.values a.marks a.stamp a.w a.state
-
-pub loop-s-init : goal.loop-s-init
-loop-s-init c =
-    let a = c.args in
-    (settling_first a.s.now a.values a.marks a.stamp a.w a.state (even_of a.state (sym c.pending.ensures ∙ c.if-pending.false)), refl)
 
 pub count-k-requires : goal.count-k-requires
 count-k-requires c =
     let a = c.args in
     settle_count a.s.now a.values a.marks a.stamp a.w a.state c.loop-s.s c.loop-s.t c.loop-s.invariant.0
     c.if-tag-eq-COMPOUND.true c.index-p.result c.index-p.ensures c.requires
-
-pub returns-then-k-eq0 : goal.returns-then-k-eq0
-returns-then-k-eq0 c =
-    let a = c.args in
-    settling_last a.s.now a.values a.marks a.stamp a.w a.state c.loop-s.s c.loop-s.t c.loop-s.invariant.0
 
 pub argument-t-requires : goal.argument-t-requires
 argument-t-requires c =
@@ -47,34 +31,11 @@ loop-s-preserved-then-tag-eq-COMPOUND c =
       c.loop-s.invariant.1,
     )
 
-pub returns-then-tag-gt-READER : goal.returns-then-tag-gt-READER
-returns-then-tag-gt-READER c =
-    let a = c.args in
-    settling_last a.s.now a.values a.marks a.stamp a.w a.state c.loop-s.s c.loop-s.t c.loop-s.invariant.0
-
 pub word_at-requires : goal.word_at-requires
 word_at-requires c =
     let a = c.args in
     settle_mark a.s.now a.values a.marks a.stamp a.w a.state c.loop-s.s c.loop-s.t c.loop-s.invariant.0
     c.if-tag-eq-COMPOUND.false c.if-tag-gt-READER.false c.index-p.result c.index-p.ensures c.requires
-
-pub returns-then-word_at-stamp : goal.returns-then-word_at-stamp
-returns-then-word_at-stamp c =
-    let a = c.args in
-    settling_last a.s.now a.values a.marks a.stamp a.w a.state c.loop-s.s c.loop-s.t c.loop-s.invariant.0
-
-pub set_at-requires : goal.set_at-requires
-set_at-requires c =
-    let a = c.args in
-    settle_mark a.s.now a.values a.marks a.stamp a.w a.state c.loop-s.s c.loop-s.t c.loop-s.invariant.0
-    c.if-tag-eq-COMPOUND.false c.if-tag-gt-READER.false c.index-p.result c.index-p.ensures c.requires
-
-pub word_at-t-requires : goal.word_at-t-requires
-word_at-t-requires c =
-    let a = c.args in
-    let m = sym c.word_at.ensures ∙ c.if-word_at-stamp.false in
-    settle_value a.s.now a.values a.marks a.stamp a.w a.state c.loop-s.s c.loop-s.t c.loop-s.invariant.0
-    c.if-tag-eq-COMPOUND.false c.if-tag-gt-READER.false c.index-p.result c.index-p.ensures m c.set_at.new.s c.set_at.ensures c.requires
 
 pub loop-s-smaller : goal.loop-s-smaller
 loop-s-smaller c =
