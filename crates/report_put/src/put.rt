@@ -30,7 +30,8 @@ pub fn again(buffer: &mut [u8], at: usize, from: usize, n: usize) -> usize
     requires { (at + n ≤ length buffer.old) × (from + n ≤ at) }
     ensures { (bs : Bytes) → n ≡ length bs → Has buffer.old from bs → Puts buffer.old buffer.new at result bs }
 {
-    buffer.copy_within(from..from + n, at);
+    let (written, free) = buffer.split_at_mut(at);
+    free[..n].copy_from_slice(&written[from..from + n]);
     at + n
 }
 

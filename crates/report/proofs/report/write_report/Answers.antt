@@ -2,20 +2,11 @@
 use Prim.Native.Nat.{◌<◌}
 use mathlib.Core.Path.{◌≡◌, ap}
 use native.Mathlib.Omega.{arith}
-use lib.ListN.{length-append}
 use Rattle.term.specs.Layout.{figures}
-use Rattle.report_tallies.specs.Header.{run_line_of}
 use Rattle.report.specs.All.{sections_bytes}
 use Rattle.report_pairs.proofs.Laid.{puts_behind, puts_as}
 use Rattle.report.proofs.Sectionwise.{ahead_first, section_ahead, none_put, more_put}
 use Rattle.report.proofs.report.write_report.Goals as goal
-
-pub run_line-to-requires : goal.run_line-to-requires
-run_line-to-requires c =
-    let start = c in
-    let a = start.args in
-    let (made, sections, steps, numbers, stored, fits) = start.requires in
-    omega (arith, fits, length-append (run_line_of a.verdict a.t.steps) (sections_bytes a.s.now (figures a.room) a.t made a.queries))
 
 pub loop-q-init : goal.loop-q-init
 loop-q-init c =
