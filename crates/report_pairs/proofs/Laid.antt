@@ -1,12 +1,11 @@
 -- Bytes put behind bytes, and a buffer whose front is filled.
-use Prim.Native.Nat.{ℕ, suc, ◌+◌, ◌≤◌}
+use Prim.Native.Nat.{ℕ, zero, suc, ◌+◌, ◌≤◌, ◌<◌}
 use mathlib.Core.Path.{◌≡◌, refl, sym, ap, ap₂, ◌∙◌}
 use mathlib.Core.List.{List, [], ◌∷◌, ◌++◌, append_assoc}
 use native.Mathlib.Omega.{arith}
-use lib.ListN.{length, length-append, length-set, get_or, set, take, drop, take-append-drop}
-use lib.Seq.{length-take-le, drop-drop, drop-cons}
+use lib.ListN.{length, length-append, length-set, set, drop}
 use Rattle.meaning.specs.Bytes.{Bytes}
-use Rattle.report_pairs.specs.Laid.{laid, Puts, Has}
+use Rattle.report_pairs.specs.Laid.{laid, Puts}
 
 pub laid_size : (bs : Bytes) (b : List ℕ) (at : ℕ) → length (laid b at bs) ≡ length b
 unfolding laid
@@ -60,23 +59,3 @@ laid_middle (b ∷ bs) front (m ∷ back) h =
 
 pub laid_whole : (bs : Bytes) (b : List ℕ) → length bs ≤ length b → laid b 0 bs ≡ bs ++ drop (length bs) b
 laid_whole bs b h = laid_middle bs [] b h
-
--- Put in one piece: what stands before and behind keeps its values.
-pub puts_part : (bs : Bytes) (b b' : List ℕ) (at to : ℕ) → at + length bs ≤ length b → to ≡ at + length bs
-    → b' ≡ take at b ++ (bs ++ drop (at + length bs) b) → Puts b b' at to bs
-puts_part bs b b' at to h e is =
-    let size : length (take at b) ≡ at = length-take-le at b (omega arith) in
-    let laid_is : laid b at bs ≡ take at b ++ (bs ++ drop (at + length bs) b) =
-    ap₂ (λ (l : List ℕ) (i : ℕ). laid l i bs) (sym (take-append-drop at b)) (sym size)
-    ∙ laid_middle bs (take at b) (drop at b) (omega (arith, length-append (take at b) (drop at b), ap length (take-append-drop at b)))
-    ∙ ap (λ (l : List ℕ). take at b ++ (bs ++ l)) (drop-drop (length bs) at b) in
-    record { place = e; laid_there = is ∙ sym laid_is }
-
--- Bytes that stand in others are a part of them.
-pub has_part : (bs b : Bytes) (from : ℕ) → from + length bs ≤ length b → Has b from bs → take (length bs) (drop from b) ≡ bs
-has_part [] b from h has = refl
-has_part (c ∷ bs) b from h has =
-    let first : get_or b from 0 ≡ c = let none : from + 0 ≡ from = omega arith in rw none at (has 0 (omega arith)) in
-    ap (take (suc (length bs))) (drop-cons b from 0 (omega arith))
-    ∙ ap₂ (λ (x : ℕ) (l : List ℕ). x ∷ l) first
-    (has_part bs b (suc from) (omega arith) (λ k l. let next : suc from + k ≡ from + suc k = omega arith in rw next (has (suc k) (omega arith))))

@@ -20,8 +20,10 @@ pub fn words(buffer: &mut [u8], at: usize, bytes: &[u8]) -> usize
     requires { at + length bytes.now ≤ length buffer.old }
     ensures { Puts buffer.old buffer.new at result bytes.now }
 {
-    let to = at + bytes.len();
-    buffer[at..to].copy_from_slice(bytes);
+    let mut to = at;
+    for b in bytes {
+        to = put(buffer, to, *b);
+    }
     to
 }
 
@@ -30,8 +32,9 @@ pub fn again(buffer: &mut [u8], at: usize, from: usize, n: usize) -> usize
     requires { (at + n ≤ length buffer.old) × (from + n ≤ at) }
     ensures { (bs : Bytes) → n ≡ length bs → Has buffer.old from bs → Puts buffer.old buffer.new at result bs }
 {
-    let (written, free) = buffer.split_at_mut(at);
-    free[..n].copy_from_slice(&written[from..from + n]);
+    for i in 0..n {
+        buffer[at + i] = buffer[from + i];
+    }
     at + n
 }
 
