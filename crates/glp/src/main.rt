@@ -8,36 +8,26 @@ ghost use Rattle.std.specs.Prelude.{◌≡◌, ℕ, ◌≤◌, length};
 ghost use Rattle.term.specs.Layout.{need_for};
 ghost use Rattle.job.specs.Calling.{Within};
 
-use job::call::{Answer, call};
-use loader::refusal::{Refusal, rule_number};
+use job::call::{Unreported, call};
 use term::layout::{COMPOUND_WORDS, COMPOUNDS};
 
-fn refused(number: u64, line: usize) {
+// Stays a cast: Rust has no From between usize and u64.
+fn refused(number: u32, line: usize) {
     io::write_all(1, b"refused ");
-    io::print_decimal(1, number);
+    io::print_decimal(1, u64::from(number));
     io::write_all(1, b" line ");
     io::print_decimal(1, line as u64);
     io::write_all(1, b"\n");
 }
 
-fn show(answer: Answer, buffer: &[u8])
+fn show(answer: Result<usize, Unreported>, buffer: &[u8])
     requires { Within answer buffer.now }
 {
     match answer {
-        Answer::Ran(n) => {
+        Ok(n) => {
             io::write_all(1, &buffer[..n]);
         }
-        Answer::OutOfRange => refused(1, 0),
-        Answer::ScratchShort => refused(2, 0),
-        Answer::TextLong => refused(3, 0),
-        Answer::Refused(why) => match why {
-            Refusal::NoItems(line, _) => refused(4, line),
-            Refusal::GuardRefused(line) => refused(11, line),
-            Refusal::OccurrenceBroken(rule, line, _) => refused(rule_number(rule) as u64, line),
-            Refusal::FigurePassed(line) => refused(6, line),
-        },
-        Answer::QueriesPassRoom => refused(7, 0),
-        Answer::ReportLong(_) => refused(8, 0),
+        Err(why) => refused(why.number(), why.line()),
     }
 }
 

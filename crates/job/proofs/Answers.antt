@@ -1,10 +1,10 @@
 -- The parts of the call's answer: each case of the code is the definition's.
-use Prim.Native.Nat.{ℕ, min, ◌+◌, ◌*◌, ◌≤◌, ◌<◌}
+use Prim.Native.Nat.{ℕ, min, ◌+◌, ◌≤◌, ◌<◌}
 use mathlib.Core.Path.{◌≡◌, refl, ap, sym, ◌∙◌}
 use mathlib.Core.Bool.{Bool, true, false, ◌&&◌}
 use mathlib.Core.List.{List, ◌++◌}
 use native.Mathlib.Omega.{arith}
-use lib.Dec.{leb, ltb}
+use lib.Dec.{leb}
 use lib.ListN.{length, get_or, drop, replicate, length-drop}
 use lib.Seq.{get_or-drop, ext_get_or}
 use borrow.Author.Tests.{le-leb, lt-leb, lt-ltb, le-ltb, leb-true}
@@ -14,64 +14,14 @@ use Rattle.meaning.specs.Items.{Refusal, job, refused, reading}
 use Rattle.meaning.specs.State.{Room}
 use Rattle.meaning.specs.Run.{run, queries_fit}
 use Rattle.meaning.specs.Report.{report}
-use Rattle.meaning.specs.Call.{
-  Given,
-  Answer,
-  ran,
-  out_of_range,
-  scratch_short,
-  text_long,
-  queries_pass_room,
-  report_long,
-  Outcome,
-  in_range,
-  refusal,
-  untouched,
-  cleared,
-  refuses,
-  reports,
-  delivered,
-  runs,
-  taken,
-  call,
-}
-use Rattle.term.specs.Layout.{need_of, InRange}
+use Rattle.meaning.specs.Call.{Answer, ran, out_of_range, scratch_short, text_long, queries_pass_room, report_long, Outcome, in_range, refusal, untouched, cleared, refuses, reports, delivered, runs, taken, call}
+use Rattle.term.specs.Layout.{need_of}
 use Rattle.job.specs.Calling.{room_of, given, told}
 
 abbrev pub made : Answer → Bytes → List ℕ → Outcome
 made answer buffer scratch = record { answer = answer; buffer = buffer; scratch = scratch }
 
--- 1: each figure in its range, in the order of the code's tests.
-module _ (b p c g : ℕ) where
-  pub out_1 : 1000000 < b → false ≡ in_range b (room_of p c g)
-  unfolding in_range
-  out_1 h = rw (lt-leb b 1000000 h)
-
-  pub out_2 : b ≤ 1000000 → p < 1 → false ≡ in_range b (room_of p c g)
-  unfolding in_range
-  out_2 h i = rw (le-leb b 1000000 h, lt-leb 1 p i)
-
-  pub out_3 : b ≤ 1000000 → 1 ≤ p → 65535 < p → false ≡ in_range b (room_of p c g)
-  unfolding in_range
-  out_3 h i j = rw (le-leb b 1000000 h, le-leb 1 p i, lt-leb p 65535 j)
-
-  module _ (h : b ≤ 1000000) (i : 1 ≤ p) (j : p ≤ 65535) where
-    pub out_4 : c < 1 → false ≡ in_range b (room_of p c g)
-    unfolding in_range
-    out_4 k = rw (le-leb b 1000000 h, le-leb 1 p i, le-leb p 65535 j, lt-leb 1 c k)
-
-    pub out_5 : 1 ≤ c → 65535 < c → false ≡ in_range b (room_of p c g)
-    unfolding in_range
-    out_5 k l = rw (le-leb b 1000000 h, le-leb 1 p i, le-leb p 65535 j, le-leb 1 c k, lt-leb c 65535 l)
-
-    pub out_6 : 1 ≤ c → c ≤ 65535 → g < 1 → false ≡ in_range b (room_of p c g)
-    unfolding in_range
-    out_6 k l m = rw (le-leb b 1000000 h, le-leb 1 p i, le-leb p 65535 j, le-leb 1 c k, le-leb c 65535 l, lt-leb 1 g m)
-
-    pub all_in : 1 ≤ c → c ≤ 65535 → 1 ≤ g → leb g 65535 ≡ in_range b (room_of p c g)
-    unfolding in_range
-    all_in k l m = rw (le-leb b 1000000 h, le-leb 1 p i, le-leb p 65535 j, le-leb 1 c k, le-leb c 65535 l, le-leb 1 g m)
-
+-- 1: each figure in its range.
 both : (a b : Bool) → (a && b) ≡ true → (a ≡ true) × (b ≡ true)
 both true b h = (refl, h)
 both false b h = let z : ◌≡◌ {A = ℕ} 0 1 = cc in absurd (omega arith)

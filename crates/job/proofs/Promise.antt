@@ -8,6 +8,7 @@ use native.Mathlib.Omega.{arith}
 use lib.Dec.{leb, ltb}
 use lib.ListN.{length, take}
 use borrow.Author.Tests.{leb-true, le-leb, ltb-false, le-ltb, not-false}
+use Rattle.std.specs.Prelude.{Result, Ok, Err}
 use Rattle.meaning.specs.Bytes.{Bytes, when◌then◌else◌}
 use Rattle.meaning.specs.Terms.{Job}
 use Rattle.meaning.specs.Items.{job, reading}
@@ -46,9 +47,8 @@ use Rattle.term.specs.Layout.{need_of}
 use Rattle.loader.proofs.OneAnswer.{back_rule, back_rule_of}
 use Rattle.loader.specs.declared.refusal.Refusal.TheVariants.{NoItems, GuardRefused, OccurrenceBroken, FigurePassed}
 use Rattle.job.specs.Calling.{answer_of, outcome, Called}
-use Rattle.job.specs.declared.call.Answer.{Answer}
-use Rattle.job.specs.declared.call.Answer.TheVariants.{
-  Ran,
+use Rattle.job.specs.declared.call.Unreported.{Unreported}
+use Rattle.job.specs.declared.call.Unreported.TheVariants.{
   OutOfRange,
   ScratchShort,
   TextLong,
@@ -58,33 +58,33 @@ use Rattle.job.specs.declared.call.Answer.TheVariants.{
 }
 
 -- No two answers of the code are one answer of the definition.
-back : Told → Answer
-back (ran n) = Ran n
-back out_of_range = OutOfRange
-back scratch_short = ScratchShort
-back text_long = TextLong
-back (no_items at offset) = Refused (NoItems at offset)
-back (occurrence_broken rule at offset) = Refused (OccurrenceBroken (back_rule rule) at offset)
-back (figure_passed at) = Refused (FigurePassed at)
-back queries_pass_room = QueriesPassRoom
-back (report_long n) = ReportLong n
-back (guard_refused at) = Refused (GuardRefused at)
+back : Told → Result ℕ Unreported
+back (ran n) = Ok n
+back out_of_range = Err OutOfRange
+back scratch_short = Err ScratchShort
+back text_long = Err TextLong
+back (no_items at offset) = Err (Refused (NoItems at offset))
+back (occurrence_broken rule at offset) = Err (Refused (OccurrenceBroken (back_rule rule) at offset))
+back (figure_passed at) = Err (Refused (FigurePassed at))
+back queries_pass_room = Err QueriesPassRoom
+back (report_long n) = Err (ReportLong n)
+back (guard_refused at) = Err (Refused (GuardRefused at))
 
-back_answer : (r : Answer) → back (answer_of r) ≡ r
+back_answer : (r : Result ℕ Unreported) → back (answer_of r) ≡ r
 unfolding back
-back_answer (Ran n) = refl
-back_answer OutOfRange = refl
-back_answer ScratchShort = refl
-back_answer TextLong = refl
-back_answer (Refused (NoItems at offset)) = refl
-back_answer (Refused (GuardRefused at)) = refl
-back_answer (Refused (OccurrenceBroken rule at offset)) = ap (λ b. Refused (OccurrenceBroken b at offset)) (back_rule_of rule)
-back_answer (Refused (FigurePassed at)) = refl
-back_answer QueriesPassRoom = refl
-back_answer (ReportLong n) = refl
+back_answer (Ok n) = refl
+back_answer (Err OutOfRange) = refl
+back_answer (Err ScratchShort) = refl
+back_answer (Err TextLong) = refl
+back_answer (Err (Refused (NoItems at offset))) = refl
+back_answer (Err (Refused (GuardRefused at))) = refl
+back_answer (Err (Refused (OccurrenceBroken rule at offset))) = ap (λ b. Err (Refused (OccurrenceBroken b at offset))) (back_rule_of rule)
+back_answer (Err (Refused (FigurePassed at))) = refl
+back_answer (Err QueriesPassRoom) = refl
+back_answer (Err (ReportLong n)) = refl
 
 -- Uniqueness, refusals too: two answers to one call are equal, and so are both buffers.
-module _ (g : Given) (r r' : Answer) (b b' : Bytes) (s s' : List ℕ) (c : Called g r b s) (c' : Called g r' b' s') where
+module _ (g : Given) (r r' : Result ℕ Unreported) (b b' : Bytes) (s s' : List ℕ) (c : Called g r b s) (c' : Called g r' b' s') where
   same : outcome r b s ≡ outcome r' b' s'
   same = c ∙ sym c'
 
@@ -158,20 +158,20 @@ accepted_ran g a =
       le-leb long 16777216 a.below_ceiling,
     )
 
--- The call answers `Ran` exactly for these.
-module _ (g : Given) (r : Answer) (b : Bytes) (s : List ℕ) (c : Called g r b s) where
-  pub accepts : (a : Accepted g) → r ≡ Ran (length (report_for g a.read))
+-- The call answers `Ok` exactly for these.
+module _ (g : Given) (r : Result ℕ Unreported) (b : Bytes) (s : List ℕ) (c : Called g r b s) where
+  pub accepts : (a : Accepted g) → r ≡ Ok (length (report_for g a.read))
   unfolding back
   accepts a = sym (back_answer r) ∙ ap back (ap (λ (o : Outcome). o.answer) c ∙ accepted_ran g a)
 
-  answers : (n : ℕ) → r ≡ Ran n → (call need_of g).answer ≡ ran n
+  answers : (n : ℕ) → r ≡ Ok n → (call need_of g).answer ≡ ran n
   answers n e = sym (ap (λ (o : Outcome). o.answer) c) ∙ ap answer_of e
 
-  pub accepts_only : (n : ℕ) → r ≡ Ran n → Accepted g
+  pub accepts_only : (n : ℕ) → r ≡ Ok n → Accepted g
   accepts_only n e = ran_accepted g n (answers n e)
 
   -- The length that it gives lies within the buffer that it was given.
-  pub ran_fits : (n : ℕ) → r ≡ Ran n → n ≤ length g.buffer
+  pub ran_fits : (n : ℕ) → r ≡ Ok n → n ≤ length g.buffer
   ran_fits n e =
       let a = accepts_only n e in
       let same_length : ran (length (report_for g a.read)) ≡ ran n = sym (accepted_ran g a) ∙ answers n e in
@@ -179,7 +179,7 @@ module _ (g : Given) (r : Answer) (b : Bytes) (s : List ℕ) (c : Called g r b s
       omega (arith, a.buffer_enough)
 
 -- Demand 3, of what two calls left in their buffers: texts with the same clauses and the same query at place k, token by token.
-module _ (k : ℕ) (g₁ g₂ : Given) (n₁ n₂ : ℕ) (b₁ b₂ : Bytes) (s₁ s₂ : List ℕ) (c₁ : Called g₁ (Ran n₁) b₁ s₁) (c₂ : Called g₂ (Ran n₂) b₂ s₂)
+module _ (k : ℕ) (g₁ g₂ : Given) (n₁ n₂ : ℕ) (b₁ b₂ : Bytes) (s₁ s₂ : List ℕ) (c₁ : Called g₁ (Ok n₁) b₁ s₁) (c₂ : Called g₂ (Ok n₂) b₂ s₂)
     (alike : TextsAlike k g₁.text g₂.text) where
   left₁ : take n₁ b₁ ≡ left_by need_of g₁ n₁
   unfolding left_by
@@ -190,10 +190,10 @@ module _ (k : ℕ) (g₁ g₂ : Given) (n₁ n₂ : ℕ) (b₁ b₂ : Bytes) (s�
   left₂ = ap (λ (o : Outcome). take n₂ o.buffer) c₂
 
   answer₁ : (call need_of g₁).answer ≡ ran n₁
-  answer₁ = answers g₁ (Ran n₁) b₁ s₁ c₁ n₁ refl
+  answer₁ = answers g₁ (Ok n₁) b₁ s₁ c₁ n₁ refl
 
   answer₂ : (call need_of g₂).answer ≡ ran n₂
-  answer₂ = answers g₂ (Ran n₂) b₂ s₂ c₂ n₂ refl
+  answer₂ = answers g₂ (Ok n₂) b₂ s₂ c₂ n₂ refl
 
   -- If both reports show the same tries of the query, they show the same section of it, byte for byte.
   pub calls_same_tries_same_section : tries_shown k (section_shown k (take n₁ b₁)) ≡ tries_shown k (section_shown k (take n₂ b₂))

@@ -1,5 +1,5 @@
 -- The call's contract: its answer and both buffers at exit are the definition's.
-use Rattle.std.specs.Prelude.{ℕ, min, ◌≤◌, ◌≡◌, Bool, ◌&&◌, List, leb, length}
+use Rattle.std.specs.Prelude.{ℕ, min, ◌≤◌, ◌≡◌, ◌&&◌, List, leb, length, Result, Ok, Err}
 use Rattle.meaning.specs.Bytes.{Bytes, when◌then◌else◌}
 use Rattle.meaning.specs.State.{Room}
 use Rattle.meaning.specs.Call.{
@@ -16,9 +16,8 @@ use Rattle.meaning.specs.Call.{
 }
 use Rattle.term.specs.Layout.{need_of}
 use Rattle.loader.specs.Refusals.{refusal_answer}
-use Rattle.job.specs.declared.call.Answer.{Answer}
-use Rattle.job.specs.declared.call.Answer.TheVariants.{
-  Ran,
+use Rattle.job.specs.declared.call.Unreported.{Unreported}
+use Rattle.job.specs.declared.call.Unreported.TheVariants.{
   OutOfRange,
   ScratchShort,
   TextLong,
@@ -27,15 +26,15 @@ use Rattle.job.specs.declared.call.Answer.TheVariants.{
   ReportLong,
 }
 
--- The code's answer as the definition's.
-abbrev pub answer_of : Answer → Told
-answer_of (Ran n) = ran n
-answer_of OutOfRange = out_of_range
-answer_of ScratchShort = scratch_short
-answer_of TextLong = text_long
-answer_of (Refused why) = refusal_answer why
-answer_of QueriesPassRoom = queries_pass_room
-answer_of (ReportLong n) = report_long n
+-- What the call answers: the report's length, or why there is no report. As the definition's answer.
+abbrev pub answer_of : Result ℕ Unreported → Told
+answer_of (Ok n) = ran n
+answer_of (Err OutOfRange) = out_of_range
+answer_of (Err ScratchShort) = scratch_short
+answer_of (Err TextLong) = text_long
+answer_of (Err (Refused why)) = refusal_answer why
+answer_of (Err QueriesPassRoom) = queries_pass_room
+answer_of (Err (ReportLong n)) = report_long n
 
 -- What the call is given, and what it leaves.
 abbrev pub room_of : ℕ → ℕ → ℕ → Room
@@ -44,7 +43,7 @@ room_of pairs compounds goals = record { pairs = pairs; compounds = compounds; g
 abbrev pub given : Bytes → ℕ → Room → List ℕ → Bytes → Given
 given text budget room scratch buffer = record { text = text; budget = budget; room = room; scratch = scratch; buffer = buffer }
 
-abbrev pub outcome : Answer → Bytes → List ℕ → Outcome
+abbrev pub outcome : Result ℕ Unreported → Bytes → List ℕ → Outcome
 outcome r buffer scratch = record { answer = answer_of r; buffer = buffer; scratch = scratch }
 
 -- A report of so many bytes, told for a buffer of so many.
@@ -52,9 +51,9 @@ unfoldable pub told : ℕ → ℕ → Told
 told n size = when leb n size && leb n 16777216 then ran n else report_long (min n 16777217)
 
 -- The call's contract, as the laws of proofs/Promise.antt take it.
-abbrev pub Called : Given → Answer → Bytes → List ℕ → Type 0
+abbrev pub Called : Given → Result ℕ Unreported → Bytes → List ℕ → Type 0
 Called g r buffer scratch = outcome r buffer scratch ≡ call need_of g
 
 -- A report's length lies within a buffer.
-abbrev pub Within : Answer → Bytes → Type 0
-Within r buffer = (n : ℕ) → r ≡ Ran n → n ≤ length buffer
+abbrev pub Within : Result ℕ Unreported → Bytes → Type 0
+Within r buffer = (n : ℕ) → r ≡ Ok n → n ≤ length buffer

@@ -4,58 +4,24 @@ use mathlib.Core.Path.{◌≡◌, refl, ap}
 use mathlib.Core.Bool.{Bool, true, false, ◌||◌}
 use mathlib.Core.List.{List, [], ◌∷◌, ◌++◌}
 use lib.Dec.{eqb}
-use Rattle.meaning.specs.Bytes.{byte, when◌then◌else◌}
+use Rattle.meaning.specs.Bytes.{byte, among, when◌then◌else◌}
 use Rattle.meaning.specs.Terms.{Constant, cell, named, Term}
 use Rattle.meaning.specs.Tokens.{Token, name, variable, integer, sign, bad, Tokens, ends, token}
 use Rattle.meaning.specs.Table.{Element, equals, as_goals}
-use Rattle.meaning.specs.Items.{
-  Counted,
-  Reader,
-  read,
-  malformed,
-  passed,
-  read_on,
-  ◌>>=◌,
-  ◌>>◌,
-  give,
-  cannot_stand,
-  passes,
-  next,
-  is,
-  begins_term,
-  if_next,
-  term,
-  by_itself,
-  equals_behind,
-  element_behind,
-  unguarded,
-  guarded,
-  behind_element,
-  body,
-}
+use Rattle.meaning.specs.Items.{Counted, read, malformed, passed, read_on, ◌>>=◌, ◌>>◌, give, cannot_stand, passes, next, is, begins_term, if_next, term, by_itself, equals_behind, element_behind, unguarded, guarded, behind_element, body}
 use Rattle.load_names.specs.Places.{Place}
 use Rattle.load_tokens.specs.Nexts.{one_of, Stops, Goes}
 use Rattle.load_openings.specs.Reading.{counted_at}
-use Rattle.load_openings.proofs.Expected.{never}
+use Rattle.load_openings.proofs.Expected.{never, if_next_other}
 use Rattle.load_openings.proofs.Readers.{count_compound_with, count_compound_passed, standing_goes, standing_stops}
 use Rattle.load_elements.specs.Sides.{alone}
 
 -- None of three.
-or_parts : (a b c : Bool) → (a || (b || c)) ≡ false → (a ≡ false) × (b ≡ false) × (c ≡ false)
+or_parts : (a b c : Bool) → (a || (b || (c || false))) ≡ false → (a ≡ false) × (b ≡ false) × (c ≡ false)
 or_parts true b c h = never h
 or_parts false true c h = never h
-or_parts false false c h = (refl, refl, h)
-
--- No `==` comes next.
-no_equals : {A : Type 0} (first second : Reader A) (place : ℕ) (counted : Counted) (ts : Tokens) → Stops (one_of 61 61 61) place ts
-    → if_next "=" first second counted ts ≡ second counted ts
-unfolding if_next one_of is byte when◌then◌else◌
-no_equals first second place counted (ends p) h = refl
-no_equals first second place counted (token p (name f) ts) h = refl
-no_equals first second place counted (token p (variable g f) ts) h = refl
-no_equals first second place counted (token p (integer i) ts) h = refl
-no_equals first second place counted (token p (sign b) ts) h = rw (or_parts (eqb b 61) (eqb b 61) (eqb b 61) h.1).0
-no_equals first second place counted (token p bad ts) h = refl
+or_parts false false true h = never h
+or_parts false false false h = (refl, refl, refl)
 
 module _ (counted : Counted) (ts : Tokens) where
   pub element_malformed : (place : ℕ) → term 16 counted ts ≡ malformed place → element_behind counted ts ≡ malformed place
@@ -72,9 +38,9 @@ module _ (counted : Counted) (ts : Tokens) where
   element_equals t counted' p behind e = rw e
 
   pub element_other : (t : Term) (counted' : Counted) (place : ℕ) (behind : Tokens) → term 16 counted ts ≡ read t counted' behind
-      → Stops (one_of 61 61 61) place behind → element_behind counted ts ≡ by_itself t counted' behind
-  unfolding element_behind ◌>>=◌ read_on
-  element_other t counted' place behind e h = rw (e, no_equals (equals_behind t) (by_itself t) place counted' behind h)
+      → Stops (one_of (61 ∷ [])) place behind → element_behind counted ts ≡ by_itself t counted' behind
+  unfolding element_behind ◌>>=◌ read_on byte
+  element_other t counted' place behind e h = rw (e, if_next_other counted' "=" (equals_behind t) (by_itself t) place behind h)
 
 -- Behind a term that is no element the next token cannot stand, whatever it is.
 no_token : (can : Token → Bool) (place : ℕ) (counted : Counted) (ts : Tokens) → Stops can place ts
@@ -83,14 +49,14 @@ unfolding next cannot_stand
 no_token can place counted (ends p) h = ap malformed h
 no_token can place counted (token p t ts) h = ap malformed h.0
 
-pub not_alone : (t : Term) (place : ℕ) (counted : Counted) (ts : Tokens) → alone t ≡ false → Stops (one_of 61 61 61) place ts
+pub not_alone : (t : Term) (place : ℕ) (counted : Counted) (ts : Tokens) → alone t ≡ false → Stops (one_of (61 ∷ [])) place ts
     → by_itself t counted ts ≡ malformed place
 unfolding by_itself alone
-not_alone (Term.variable h n) place counted ts a s = no_token (one_of 61 61 61) place counted ts s
-not_alone (Term.constant (Constant.integer i)) place counted ts a s = no_token (one_of 61 61 61) place counted ts s
+not_alone (Term.variable h n) place counted ts a s = no_token (one_of (61 ∷ [])) place counted ts s
+not_alone (Term.constant (Constant.integer i)) place counted ts a s = no_token (one_of (61 ∷ [])) place counted ts s
 not_alone (Term.constant (Constant.name f)) place counted ts a s = never a
-not_alone (Term.constant Constant.empty) place counted ts a s = no_token (one_of 61 61 61) place counted ts s
-not_alone (Term.compound n cell us) place counted ts a s = no_token (one_of 61 61 61) place counted ts s
+not_alone (Term.constant Constant.empty) place counted ts a s = no_token (one_of (61 ∷ [])) place counted ts s
+not_alone (Term.compound n cell us) place counted ts a s = no_token (one_of (61 ∷ [])) place counted ts s
 not_alone (Term.compound n (named f) us) place counted ts a s = never a
 
 -- Behind `==`, which is counted as a compound.
@@ -140,9 +106,9 @@ module _ (left : ℕ) (es : List Element) (counted : Counted) (ts : Tokens) wher
     unfolding body ◌>>=◌ read_on next behind_element is byte when◌then◌else◌
     body_stop p behind h = rw h
 
-    none_of : (place : ℕ) (us : Tokens) → Stops (one_of 44 124 46) place us
+    none_of : (place : ℕ) (us : Tokens) → Stops (one_of (44 ∷ 124 ∷ 46 ∷ [])) place us
         → next (behind_element (body left) (es ++ (e ∷ []))) counted' us ≡ malformed place
-    unfolding next behind_element one_of is cannot_stand byte when◌then◌else◌
+    unfolding next behind_element one_of among is cannot_stand byte when◌then◌else◌
     none_of place (ends p) h = ap malformed h
     none_of place (token p (name f) us) h = ap malformed h.0
     none_of place (token p (variable g f) us) h = ap malformed h.0
@@ -152,7 +118,7 @@ module _ (left : ℕ) (es : List Element) (counted : Counted) (ts : Tokens) wher
         rw (none.0, none.1, none.2) (ap malformed h.0)
     none_of place (token p bad us) h = ap malformed h.0
 
-    pub body_other : (place : ℕ) (us : Tokens) → element_behind counted ts ≡ read e counted' us → Stops (one_of 44 124 46) place us
+    pub body_other : (place : ℕ) (us : Tokens) → element_behind counted ts ≡ read e counted' us → Stops (one_of (44 ∷ 124 ∷ 46 ∷ [])) place us
         → body (suc left) es counted ts ≡ malformed place
     unfolding body ◌>>=◌ read_on
     body_other place us h stops = rw h (none_of place us stops)

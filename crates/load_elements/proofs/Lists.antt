@@ -1,9 +1,9 @@
 -- Elements one behind the other: stored, counted, numbered, and as they were where more names are known; and their words.
-use Prim.Native.Nat.{ℕ, zero, suc, ◌+◌, ◌*◌, ◌≤◌, ◌<◌}
+use Prim.Native.Nat.{ℕ, zero, suc, ◌+◌, ◌≤◌, ◌<◌}
 use mathlib.Core.Path.{◌≡◌, refl, ap}
 use mathlib.Core.List.{List, [], ◌∷◌, ◌++◌, map}
 use native.Mathlib.Omega.{arith}
-use lib.ListN.{length, get_or, set, length-append}
+use lib.ListN.{length, get_or, set}
 use Rattle.meaning.specs.Bytes.{Bytes}
 use Rattle.meaning.specs.Terms.{Half, as_term}
 use Rattle.meaning.specs.Table.{Element, whole, bare, equals}
@@ -30,9 +30,6 @@ use Rattle.load_elements.specs.Elements.{
 }
 
 -- One element more.
-pub length_snoc : (es : List Element) (e : Element) → length (es ++ (e ∷ [])) ≡ length es + 1
-length_snoc es e = length-append es (e ∷ [])
-
 pub stored_snoc : (p : CellPlaces) (es : List Element) (e : Element) (s : List ℕ)
     → elements_stored p (es ++ (e ∷ [])) s ≡ element_stored p e (elements_stored p es s)
 unfolding elements_stored

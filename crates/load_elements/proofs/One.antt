@@ -1,11 +1,12 @@
 -- One element: a term that stands alone, two terms with `==` between them, or what stops the reading.
-use Prim.Native.Nat.{ℕ, ◌+◌, ◌*◌, ◌≤◌, ◌<◌, min}
+use Prim.Native.Nat.{ℕ, ◌+◌, ◌≤◌, ◌<◌, min}
 use mathlib.Core.Path.{◌≡◌, refl, ap, sym, ◌∙◌}
 use mathlib.Core.Bool.{true, false}
 use mathlib.Core.List.{List, [], ◌∷◌, ◌++◌}
 use native.Mathlib.Omega.{arith}
 use lib.ListN.{length, get_or, set, length-set}
 use lib.Seq.{get_or-set_same}
+use Rattle.std.specs.Prelude.{Result, Ok, Err}
 use Rattle.meaning.specs.Bytes.{Bytes}
 use Rattle.meaning.specs.Terms.{Half, Constant, cell, named, Term, Terms, count, as_term, occurrences}
 use Rattle.meaning.specs.Tokens.{Tokens}
@@ -20,8 +21,8 @@ use Rattle.load_tokens.specs.Nexts.{SignAt, one_of, Stops}
 use Rattle.load_names.specs.Places.{Place, Placed, spellings, names_over, variables_over, item_places}
 use Rattle.load_openings.specs.Reading.{piece, counted_at, half_place, Stands, Gave, ReadIs}
 use Rattle.load_openings.specs.declared.cursor.Cursor.{Cursor}
-use Rattle.load_openings.specs.declared.cursor.Read.{Read}
-use Rattle.load_openings.specs.declared.cursor.Read.TheVariants.{Got, Malformed, Exceeded}
+use Rattle.load_openings.specs.declared.cursor.Unread.{Unread}
+use Rattle.load_openings.specs.declared.cursor.Unread.TheVariants.{Malformed, Exceeded}
 use Rattle.load_openings.proofs.Expected.{never}
 use Rattle.load_openings.proofs.Given.{gave_moves, gave_only}
 use Rattle.load_openings.proofs.Moves.{Moves, moves_then, moves_sign, sign_placed, piece_sign, moved_to, word_later, stored_later, known_later, twice}
@@ -103,14 +104,11 @@ stored_own names base lo hi w t s s' word is n few room =
     record { word_is = word; own = own_word names base lo hi t s s' is n few room }
 
 module _ (text rest : Bytes) (from base : ℕ) (known vars : List Place) (c : Cursor) (s item s₁ names₁ item₁ : List ℕ) where
-  pub one_malformed : (place : ℕ) → ReadIs (λ (t : Term). t) (term 16) text rest from base known vars c s item s₁ names₁ item₁ (Malformed place)
-      → ElementIs text rest from base known vars c s item s₁ names₁ item₁ (Malformed place)
-  one_malformed place g =
+  pub one_unread : (why : Unread) → ReadIs (λ (t : Term). t) (term 16) text rest from base known vars c s item s₁ names₁ item₁ (Err why)
+      → ElementIs text rest from base known vars c s item s₁ names₁ item₁ (Err why)
+  one_unread (Malformed place) g =
       (element_malformed (counted_at known vars c.compounds) (piece (tokens_in from rest c.at)) (from + place) g.0, g.1, g.2)
-
-  pub one_passed : ReadIs (λ (t : Term). t) (term 16) text rest from base known vars c s item s₁ names₁ item₁ Exceeded
-      → ElementIs text rest from base known vars c s item s₁ names₁ item₁ Exceeded
-  one_passed g = (element_passed (counted_at known vars c.compounds) (piece (tokens_in from rest c.at)) g.0, g.1)
+  one_unread Exceeded g = (element_passed (counted_at known vars c.compounds) (piece (tokens_in from rest c.at)) g.0, g.1)
 
   module _ (w : ℕ) (d : Cursor) (t : Term) (p : List Placed)
       (g : Gave (λ (t : Term). t) (term 16) text rest from base known vars c s item s₁ names₁ item₁ w d t p) where
@@ -127,15 +125,15 @@ module _ (text rest : Bytes) (from base : ℕ) (known vars : List Place) (c : Cu
     behind_it = counted_at known₁ vars₁ d.compounds
 
     -- No `==` comes next.
-    module _ (place : ℕ) (stops : Stops (one_of 61 61 61) (from + place) (tokens_in from rest d.at)) where
-      here_stops : Stops (one_of 61 61 61) (from + place) (piece (tokens_in from rest d.at))
-      here_stops = piece_stops (one_of 61 61 61) (from + place) (tokens_in from rest d.at) stops
+    module _ (place : ℕ) (stops : Stops (one_of (61 ∷ [])) (from + place) (tokens_in from rest d.at)) where
+      here_stops : Stops (one_of (61 ∷ [])) (from + place) (piece (tokens_in from rest d.at))
+      here_stops = piece_stops (one_of (61 ∷ [])) (from + place) (tokens_in from rest d.at) stops
 
       by_itself_then : element_behind before_it (piece (tokens_in from rest c.at)) ≡ by_itself t behind_it (piece (tokens_in from rest d.at))
       by_itself_then =
           element_other before_it (piece (tokens_in from rest c.at)) t behind_it (from + place) (piece (tokens_in from rest d.at)) g.reads here_stops
 
-      pub one_not : place ≤ length rest → alone t ≡ false → ElementIs text rest from base known vars c s item s₁ names₁ item₁ (Malformed place)
+      pub one_not : place ≤ length rest → alone t ≡ false → ElementIs text rest from base known vars c s item s₁ names₁ item₁ (Err (Malformed place))
       one_not small a = (
         by_itself_then ∙ not_alone t (from + place) behind_it (piece (tokens_in from rest d.at)) a here_stops,
         small,
@@ -148,7 +146,7 @@ module _ (text rest : Bytes) (from base : ℕ) (known vars : List Place) (c : Cu
           bare_counts f 15 before_it (piece (tokens_in from rest c.at)) behind_it (piece (tokens_in from rest d.at))
           (g.reads ∙ ap (λ (u : Term). read u behind_it (piece (tokens_in from rest d.at))) e)
 
-      pub one_alone : alone t ≡ true → ElementIs text rest from base known vars c s item s₁ names₁ item₁ (Got w d)
+      pub one_alone : alone t ≡ true → ElementIs text rest from base known vars c s item s₁ names₁ item₁ (Ok (w, d))
       one_alone a =
           let places = item_places known₁ base in (
             as_element t,
@@ -204,10 +202,10 @@ module _ (text rest : Bytes) (from base : ℕ) (known vars : List Place) (c : Cu
       both_stored u q place kept =
           rw (stored_later known₁ q base t s g.known_names, word_later known₁ q base t g.known_names, ← g.stored_is, ← g.word_is) kept
 
-      pub one_equals : (r : Read) → RightIs w text rest from base known₁ vars₁ (moved_to d b) s₁ item₁ s₂ names₂ item₂ r
+      pub one_equals : (r : Result (ℕ × Cursor) Unread) → RightIs w text rest from base known₁ vars₁ (moved_to d b) s₁ item₁ s₂ names₂ item₂ r
           → ElementIs text rest from base known vars c s item s₂ names₂ item₂ r
       unfolding element_word element_stored element_occurrences ElementNumbered ElementKnown item_places
-      one_equals (Got v e) h =
+      one_equals (Ok (v, e)) h =
           let u = h.0 in
           let q = h.1 in
           let known₂ = names_over q known₁ in
@@ -228,6 +226,6 @@ module _ (text rest : Bytes) (from base : ℕ) (known vars : List Place) (c : Cu
                 (known_later known₁ q base t g.known_names, h.2.known_names)
                 (λ k m few. h.2.halves k m few ∙ rw (g.halves k m few) (twice (get_or item (half_place k m) 0) (occurrences k m t) (occurrences k m u))),
           )
-      one_equals (Malformed place) h =
+      one_equals (Err (Malformed place)) h =
           (equals_then ∙ h.0 t, h.1, only_then (item_start base) (item_end base) s s₁ s₂ (gave_only g) h.2)
-      one_equals Exceeded h = (equals_then ∙ h.0 t, only_then (item_start base) (item_end base) s s₁ s₂ (gave_only g) h.1)
+      one_equals (Err Exceeded) h = (equals_then ∙ h.0 t, only_then (item_start base) (item_end base) s s₁ s₂ (gave_only g) h.1)

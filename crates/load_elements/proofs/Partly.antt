@@ -1,11 +1,15 @@
 -- One element more behind those that have been read: its comma, its bar, its full stop, or what stops the reading.
-use Prim.Native.Nat.{ℕ, suc, ◌+◌, ◌*◌, ◌-◌, ◌≤◌, ◌<◌, min}
+use Prim.Native.Nat.{ℕ, suc, ◌+◌, ◌-◌, ◌≤◌, ◌<◌, min}
 use mathlib.Core.Path.{◌≡◌, refl, ap, sym, ◌∙◌}
+use mathlib.Core.Bool.{true}
 use mathlib.Core.List.{List, [], ◌∷◌, ◌++◌, map}
 use native.Mathlib.Omega.{arith}
 use lib.ListN.{length, get_or, set}
 use lib.Seq.{get_or-set_other}
-use Rattle.meaning.specs.Bytes.{Bytes, byte, when◌then◌else◌}
+use Rattle.std.specs.Prelude.{Err}
+use Rattle.std.proofs.lemmas.Bool.Decides.{nat_tests}
+use Rattle.std.proofs.lemmas.List.{length_push}
+use Rattle.meaning.specs.Bytes.{Bytes, byte, among, when◌then◌else◌}
 use Rattle.meaning.specs.Terms.{Half}
 use Rattle.meaning.specs.Tokens.{sign, Tokens, ends, token}
 use Rattle.meaning.specs.Table.{Element}
@@ -18,19 +22,16 @@ use Rattle.load_tokens.specs.Nexts.{SignAt, one_of, Stops}
 use Rattle.load_names.specs.Places.{Place, Placed, spellings, before, names_over, variables_over, item_places}
 use Rattle.load_openings.specs.Reading.{piece, counted_at, half_place, Stands, Open}
 use Rattle.load_openings.specs.declared.cursor.Cursor.{Cursor}
-use Rattle.load_openings.specs.declared.cursor.Read.{Read}
-use Rattle.load_openings.specs.declared.cursor.Read.TheVariants as reads
+use Rattle.load_openings.specs.declared.cursor.Unread.{Unread}
+use Rattle.load_openings.specs.declared.cursor.Unread.TheVariants.{Malformed, Exceeded}
 use Rattle.load_openings.proofs.Expected.{piece_stop}
 use Rattle.load_openings.proofs.Moves.{Moves, moves_then, moves_sign, sign_placed, piece_sign, moved_to, stands_moved, once, half_small}
 use Rattle.load_openings.proofs.Passing.{names_more, piece_stops}
 use Rattle.load_elements.specs.Elements.{element_word, elements_stored, elements_occurrences, ElementsNumbered, ElementsKnown, GaveElement, ElementIs}
 use Rattle.load_elements.specs.Listed.{GaveElements, AtBar, AtStop, ElementsAre}
 use Rattle.load_elements.specs.Sides.{NinthIs}
-use Rattle.load_elements.specs.declared.answer.Elements.{Elements}
-use Rattle.load_elements.specs.declared.answer.Elements.TheVariants.{Stop, Bar, Malformed, Exceeded}
 use Rattle.load_elements.proofs.Bodies.{body_malformed, body_passed, body_comma, body_bar, body_stop, body_other}
 use Rattle.load_elements.proofs.Lists.{
-  length_snoc,
   stored_snoc,
   occurrences_snoc,
   known_snoc,
@@ -41,6 +42,11 @@ use Rattle.load_elements.proofs.Lists.{
   element_only,
   words_snoc,
 }
+
+-- Neither the bar nor the full stop.
+pub comma_left : (b : ℕ) → among b (44 ∷ 124 ∷ 46 ∷ []) ≡ true → (b ≡ 124 → ⊥) → (b ≡ 46 → ⊥) → b ≡ 44
+unfolding among
+comma_left b h p q = grind (arith, nat_tests)
 
 -- What is known of the elements that have been read, by the places that the tokens led to.
 pub record Had (text rest : Bytes) (from base : ℕ) (c : Cursor) (s₀ item₀ words₀ s names item words : List ℕ) (d : Cursor)
@@ -91,10 +97,8 @@ module _ (text rest : Bytes) (from base : ℕ) (known vars : List Place) (c : Cu
   so_far = counted_at known₁ vars₁ d.compounds
 
   -- Eight have been read: the ninth passes the figure or cannot stand.
-  pub partly_ninth : length es ≡ 8 → (r : Elements) → NinthIs rest d.at r
-      → ElementsAre text rest from base known vars c s₀ item₀ words₀ s names item words r
-  partly_ninth full (Stop n a e) h = absurd h
-  partly_ninth full (Bar n e) h = absurd h
+  pub partly_ninth : length es ≡ 8 → (why : Unread) → NinthIs rest d.at why
+      → ElementsAre text rest from base known vars c s₀ item₀ words₀ s names item words (Err why)
   partly_ninth full (Malformed p) h =
       let none : 8 - length es ≡ 0 = omega arith in
       (rw none at t.reads ∙ h.1 from so_far es, h.0, t.had.only)
@@ -110,17 +114,14 @@ module _ (text rest : Bytes) (from base : ℕ) (known vars : List Place) (c : Cu
         rw e at t.reads
 
     module _ (s₂ names₂ item₂ : List ℕ) where
-      pub partly_malformed : (p : ℕ) → ElementIs text rest from base known₁ vars₁ d s item s₂ names₂ item₂ (reads.Malformed p)
-          → (words₂ : List ℕ) → ElementsAre text rest from base known vars c s₀ item₀ words₀ s₂ names₂ item₂ words₂ (Malformed p)
-      partly_malformed p h words₂ = (
+      pub partly_unread : (why : Unread) → ElementIs text rest from base known₁ vars₁ d s item s₂ names₂ item₂ (Err why)
+          → (words₂ : List ℕ) → ElementsAre text rest from base known vars c s₀ item₀ words₀ s₂ names₂ item₂ words₂ (Err why)
+      partly_unread (Malformed p) h words₂ = (
         reads_next ∙ body_malformed (7 - length es) es so_far (piece (tokens_in from rest d.at)) (from + p) h.0,
         h.1,
         only_then (item_start base) (item_end base) s₀ s s₂ t.had.only h.2,
       )
-
-      pub partly_passed : ElementIs text rest from base known₁ vars₁ d s item s₂ names₂ item₂ reads.Exceeded
-          → (words₂ : List ℕ) → ElementsAre text rest from base known vars c s₀ item₀ words₀ s₂ names₂ item₂ words₂ Exceeded
-      partly_passed h words₂ = (
+      partly_unread Exceeded h words₂ = (
         reads_next ∙ body_passed (7 - length es) es so_far (piece (tokens_in from rest d.at)) h.0,
         only_then (item_start base) (item_end base) s₀ s s₂ t.had.only h.1,
       )
@@ -148,7 +149,7 @@ module _ (text rest : Bytes) (from base : ℕ) (known vars : List Place) (c : Cu
         grown_words i l =
             words_snoc (element_word (item_places known₂ base)) es x words w gave.word_is (omega arith)
             (λ j k. rw (still_words known₁ known₂ base (names_more qs known₁) es t.had.known_names) (t.had.words_are j k))
-            i (omega (arith, length_snoc es x))
+            i (omega (arith, length_push es x))
 
         grown_only : Only (item_start base) (item_end base) s₀ s₂
         grown_only =
@@ -162,7 +163,7 @@ module _ (text rest : Bytes) (from base : ℕ) (known vars : List Place) (c : Cu
         grown_had b inside = record {
           stands = stands_moved b gave.stands inside;
           words_are = grown_words;
-          words_rest = λ i l. get_or-set_other words (length es) i w 0 (λ q. omega (arith, length_snoc es x)) ∙ t.had.words_rest i (omega (arith, length_snoc es x));
+          words_rest = λ i l. get_or-set_other words (length es) i w 0 (λ q. omega (arith, length_push es x)) ∙ t.had.words_rest i (omega (arith, length_push es x));
           stored_is = gave.stored_is ∙ rw (stored_snoc (item_places known₂ base) es x s₀, still_stored known₁ known₂ base (names_more qs known₁) es s₀ t.had.known_names, ← t.had.stored_is);
           numbered = numbered_snoc c.compounds d.compounds e.compounds es x t.had.numbered gave.numbered;
           known_names = known_snoc (spellings known₂) es x (still_known known₁ known₂ base (names_more qs known₁) es t.had.known_names) gave.known_names;
@@ -170,12 +171,12 @@ module _ (text rest : Bytes) (from base : ℕ) (known vars : List Place) (c : Cu
           only = grown_only;
         }
 
-        pub partly_other : (p : ℕ) → p ≤ length rest → Stops (one_of 44 124 46) (from + p) (tokens_in from rest e.at)
-            → (words₂ : List ℕ) → ElementsAre text rest from base known vars c s₀ item₀ words₀ s₂ names₂ item₂ words₂ (Malformed p)
+        pub partly_other : (p : ℕ) → p ≤ length rest → Stops (one_of (44 ∷ 124 ∷ 46 ∷ [])) (from + p) (tokens_in from rest e.at)
+            → (words₂ : List ℕ) → ElementsAre text rest from base known vars c s₀ item₀ words₀ s₂ names₂ item₂ words₂ (Err (Malformed p))
         partly_other p small h words₂ = (
           reads_next
               ∙ body_other (7 - length es) es so_far (piece (tokens_in from rest d.at)) x now_counted (from + p) (piece (tokens_in from rest e.at)) gave.reads
-              (piece_stops (one_of 44 124 46) (from + p) (tokens_in from rest e.at) h),
+              (piece_stops (one_of (44 ∷ 124 ∷ 46 ∷ [])) (from + p) (tokens_in from rest e.at) h),
           small,
           grown_only,
         )
@@ -185,7 +186,7 @@ module _ (text rest : Bytes) (from base : ℕ) (known vars : List Place) (c : Cu
             → Partly text rest from base known vars c s₀ item₀ words₀ s₂ names₂ item₂ (set words (length es) w) (moved_to e b) grown known₂ vars₂
             ((ps ++ qs) ++ (sign_placed from rest next ∷ []))
         partly_comma b next =
-            let fewer : 8 - length grown ≡ 7 - length es = omega (arith, length_snoc es x) in
+            let fewer : 8 - length grown ≡ 7 - length es = omega (arith, length_push es x) in
             record {
               reads = rw fewer
                   (reads_next
@@ -201,7 +202,7 @@ module _ (text rest : Bytes) (from base : ℕ) (known vars : List Place) (c : Cu
             → GaveElements text rest from base known vars c s₀ item₀ words₀ s₂ names₂ item₂ (set words (length es) w) n (moved_to e b) grown (ps ++ qs)
         told b n count inside forward =
             let had = grown_had b inside in
-            let all : length grown ≡ n = length_snoc es x ∙ sym count in
+            let all : length grown ≡ n = length_push es x ∙ sym count in
             record {
               stands = rw (here_moves.names, here_moves.variables) had.stands;
               forward = forward;

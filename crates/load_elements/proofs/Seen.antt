@@ -1,8 +1,9 @@
 -- Whether a term stands alone, as the code sees it: by its word's tag, and for a compound by its own word.
-use Prim.Native.Nat.{ℕ, ◌+◌, ◌*◌, ◌≤◌, ◌<◌}
+use Prim.Native.Nat.{ℕ, ◌+◌, ◌*◌, ◌<◌}
 use mathlib.Core.Path.{◌≡◌, refl, ap, sym, ◌∙◌}
 use mathlib.Core.Bool.{Bool, true, false}
 use mathlib.Core.List.{List}
+use mathlib.Core.Logic.{◌⊎◌, inl, inr}
 use native.Mathlib.Omega.{arith}
 use lib.Dec.{leb}
 use lib.ListN.{length, get_or}
@@ -43,6 +44,16 @@ module _ (s : List ℕ) (names : List Place) (base w : ℕ) (t : Term) (st : Sto
 
   pub seen_alone : (v : View) → v ≡ view (tag_in w) (rest_in w) → by_view s v ≡ alone t
   seen_alone v e = ap (by_view s) (e ∙ seen) ∙ alone_by s (item_places names base) t st.own
+
+  -- Neither a name nor a compound.
+  pub none_alone : (v : View)
+      → (v ≡ Nothing) ⊎ (((n : ℕ) × (v ≡ Writer n)) ⊎ (((n : ℕ) × (v ≡ Reader n)) ⊎ (((i : ℕ) × (v ≡ Integer i)) ⊎ (v ≡ Empty))))
+      → v ≡ view (tag_in w) (rest_in w) → false ≡ alone t
+  none_alone v (inl e) k = seen_alone Nothing (sym e ∙ k)
+  none_alone v (inr (inl (n, e))) k = seen_alone (Writer n) (sym e ∙ k)
+  none_alone v (inr (inr (inl (n, e)))) k = seen_alone (Reader n) (sym e ∙ k)
+  none_alone v (inr (inr (inr (inl (i, e))))) k = seen_alone (Integer i) (sym e ∙ k)
+  none_alone v (inr (inr (inr (inr e)))) k = seen_alone Empty (sym e ∙ k)
 
   inside_by : (u : Term) (places : CellPlaces) (place : ℕ) → Own s places u → Compound place ≡ view_of (content places u) → place < length s
   unfolding Own

@@ -1,5 +1,5 @@
 -- Elements in the scratch: the word of an element, what of it is stored, how its compounds are numbered and which names it has.
-use Rattle.std.specs.Prelude.{ℕ, ◌+◌, ◌≤◌, ◌<◌, min, ◌≡◌, List, [], ◌∷◌, length, get_or, set}
+use Rattle.std.specs.Prelude.{ℕ, ◌+◌, ◌≤◌, ◌<◌, min, ◌≡◌, List, [], ◌∷◌, length, get_or, set, Result, Ok, Err}
 use Rattle.meaning.specs.Bytes.{Bytes}
 use Rattle.meaning.specs.Terms.{Half, as_term, occurrences}
 use Rattle.meaning.specs.Table.{Element, whole, bare, equals}
@@ -12,8 +12,8 @@ use Rattle.load_tokens.specs.Fronts.{tokens_in}
 use Rattle.load_names.specs.Places.{Place, Placed, spellings, before, names_over, variables_over, item_places}
 use Rattle.load_openings.specs.Reading.{piece, counted_at, half_place, Stands, Open}
 use Rattle.load_openings.specs.declared.cursor.Cursor.{Cursor}
-use Rattle.load_openings.specs.declared.cursor.Read.{Read}
-use Rattle.load_openings.specs.declared.cursor.Read.TheVariants.{Got, Malformed, Exceeded}
+use Rattle.load_openings.specs.declared.cursor.Unread.{Unread}
+use Rattle.load_openings.specs.declared.cursor.Unread.TheVariants.{Malformed, Exceeded}
 
 -- An element's word: a compound's, a name's, or for `==` the place of its compound with a tag that no term has.
 unfoldable pub element_word : CellPlaces → Element → ℕ
@@ -77,13 +77,14 @@ pub record GaveElement (text rest : Bytes) (from base : ℕ) (known vars : List 
   pub halves : (h : Half) (m : ℕ) → m < 16
       → get_or item' (half_place h m) 0 ≡ min 2 (get_or item (half_place h m) 0 + element_occurrences h m e)
 
-abbrev pub ElementIs : (text rest : Bytes) (from base : ℕ) (known vars : List Place) (c : Cursor) (s item s' names' item' : List ℕ) → Read → Type 0
-ElementIs text rest from base known vars c s item s' names' item' (Got w c') =
+abbrev pub ElementIs : (text rest : Bytes) (from base : ℕ) (known vars : List Place) (c : Cursor) (s item s' names' item' : List ℕ)
+    → Result (ℕ × Cursor) Unread → Type 0
+ElementIs text rest from base known vars c s item s' names' item' (Ok (w, c')) =
     (e : Element) × (passed : List Placed) × GaveElement text rest from base known vars c s item s' names' item' w c' e passed
-ElementIs text rest from base known vars c s item s' names' item' (Malformed place) =
+ElementIs text rest from base known vars c s item s' names' item' (Err (Malformed place)) =
     (element_behind (counted_at known vars c.compounds) (piece (tokens_in from rest c.at)) ≡ malformed (from + place))
     × (place ≤ length rest)
     × Only (item_start base) (item_end base) s s'
-ElementIs text rest from base known vars c s item s' names' item' Exceeded =
+ElementIs text rest from base known vars c s item s' names' item' (Err Exceeded) =
     (element_behind (counted_at known vars c.compounds) (piece (tokens_in from rest c.at)) ≡ passed)
     × Only (item_start base) (item_end base) s s'

@@ -1,5 +1,5 @@
 -- What reading the elements behind a clause's `:-` answers, up to the bar or the full stop, against the definitions' `body`.
-use Rattle.std.specs.Prelude.{ℕ, ◌+◌, ◌≤◌, ◌<◌, min, ◌≡◌, List, [], map, length, get_or}
+use Rattle.std.specs.Prelude.{ℕ, ◌+◌, ◌≤◌, ◌<◌, min, ◌≡◌, List, [], map, length, get_or, Result, Ok, Err}
 use Rattle.meaning.specs.Bytes.{Bytes}
 use Rattle.meaning.specs.Terms.{Half}
 use Rattle.meaning.specs.Tokens.{ends, token, sign}
@@ -11,9 +11,11 @@ use Rattle.load_tokens.specs.Fronts.{tokens_in}
 use Rattle.load_names.specs.Places.{Place, Placed, spellings, before, names_over, variables_over, item_places}
 use Rattle.load_openings.specs.Reading.{piece, counted_at, half_place, Stands, Open}
 use Rattle.load_openings.specs.declared.cursor.Cursor.{Cursor}
+use Rattle.load_openings.specs.declared.cursor.Unread.{Unread}
+use Rattle.load_openings.specs.declared.cursor.Unread.TheVariants.{Malformed, Exceeded}
 use Rattle.load_elements.specs.Elements.{element_word, elements_stored, elements_occurrences, ElementsNumbered, ElementsKnown}
 use Rattle.load_elements.specs.declared.answer.Elements.{Elements}
-use Rattle.load_elements.specs.declared.answer.Elements.TheVariants.{Stop, Bar, Malformed, Exceeded}
+use Rattle.load_elements.specs.declared.answer.Elements.TheVariants.{Stop, Bar}
 
 -- These n elements have been read over the tokens that were passed: their words stand from words' beginning on, their compounds are stored, their
 -- variables counted. The reading stands behind the sign that ends them.
@@ -52,15 +54,15 @@ pub record AtStop (text rest : Bytes) (from base : ℕ) (known vars : List Place
   pub gave : GaveElements text rest from base known vars c s item words s' names' item' words' n d es passed
 
 abbrev pub ElementsAre : (text rest : Bytes) (from base : ℕ) (known vars : List Place) (c : Cursor)
-    (s item words s' names' item' words' : List ℕ) → Elements → Type 0
-ElementsAre text rest from base known vars c s item words s' names' item' words' (Stop n a d) =
+    (s item words s' names' item' words' : List ℕ) → Result Elements Unread → Type 0
+ElementsAre text rest from base known vars c s item words s' names' item' words' (Ok (Stop n a d)) =
     (es : List Element) × (passed : List Placed) × AtStop text rest from base known vars c s item words s' names' item' words' n a d es passed
-ElementsAre text rest from base known vars c s item words s' names' item' words' (Bar n d) =
+ElementsAre text rest from base known vars c s item words s' names' item' words' (Ok (Bar n d)) =
     (es : List Element) × (passed : List Placed) × (bar : ℕ) × AtBar text rest from base known vars c s item words s' names' item' words' n d es passed bar
-ElementsAre text rest from base known vars c s item words s' names' item' words' (Malformed a) =
+ElementsAre text rest from base known vars c s item words s' names' item' words' (Err (Malformed a)) =
     (body 8 [] (counted_at known vars c.compounds) (piece (tokens_in from rest c.at)) ≡ malformed (from + a))
     × (a ≤ length rest)
     × Only (item_start base) (item_end base) s s'
-ElementsAre text rest from base known vars c s item words s' names' item' words' Exceeded =
+ElementsAre text rest from base known vars c s item words s' names' item' words' (Err Exceeded) =
     (body 8 [] (counted_at known vars c.compounds) (piece (tokens_in from rest c.at)) ≡ passed)
     × Only (item_start base) (item_end base) s s'

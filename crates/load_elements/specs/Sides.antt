@@ -1,5 +1,5 @@
 -- What the functions that an element is read by say: whether a term can be one alone, what the right side of `==` gave, and what a ninth element does.
-use Rattle.std.specs.Prelude.{ℕ, ◌+◌, ◌≤◌, ◌<◌, min, ◌≡◌, Bool, true, false, List, length, get_or, set}
+use Rattle.std.specs.Prelude.{ℕ, ◌+◌, ◌≤◌, ◌<◌, min, ◌≡◌, Bool, true, false, List, length, get_or, set, Result, Ok, Err}
 use Rattle.meaning.specs.Bytes.{Bytes}
 use Rattle.meaning.specs.Terms.{Half, Constant, cell, named, Term, count, occurrences}
 use Rattle.meaning.specs.Table.{Element, equals}
@@ -12,10 +12,8 @@ use Rattle.load_tokens.specs.Fronts.{tokens_in}
 use Rattle.load_names.specs.Places.{Place, Placed, spellings, before, names_over, variables_over, item_places}
 use Rattle.load_openings.specs.Reading.{piece, counted_at, half_place, Stands, Open}
 use Rattle.load_openings.specs.declared.cursor.Cursor.{Cursor}
-use Rattle.load_openings.specs.declared.cursor.Read.{Read}
-use Rattle.load_openings.specs.declared.cursor.Read.TheVariants.{Got, Malformed, Exceeded}
-use Rattle.load_elements.specs.declared.answer.Elements.{Elements}
-use Rattle.load_elements.specs.declared.answer.Elements.TheVariants as answers
+use Rattle.load_openings.specs.declared.cursor.Unread.{Unread}
+use Rattle.load_openings.specs.declared.cursor.Unread.TheVariants.{Malformed, Exceeded}
 
 -- A term is an element by itself if it begins with a name.
 unfoldable pub alone : Term → Bool
@@ -56,22 +54,20 @@ pub record GaveRight (left : ℕ) (text rest : Bytes) (from base : ℕ) (known v
       → get_or item' (half_place h m) 0 ≡ min 2 (get_or item (half_place h m) 0 + occurrences h m u)
 
 abbrev pub RightIs : (left : ℕ) (text rest : Bytes) (from base : ℕ) (known vars : List Place) (c : Cursor) (s item s' names' item' : List ℕ)
-    → Read → Type 0
-RightIs left text rest from base known vars c s item s' names' item' (Got w c') =
+    → Result (ℕ × Cursor) Unread → Type 0
+RightIs left text rest from base known vars c s item s' names' item' (Ok (w, c')) =
     (u : Term) × (passed : List Placed) × GaveRight left text rest from base known vars c s item s' names' item' w c' u passed
-RightIs left text rest from base known vars c s item s' names' item' (Malformed place) =
+RightIs left text rest from base known vars c s item s' names' item' (Err (Malformed place)) =
     ((t : Term) → equals_behind t (counted_at known vars c.compounds) (piece (tokens_in from rest c.at)) ≡ malformed (from + place))
     × (place ≤ length rest)
     × Only (item_start base) (item_end base) s s'
-RightIs left text rest from base known vars c s item s' names' item' Exceeded =
+RightIs left text rest from base known vars c s item s' names' item' (Err Exceeded) =
     ((t : Term) → equals_behind t (counted_at known vars c.compounds) (piece (tokens_in from rest c.at)) ≡ passed)
     × Only (item_start base) (item_end base) s s'
 
 -- The ninth element: a token that can begin a term passes the figure, and any other cannot stand.
-abbrev pub NinthIs : Bytes → ℕ → Elements → Type 0
-NinthIs rest at (answers.Stop n a d) = ⊥
-NinthIs rest at (answers.Bar n d) = ⊥
-NinthIs rest at (answers.Malformed place) =
+abbrev pub NinthIs : Bytes → ℕ → Unread → Type 0
+NinthIs rest at (Malformed place) =
     (place ≤ length rest)
     × ((from : ℕ) (counted : Counted) (es : List Element) → body 0 es counted (piece (tokens_in from rest at)) ≡ malformed (from + place))
-NinthIs rest at answers.Exceeded = (from : ℕ) (counted : Counted) (es : List Element) → body 0 es counted (piece (tokens_in from rest at)) ≡ passed
+NinthIs rest at Exceeded = (from : ℕ) (counted : Counted) (es : List Element) → body 0 es counted (piece (tokens_in from rest at)) ≡ passed

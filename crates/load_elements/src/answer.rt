@@ -1,11 +1,9 @@
 // How reading elements ends.
 use load_openings::cursor::Cursor;
 
-// So many elements and then the full stop at an offset, or the bar, with the cursor behind it; or 4 at a place, or 6.
+// So many elements and then the full stop at an offset, or the bar, with the cursor behind it.
 #[derive(Clone, Copy)]
 pub enum Elements {
     Stop(usize, usize, Cursor),
     Bar(usize, Cursor),
-    Malformed(usize),
-    Exceeded,
 }

@@ -10,7 +10,7 @@ use native.Mathlib.Omega.{arith}
 use lib.Dec.{ltb, eqb}
 use lib.ListN.{length}
 use Rattle.meaning.specs.Bytes.{Bytes, byte, same, any, when◌then◌else◌}
-use Rattle.meaning.specs.Terms.{Half, writer, reader, same_half, Constant, empty, Term, Terms, cell, named, compound, end, more, Named, as_term}
+use Rattle.meaning.specs.Terms.{Half, writer, reader, same_half, Constant, empty, Term, cell, named, compound, end, more, Named, as_term}
 use Rattle.meaning.specs.Tokens.{Token, name, variable, integer, sign, bad, Tokens, ends, token}
 use Rattle.meaning.specs.Table.{Element, whole, bare, equals, as_goals}
 use Rattle.meaning.specs.Faults.{is_half, occurs_at}

@@ -1,16 +1,18 @@
 -- What each token does to the walk: a variable's half breaks a rule, which is then the fault, or is noted; every other token is passed.
 use Prim.Native.Nat.{ℕ, ◌+◌, ◌-◌, ◌≤◌, ◌<◌, min}
-use mathlib.Core.Path.{◌≡◌, refl, sym, ap, ◌∙◌}
+use mathlib.Core.Path.{◌≡◌, refl, sym, ◌∙◌}
 use mathlib.Core.Logic.{◌≢◌}
-use mathlib.Core.Bool.{Bool, true, false, not, ◌&&◌, ◌||◌}
+use mathlib.Core.Bool.{Bool, true, false, not, ◌&&◌, ◌||◌, or-true, or-false, and-false}
 use mathlib.Core.List.{List, [], ◌∷◌}
 use mathlib.Core.Option.{Option, none, some}
 use native.Mathlib.Omega.{arith}
 use lib.Dec.{eqb}
 use lib.ListN.{length, get_or, set, replicate, length-replicate, get_or-replicate, length-set}
-use lib.Seq.{get_or-set_same, get_or-set_other}
-use borrow.Author.Tests.{eq-eqb, ne_eqb, eqb-true, eqb-false}
-use Rattle.meaning.specs.Bytes.{Bytes, byte, same, when◌then◌else◌}
+use lib.Seq.{slice, get_or-set_same, get_or-set_other}
+use borrow.Author.Tests.{ne_eqb, eqb-true}
+use Rattle.std.specs.Prelude.{Option as Perhaps, Some, None, slice_range}
+use Rattle.std.proofs.lemmas.Slice.{between_is}
+use Rattle.meaning.specs.Bytes.{Bytes, byte, when◌then◌else◌}
 use Rattle.meaning.specs.Terms.{Half, writer, reader, Integer, same_half}
 use Rattle.meaning.specs.Tokens.{Token, name, variable, integer, sign, bad, Tokens, ends, token}
 use Rattle.meaning.specs.Faults.{Broken, twice, Fault, is_half, occurs_at, up_to_implied, pairing}
@@ -26,7 +28,7 @@ use Rattle.load_names.specs.Places.{Place, spellings}
 use Rattle.load_names.proofs.Spellings.{has_place}
 use Rattle.load_openings.specs.Reading.{piece, half_place}
 use Rattle.load_openings.proofs.Expected.{piece_open, piece_stop}
-use Rattle.load_faults.specs.Finding.{Passable, Walkable, Searched, BarIs, half_from, jumps_so, on_at, pardons, Reached}
+use Rattle.load_faults.specs.Finding.{Passable, Walkable, Searched, BarIs, half_from, on_at, pardons, Reached}
 
 half_few : (h : Half) (n : ℕ) → n < 16 → half_from h + n < 32
 unfolding half_from
@@ -62,14 +64,6 @@ unfolding is_half same_half
 itself writer x = same_refl x
 itself reader x = same_refl x
 
-or_false : (b : Bool) → (b || false) ≡ b
-or_false true = refl
-or_false false = refl
-
-and_false : (b : Bool) → (b && false) ≡ false
-and_false true = refl
-and_false false = refl
-
 -- What is left of the tokens that count for the pairing: up to the `:-` and then behind the bar; behind the `:-` all of them.
 unfoldable pub left_at : Bool → Option Tokens → Tokens → Tokens
 left_at true after ts = ts
@@ -90,19 +84,22 @@ stop_token false none p t ts e n = piece_stop p t ts e
 stop_token false (some ahead) p t ts e n = rw (piece_stop p t ts e, n) refl
 
 -- Behind the first `:-` the tokens behind the bar come next, if there is one.
-neck_token : (rest : Bytes) (from bar p c a : ℕ) (implied : Bool) (after : Option Tokens) → is ":" (sign c) ≡ true → is "." (sign c) ≡ false → BarIs rest from bar after
+neck_token : (rest : Bytes) (from : ℕ) (bar : Perhaps ℕ) (p c a : ℕ) (implied : Bool) (after : Option Tokens) → is ":" (sign c) ≡ true → is "." (sign c) ≡ false → BarIs rest from bar after
     → left_at implied after (piece (token p (sign c) (tokens_in from rest (behind c a))))
     ≡ token p (sign c) (left_at true after (piece (tokens_in from rest (on_at c a implied bar))))
-unfolding left_at pairing up_to_implied when◌then◌else◌ jumps_so on_at is
-neck_token rest from bar p c a true after n e b = rw (n, piece_open p (sign c) (tokens_in from rest (behind c a)) e) refl
-neck_token rest from bar p c a false none n e b = rw (n, eq-eqb bar 0 b, piece_open p (sign c) (tokens_in from rest (behind c a)) e) refl
-neck_token rest from bar p c a false (some ahead) n e b =
-    rw (n, ne_eqb bar 0 (λ q. omega (arith, b.1)), piece_open p (sign c) (tokens_in from rest (behind c a)) e, b.0, n) refl
+unfolding left_at pairing up_to_implied when◌then◌else◌ on_at is
+neck_token rest from None p c a true after n e b = piece_open p (sign c) (tokens_in from rest (behind c a)) e
+neck_token rest from (Some bar) p c a true after n e b = rw (n, piece_open p (sign c) (tokens_in from rest (behind c a)) e) refl
+neck_token rest from None p c a false none n e b = piece_open p (sign c) (tokens_in from rest (behind c a)) e
+neck_token rest from None p c a false (some ahead) n e b = absurd b
+neck_token rest from (Some bar) p c a false none n e b = absurd b
+neck_token rest from (Some bar) p c a false (some ahead) n e b = rw (n, piece_open p (sign c) (tokens_in from rest (behind c a)) e, b.0, n) refl
 
 -- Any other sign leaves the walk as it is.
-other_sign : (c a bar : ℕ) (implied : Bool) → is ":" (sign c) ≡ false → on_at c a implied bar ≡ behind c a
-unfolding jumps_so on_at is when◌then◌else◌
-other_sign c a bar implied n = rw n refl
+other_sign : (c a : ℕ) (bar : Perhaps ℕ) (implied : Bool) → is ":" (sign c) ≡ false → on_at c a implied bar ≡ behind c a
+unfolding on_at is when◌then◌else◌
+other_sign c a None implied n = refl
+other_sign c a (Some bar) implied n = rw n refl
 
 neck_no_stop : (c : ℕ) → is ":" (sign c) ≡ true → is "." (sign c) ≡ false
 unfolding is byte
@@ -165,46 +162,50 @@ module _ (both : Bool) (places : List Place) (free : Bytes → Bool) (whole : To
         → Reached both places free whole implied seen (left_at implied after (piece ts)) f
     unfolding is_half broken_by is
     over_name after p g ts r =
-        rw (or_false implied) at (over_other p (name g) (left_at implied after (piece ts)) (λ h x. refl) (λ w. refl) (rw (open_token implied after p (name g) ts refl refl) at r))
+        rw (or-false implied) at (over_other p (name g) (left_at implied after (piece ts)) (λ h x. refl) (λ w. refl) (rw (open_token implied after p (name g) ts refl refl) at r))
 
     pub over_integer : (after : Option Tokens) (p : ℕ) (i : Integer) (ts : Tokens) → Reached both places free whole implied seen (left_at implied after (piece (token p (integer i) ts))) f
         → Reached both places free whole implied seen (left_at implied after (piece ts)) f
     unfolding is_half broken_by is
     over_integer after p i ts r =
-        rw (or_false implied) at (over_other p (integer i) (left_at implied after (piece ts)) (λ h x. refl) (λ w. refl) (rw (open_token implied after p (integer i) ts refl refl) at r))
+        rw (or-false implied) at (over_other p (integer i) (left_at implied after (piece ts)) (λ h x. refl) (λ w. refl) (rw (open_token implied after p (integer i) ts refl refl) at r))
 
     -- Behind the full stop nothing is left.
-    pub over_sign : (rest : Bytes) (from bar : ℕ) (after : Option Tokens) → BarIs rest from bar after → (p c a : ℕ)
+    pub over_sign : (rest : Bytes) (from : ℕ) (bar : Perhaps ℕ) (after : Option Tokens) → BarIs rest from bar after → (p c a : ℕ)
         → Reached both places free whole implied seen (left_at implied after (piece (token p (sign c) (tokens_in from rest (behind c a))))) f
         → Reached both places free whole (implied || is ":" (sign c)) seen
         (left_at (implied || is ":" (sign c)) after (piece (tokens_in from rest (on_at c a implied bar)))) f
     unfolding is_half broken_by
     over_sign rest from bar after b p c a r = go (is ":" (sign c)) refl (is "." (sign c)) refl
       where
-        or_true : (i : Bool) → (i || true) ≡ true
-        or_true true = refl
-        or_true false = refl
-
         go : (n : Bool) → is ":" (sign c) ≡ n → (e : Bool) → is "." (sign c) ≡ e
             → Reached both places free whole (implied || is ":" (sign c)) seen
             (left_at (implied || is ":" (sign c)) after (piece (tokens_in from rest (on_at c a implied bar)))) f
         go true n e q =
             let on = over_other p (sign c) (left_at true after (piece (tokens_in from rest (on_at c a implied bar)))) (λ h x. refl) (λ w. refl)
             (rw (neck_token rest from bar p c a implied after n (neck_no_stop c n) b) at r) in
-            rw (n, or_true implied) (rw (n, or_true implied) at on)
+            rw (n, or-true implied) (rw (n, or-true implied) at on)
         go false n true q =
             absurd (no_end_here (implied || is ":" (sign c)) seen f p
             (over_other p (sign c) (ends p) (λ h x. refl) (λ w. refl) (rw (stop_token implied after p (sign c) (tokens_in from rest (behind c a)) q n) at r)))
         go false n false q =
             let on = over_other p (sign c) (left_at implied after (piece (tokens_in from rest (behind c a)))) (λ h x. refl) (λ w. refl)
             (rw (open_token implied after p (sign c) (tokens_in from rest (behind c a)) q n) at r) in
-            rw (n, or_false implied, other_sign c a bar implied n) (rw (n, or_false implied) at on)
+            rw (n, or-false implied, other_sign c a bar implied n) (rw (n, or-false implied) at on)
 
     -- A variable is no full stop and no `:-`.
     pub at_variable : (after : Option Tokens) (p : ℕ) (h : Half) (x : Bytes) (ts : Tokens) → Reached both places free whole implied seen (left_at implied after (piece (token p (variable h x) ts))) f
         → Reached both places free whole implied seen (token p (variable h x) (left_at implied after (piece ts))) f
     unfolding is
     at_variable after p h x ts r = rw (open_token implied after p (variable h x) ts refl refl) at r
+
+    -- As the code reads its spelling.
+    pub at_spelled : (after : Option Tokens) (rest : Bytes) (from at a e m : ℕ) (h : Half)
+        → tokens_in from rest at ≡ token (from + a) (variable h (slice a e rest)) (tokens_in from rest m)
+        → Reached both places free whole implied seen (left_at implied after (piece (tokens_in from rest at))) f
+        → Reached both places free whole implied seen (token (from + a) (variable h (slice_range rest a e)) (left_at implied after (piece (tokens_in from rest m)))) f
+    at_spelled after rest from at a e m h t r =
+        rw (between_is rest a e) (at_variable after (from + a) h (slice a e rest) (tokens_in from rest m) (rw t at r))
 
     module _ (rest : Bytes) (item : List ℕ) (count : ℕ) (licensed : List ℕ) (searched : Searched rest item count licensed places free whole)
         (h : Half) (x : Bytes) (n : ℕ) (here : place_of x (spellings places) ≡ some n)
@@ -215,7 +216,7 @@ module _ (both : Bool) (places : List Place) (free : Bytes → Bool) (whole : To
       pardoned_is = go h
         where
           go : (h : Half) → (pardons implied h && not (eqb (get_or licensed n 0) 0)) ≡ (implied && pardoned free h x)
-          go writer = sym (and_false implied)
+          go writer = sym (and-false implied)
           go reader = rw (searched.frees x n here) refl
 
       module _ (again : get_or seen (half_from h + n) 0 ≢ 0) where
@@ -250,7 +251,7 @@ module _ (both : Bool) (places : List Place) (free : Bytes → Bool) (whole : To
               size = r.size;
               was = with_seen (variable h x) r.was;
               noted = noted_still;
-              finds = rw (seen_before, pardon, or_false implied) at r.finds;
+              finds = rw (seen_before, pardon, or-false implied) at r.finds;
               walkable = r.walkable.1;
             }
 
@@ -299,7 +300,7 @@ module _ (both : Bool) (places : List Place) (free : Bytes → Bool) (whole : To
               size = length-set seen (half_from h + n) 1 ∙ r.size;
               was = with_seen (variable h x) r.was;
               noted = noted_now;
-              finds = rw (unseen, missing, e, or_false implied) at r.finds;
+              finds = rw (unseen, missing, e, or-false implied) at r.finds;
               walkable = r.walkable.1;
             }
 
@@ -321,18 +322,24 @@ unfoldable pub weight : Bool → ℕ → ℕ
 weight true size = 0
 weight false size = size + 1
 
-pub bar_inside : (rest : Bytes) (from bar : ℕ) (after : Option Tokens) → BarIs rest from bar after → bar ≤ length rest
-bar_inside rest from bar none b = omega arith
-bar_inside rest from bar (some ahead) b = b.2
+abbrev pub Inside : ℕ → Perhaps ℕ → Type 0
+Inside size None = Unit {0}
+Inside size (Some bar) = bar ≤ size
 
-module _ (size c a bar : ℕ) (implied : Bool) where
-  pub sign_inside : behind c a ≤ size → bar ≤ size → on_at c a implied bar ≤ size
-  unfolding on_at when◌then◌else◌
-  sign_inside h l = go (jumps_so c implied bar)
-    where
-      go : (b : Bool) → (when b then bar else behind c a) ≤ size
-      go true = l
-      go false = h
+pub bar_inside : (rest : Bytes) (from : ℕ) (bar : Perhaps ℕ) (after : Option Tokens) → BarIs rest from bar after → Inside (length rest) bar
+bar_inside rest from None after b = tt
+bar_inside rest from (Some bar) none b = absurd b
+bar_inside rest from (Some bar) (some ahead) b = b.1
+
+either_inside : (b : Bool) (m n size : ℕ) → m ≤ size → n ≤ size → (when b then m else n) ≤ size
+unfolding when◌then◌else◌
+either_inside true m n size h l = h
+either_inside false m n size h l = l
+
+pub sign_inside : (size c a : ℕ) (bar : Perhaps ℕ) (implied : Bool) → behind c a ≤ size → Inside size bar → on_at c a implied bar ≤ size
+unfolding on_at
+sign_inside size c a None implied h l = h
+sign_inside size c a (Some bar) implied h l = either_inside (eqb c (byte ":") && not implied) bar (behind c a) size l h
 
 lighter : (implied b : Bool) (size : ℕ) → weight (implied || b) size ≤ weight implied size
 unfolding weight
@@ -340,18 +347,24 @@ lighter true b size = omega arith
 lighter false true size = omega arith
 lighter false false size = omega arith
 
-pub sign_less : (size at c a bar : ℕ) (implied : Bool) → at ≤ a → behind c a ≤ size → bar ≤ size
-    → weight (implied || eqb c (byte ":")) size + (size - on_at c a implied bar) < weight implied size + (size - at)
-unfolding weight on_at jumps_so when◌then◌else◌
-sign_less size at c a bar true forward h l =
-    let k = behind_more c a in
-    rw (and_false (eqb c (byte ":"))) (omega arith)
-sign_less size at c a bar false forward h l = go (eqb c (byte ":")) (not (eqb bar 0))
-  where
-    k : a + 1 ≤ behind c a
-    k = behind_more c a
+less : (w w' size at b : ℕ) → w ≤ w' → at < b → b ≤ size → w + (size - b) < w' + (size - at)
+less w w' size at b k l h = omega arith
 
-    go : (n b : Bool) → weight n size + (size - (when n && b then bar else behind c a)) < size + 1 + (size - at)
-    go true true = omega arith
-    go true false = omega arith
-    go false b = omega (arith, k)
+not_less : (w size at bar b : ℕ) → at < b → b ≤ size → w + (size - (when false then bar else b)) < w + (size - at)
+unfolding when◌then◌else◌
+not_less w size at bar b l h = omega arith
+
+either_less : (n : Bool) (size at bar b : ℕ) → at < b → b ≤ size → weight n size + (size - (when n && true then bar else b)) < weight false size + (size - at)
+unfolding weight when◌then◌else◌
+either_less true size at bar b l h = omega arith
+either_less false size at bar b l h = omega arith
+
+pub sign_less : (size at c a : ℕ) (bar : Perhaps ℕ) (implied : Bool) → at ≤ a → behind c a ≤ size
+    → weight (implied || eqb c (byte ":")) size + (size - on_at c a implied bar) < weight implied size + (size - at)
+unfolding on_at
+sign_less size at c a None implied forward h =
+    less (weight (implied || eqb c (byte ":")) size) (weight implied size) size at (behind c a) (lighter implied (eqb c (byte ":")) size) (omega (arith, behind_more c a)) h
+sign_less size at c a (Some bar) true forward h =
+    let l : at < behind c a = omega (arith, behind_more c a) in
+    rw (and-false (eqb c (byte ":"))) (not_less (weight true size) size at bar (behind c a) l h)
+sign_less size at c a (Some bar) false forward h = either_less (eqb c (byte ":")) size at bar (behind c a) (omega (arith, behind_more c a)) h

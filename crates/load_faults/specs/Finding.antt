@@ -1,24 +1,27 @@
 -- What is known of an item in which a fault is looked for, how far the walk has come, and what it finds.
-use Rattle.std.specs.Prelude.{ℕ, ◌+◌, ◌≤◌, ◌<◌, min, ◌≡◌, Bool, true, false, not, ◌&&◌, List, [], ◌∷◌, eqb, length, get_or}
+use Rattle.std.specs.Prelude.{ℕ, ◌+◌, ◌≤◌, min, ◌≡◌, Bool, false, not, ◌&&◌, List, eqb, length, get_or, Option as Perhaps, Some, None, Result, Ok, Err}
 use Rattle.std.proofs.Math.Option.{Option, none, some}
 use Rattle.meaning.specs.Bytes.{Bytes, byte, when◌then◌else◌}
 use Rattle.meaning.specs.Terms.{Half, writer, reader}
 use Rattle.meaning.specs.Tokens.{Token, name, variable, integer, sign, bad, Tokens, ends, token}
 use Rattle.meaning.specs.Faults.{twice, writer_alone, reader_alone, Broken as Rule, Fault, occurs_at, pairing}
 use Rattle.meaning.specs.Items.{place_of}
-use Rattle.laws.proofs.Reading.Broken.{alone}
 use Rattle.laws.proofs.Reading.Walk.{Seen, first_from, first_fault}
 use Rattle.load_tokens.specs.Fronts.{tokens_in, behind}
 use Rattle.load_names.specs.Places.{Place, spellings}
 use Rattle.load_names.specs.Tables.{VariablesIn}
 use Rattle.load_openings.specs.Reading.{piece, half_place}
+use Rattle.load_openings.specs.declared.begin.Half.{Half as CodeHalf}
+use Rattle.load_openings.specs.declared.begin.Half.TheVariants.{Writer, Reader}
 use Rattle.load_faults.specs.declared.faults.Broken.{Broken}
 use Rattle.load_faults.specs.declared.faults.Broken.TheVariants.{Twice, WriterAlone, ReaderAlone}
 use Rattle.load_faults.specs.declared.faults.Fault.{Fault as Found}
-use Rattle.load_faults.specs.declared.faults.Judged.{Judged}
-use Rattle.load_faults.specs.declared.faults.Judged.TheVariants.{Twice as IsTwice, Alone, Clear}
 
--- The code's rule as the definition's.
+-- The code's half and rule as the definition's.
+abbrev pub half_of : CodeHalf → Half
+half_of Writer = writer
+half_of Reader = reader
+
 abbrev pub rule_of : Broken → Rule
 rule_of Twice = twice
 rule_of WriterAlone = writer_alone
@@ -50,13 +53,15 @@ pub record Searched (rest : Bytes) (item : List ℕ) (count : ℕ) (licensed : L
   pub frees_size : length licensed ≡ 16
   pub frees : (x : Bytes) (n : ℕ) → place_of x (spellings places) ≡ some n → free x ≡ not (eqb (get_or licensed n 0) 0)
 
--- The tokens behind a clause's bar stand from an offset of the rest on; 0 says that there is no bar.
-abbrev pub BarIs : Bytes → ℕ → ℕ → Option Tokens → Type 0
-BarIs rest from bar none = bar ≡ 0
-BarIs rest from bar (some behind) = (behind ≡ piece (tokens_in from rest bar)) × (0 < bar) × (bar ≤ length rest)
+-- The tokens behind a clause's bar, if there is one, stand from an offset of the rest on.
+abbrev pub BarIs : Bytes → ℕ → Perhaps ℕ → Option Tokens → Type 0
+BarIs rest from None none = Unit {0}
+BarIs rest from None (some behind) = ⊥
+BarIs rest from (Some bar) none = ⊥
+BarIs rest from (Some bar) (some behind) = (behind ≡ piece (tokens_in from rest bar)) × (bar ≤ length rest)
 
 -- The same of the item whose tokens stand from an offset of the rest on, with its first fault.
-pub record Searches (rest : Bytes) (from : ℕ) (item : List ℕ) (count : ℕ) (both : Bool) (begins bar : ℕ) (licensed : List ℕ)
+pub record Searches (rest : Bytes) (from : ℕ) (item : List ℕ) (count : ℕ) (both : Bool) (begins : ℕ) (bar : Perhaps ℕ) (licensed : List ℕ)
     (places : List Place) (free : Bytes → Bool) (behind : Option Tokens) (f : Fault) : Type 0 where
   pub searched : Searched rest item count licensed places free (pairing behind (piece (tokens_in from rest begins)))
   pub walkable : Walkable (spellings places) (pairing behind (piece (tokens_in from rest begins)))
@@ -77,11 +82,9 @@ pub record Reached (both : Bool) (places : List Place) (free : Bytes → Bool) (
   pub walkable : Walkable (spellings places) left
 
 -- Where the walk goes on behind a sign: behind the first `:-` at the first byte behind the bar, if there is one.
-unfoldable pub jumps_so : ℕ → Bool → ℕ → Bool
-jumps_so c implied bar = eqb c (byte ":") && (not implied && not (eqb bar 0))
-
-unfoldable pub on_at : ℕ → ℕ → Bool → ℕ → ℕ
-on_at c a implied bar = when jumps_so c implied bar then bar else behind c a
+unfoldable pub on_at : ℕ → ℕ → Bool → Perhaps ℕ → ℕ
+on_at c a implied None = behind c a
+on_at c a implied (Some bar) = when eqb c (byte ":") && not implied then bar else behind c a
 
 -- Whether a half is pardoned where the walk stands: no writer is.
 unfoldable pub pardons : Bool → Half → Bool
@@ -89,8 +92,7 @@ pardons implied writer = false
 pardons implied reader = implied
 
 -- A half that stands at a place: it breaks a rule there, and that is the fault; or the walk goes on behind it.
-abbrev pub JudgedIs : (both : Bool) (places : List Place) (free : Bytes → Bool) (whole : Tokens) (implied : Bool) (seen' : List ℕ) (h : Half) (at : ℕ) (ts : Tokens) (f : Fault)
-    → Judged → Type 0
-JudgedIs both places free whole implied seen' h at ts f IsTwice = f ≡ record { rule = twice; offset = at }
-JudgedIs both places free whole implied seen' h at ts f Alone = f ≡ record { rule = alone h; offset = at }
-JudgedIs both places free whole implied seen' h at ts f Clear = Reached both places free whole implied seen' ts f
+abbrev pub JudgedIs : (both : Bool) (places : List Place) (free : Bytes → Bool) (whole : Tokens) (implied : Bool) (seen' : List ℕ) (at : ℕ) (ts : Tokens) (f : Fault)
+    → Result Unit Broken → Type 0
+JudgedIs both places free whole implied seen' at ts f (Ok u) = Reached both places free whole implied seen' ts f
+JudgedIs both places free whole implied seen' at ts f (Err rule) = f ≡ record { rule = rule_of rule; offset = at }

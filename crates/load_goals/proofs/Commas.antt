@@ -1,32 +1,15 @@
 -- The definitions' `goals` one goal at a time: behind a goal comes a comma and more goals, a full stop, or something that cannot stand.
-use Prim.Native.Nat.{ℕ, zero, suc, ◌+◌, ◌-◌, ◌≤◌, ◌<◌}
-use mathlib.Core.Path.{◌≡◌, refl, ap, sym, ◌∙◌}
-use mathlib.Core.Bool.{Bool, true, false}
+use Prim.Native.Nat.{ℕ, suc}
+use mathlib.Core.Path.{◌≡◌, refl, ap, sym}
 use mathlib.Core.List.{List, [], ◌∷◌, ◌++◌, append_assoc}
-use native.Mathlib.Omega.{arith}
-use lib.ListN.{length}
 use Rattle.meaning.specs.Bytes.{byte, when◌then◌else◌}
 use Rattle.meaning.specs.Terms.{Named}
-use Rattle.meaning.specs.Tokens.{Token, sign, Tokens, ends, token}
-use Rattle.meaning.specs.Items.{
-  Counted,
-  Read,
-  read,
-  malformed,
-  passed,
-  read_on,
-  ◌>>=◌,
-  ◌>>◌,
-  give,
-  passes,
-  is,
-  either,
-  goal,
-  goals,
-}
+use Rattle.meaning.specs.Tokens.{sign, Tokens, ends, token}
+use Rattle.meaning.specs.Items.{Counted, Read, read, malformed, passed, read_on, ◌>>=◌, give, is, either, goal, goals}
 use Rattle.load_openings.specs.Reading.{piece}
 use Rattle.load_tokens.specs.Nexts.{one_of, Stops}
-use Rattle.load_openings.proofs.Expected.{piece_open, piece_stop, either_first, either_second, either_none}
+use Rattle.load_openings.proofs.Expected.{piece_open, piece_stop, either_first, either_second, either_stops}
+use Rattle.load_openings.proofs.Passing.{piece_stops}
 
 goals_suc : (left : ℕ) (counted counted' : Counted) (ts us : Tokens) (g : Named) → goal counted ts ≡ read g counted' us
     → goals (suc left) counted ts
@@ -56,9 +39,9 @@ module _ (left : ℕ) (counted counted' : Counted) (ts us : Tokens) (g : Named) 
         either_second counted' "," "." p (sign 46) (ends p) refl refl,
       )
 
-  pub goals_other : (place : ℕ) → Stops (one_of 44 46 46) place us → goals (suc left) counted ts ≡ malformed place
+  pub goals_other : (place : ℕ) → Stops (one_of (44 ∷ 46 ∷ [])) place us → goals (suc left) counted ts ≡ malformed place
   unfolding read_on byte
-  goals_other place s = rw (goals_suc left counted counted' ts (piece us) g h, either_none counted' "," "." 46 place us s)
+  goals_other place s = rw (goals_suc left counted counted' ts (piece us) g h, either_stops counted' "," "." place (piece us) (piece_stops (one_of (44 ∷ 46 ∷ [])) place us s))
 
 pub goals_malformed : (left : ℕ) (counted : Counted) (ts : Tokens) (place : ℕ) → goal counted ts ≡ malformed place → goals (suc left) counted ts ≡ malformed place
 unfolding goals ◌>>=◌ read_on

@@ -1,11 +1,11 @@
 -- Goals kept one behind the other, counted one behind the other, and as they were where more names are known.
-use Prim.Native.Nat.{ℕ, zero, suc, ◌+◌, ◌*◌, ◌≤◌, ◌<◌, min}
-use mathlib.Core.Path.{◌≡◌, refl, ap, sym, ◌∙◌}
+use Prim.Native.Nat.{ℕ, suc, ◌+◌}
+use mathlib.Core.Path.{◌≡◌, refl, ap, ◌∙◌}
 use mathlib.Core.List.{List, [], ◌∷◌, ◌++◌}
 use native.Mathlib.Omega.{arith}
 use lib.ListN.{length, set, length-append}
 use Rattle.meaning.specs.Bytes.{Bytes}
-use Rattle.meaning.specs.Terms.{Half, Named, as_term, occurrences, all_occurrences, goals_occurrences}
+use Rattle.meaning.specs.Terms.{Half, Named, as_term, occurrences, goals_occurrences}
 use Rattle.term.specs.Cells.{Places as CellPlaces, term_word, stored, Known}
 use Rattle.term.proofs.Names.{with_more, known_more, term_word_more, stored_more}
 use Rattle.term.specs.Jobs.{GoalsKnown}

@@ -1,4 +1,5 @@
 -- A goal: what `compound` answers behind its parenthesis is what `goal` answers at its name.
+use Rattle.std.specs.Prelude.{Result, Ok, Err}
 use Prim.Native.Nat.{ℕ}
 use mathlib.Core.Path.{refl, ap, ◌∙◌}
 use mathlib.Core.List.{List, ◌∷◌}
@@ -6,20 +7,22 @@ use Rattle.meaning.specs.Bytes.{Bytes, byte}
 use Rattle.meaning.specs.Terms.{as_term}
 use Rattle.meaning.specs.Tokens.{name, sign, token}
 use Rattle.meaning.specs.Items.{is, compound_of, term, goal}
-use Rattle.load_names.specs.Places.{Place, Placed, with_place, with_name, with_variable, before, names_over, variables_over}
+use Rattle.term.proofs.Frames.{only_same}
+use Rattle.term.specs.Layout.{item_start, item_end}
+use Rattle.load_names.specs.Places.{Place, with_place, with_name, with_variable, before, names_over, variables_over}
 use Rattle.load_openings.specs.Reading.{ReadIs, Open}
-use Rattle.load_openings.specs.Openings.{Opens}
+use Rattle.load_openings.specs.Openings.{Opens, OpeningIs}
 use Rattle.load_openings.specs.declared.cursor.Cursor.{Cursor}
-use Rattle.load_openings.specs.declared.cursor.Read.{Read}
-use Rattle.load_openings.specs.declared.cursor.Read.TheVariants.{Got, Malformed, Exceeded}
+use Rattle.load_openings.specs.declared.cursor.Unread.{Unread}
+use Rattle.load_openings.specs.declared.cursor.Unread.TheVariants.{Malformed, Exceeded}
 
 module _ (text rest : Bytes) (from base : ℕ) (known vars : List Place) (c c₂ : Cursor) (s names item s' names' item' : List ℕ) (n p q : ℕ) (f : Bytes)
     (o : Opens text rest from names item known vars c n c₂ f p q) where
-  pub goal_is : (r : Read)
+  pub goal_is : (r : Result (ℕ × Cursor) Unread)
       → ReadIs as_term (compound_of (term 15) f) text rest from base (with_place p f known) vars c₂ s item s' names' item' r
       → ReadIs as_term goal text rest from base known vars c s item s' names' item' r
   unfolding before names_over variables_over with_name with_variable Open is byte
-  goal_is (Got w c') (g, ps, gave) = (
+  goal_is (Ok (w, c')) (g, ps, gave) = (
     g,
     record { at = p; token = name f } ∷ (record { at = q; token = sign 40 } ∷ ps),
     record {
@@ -34,5 +37,12 @@ module _ (text rest : Bytes) (from base : ℕ) (known vars : List Place) (c c₂
       halves = gave.halves;
     },
   )
-  goal_is (Malformed place) (e, inside, only) = (o.reads ∙ e, inside, only)
-  goal_is Exceeded (e, only) = (o.reads ∙ e, only)
+  goal_is (Err (Malformed place)) (e, inside, only) = (o.reads ∙ e, inside, only)
+  goal_is (Err Exceeded) (e, only) = (o.reads ∙ e, only)
+
+-- Where no goal begins, nothing of the scratch has changed.
+module _ (text rest : Bytes) (from base : ℕ) (known vars : List Place) (c : Cursor) (s names item : List ℕ) where
+  pub goal_unread : (u : Unread) → OpeningIs text rest from names item known vars c (Err u)
+      → ReadIs as_term goal text rest from base known vars c s item s names item (Err u)
+  goal_unread (Malformed place) (e, inside) = (e, inside, only_same (item_start base) (item_end base) s)
+  goal_unread Exceeded e = (e, only_same (item_start base) (item_end base) s)

@@ -1,14 +1,15 @@
 -- Before the first goal nothing has been read; behind the eighth a ninth cannot be.
-use Prim.Native.Nat.{ℕ, zero, suc, ◌+◌, ◌*◌, ◌-◌, ◌≤◌, ◌<◌, min}
-use mathlib.Core.Path.{◌≡◌, refl, ap, sym, ◌∙◌}
-use mathlib.Core.Bool.{Bool, true, false, ◌||◌}
-use mathlib.Core.List.{List, [], ◌∷◌, ◌++◌}
+use Rattle.std.specs.Prelude.{Err}
+use Prim.Native.Nat.{ℕ, ◌+◌, ◌-◌}
+use mathlib.Core.Path.{◌≡◌, refl, sym}
+use mathlib.Core.Bool.{false}
+use mathlib.Core.List.{List, [], ◌++◌}
 use native.Mathlib.Omega.{arith}
 use lib.ListN.{length, get_or}
 use lib.Seq.{slice}
 use Rattle.meaning.specs.Bytes.{Bytes, when◌then◌else◌}
-use Rattle.meaning.specs.Terms.{Half, writer, reader, Named, goals_occurrences}
-use Rattle.meaning.specs.Tokens.{Token, name, variable, integer, sign, bad, Tokens, ends, token}
+use Rattle.meaning.specs.Terms.{writer, reader, Named, goals_occurrences}
+use Rattle.meaning.specs.Tokens.{Token, variable, integer, sign, bad, Tokens, token}
 use Rattle.meaning.specs.Items.{Counted, Read, read, malformed, passed, read_on, give, ◌>>◌, passes, standing, is_name, goals}
 use Rattle.term.proofs.Frames.{only_same}
 use Rattle.term.specs.Jobs.{GoalsKnown}
@@ -16,28 +17,20 @@ use Rattle.term.specs.Layout.{trial_region}
 use Rattle.load_tokens.specs.Fronts.{tokens_in, behind, FrontIs}
 use Rattle.load_names.specs.Places.{Place, Placed, before, names_over, variables_over}
 use Rattle.load_openings.specs.Reading.{piece, counted_at, half_place, Stands, Open}
-use Rattle.load_names.specs.Tables.{VariablesIn}
 use Rattle.load_image.specs.Image.{goals_stored}
 use Rattle.load_goals.specs.Endings.{goals_part, EndIs, NinthIs, Partly}
 use Rattle.load_tokens.specs.declared.token.Token.TheVariants.{End, Name, Writer, Reader, Integer as AnInteger, Sign, Bad}
 use Rattle.load_openings.specs.declared.cursor.Cursor.{Cursor}
-use Rattle.load_openings.specs.declared.cursor.Read.{Read as Answer}
-use Rattle.load_openings.specs.declared.cursor.Read.TheVariants.{Got, Malformed, Exceeded}
+use Rattle.load_openings.specs.declared.cursor.Unread.{Unread}
+use Rattle.load_openings.specs.declared.cursor.Unread.TheVariants.{Malformed, Exceeded}
 use Rattle.load_openings.proofs.GoalNames.{behind_after}
+use Rattle.load_openings.proofs.Moves.{once, half_small}
 
 read_give : (r : Read (List Named)) → read_on r (λ hs. give ([] ++ hs)) ≡ r
 unfolding read_on give
 read_give (read hs counted ts) = refl
 read_give (malformed p) = refl
 read_give passed = refl
-
-few_halves : (rest : Bytes) (vars : List Place) (item : List ℕ) → VariablesIn rest vars item
-    → (h : Half) (n : ℕ) → n < 16 → get_or item (half_place h n) 0 ≡ min 2 (get_or item (half_place h n) 0 + 0)
-unfolding half_place
-few_halves rest vars item v writer n l = omega (arith, v.counted n (omega arith))
-few_halves rest vars item v reader n l =
-    let e : 32 + (16 + n) ≡ 48 + n = omega arith in
-    omega (arith, rw e at (v.counted (16 + n) (omega arith)))
 
 pub partly_none : (text rest : Bytes) (from base place : ℕ) (known vars : List Place) (c : Cursor) (s names item : List ℕ)
     → Stands text rest from names item c known vars → Partly text rest from base place known vars c s item s names item c [] []
@@ -49,7 +42,7 @@ partly_none text rest from base place known vars c s names item st = record {
   stands = st;
   stored_is = refl;
   known_names = tt;
-  halves = few_halves rest vars item st.variables_in;
+  halves = λ h n few. once (get_or item (half_place h n) 0) (half_small st.variables_in h n few);
   only = only_same 0 trial_region s;
 }
 
@@ -96,10 +89,9 @@ module _ (rest : Bytes) (at : ℕ) where
 module _ (text rest : Bytes) (from base place : ℕ) (known vars : List Place) (c : Cursor) (s₀ item₀ s names item : List ℕ) (d : Cursor)
     (gs : List Named) (ps : List Placed) (t : Partly text rest from base place known vars c s₀ item₀ s names item d gs ps)
     (full : length gs ≡ 8) where
-  pub partly_ninth : (r : Answer) → NinthIs rest d.at r
-      → EndIs (goals_part place) (goals 8) text rest from base known vars c s₀ item₀ s names item r
+  pub partly_ninth : (u : Unread) → NinthIs rest d.at u
+      → EndIs (goals_part place) (goals 8) text rest from base known vars c s₀ item₀ s names item (Err u)
   unfolding read_on
-  partly_ninth (Got w e) h = absurd h
   partly_ninth (Malformed p) h =
       let e : 8 - length gs ≡ 0 = omega arith in
       let reads = rw e at t.reads in

@@ -1,5 +1,5 @@
 -- What reading the goals of an item, up to its full stop, answers against the definitions' readers.
-use Rattle.std.specs.Prelude.{ℕ, ◌+◌, ◌-◌, ◌≤◌, ◌<◌, min, ◌≡◌, List, [], ◌∷◌, ◌++◌, length, get_or}
+use Rattle.std.specs.Prelude.{ℕ, ◌+◌, ◌-◌, ◌≤◌, ◌<◌, min, ◌≡◌, List, ◌++◌, length, get_or, Result, Ok, Err}
 use Rattle.meaning.specs.Bytes.{Bytes}
 use Rattle.meaning.specs.Terms.{Half, Named as Goal, goals_occurrences}
 use Rattle.meaning.specs.Tokens.{ends, token, sign}
@@ -13,8 +13,8 @@ use Rattle.load_names.specs.Places.{Place, Placed, spellings, before, names_over
 use Rattle.load_openings.specs.Reading.{piece, counted_at, half_place, Stands, Open}
 use Rattle.load_image.specs.Image.{goals_stored}
 use Rattle.load_openings.specs.declared.cursor.Cursor.{Cursor}
-use Rattle.load_openings.specs.declared.cursor.Read.{Read}
-use Rattle.load_openings.specs.declared.cursor.Read.TheVariants.{Got, Malformed, Exceeded}
+use Rattle.load_openings.specs.declared.cursor.Unread.{Unread}
+use Rattle.load_openings.specs.declared.cursor.Unread.TheVariants.{Malformed, Exceeded}
 
 -- How a part of an item is kept in the scratch, which goals it has, and which number the code answers.
 pub record Part (A : Type 0) : Type 0 where
@@ -43,14 +43,14 @@ pub record Ended {A : Type 0} (part : Part A) (by : Reader A) (text rest : Bytes
   pub only : Only 0 trial_region s s'
 
 abbrev pub EndIs : {A : Type 0} (part : Part A) (by : Reader A) (text rest : Bytes) (from base : ℕ) (known vars : List Place) (c : Cursor)
-    (s item s' names' item' : List ℕ) → Read → Type 0
-EndIs {A} part by text rest from base known vars c s item s' names' item' (Got w c') =
+    (s item s' names' item' : List ℕ) → Result (ℕ × Cursor) Unread → Type 0
+EndIs {A} part by text rest from base known vars c s item s' names' item' (Ok (w, c')) =
     (a : A) × (passed : List Placed) × (stop : ℕ) × Ended part by text rest from base known vars c s item s' names' item' w c' a passed stop
-EndIs part by text rest from base known vars c s item s' names' item' (Malformed place) =
+EndIs part by text rest from base known vars c s item s' names' item' (Err (Malformed place)) =
     (by (counted_at known vars c.compounds) (piece (tokens_in from rest c.at)) ≡ malformed (from + place))
     × (place ≤ length rest)
     × Only 0 trial_region s s'
-EndIs part by text rest from base known vars c s item s' names' item' Exceeded =
+EndIs part by text rest from base known vars c s item s' names' item' (Err Exceeded) =
     (by (counted_at known vars c.compounds) (piece (tokens_in from rest c.at)) ≡ passed)
     × Only 0 trial_region s s'
 
@@ -71,8 +71,7 @@ pub record Partly (text rest : Bytes) (from base place : ℕ) (known vars : List
   pub only : Only 0 trial_region s₀ s
 
 -- The ninth goal: its name passes the figure, and any other token cannot stand.
-abbrev pub NinthIs : Bytes → ℕ → Read → Type 0
-NinthIs rest at (Got w c) = ⊥
+abbrev pub NinthIs : Bytes → ℕ → Unread → Type 0
 NinthIs rest at (Malformed place) =
     (place ≤ length rest) × ((from : ℕ) (counted : Counted) → goals 0 counted (piece (tokens_in from rest at)) ≡ malformed (from + place))
 NinthIs rest at Exceeded = (from : ℕ) (counted : Counted) → goals 0 counted (piece (tokens_in from rest at)) ≡ passed

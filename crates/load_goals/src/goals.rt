@@ -7,100 +7,78 @@ ghost use Rattle.load_names.specs.Places.{Place};
 ghost use Rattle.load_openings.specs.Reading.{Stands, ReadIs};
 ghost use Rattle.load_goals.specs.Endings.{NinthIs, EndIs, goals_part};
 
-use load_openings::cursor::{Cursor, Read};
-use load_openings::goal::{Opening, goal_name};
+use load_names::source::Source;
+use load_openings::cursor::{Cursor, Unread};
+use load_openings::goal::goal_name;
 use load_terms::terms::compound;
-use load_tokens::next::{Next, next_of};
+use load_tokens::next::next_of;
 use load_tokens::token::{Token, front};
 use term::word::word;
 
 // A goal; the parenthesis is the first of the 16 brackets.
 pub fn goal(
-    text: &[u8],
-    rest: &[u8],
-    from: usize,
+    src: Source<'_>,
     s: &mut [u64],
     names: &mut [u64],
     item: &mut [u64],
     base: usize,
     c: Cursor,
-) -> Read
+) -> Result<(u64, Cursor), Unread>
     requires base_in_bounds { (item_end base ≤ length s.old) × (length s.old < 1152921504606846976) }
-    requires stands { (known : List Place) × (vars : List Place) × Stands text.now rest.now from names.old item.old c known vars }
-    ensures { (known : List Place) (vars : List Place) → Stands text.now rest.now from names.old item.old c known vars
-        → ReadIs as_term goal_reader text.now rest.now from base known vars c s.old item.old s.new names.new item.new result }
+    requires stands { (known : List Place) × (vars : List Place)
+        × Stands src.text.now src.rest.now src.from names.old item.old c known vars }
+    ensures { (known : List Place) (vars : List Place)
+        → Stands src.entry.text.now src.entry.rest.now src.entry.from names.old item.old c known vars
+        → ReadIs as_term goal_reader src.entry.text.now src.entry.rest.now src.entry.from base known vars c
+        s.old item.old s.new names.new item.new result }
 {
-    match goal_name(text, rest, from, names, c) {
-        Opening::Named(n, d) => compound(text, rest, from, s, names, item, base, 15, n, d),
-        Opening::NotNamed(a) => Read::Malformed(a),
-        Opening::Overfull => Read::Exceeded,
-    }
+    let (n, d) = goal_name(src, names, c)?;
+    compound(src, s, names, item, base, 15, n, d)
 }
 
 // The ninth goal's name passes the figure, if the token can stand there at all.
-fn ninth(rest: &[u8], at: usize) -> Read
+fn ninth(rest: &[u8], at: usize) -> Unread
     requires { at ≤ length rest.now }
     ensures { NinthIs rest.now at result }
 {
     match front(rest, at) {
-        Token::Name(_, _) => Read::Exceeded,
-        Token::Writer(a, _) => Read::Malformed(a),
-        Token::Reader(a, _) => Read::Malformed(a),
-        Token::Integer(_, a, _) => Read::Malformed(a),
-        Token::Sign(_, a) => Read::Malformed(a),
-        Token::Bad(a) => Read::Malformed(a),
-        Token::End => Read::Malformed(rest.len()),
+        Token::Name(_, _) => Unread::Exceeded,
+        Token::Writer(a, _)
+        | Token::Reader(a, _)
+        | Token::Integer(_, a, _)
+        | Token::Sign(_, a)
+        | Token::Bad(a) => Unread::Malformed(a),
+        Token::End => Unread::Malformed(rest.len()),
     }
 }
 
 // "8 body or query goals", up to the full stop: their words stand from a place on, and how many there are is the answer.
 pub fn goals(
-    text: &[u8],
-    rest: &[u8],
-    from: usize,
+    src: Source<'_>,
     s: &mut [u64],
     names: &mut [u64],
     item: &mut [u64],
     base: usize,
     place: usize,
     c: Cursor,
-) -> Read
+) -> Result<(u64, Cursor), Unread>
     requires item_compounds_bound { (base + item_compounds ≤ trial_base) × (place + 8 ≤ trial_region) × (trial_region ≤ length s.old) × (length s.old < 1152921504606846976) }
-    requires stands { (known : List Place) × (vars : List Place) × Stands text.now rest.now from names.old item.old c known vars }
-    ensures { (known : List Place) (vars : List Place) → Stands text.now rest.now from names.old item.old c known vars
-        → EndIs (goals_part place) (goals_reader 8) text.now rest.now from base known vars c s.old item.old s.new names.new item.new result }
+    requires stands { (known : List Place) × (vars : List Place)
+        × Stands src.text.now src.rest.now src.from names.old item.old c known vars }
+    ensures { (known : List Place) (vars : List Place)
+        → Stands src.entry.text.now src.entry.rest.now src.entry.from names.old item.old c known vars
+        → EndIs (goals_part place) (goals_reader 8) src.entry.text.now src.entry.rest.now src.entry.from base
+        known vars c s.old item.old s.new names.new item.new result }
 {
     let mut d = c;
-    let mut i = 0;
-    while i < 8 {
-        match goal(text, rest, from, s, names, item, base, d) {
-            Read::Got(w, e) => {
-                s[place + i] = w;
-                i += 1;
-                let at = e.at;
-                match next_of(rest, at, b',', b'.', b'.') {
-                    Next::First(behind) => {
-                        d = Cursor { at: behind, ..e };
-                    }
-                    Next::Second(behind) => {
-                        return Read::Got(word(i), Cursor { at: behind, ..e });
-                    }
-                    Next::Third(a) => {
-                        return Read::Malformed(a);
-                    }
-                    Next::Other(a) => {
-                        return Read::Malformed(a);
-                    }
-                }
-            }
-            Read::Malformed(a) => {
-                return Read::Malformed(a);
-            }
-            Read::Exceeded => {
-                return Read::Exceeded;
-            }
+    for i in 0..8 {
+        let (w, e) = goal(src, s, names, item, base, d)?;
+        s[place + i] = w;
+        let (sign, at) = next_of(src.rest, e.at, &[b',', b'.'])?;
+        d = Cursor { at, ..e };
+        if sign == b'.' {
+            return Ok((word(i + 1), d));
         }
     }
-    let at = d.at;
-    ninth(rest, at)
+    Err(ninth(src.rest, d.at))
 }

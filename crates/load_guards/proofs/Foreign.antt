@@ -1,57 +1,29 @@
 -- A variable that a guard must not have, by the tables' counts: no writer, and no reader of a pair whose writer is not in the head.
 use Prim.Native.Nat.{ℕ, zero, suc, ◌+◌, ◌≤◌, ◌<◌, min}
 use mathlib.Core.Path.{◌≡◌, refl, sym, ap, ◌∙◌}
-use mathlib.Core.Logic.{◌≢◌}
 use mathlib.Core.Bool.{Bool, true, false, not, ◌&&◌, ◌||◌}
 use mathlib.Core.List.{List, [], ◌∷◌}
 use mathlib.Core.Option.{Option, none, some}
 use native.Mathlib.Nat.{zero-add}
 use native.Mathlib.Omega.{arith}
+use Rattle.std.specs.Prelude.{nat_eq}
+use Rattle.std.specs.List.{list_any, list_all, range_with_len}
 use lib.Dec.{leb, eqb}
-use lib.ListN.{length, get_or}
-use borrow.Author.Tests.{eqb-true, eqb-false, eq-eqb, ne_eqb, leb-true, leb-false, le-leb, lt-leb}
+use lib.ListN.{get_or}
+use borrow.Author.Tests.{ne_eqb, le-leb}
 use Rattle.meaning.specs.Bytes.{all, up_to}
 use Rattle.meaning.specs.Terms.{Half, writer, reader, Named, Guard, as_term, occurrences, all_occurrences}
 use Rattle.meaning.specs.Table.{Element, as_guard, as_guards, with_guard, of_the_head}
 use Rattle.laws.proofs.Lists.Tests.{differ}
-use Rattle.load_names.proofs.Tallies.{all_suc}
+use Rattle.load_names.proofs.Tallies.{all_suc, all_counted, swap_and}
 use Rattle.load_openings.specs.Reading.{half_place}
 use Rattle.load_elements.specs.Elements.{element_occurrences, elements_occurrences}
 use Rattle.load_guards.specs.Judged.{head_place, Counts}
 use Rattle.load_guards.proofs.Rows.{AsIs, as_whole, as_bare, as_equals, as_is}
 
--- What the tables say of one pair.
-unfoldable pub fine : List ℕ → List ℕ → ℕ → Bool
-fine item heads n = eqb (get_or item (32 + n) 0) 0 && (eqb (get_or item (48 + n) 0) 0 || leb 1 (get_or heads n 0))
-
-module _ (item heads : List ℕ) (n : ℕ) where
-  pub has_writer : get_or item (32 + n) 0 ≢ 0 → fine item heads n ≡ false
-  unfolding fine
-  has_writer h = rw (ne_eqb (get_or item (32 + n) 0) 0 h) refl
-
-  pub has_reader : get_or item (48 + n) 0 ≢ 0 → get_or heads n 0 ≡ 0 → fine item heads n ≡ false
-  unfolding fine
-  has_reader h e = rw (ne_eqb (get_or item (48 + n) 0) 0 h, e) (and_false (eqb (get_or item (32 + n) 0) 0))
-    where
-      and_false : (b : Bool) → (b && false) ≡ false
-      and_false true = refl
-      and_false false = refl
-
-  pub no_reader : get_or item (32 + n) 0 ≡ 0 → get_or item (48 + n) 0 ≡ 0 → fine item heads n ≡ true
-  unfolding fine
-  no_reader h e = rw (h, e) refl
-
-  pub in_head : get_or item (32 + n) 0 ≡ 0 → get_or heads n 0 ≢ 0 → fine item heads n ≡ true
-  unfolding fine
-  in_head h e = rw (h, le-leb 1 (get_or heads n 0) (some_there (get_or heads n 0) e)) (or_true (eqb (get_or item (48 + n) 0) 0))
-    where
-      some_there : (x : ℕ) → x ≢ 0 → 1 ≤ x
-      some_there zero e = absurd (e refl)
-      some_there (suc x) e = omega arith
-
-      or_true : (b : Bool) → (b || true) ≡ true
-      or_true true = refl
-      or_true false = refl
+-- What the tables say of one pair: another variable is a writer, or a reader whose writer is not in the head.
+abbrev pub foul : List ℕ → List ℕ → ℕ → Bool
+foul item heads n = not (nat_eq (get_or item (32 + n) 0) 0) || (not (nat_eq (get_or item (48 + n) 0) 0) && nat_eq (get_or heads n 0) 0)
 
 -- How often a half occurs in the guards, which is how often in the elements.
 occurs : Half → ℕ → List Guard → ℕ
@@ -119,16 +91,10 @@ module _ (head : Named) where
       no_pair (g ∷ gs) = no_pair gs
   both_ways (suc pairs) gs = one_more gs ∙ rw (both_ways pairs gs) (sym (all_suc (λ n. all (sees n) gs) pairs))
     where
-      swap : (a b c d : Bool) → ((a && b) && (c && d)) ≡ ((a && c) && (b && d))
-      swap true true c d = refl
-      swap true false true d = refl
-      swap true false false d = refl
-      swap false b c d = refl
-
       one_more : (gs : List Guard) → all (of_the_head (suc pairs) head) gs ≡ (all (of_the_head pairs head) gs && all (sees pairs) gs)
       one_more [] = refl
       one_more (g ∷ gs) =
-          rw (one_more gs, all_suc (λ n. sees n g) pairs) (swap (of_the_head pairs head g) (sees pairs g) (all (of_the_head pairs head) gs) (all (sees pairs) gs))
+          rw (one_more gs, all_suc (λ n. sees n g) pairs) (swap_and (of_the_head pairs head g) (sees pairs g) (all (of_the_head pairs head) gs) (all (sees pairs) gs))
 
 -- Tests that agree below n agree over all numbers below n.
 all_same : (f g : ℕ → Bool) (n : ℕ) → ((k : ℕ) → k < n → f k ≡ g k) → all f (up_to n) ≡ all g (up_to n)
@@ -140,15 +106,31 @@ none_capped : (x : ℕ) → eqb (min 2 x) 0 ≡ eqb x 0
 none_capped zero = refl
 none_capped (suc x) = ne_eqb (min 2 (suc x)) 0 (λ q. omega arith) ∙ sym (ne_eqb (suc x) 0 (λ q. omega arith))
 
-some_capped : (x : ℕ) → leb 1 (min 2 x) ≡ leb 1 x
-some_capped zero = refl
-some_capped (suc x) = le-leb 1 (min 2 (suc x)) (omega arith) ∙ sym (le-leb 1 (suc x) (omega arith))
+some_there : (x : ℕ) → not (eqb x 0) ≡ leb 1 x
+some_there zero = refl
+some_there (suc x) = rw (ne_eqb (suc x) 0 (λ q. omega arith), le-leb 1 (suc x) (omega arith)) refl
 
-pub all_fine : (item heads : List ℕ) (pairs : ℕ) → pairs ≤ 16 → (head : Named) (es : List Element) (gs : List Guard) → Counts item heads head es → as_guards es ≡ some gs
-    → all (fine item heads) (up_to pairs) ≡ all (of_the_head pairs head) gs
-unfolding fine half_place head_place
-all_fine item heads pairs few head es gs c e =
-    all_same (fine item heads) (λ n. all (sees head n) gs) pairs
+not_foul : (a b : Bool) (x : ℕ) → not (not a || (not b && eqb x 0)) ≡ (a && (b || leb 1 x))
+not_foul true true x = refl
+not_foul true false x = some_there x
+not_foul false b x = refl
+
+any_not : (p : ℕ → Bool) (xs : List ℕ) → list_any p xs ≡ not (list_all (λ n. not (p n)) xs)
+any_not p [] = refl
+any_not p (x ∷ xs) = rw (any_not p xs) (go (p x))
+  where
+    go : (b : Bool) → (b || not (list_all (λ n. not (p n)) xs)) ≡ not (not b && list_all (λ n. not (p n)) xs)
+    go true = refl
+    go false = refl
+
+pub any_foul : (item heads : List ℕ) (pairs : ℕ) → pairs ≤ 16 → (head : Named) (es : List Element) (gs : List Guard) → Counts item heads head es → as_guards es ≡ some gs
+    → list_any (foul item heads) (range_with_len 0 pairs) ≡ not (all (of_the_head pairs head) gs)
+unfolding half_place head_place
+any_foul item heads pairs few head es gs c e =
+    any_not (foul item heads) (range_with_len 0 pairs)
+    ∙ ap not
+    (all_counted (λ n. not (foul item heads n)) pairs
+    ∙ all_same (λ n. not (foul item heads n)) (λ n. all (sees head n) gs) pairs
     (λ n l.
     rw (
       c.in_elements writer n (omega arith),
@@ -156,9 +138,9 @@ all_fine item heads pairs few head es gs c e =
       c.in_head writer n (omega arith),
       none_capped (elements_occurrences writer n es),
       none_capped (elements_occurrences reader n es),
-      some_capped (all_occurrences writer n head.arguments),
+      none_capped (all_occurrences writer n head.arguments),
       elements_count writer n es gs e,
       elements_count reader n es gs e,
     )
-    (sym (all_see head n gs)))
-    ∙ sym (both_ways head pairs gs)
+    (not_foul (eqb (occurs writer n gs) 0) (eqb (occurs reader n gs) 0) (all_occurrences writer n head.arguments) ∙ sym (all_see head n gs)))
+    ∙ sym (both_ways head pairs gs))

@@ -1,25 +1,24 @@
 -- Elements and guards in the scratch: what is held stays held where only words outside of the item change, and guards are held as their elements are.
 use Prim.Native.Nat.{ℕ, zero, suc, ◌+◌, ◌≤◌, ◌<◌}
-use mathlib.Core.Path.{◌≡◌, refl, sym, ap, ◌∙◌}
+use mathlib.Core.Path.{◌≡◌, refl, ◌∙◌}
 use mathlib.Core.List.{List, [], ◌∷◌, ◌++◌, map}
 use mathlib.Core.Option.{Option, none, some}
 use native.Mathlib.Omega.{arith}
 use lib.ListN.{length, get_or, set, length-set}
 use lib.Seq.{get_or-set_same}
-use Rattle.meaning.specs.Bytes.{Bytes, same, any, when◌then◌else◌}
-use Rattle.meaning.specs.Terms.{Term, Terms, end, more, equal, Named, Guard, count, as_term}
+use Rattle.meaning.specs.Terms.{end, more, equal, Guard, count, as_term}
 use Rattle.meaning.specs.Table.{Element, whole, bare, equals, as_guard, as_guards, with_guard}
 use Rattle.laws.proofs.Lists.Tests.{differ}
-use Rattle.term.specs.Cells.{Places as CellPlaces, number_of, KnownName, Numbered}
+use Rattle.term.specs.Cells.{Places as CellPlaces}
 use Rattle.term.specs.Frames.{Only}
 use Rattle.term.specs.Guards.{guard_word, TestNumbered, HoldsGuards}
 use Rattle.term.specs.Holds.{Holds, HoldsFrom}
-use Rattle.term.specs.Layout.{item_place, item_start}
+use Rattle.term.specs.Layout.{item_place}
 use Rattle.term.proofs.Cells.{numbered_order}
 use Rattle.term.proofs.Frames.{only_same, only_set, only_then}
 use Rattle.term.proofs.Holds.{holds_kept}
 use Rattle.term.proofs.KeptGuards.{arguments_kept}
-use Rattle.load_names.specs.Places.{Place, spellings, item_places}
+use Rattle.load_names.specs.Places.{Place, item_places}
 use Rattle.load_elements.specs.Elements.{ElementNumbered, ElementsNumbered}
 use Rattle.load_guards.specs.Judged.{HoldsElement, HoldsElements, tests_set, Tabled}
 use Rattle.load_guards.proofs.Rows.{AsIs, as_whole, as_bare, as_equals, as_is, in_table}

@@ -1,37 +1,30 @@
 -- Which readers the first guards license: one guard more licenses at most one reader more.
-use Prim.Native.Nat.{ℕ, zero, suc, ◌+◌, ◌≤◌, ◌<◌}
+use Prim.Native.Nat.{ℕ, suc, ◌+◌, ◌≤◌, ◌<◌}
 use mathlib.Core.Path.{◌≡◌, refl, sym, ap, ◌∙◌}
-use mathlib.Core.Logic.{◌≢◌}
 use mathlib.Core.Bool.{Bool, true, false, ◌&&◌, ◌||◌}
 use mathlib.Core.List.{List, [], ◌∷◌, ◌++◌, append_assoc}
 use native.Mathlib.Omega.{arith}
 use lib.Dec.{leb, eqb}
 use lib.ListN.{length, get_or, set, replicate, length-set, length-append, length-replicate, get_or-replicate}
 use lib.Seq.{get_or-set_same, get_or-set_other}
-use borrow.Author.Tests.{eqb-true, eqb-false, ne_eqb, leb-true, leb-false}
+use borrow.Author.Tests.{eqb-true, eqb-false, leb-true}
+use Rattle.std.specs.Prelude.{Option as Told, Some, None}
+use Rattle.std.proofs.Math.Bool.{or-true, or-false, or_assoc}
+use Rattle.std.proofs.lemmas.List.{append-nil}
 use Rattle.meaning.specs.Bytes.{any, when◌then◌else◌}
 use Rattle.meaning.specs.Terms.{Guard}
 use Rattle.meaning.specs.Table.{is_reader, licensed}
-use Rattle.term.specs.Guards.{guard_word, HoldsGuards}
+use Rattle.term.specs.Guards.{HoldsGuards}
 use Rattle.load_names.specs.Places.{Place, item_places}
-use Rattle.load_guards.specs.Judged.{Tabled, Tests, TestAt, marked, Licences}
-
-abbrev licenses : Guard → ℕ → Bool
-licenses g m = g.row.means_ground && is_reader m g.arguments
+use Rattle.load_guards.specs.Judged.{Tabled, Tests, TestAt, marks, marked, Licences}
 
 -- One guard more.
-licensed_more : (gs : List Guard) (g : Guard) (m : ℕ) → licensed (gs ++ (g ∷ [])) m ≡ (licensed gs m || licenses g m)
+licensed_more : (gs : List Guard) (g : Guard) (m : ℕ) → licensed (gs ++ (g ∷ [])) m ≡ (licensed gs m || (g.row.means_ground && is_reader m g.arguments))
 unfolding licensed any
-licensed_more [] g m = or_none (licenses g m)
-  where
-    or_none : (b : Bool) → (b || false) ≡ b
-    or_none true = refl
-    or_none false = refl
-licensed_more (h ∷ gs) g m = rw (licensed_more gs g m) (or_assoc (licenses h m) (licensed gs m) (licenses g m))
-  where
-    or_assoc : (a b c : Bool) → (a || (b || c)) ≡ ((a || b) || c)
-    or_assoc true b c = refl
-    or_assoc false b c = refl
+licensed_more [] g m = or-false (g.row.means_ground && is_reader m g.arguments)
+licensed_more (h ∷ gs) g m =
+    rw (licensed_more gs g m)
+    (sym (or_assoc (h.row.means_ground && is_reader m h.arguments) (licensed gs m) (g.row.means_ground && is_reader m g.arguments)))
 
 pub marked_length : (table : List ℕ) (m : ℕ) → length (marked table m) ≡ length table
 unfolding marked when◌then◌else◌
@@ -71,12 +64,8 @@ module _ (s : List ℕ) (place n base : ℕ) (known : List Place) (gs : List Gua
     pub all_told : n ≤ i → Licences table gs
     all_told h = go p.left refl
       where
-        none_behind : (l : List Guard) → l ++ [] ≡ l
-        none_behind [] = refl
-        none_behind (g ∷ l) = ap (λ m. g ∷ m) (none_behind l)
-
         go : (left : List Guard) → p.left ≡ left → Licences table gs
-        go [] q = rw (p.all_are, q, none_behind p.done) p.told
+        go [] q = rw (p.all_are, q, append-nil p.done) p.told
         go (g ∷ left) q = let some_left : length p.left ≡ suc (length left) = rw q refl in absurd (omega (arith, total))
 
     module _ (further : i < n) where
@@ -107,44 +96,29 @@ module _ (s : List ℕ) (place n base : ℕ) (known : List Place) (gs : List Gua
             tabled = (rw first.2 at p.tabled).1;
           }
 
-      module _ (r : ℕ) (says : (m : ℕ) → m < 16 → licenses first.0 m ≡ eqb m r) where
-        told_now : (b : Bool) (m : ℕ) → m < 16 → eqb m r ≡ b → licensed (p.done ++ (first.0 ∷ [])) m ≡ (licensed p.done m || b)
-        told_now b m l e = licensed_more p.done first.0 m ∙ rw (says m l, e) refl
+      -- What `grounded` tells of the next guard.
+      module _ (o : Told ℕ)
+          (told : (b : ℕ) (k : List Place) (g : Guard) → TestAt s (get_or s (place + i) 0) b k g → (m : ℕ) → (g.row.means_ground && is_reader m g.arguments) ≡ marks m o) where
+        told_now : (m : ℕ) → licensed (p.done ++ (first.0 ∷ [])) m ≡ (licensed p.done m || marks m o)
+        told_now m = licensed_more p.done first.0 m ∙ rw (told base known first.0 test_at m) refl
 
-        one_more : r < 16 → Licensing s place base known gs (i + 1) (set table r 1)
-        unfolding when◌then◌else◌
-        one_more few = goes_on (set table r 1) (record { size = length-set table r 1 ∙ p.told.size; licences = λ m l. go m l (eqb m r) refl })
-          where
-            or_true : (b : Bool) → (b || true) ≡ true
-            or_true true = refl
-            or_true false = refl
+        pub none_more : o ≡ None → Licensing s place base known gs (i + 1) table
+        none_more h =
+            goes_on table (record {
+              size = p.told.size;
+              licences = λ m l. rw (told_now m, h, or-false (licensed p.done m)) (p.told.licences m l);
+            })
 
-            or_false : (b : Bool) → (b || false) ≡ b
-            or_false true = refl
-            or_false false = refl
-
-            go : (m : ℕ) → m < 16 → (b : Bool) → eqb m r ≡ b → get_or (set table r 1) m 0 ≡ (when licensed (p.done ++ (first.0 ∷ [])) m then 1 else 0)
-            go m l true e =
-                let here : m ≡ r = eqb-true m r e in
-                rw (told_now true m l e, or_true (licensed p.done m), here) (get_or-set_same table r 1 0 (omega (arith, p.told.size)))
-            go m l false e =
-                rw (told_now false m l e, or_false (licensed p.done m))
-                (get_or-set_other table r m 1 0 (eqb-false m r e) ∙ p.told.licences m l)
-
-        no_more : 16 ≤ r → Licensing s place base known gs (i + 1) table
-        no_more many = goes_on table (record { size = p.told.size; licences = λ m l. go m l })
-          where
-            or_false : (b : Bool) → (b || false) ≡ b
-            or_false true = refl
-            or_false false = refl
-
-            go : (m : ℕ) → m < 16 → get_or table m 0 ≡ (when licensed (p.done ++ (first.0 ∷ [])) m then 1 else 0)
-            go m l = rw (told_now false m l (ne_eqb m r (λ q. omega arith)), or_false (licensed p.done m)) (p.told.licences m l)
-
-        pub marked_on : Licensing s place base known gs (i + 1) (marked table r)
+        pub one_more : (r : ℕ) → o ≡ Some r → Licensing s place base known gs (i + 1) (marked table r)
         unfolding marked when◌then◌else◌
-        marked_on = go (leb 16 r) refl
+        one_more r h = goes_on (marked table r) (record { size = marked_length table r ∙ p.told.size; licences = λ m l. go m l (leb 16 r) refl (eqb m r) refl })
           where
-            go : (b : Bool) → leb 16 r ≡ b → Licensing s place base known gs (i + 1) (when b then table else set table r 1)
-            go true e = no_more (leb-true 16 r e)
-            go false e = one_more (leb-false 16 r e)
+            go : (m : ℕ) → m < 16 → (a : Bool) → leb 16 r ≡ a → (b : Bool) → eqb m r ≡ b
+                → get_or (when a then table else set table r 1) m 0 ≡ (when licensed (p.done ++ (first.0 ∷ [])) m then 1 else 0)
+            go m l true few true e = let here = eqb-true m r e in absurd (omega (arith, leb-true 16 r few))
+            go m l true few false e = rw (told_now m, h, e, or-false (licensed p.done m)) (p.told.licences m l)
+            go m l false few true e =
+                let here : m ≡ r = eqb-true m r e in
+                rw (told_now m, h, e, or-true (licensed p.done m), here) (get_or-set_same table r 1 0 (omega (arith, p.told.size)))
+            go m l false few false e =
+                rw (told_now m, h, e, or-false (licensed p.done m)) (get_or-set_other table r m 1 0 (eqb-false m r e) ∙ p.told.licences m l)

@@ -1,23 +1,27 @@
 -- Which row of the table an element is: what searching the whole table by a name and a number of arguments says of those rows that may stand so.
-use Prim.Native.Nat.{ℕ, zero, suc, ◌+◌, ◌*◌, ◌/◌, ◌%◌, ◌≤◌, ◌<◌}
+use Prim.Native.Nat.{ℕ, zero, suc, ◌+◌, ◌*◌, ◌/◌, ◌≤◌, ◌<◌}
 use mathlib.Core.Path.{◌≡◌, refl, sym, ap, ◌∙◌}
-use mathlib.Core.Logic.{◌≢◌, ◌⊎◌, inl, inr}
-use mathlib.Core.Bool.{Bool, true, false, not}
+use mathlib.Core.Logic.{◌≢◌}
+use mathlib.Core.Bool.{Bool, true, false, not, cond}
 use mathlib.Core.List.{List, [], ◌∷◌, ◌++◌}
-use mathlib.Core.Option.{Option, none, some}
+use mathlib.Core.Option.{none, some}
 use native.Mathlib.Nat.{zero-add}
 use native.Mathlib.Omega.{arith}
 use lib.Dec.{eqb, ltb}
 use lib.ListN.{length}
-use borrow.Author.Tests.{eqb-true, eqb-false, eq-eqb, ne_eqb, ltb-true, ltb-false}
-use Rattle.meaning.specs.Bytes.{Bytes, bytes_words, bytes, same, all, when◌then◌else◌}
+use borrow.Author.Tests.{eqb-true, eqb-false, eq-eqb, ne_eqb, ltb-true, ltb-false, lt-ltb}
+use Rattle.meaning.specs.Bytes.{Bytes, bytes_words, same, all, when◌then◌else◌}
 use Rattle.meaning.specs.Terms.{Term, Terms, end, more, Named, Row, Guard, count, as_term, terms_words}
 use Rattle.meaning.specs.Table.{Element, whole, bare, equals, rows_before, rows_between, rows_alone, guard_table, in_rows, as_guard, table_words}
+use Rattle.std.specs.Prelude.{Option as Told, Some, None, nat_eq, nat_lt}
+use Rattle.std.specs.Bool.{then_some}
+use Rattle.std.specs.Option.{MatchOption}
+use Rattle.std.proofs.lemmas.Bool.{and_right as and_right_false}
+use Rattle.std.proofs.lemmas.Map.Entries.{option_filter}
 use Rattle.laws.proofs.Lists.Tests.{differ, and_left, and_right, false_not_true}
-use Rattle.term.specs.Cells.{term_word}
-use Rattle.term.specs.Guards.{test_number, guard_word, row_is, row_of, row_at}
+use Rattle.term.specs.Guards.{test_number, guard_word, row_is, row_of, row_at, found_row}
 use Rattle.term.specs.Layout.{item_place}
-use Rattle.term.proofs.TableOfGuards.{seven, other_count}
+use Rattle.term.proofs.TableOfGuards.{seven}
 use Rattle.load_names.specs.Places.{Place, item_places}
 use Rattle.load_elements.specs.Elements.{element_word}
 use Rattle.load_guards.specs.Judged.{row_number, InTable}
@@ -55,6 +59,10 @@ found_count (r ∷ rows) f k h = go (row_is r f k) refl (λ l. found_count rows 
     go : (b : Bool) → row_is r f k ≡ b → (row_of rows f k < length rows → (row_at rows (row_of rows f k)).count ≡ k) → (row_at (r ∷ rows) (row_of (r ∷ rows) f k)).count ≡ k
     go true e further = rw e (eqb-true r.count k (and_right (same r.name f) (eqb r.count k) e))
     go false e further = let below : suc (row_of rows f k) < suc (length rows) = rw e at h in rw e (further (omega arith))
+
+-- A row with another number of arguments is not it.
+other_count : (r : Row) (f : Bytes) (k : ℕ) → r.count ≢ k → row_is r f k ≡ false
+other_count r f k h = and_right_false (same r.name f) (eqb r.count k) (ne_eqb r.count k h)
 
 -- Rows with another number of arguments are passed over.
 passed_over : (rows others : List Row) (f : Bytes) (k : ℕ) → all (λ r. not (eqb r.count k)) rows ≡ true → row_of (rows ++ others) f k ≡ length rows + row_of others f k
@@ -152,26 +160,46 @@ as_is (bare f) h e = go (eqb (row_of guard_table f 0) 6) refl
     go false q = let nothing : as_guard (bare f) ≡ none = bare_none f (eqb-false (row_of guard_table f 0) 6 q) in absurd (differ (cc))
 as_is (equals n t u) h e = this_guard (equals n t u) (guard_of 5 n (more t (more u end))) h (equals_some n t u) e (as_equals n t u)
 
--- What the rows are by number.
-pub whole_row : (g : Named) (r : ℕ) → r ≡ sought g → r < 5 → r ≡ row_number (as_guard (whole g))
-unfolding row_number
-whole_row g r e h = let some_row = whole_some g (omega arith) in rw some_row (e ∙ sym (row_tests (sought g) (omega arith)))
+-- Of the row that a name has, what the table's ways to stand leave.
+pub filtered : (P : ℕ → Bool → Type 0) (test : ℕ → Bool) (o r : Told ℕ) → MatchOption o (r ≡ None) (λ x. (b : Bool) × P x b × (r ≡ then_some b x))
+    → ((x : ℕ) (b : Bool) → P x b → b ≡ test x) → r ≡ option_filter test o
+filtered P test None r h same = h
+filtered P test (Some x) r h same = let e = same x h.0 h.1 in rw (h.2, e) (both (test x))
+  where
+    both : (b : Bool) → then_some b x ≡ cond b (Some x) None
+    both true = refl
+    both false = refl
 
-pub whole_other : (g : Named) (r : ℕ) → r ≡ sought g → 5 ≤ r → 7 ≡ row_number (as_guard (whole g))
+pub whole_kept : (g : Named) → option_filter (λ r. nat_lt r 5) (found_row (sought g)) ≡ found_row (row_number (as_guard (whole g)))
 unfolding row_number
-whole_other g r e h = let no_row = whole_none g (omega arith) in rw no_row refl
+whole_kept g = go (ltb (sought g) 5) refl
+  where
+    go : (b : Bool) → ltb (sought g) 5 ≡ b → option_filter (λ r. nat_lt r 5) (found_row (sought g)) ≡ found_row (row_number (as_guard (whole g)))
+    go true q =
+        let below : sought g < 5 = ltb-true (sought g) 5 q in
+        rw (whole_some g below, row_tests (sought g) (omega arith), lt-ltb (sought g) 7 (omega arith), q) refl
+    go false q = rw (whole_none g (ltb-false (sought g) 5 q)) (none_kept (ltb (sought g) 7))
+      where
+        none_kept : (b : Bool) → option_filter (λ r. nat_lt r 5) (cond b (Some (sought g)) None) ≡ None
+        none_kept true = rw q refl
+        none_kept false = refl
 
-pub bare_row : (f : Bytes) (r : ℕ) → r ≡ row_of guard_table f 0 → r ≡ 6 → r ≡ row_number (as_guard (bare f))
+pub bare_kept : (f : Bytes) → option_filter (λ r. nat_eq r 6) (found_row (row_of guard_table f 0)) ≡ found_row (row_number (as_guard (bare f)))
 unfolding row_number
-bare_row f r e h = let some_row = bare_some f (sym e ∙ h) in rw some_row (h ∙ sym (row_tests 6 (omega arith)))
+bare_kept f = go (eqb (row_of guard_table f 0) 6) refl
+  where
+    go : (b : Bool) → eqb (row_of guard_table f 0) 6 ≡ b
+        → option_filter (λ r. nat_eq r 6) (found_row (row_of guard_table f 0)) ≡ found_row (row_number (as_guard (bare f)))
+    go true q = let six = eqb-true (row_of guard_table f 0) 6 q in rw (bare_some f six, row_tests 6 (omega arith), six) refl
+    go false q = rw (bare_none f (eqb-false (row_of guard_table f 0) 6 q)) (none_kept (ltb (row_of guard_table f 0) 7))
+      where
+        none_kept : (b : Bool) → option_filter (λ r. nat_eq r 6) (cond b (Some (row_of guard_table f 0)) None) ≡ None
+        none_kept true = rw q refl
+        none_kept false = refl
 
-pub bare_other : (f : Bytes) (r : ℕ) → r ≡ row_of guard_table f 0 → r ≢ 6 → 7 ≡ row_number (as_guard (bare f))
+pub equals_found : (n : ℕ) (t u : Term) → Some 5 ≡ found_row (row_number (as_guard (equals n t u)))
 unfolding row_number
-bare_other f r e h = let no_row = bare_none f (λ q. h (e ∙ q)) in rw no_row refl
-
-pub equals_row : (n : ℕ) (t u : Term) → 5 ≡ row_number (as_guard (equals n t u))
-unfolding row_number
-equals_row n t u = let some_row = equals_some n t u in rw some_row (sym (row_tests 5 (omega arith)))
+equals_found n t u = rw (equals_some n t u, row_tests 5 (omega arith)) refl
 
 -- Such a guard is in the table.
 pub in_table : {e : Element} {g : Guard} → AsIs e g → InTable g

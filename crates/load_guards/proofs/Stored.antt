@@ -1,15 +1,15 @@
 -- Elements that were stored are held: what reading leaves of them is what resolving asks for.
 use Prim.Native.Nat.{ℕ, ◌+◌, ◌≤◌, ◌<◌}
-use mathlib.Core.Path.{◌≡◌, refl, sym, ◌∙◌}
+use mathlib.Core.Path.{◌≡◌, ◌∙◌}
 use mathlib.Core.List.{List, [], ◌∷◌}
 use native.Mathlib.Omega.{arith}
 use lib.ListN.{length, get_or, set, length-set}
 use lib.Seq.{get_or-set_same, get_or-set_other}
-use Rattle.meaning.specs.Terms.{Term, end, more, as_term}
+use Rattle.meaning.specs.Terms.{as_term}
 use Rattle.meaning.specs.Table.{Element, whole, bare, equals}
 use Rattle.term.specs.Cells.{Places as CellPlaces, term_word, stored}
 use Rattle.term.specs.Frames.{Only}
-use Rattle.term.specs.Holds.{Holds, HoldsFrom}
+use Rattle.term.specs.Holds.{HoldsFrom}
 use Rattle.term.specs.Layout.{item_place}
 use Rattle.term.proofs.Cells.{numbered_order, stored_only}
 use Rattle.term.proofs.Frames.{only_same, only_set, only_then, only_wider}

@@ -2,26 +2,26 @@
 use Prim.Native.Nat.{ℕ, zero, suc, ◌+◌, ◌-◌, ◌*◌, ◌/◌, ◌%◌, ◌≤◌, ◌<◌}
 use mathlib.Core.Path.{◌≡◌, refl, sym, ap, ◌∙◌}
 use mathlib.Core.Logic.{◌≢◌}
-use mathlib.Core.Bool.{Bool, true, false, ◌||◌, ◌&&◌}
-use mathlib.Core.List.{List, [], ◌∷◌, map}
+use mathlib.Core.Bool.{Bool, true, false, ◌&&◌}
+use mathlib.Core.List.{List, [], ◌∷◌}
 use native.Mathlib.Omega.{arith}
 use lib.Dec.{eqb}
 use lib.ListN.{length, get_or}
-use borrow.Author.Tests.{ne_eqb}
 use Rattle.meaning.specs.Bytes.{Bytes, same, any, when◌then◌else◌}
-use Rattle.meaning.specs.Terms.{Half, writer, reader, Constant, cell, named, Term, Terms, end, more, Named, Guard, count, as_term}
+use Rattle.meaning.specs.Terms.{writer, reader, Constant, named, Term, Terms, end, more, Named, Guard, count, as_term}
 use Rattle.meaning.specs.Table.{Element, whole, bare, equals, guard_table, as_guard, is_reader, table_words}
+use Rattle.std.specs.Prelude.{Some}
 use Rattle.laws.proofs.Lists.Tests.{same_true, false_not_true}
-use Rattle.term.specs.Cells.{term_word, number_of, functor_word, Known, KnownName}
-use Rattle.term.specs.Guards.{test_number, row_at}
+use Rattle.term.specs.Cells.{term_word, number_of, Known, KnownName}
+use Rattle.term.specs.Guards.{test_number, row_at, found_row}
 use Rattle.term.specs.Holds.{CellAt, Holds, HoldsFrom}
 use Rattle.term.specs.Layout.{item_place}
 use Rattle.load_names.specs.Places.{Place, spellings, item_places}
 use Rattle.load_names.specs.Tables.{no_place, StandsAt, NamesIn}
 use Rattle.load_names.proofs.NameTable.{name_stands}
 use Rattle.load_elements.specs.Elements.{element_word, ElementKnown}
-use Rattle.load_guards.specs.Judged.{HoldsElement, Alone, NamedAt, InTable, TestAt, row_number}
-use Rattle.load_guards.proofs.Rows.{equals_row}
+use Rattle.load_guards.specs.Judged.{HoldsElement, Alone, NamedAt, TestAt, row_number}
+use Rattle.load_guards.proofs.Rows.{equals_found}
 
 tag_of : (tag n : ℕ) → tag < 8 → (tag + 8 * n) % 8 ≡ tag
 tag_of tag n h = omega arith
@@ -52,25 +52,25 @@ name_at text names known f kept h =
     rw here at (name_stands text known names kept (number_of f (spellings known)) below)
 
 -- The three kinds of elements by the tag of their word.
-module _ (text : Bytes) (names s : List ℕ) (base w : ℕ) (known : List Place) where
-  pub equals_here : (e : Element) → Alone text names s base w known e → w % 8 ≡ 7 → 5 ≡ row_number (as_guard e)
+module _ (text : Bytes) (names s : List ℕ) (base w rest : ℕ) (rest_is : rest ≡ w / 8) (known : List Place) where
+  pub equals_here : (e : Element) → Alone text names s base w known e → w % 8 ≡ 7 → Some 5 ≡ found_row (row_number (as_guard e))
   unfolding element_word item_places as_term
   equals_here (whole g) a h = absurd (omega (arith, a.word_is, h))
   equals_here (bare f) a h = absurd (omega (arith, a.word_is, h))
-  equals_here (equals n t u) a h = equals_row n t u
+  equals_here (equals n t u) a h = equals_found n t u
 
-  pub bare_here : (e : Element) → Alone text names s base w known e → w % 8 ≡ 4 → (f : Bytes) × (e ≡ bare f) × StandsAt text names (w / 8) f
+  pub bare_here : (e : Element) → Alone text names s base w known e → w % 8 ≡ 4 → (f : Bytes) × (e ≡ bare f) × StandsAt text names rest f
   unfolding element_word item_places as_term ElementKnown
   bare_here (whole g) a h = absurd (omega (arith, a.word_is, h))
   bare_here (bare f) a h =
-      let number : w / 8 ≡ number_of f (spellings known) = omega (arith, a.word_is) in
+      let number : rest ≡ number_of f (spellings known) = omega (arith, a.word_is) in
       (f, refl, rw number (name_at text names known f a.names_in a.known_name))
   bare_here (equals n t u) a h = absurd (omega (arith, a.word_is, h))
 
-  pub whole_here : (e : Element) → Alone text names s base w known e → w % 8 ≢ 7 → w % 8 ≢ 4 → (g : Named) × (e ≡ whole g) × NamedAt text names s (w / 8) g
+  pub whole_here : (e : Element) → Alone text names s base w known e → w % 8 ≢ 7 → w % 8 ≢ 4 → (g : Named) × (e ≡ whole g) × NamedAt text names s rest g
   unfolding element_word item_places as_term ElementKnown Known HoldsElement Holds
   whole_here (whole g) a h k =
-      let place : w / 8 ≡ item_place base g.number = omega (arith, a.word_is) in
+      let place : rest ≡ item_place base g.number = omega (arith, a.word_is) in
       let at : CellAt s (item_places known base) g.number (named g.name) (count g.arguments) = a.held.0 in
       let own : get_or s (item_place base g.number) 0 ≡ count g.arguments + 8 * (number_of g.name (spellings known) + 1) = at.functor in
       let rest : get_or s (item_place base g.number) 0 / 8 - 1 ≡ number_of g.name (spellings known) = omega (arith, own, at.few) in (
@@ -125,8 +125,8 @@ module _ (s : List ℕ) (w base : ℕ) (known : List Place) (g : Guard) (t : Tes
       let place : w / 8 ≡ (item_places known base).compound g.number = omega (arith, t.word_is, t.in_table.number_few) in
       (place, omega (arith, place, t.inside))
 
-  pub grounds_so : (b : Bool) → b ≡ (row_at guard_table (w % 8)).means_ground → b ≡ g.row.means_ground
-  grounds_so b e = e ∙ rw test_row (ap (λ r. r.means_ground) (sym t.in_table.row_is))
+  pub grounds_so : (n : ℕ) (b c : Bool) → n ≡ w % 8 → b ≡ (row_at guard_table n).means_ground → b ≡ c → g.row.means_ground ≡ c
+  grounds_so n b c e r q = rw (t.in_table.row_is, ← test_row, ← e) (sym r ∙ q)
 
   -- The argument of a guard whose success means ground.
   argument : g.row.means_ground ≡ true → (u : Term) × (ts : Terms) × (g.arguments ≡ more u ts) × (get_or s (w / 8 + 1) 0 ≡ term_word (item_places known base) u)
@@ -145,22 +145,13 @@ module _ (s : List ℕ) (w base : ℕ) (known : List Place) (g : Guard) (t : Tes
           let place : w / 8 + 1 ≡ (item_places known base).compound g.number + 1 + 0 = omega (arith, test_place.0) in
           (u, ts, q, rw place held.0)
 
-  pub licenses_reader : (b : Bool) → b ≡ (row_at guard_table (w % 8)).means_ground → b ≡ true → get_or s (w / 8 + 1) 0 % 8 ≡ 2
+  pub licenses_reader : g.row.means_ground ≡ true → get_or s (w / 8 + 1) 0 % 8 ≡ 2
       → (m : ℕ) → (g.row.means_ground && is_reader m g.arguments) ≡ eqb m (get_or s (w / 8 + 1) 0 / 8)
-  licenses_reader b e q tag m =
-      let grounds : g.row.means_ground ≡ true = sym (grounds_so b e) ∙ q in
+  licenses_reader grounds tag m =
       let (u, ts, arguments, word) = argument grounds in
       rw (grounds, arguments, word) (reader_tag known base ts m u (rw word at tag))
 
-  pub licenses_other : (b : Bool) → b ≡ (row_at guard_table (w % 8)).means_ground → b ≡ true → get_or s (w / 8 + 1) 0 % 8 ≢ 2
-      → (m : ℕ) → m < 16 → (g.row.means_ground && is_reader m g.arguments) ≡ eqb m 16
-  licenses_other b e q tag m few =
-      let grounds : g.row.means_ground ≡ true = sym (grounds_so b e) ∙ q in
+  pub licenses_other : g.row.means_ground ≡ true → get_or s (w / 8 + 1) 0 % 8 ≢ 2 → (m : ℕ) → (g.row.means_ground && is_reader m g.arguments) ≡ false
+  licenses_other grounds tag m =
       let (u, ts, arguments, word) = argument grounds in
-      rw (grounds, arguments) (other_tag known base ts m u (rw word at tag) ∙ sym (ne_eqb m 16 (λ z. omega arith)))
-
-  pub licenses_none : (b : Bool) → b ≡ (row_at guard_table (w % 8)).means_ground → b ≡ false
-      → (m : ℕ) → m < 16 → (g.row.means_ground && is_reader m g.arguments) ≡ eqb m 16
-  licenses_none b e q m few =
-      let grounds : g.row.means_ground ≡ false = sym (grounds_so b e) ∙ q in
-      rw grounds (sym (ne_eqb m 16 (λ z. omega arith)))
+      rw (grounds, arguments) (other_tag known base ts m u (rw word at tag))

@@ -1,9 +1,9 @@
 -- A clause's guards: what stands in the scratch of the elements before its bar, the words that are set for them, and what is told of them.
-use Rattle.std.specs.Prelude.{ℕ, ◌+◌, ◌-◌, ◌/◌, ◌%◌, ◌≤◌, ◌<◌, min, ◌≡◌, Bool, true, false, List, [], ◌∷◌, map, leb, length, get_or, set}
+use Rattle.std.specs.Prelude.{ℕ, ◌+◌, ◌-◌, ◌/◌, ◌%◌, ◌≤◌, ◌<◌, min, ◌≡◌, Bool, true, false, List, [], ◌∷◌, map, eqb, leb, length, get_or, set, Option as Told, Some, None}
 use Rattle.std.proofs.Math.Option.{Option, none, some}
 use Rattle.meaning.specs.Bytes.{Bytes, when◌then◌else◌}
 use Rattle.meaning.specs.Terms.{Half, writer, reader, end, more, Named, Guard, count, as_term, all_occurrences}
-use Rattle.meaning.specs.Table.{Element, whole, bare, equals, guard_table, as_guard, as_guards, licensed}
+use Rattle.meaning.specs.Table.{Element, whole, bare, equals, guard_table, as_guards, licensed}
 use Rattle.term.specs.Cells.{Places as CellPlaces}
 use Rattle.term.specs.Frames.{Only}
 use Rattle.term.specs.Guards.{test_number, guard_word, HoldsGuards, row_at}
@@ -12,7 +12,7 @@ use Rattle.term.specs.Layout.{item_start, item_end}
 use Rattle.load_names.specs.Places.{Place, spellings, item_places}
 use Rattle.load_names.specs.Tables.{NamesIn, StandsAt}
 use Rattle.load_openings.specs.Reading.{half_place}
-use Rattle.load_elements.specs.Elements.{element_word, elements_occurrences, ElementNumbered, ElementsNumbered, ElementKnown, ElementsKnown}
+use Rattle.load_elements.specs.Elements.{element_word, elements_occurrences, ElementsNumbered, ElementKnown, ElementsKnown}
 
 -- The scratch holds an element's compounds; of `==` the words of its sides behind its place, and their compounds.
 unfoldable pub HoldsElement : List ℕ → CellPlaces → Element → Type 0
@@ -98,6 +98,11 @@ pub record Resolved (s s' : List ℕ) (n base place : ℕ) (known : List Place) 
 abbrev pub ResolvedIs : (s s' : List ℕ) (n base place : ℕ) (known : List Place) (es : List Element) → Bool → Type 0
 ResolvedIs s s' n base place known es true = (gs : List Guard) × Resolved s s' n base place known es gs
 ResolvedIs s s' n base place known es false = (as_guards es ≡ none) × Only place (place + 8) s s'
+
+-- It marks the reader m, if there is one.
+abbrev pub marks : ℕ → Told ℕ → Bool
+marks m None = false
+marks m (Some n) = eqb m n
 
 -- A reader's number is marked, if it is one of 16.
 unfoldable pub marked : List ℕ → ℕ → List ℕ

@@ -1,7 +1,7 @@
 -- The scratch that a loaded text leaves holds the text's job: its items stored, its clauses linked, its names kept, each in its own region.
-use Prim.Native.Nat.{ℕ, ◌+◌, ◌*◌, ◌≤◌, ◌<◌}
+use Prim.Native.Nat.{ℕ, ◌+◌, ◌≤◌, ◌<◌}
 use mathlib.Core.Path.{◌≡◌, ◌∙◌}
-use mathlib.Core.List.{List, [], ◌∷◌, ◌++◌}
+use mathlib.Core.List.{List, [], ◌∷◌}
 use native.Mathlib.Omega.{arith}
 use lib.ListN.{length, get_or}
 use Rattle.meaning.specs.Bytes.{Bytes}
@@ -11,7 +11,7 @@ use Rattle.term.specs.Cells.{KnownName}
 use Rattle.term.specs.Frames.{Only}
 use Rattle.term.specs.Jobs.{HoldsClause, HoldsQuery, EachFrom, Linked, procedure_place, Distinct, ClauseAt, HoldsJob}
 use Rattle.term.proofs.Jobs.{each_map, linked_map, holds_clause_kept, holds_query_kept}
-use Rattle.term.specs.Layout.{clauses_region, queries_region, compounds_region, clause_record, query_record}
+use Rattle.term.specs.Layout.{clauses_region, compounds_region, clause_record, query_record}
 use Rattle.load_names.specs.Places.{Place, spellings}
 use Rattle.load_image.specs.Image.{
   Entry,

@@ -1,6 +1,6 @@
 -- What stands behind a clause's `:-` is laid out when it is read: the elements, and what they are as guards and as goals.
-use Prim.Native.Nat.{ℕ, zero, suc, ◌+◌, ◌≤◌, ◌<◌}
-use mathlib.Core.Path.{◌≡◌, refl, ap, sym, ◌∙◌}
+use Prim.Native.Nat.{ℕ, suc, ◌+◌, ◌≤◌}
+use mathlib.Core.Path.{◌≡◌, refl, sym}
 use mathlib.Core.Bool.{Bool, true, false, ◌&&◌}
 use mathlib.Core.List.{List, [], ◌∷◌, ◌++◌}
 use mathlib.Core.Option.{Option, none, some}
@@ -9,33 +9,16 @@ use lib.Dec.{eqb}
 use lib.ListN.{length}
 use borrow.Author.Tests.{eqb-true}
 use Rattle.meaning.specs.Bytes.{Bytes, bytes, same}
-use Rattle.meaning.specs.Terms.{
-  Test,
-  Constant,
-  empty,
-  cell,
-  named,
-  Term,
-  Terms,
-  compound,
-  end,
-  more,
-  Named,
-  Row,
-  Guard,
-  count,
-  as_term,
-}
-use Rattle.meaning.specs.Tokens.{Token, Tokens}
+use Rattle.meaning.specs.Terms.{Constant, empty, cell, named, Term, Terms, compound, end, more, Named, Row, Guard, count, as_term}
+use Rattle.meaning.specs.Tokens.{Tokens}
 use Rattle.meaning.specs.Table.{Element, whole, bare, equals, as_goals, row, rows_before, rows_between, rows_alone, in_rows, as_guard, with_guard, as_guards}
-use Rattle.meaning.specs.Items.{Counted, term, by_itself, equals_behind, element_behind}
+use Rattle.meaning.specs.Items.{Counted, by_itself, equals_behind, element_behind}
 use Rattle.term.specs.Cells.{Numbered, AllNumbered, KnownName, Known, AllKnown}
 use Rattle.term.specs.Jobs.{GoalsNumbered, GoalsKnown}
 use Rattle.term.specs.Guards.{TestNumbered, GuardsNumbered, GuardsKnown}
-use Rattle.term.proofs.Cells.{numbered_order}
-use Rattle.load_image.proofs.Steps.{Steps, StepsFrom, then_steps, give_steps, next_steps, cannot_stand_steps, if_next_steps}
+use Rattle.load_image.proofs.Steps.{StepsFrom, then_steps, give_steps, next_steps, cannot_stand_steps, if_next_steps}
 use Rattle.load_image.proofs.SmallSteps.{count_compound_steps}
-use Rattle.load_image.proofs.Laid.{numbered_wider, all_numbered_wider, known_wider, all_known_wider, TermLaid, term_steps}
+use Rattle.load_image.proofs.Laid.{numbered_wider, known_wider, TermLaid, term_steps}
 
 -- Each row of a list.
 unfoldable EachRow : (Row → Type 0) → List Row → Type 0

@@ -1,12 +1,12 @@
 -- What is stored one after the other: a clause linked before those behind it, a place kept behind those before it.
-use Prim.Native.Nat.{ℕ, zero, suc, ◌+◌, ◌*◌, ◌-◌, ◌≤◌, ◌<◌}
-use mathlib.Core.Path.{◌≡◌, refl, ap, sym, ◌∙◌}
-use mathlib.Core.List.{List, [], ◌∷◌}
+use Prim.Native.Nat.{ℕ, suc, ◌+◌, ◌*◌, ◌≤◌, ◌<◌}
+use mathlib.Core.Path.{◌≡◌, refl}
+use mathlib.Core.List.{List, ◌∷◌}
 use native.Mathlib.Omega.{arith}
 use native.Mathlib.Numerals.{add-one}
 use lib.ListN.{length, get_or, take, drop, set, length-take, drop_of_length-le}
 use lib.Seq.{drop-cons, get_or-take}
-use Rattle.term.specs.Layout.{clauses_region, procedure_slot, clause_record}
+use Rattle.term.specs.Layout.{procedure_slot, clause_record}
 use Rattle.load_image.specs.Image.{linked, link_one}
 use Rattle.load_image.specs.Kept.{pairs_kept}
 

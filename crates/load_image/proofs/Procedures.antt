@@ -1,6 +1,6 @@
 -- The clauses linked: from the word of a procedure, the links lead to exactly its clauses, in text order.
 -- Each clause, from the last to the first, becomes the first of its own procedure and changes no other's.
-use Prim.Native.Nat.{ℕ, ◌+◌, ◌*◌, ◌≤◌, ◌<◌}
+use Prim.Native.Nat.{ℕ, ◌+◌, ◌≤◌, ◌<◌}
 use mathlib.Core.Path.{◌≡◌, refl, ap, sym, ◌∙◌}
 use mathlib.Core.Bool.{Bool, true, false, ◌&&◌}
 use mathlib.Core.List.{List, [], ◌∷◌}
@@ -14,7 +14,7 @@ use Rattle.meaning.specs.Bytes.{Bytes, same, those, when◌then◌else◌}
 use Rattle.meaning.specs.Terms.{Named, Clause, count, as_term}
 use Rattle.meaning.specs.Trial.{procedure}
 use Rattle.term.specs.Cells.{number_of, KnownName, Known, Numbered}
-use Rattle.term.specs.Jobs.{ClauseLaid, GoalsNumbered, GoalsKnown, EachFrom, Linked, procedure_place}
+use Rattle.term.specs.Jobs.{ClauseLaid, GoalsKnown, EachFrom, Linked, procedure_place}
 use Rattle.term.proofs.Numbers.{same_equal, number_below, number_apart}
 use Rattle.term.proofs.Jobs.{linked_map}
 use Rattle.term.specs.Layout.{clauses_region, queries_region, compounds_region, procedure_slot, clause_record, clause_stride}

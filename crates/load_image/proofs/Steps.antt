@@ -1,6 +1,6 @@
 -- What a reader leaves behind what it reads: every name and variable that it passed is counted, the counts keep the figures, and known names
 -- stay known. One law for each way in which readers are put together.
-use Prim.Native.Nat.{ℕ, ◌+◌, ◌≤◌}
+use Prim.Native.Nat.{ℕ, ◌≤◌}
 use Prim.Native.Char.{Char}
 use mathlib.Core.Path.{◌≡◌, refl, ap, ◌∙◌}
 use mathlib.Core.Bool.{Bool, true, false}

@@ -1,23 +1,9 @@
 -- The scratch when a text is loaded, as a function of the text: each item's words in text order, then the clauses linked, then the names.
-use Rattle.std.specs.Prelude.{ℕ, ◌+◌, ◌*◌, List, [], ◌∷◌, map, length, get_or, set}
+use Rattle.std.specs.Prelude.{ℕ, ◌+◌, List, [], ◌∷◌, map, length, get_or, set}
 use Rattle.meaning.specs.Bytes.{Bytes}
-use Rattle.meaning.specs.Terms.{
-  Test,
-  Term,
-  Terms,
-  compound,
-  end,
-  more,
-  Named,
-  named,
-  Guard,
-  Clause,
-  Query,
-  as_term,
-  count,
-}
+use Rattle.meaning.specs.Terms.{Test, Terms, compound, end, more, Named, named, Guard, Clause, Query, as_term, count}
 use Rattle.meaning.specs.Tokens.{Tokens, ends, token, tokens}
-use Rattle.meaning.specs.Items.{SoFar, Piece, nothing, clause, query, refused, item, pieces}
+use Rattle.meaning.specs.Items.{SoFar, nothing, clause, query, refused, item, pieces}
 use Rattle.term.specs.Cells.{Places as CellPlaces, term_word, functor_word, stored}
 use Rattle.term.specs.Guards.{guard_word}
 use Rattle.term.specs.Layout.{procedure_slot, clause_record, clause_base, query_record, query_base, query_pairs_word, query_compounds_word, query_goals_from, query_variables_from, clause_pairs_word, clause_compounds_word, clause_goals_word, clause_goals_from, clause_guards_word, clause_tests_from}

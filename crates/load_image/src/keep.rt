@@ -13,11 +13,9 @@ pub fn keep_places(s: &mut [u64], table: &[u64], from: usize, place: usize, coun
     requires by_index { (n : ℕ) → n < count → from + get_or table.now (2 * n) 0 < 18446744073709551616 }
     ensures { s.new ≡ pairs_kept table.now from place count s.old }
 {
-    let mut n = 0;
-    while n < count {
+    for n in 0..count {
         s[place + 2 * n] = word(from) + table[2 * n];
         s[place + 2 * n + 1] = table[2 * n + 1];
-        n += 1;
     }
 }
 
@@ -27,9 +25,7 @@ pub fn link(s: &mut [u64], heads: &[u64], clauses: usize)
     requires by_index { (k : ℕ) → k < clauses → (8 ≤ get_or heads.now k 0) × (get_or heads.now k 0 < 2056) }
     ensures { s.new ≡ linked 0 (take clauses heads.now) s.old }
 {
-    let mut k = clauses;
-    while 0 < k {
-        k -= 1;
+    for k in (0..clauses).rev() {
         let first = PROCEDURES + index(heads[k]) - 8;
         s[CLAUSES + CLAUSE_STRIDE * k] = s[first];
         s[first] = word(k + 1);

@@ -1,36 +1,43 @@
 -- What stands behind a clause's `:-`: elements up to the full stop, which are its goals; or up to the bar, and its goals behind that.
-use Prim.Native.Nat.{ℕ, ◌+◌, ◌*◌, ◌≤◌, ◌<◌, min}
+use Prim.Native.Nat.{ℕ, ◌+◌, ◌≤◌, ◌<◌, min}
 use mathlib.Core.Path.{◌≡◌, refl, ap, sym, ◌∙◌}
 use mathlib.Core.Bool.{Bool, true, false}
 use mathlib.Core.List.{List, [], ◌∷◌, ◌++◌}
 use mathlib.Core.Option.{Option, none, some}
 use native.Mathlib.Omega.{arith}
-use lib.ListN.{length, get_or, replicate, get_or-replicate}
+use lib.ListN.{length, get_or, replicate, take, get_or-replicate, length-take}
+use lib.Seq.{get_or-take}
+use Rattle.std.specs.Prelude.{Some, None, Result, Ok, Err}
 use Rattle.meaning.specs.Bytes.{Bytes, byte}
 use Rattle.meaning.specs.Terms.{Half, Named, Guard, goals_occurrences}
 use Rattle.meaning.specs.Tokens.{sign, Tokens, ends, token}
 use Rattle.meaning.specs.Table.{Element, as_goals, as_guards}
-use Rattle.meaning.specs.Items.{Counted, Body, Read, read, malformed, passed, read_on, ◌>>=◌, give, cannot_stand, is, unguarded, here, guarded, body}
+use Rattle.meaning.specs.Items.{Counted, Body, read, malformed, passed, read_on, ◌>>=◌, give, cannot_stand, is, unguarded, here, guarded}
 use Rattle.term.specs.Frames.{Only}
-use Rattle.term.specs.Jobs.{GoalsKnown}
-use Rattle.term.specs.Layout.{trial_region, item_start, item_end, item_place, clause_base, clause_goals_from, clause_tests_from}
+use Rattle.term.specs.Layout.{trial_region, item_start, item_end, clause_base, clause_goals_from, clause_tests_from}
 use Rattle.term.proofs.Frames.{only_then, only_wider}
 use Rattle.load_tokens.specs.Fronts.{tokens_in}
 use Rattle.load_names.specs.Places.{Place, Placed, spellings, before, with_name, with_variable, names_over, variables_over, item_places}
 use Rattle.load_image.specs.Image.{goals_stored, guards_stored}
 use Rattle.load_openings.specs.Reading.{piece, counted_at, half_place, Stands, Open}
 use Rattle.load_openings.specs.declared.cursor.Cursor.{Cursor}
-use Rattle.load_openings.proofs.Passing.{More, names_append, variables_append, before_append, open_append, names_more}
+use Rattle.load_openings.specs.declared.cursor.Unread.{Unread}
+use Rattle.load_openings.specs.declared.cursor.Unread.TheVariants as unread
+use Rattle.load_openings.proofs.Expected.{never}
+use Rattle.load_openings.proofs.Passing.{names_append, variables_append, before_append, open_append, names_more}
 use Rattle.load_goals.specs.Endings.{goals_part, Ended}
-use Rattle.load_elements.specs.Elements.{elements_stored, elements_occurrences}
-use Rattle.load_elements.specs.Listed.{GaveElements, AtBar, AtStop}
+use Rattle.load_elements.specs.Elements.{elements_occurrences}
+use Rattle.load_elements.specs.Listed.{GaveElements, AtBar, AtStop, ElementsAre}
 use Rattle.load_guards.specs.Judged.{Listed, tests_set, Licences}
 use Rattle.load_guards.proofs.Stored.{elements_stored_hold}
+use Rattle.load_guards.proofs.Resolving.{listed_front}
 use Rattle.load_items.specs.Counts.{Copied, Added}
-use Rattle.load_items.specs.Rules.{Worded, goals_set, SetIs, TestedIs, perhaps_goals, GuardedIs, body_part, GuardsAre, BodyIs}
+use Rattle.load_items.specs.Rules.{Worded, goals_set, SetIs, TestedIs, perhaps_goals, GuardedIs, body_part, BodyIs}
+use Rattle.load_items.specs.Refusing.{refused_as}
 use Rattle.load_items.specs.declared.rule.Ruled.{Ruled}
-use Rattle.load_items.specs.declared.rule.Ruled.TheVariants.{Got, Unknown, Malformed, Exceeded}
-use Rattle.load_items.proofs.Counted.{counts_stand, by_half, none_at, half_few, no_guards}
+use Rattle.load_items.specs.declared.refused.Refused.{Refused}
+use Rattle.load_items.specs.declared.refused.Refused.TheVariants.{Malformed, Unknown, Broken, Exceeded}
+use Rattle.load_items.proofs.Counted.{counts_stand, by_half, none_at, no_guards}
 use Rattle.load_items.proofs.StoredElements.{guards_named, goals_known, goals_occur, goals_length, guards_so, goals_so}
 use Rattle.load_items.proofs.MoreNames.{still_guards, still_named_guards}
 
@@ -85,15 +92,11 @@ module _ (k : ℕ) (few : k < 128) (text rest : Bytes) (from : ℕ) (known vars 
   in_region : (x y : List ℕ) → Only (item_start base) (item_end base) x y → Only 0 trial_region x y
   in_region x y o = only_wider (item_start base) (item_end base) 0 trial_region x y (omega arith) (omega arith) o
 
-  pub behind_malformed : (s₂ names₂ item₂ g₂ l₂ : List ℕ) (p : ℕ)
-      → body 8 [] (counted_at known vars c.compounds) (piece (tokens_in from rest c.at)) ≡ malformed (from + p) → p ≤ length rest
-      → Only (item_start base) (item_end base) s s₂ → BodyIs k text rest from known vars c s item s₂ names₂ item₂ g₂ l₂ (Malformed p)
-  behind_malformed s₂ names₂ item₂ g₂ l₂ p h inside o = (h, inside, in_region s s₂ o)
-
-  pub behind_passed : (s₂ names₂ item₂ g₂ l₂ : List ℕ)
-      → body 8 [] (counted_at known vars c.compounds) (piece (tokens_in from rest c.at)) ≡ passed
-      → Only (item_start base) (item_end base) s s₂ → BodyIs k text rest from known vars c s item s₂ names₂ item₂ g₂ l₂ Exceeded
-  behind_passed s₂ names₂ item₂ g₂ l₂ h o = (h, in_region s s₂ o)
+  pub behind_unread : (words s₂ names₂ item₂ words₂ g₂ l₂ : List ℕ) (why : Unread)
+      → ElementsAre text rest from base known vars c s item₁ words s₂ names₂ item₂ words₂ (Err why)
+      → BodyIs k text rest from known vars c s item s₂ names₂ item₂ g₂ l₂ (Err (refused_as why))
+  behind_unread words s₂ names₂ item₂ words₂ g₂ l₂ (unread.Malformed p) (h, inside, o) = (h, inside, in_region s s₂ o)
+  behind_unread words s₂ names₂ item₂ words₂ g₂ l₂ unread.Exceeded (h, o) = (h, in_region s s₂ o)
 
   module _ (words s₂ names₂ item₂ words₂ : List ℕ) (n : ℕ) (d : Cursor) (es : List Element) (ps : List Placed) where
     abbrev known₂ : List Place
@@ -103,8 +106,13 @@ module _ (k : ℕ) (few : k < 128) (text rest : Bytes) (from : ℕ) (known vars 
     vars₂ = variables_over from ps vars
 
     module _ (gave : GaveElements text rest from base known vars c s item₁ words s₂ names₂ item₂ words₂ n d es ps) where
-      pub worded : Worded words₂ n (item_places known₂ base) es
-      worded = record { count_is = gave.count_is; words_are = gave.words_are }
+      pub worded : (part : List ℕ) → part ≡ take n words₂ → 8 ≤ length words₂ → Worded part (item_places known₂ base) es
+      worded part is many =
+          let size : length part ≡ n = ap length is ∙ omega (arith, length-take n words₂, gave.few) in
+          record {
+            count_is = gave.count_is ∙ sym size;
+            words_are = λ i l. ap (λ ws. get_or ws i 0) is ∙ get_or-take n words₂ i 0 (omega arith) ∙ gave.words_are i (omega arith);
+          }
 
       counted_so : (h : Half) (m : ℕ) → m < 16 → get_or item₂ (half_place h m) 0 ≡ min 2 (elements_occurrences h m es)
       counted_so h m l = omega (arith, gave.halves h m l, none_there h m l)
@@ -112,7 +120,7 @@ module _ (k : ℕ) (few : k < 128) (text rest : Bytes) (from : ℕ) (known vars 
     -- At the full stop.
     module _ (a : ℕ) (t : AtStop text rest from base known vars c s item₁ words s₂ names₂ item₂ words₂ n a d es ps) where
       pub stop_not : (s₃ : List ℕ) (g₂ l₂ : List ℕ) → SetIs s₂ s₃ (clause_goals_from k) (item_places known₂ base) es false
-          → BodyIs k text rest from known vars c s item s₃ names₂ item₂ g₂ l₂ (Malformed a)
+          → BodyIs k text rest from known vars c s item s₃ names₂ item₂ g₂ l₂ (Err (Malformed a))
       stop_not s₃ g₂ l₂ (e, o) = (
         t.reads ∙ stop_none (from + a) (as_goals es) (counted_at known₂ vars₂ d.compounds) (ends (from + a)) e,
         t.inside,
@@ -130,7 +138,7 @@ module _ (k : ℕ) (few : k < 128) (text rest : Bytes) (from : ℕ) (known vars 
             omega (arith, sum, head, counted_so t.gave h m l, goals_occur h m es gs e)
 
         pub stop_got : SetIs s₂ s₃ (clause_goals_from k) (item_places known₂ base) es true
-            → BodyIs k text rest from known vars c s item s₃ names₂ item₃ g₂ l₂ (Got 0 0 w d)
+            → BodyIs k text rest from known vars c s item s₃ names₂ item₃ g₂ l₂ (Ok (record { guards = 0; bar = None; goals = w; cursor = d }))
         unfolding body_part guards_stored item_places
         stop_got (gs, e, set_is, o) =
             let gave = t.gave in
@@ -162,10 +170,10 @@ module _ (k : ℕ) (few : k < 128) (text rest : Bytes) (from : ℕ) (known vars 
 
     -- At the bar.
     module _ (bar : ℕ) (t : AtBar text rest from base known vars c s item₁ words s₂ names₂ item₂ words₂ n d es ps bar) (large : trial_region ≤ length s) where
-      pub listed : 8 ≤ length words₂ → Listed text names₂ s₂ words₂ n base (clause_tests_from k) known₂ es
+      pub listed : 8 ≤ length words₂ → Listed text names₂ s₂ (take n words₂) (length (take n words₂)) base (clause_tests_from k) known₂ es
       listed many =
           let gave = t.gave in
-          record {
+          listed_front text names₂ s₂ words₂ n base (clause_tests_from k) known₂ es (record {
             names_in = gave.stands.names_in;
             count_is = gave.count_is;
             few = gave.few;
@@ -179,7 +187,7 @@ module _ (k : ℕ) (few : k < 128) (text rest : Bytes) (from : ℕ) (known vars 
             held = rw gave.stored_is (elements_stored_hold known₂ base c.compounds d.compounds es s gave.numbered (omega (arith, gave.stands.compounds_few)));
             apart = omega arith;
             inside = omega (arith, gave.only.size);
-          }
+          })
 
       module _ (in_guards item₃ item₄ : List ℕ) (size_g : length in_guards ≡ 64) (kept_guards : Copied item₂ (replicate 64 0) in_guards)
           (size₄ : length item₄ ≡ length item₂) (back : Copied in_head item₂ item₄) where
@@ -212,11 +220,11 @@ module _ (k : ℕ) (few : k < 128) (text rest : Bytes) (from : ℕ) (known vars 
           bar_counted = counted_at known₂ vars₂ d.compounds
 
           bar_got : (gs : List Guard) → as_guards es ≡ some gs → length gs ≡ n → s₃ ≡ tests_set (item_places known₂ base) (clause_tests_from k) gs s₂ → Licences l₃ gs
-              → Only 0 trial_region s s₃ → (guards w : ℕ) (e : Cursor) → guards ≡ n → (hs : List Named) (qs : List Placed) (stop : ℕ)
-              → Ended (goals_part (clause_goals_from k)) perhaps_goals text rest from base known₂ vars₂ d s₃ item₄ s₄ names₄ item₅ w e hs qs stop
-              → BodyIs k text rest from known vars c s item s₄ names₄ item₅ in_guards l₃ (Got guards d.at w e)
+              → Only 0 trial_region s s₃ → (r : Ruled) → r.guards ≡ n → r.bar ≡ Some d.at → (hs : List Named) (qs : List Placed) (stop : ℕ)
+              → Ended (goals_part (clause_goals_from k)) perhaps_goals text rest from base known₂ vars₂ d s₃ item₄ s₄ names₄ item₅ r.goals r.cursor hs qs stop
+              → BodyIs k text rest from known vars c s item s₄ names₄ item₅ in_guards l₃ (Ok r)
           unfolding body_part goals_part item_places before names_over variables_over with_name with_variable Open is byte
-          bar_got gs in_table many set_is licences o₃ guards w e guards_are hs qs stop u =
+          bar_got gs in_table many set_is licences o₃ r guards_are bar_so hs qs stop u =
               let gave = t.gave in
               let line : List Placed = record { at = bar; token = sign 124 } ∷ qs in
               let eN : names_over (ps ++ line) known ≡ names_over qs known₂ = names_append ps line known in
@@ -233,9 +241,9 @@ module _ (k : ℕ) (few : k < 128) (text rest : Bytes) (from : ℕ) (known vars 
                 ps ++ line,
                 stop,
                 record {
-                  reads = rw (eN, eV) (t.reads ∙ bar_read es bar_counted (counted_at (names_over qs known₂) (variables_over from qs vars₂) e.compounds) after (ends stop) hs u.reads);
+                  reads = rw (eN, eV) (t.reads ∙ bar_read es bar_counted (counted_at (names_over qs known₂) (variables_over from qs vars₂) r.cursor.compounds) after (ends stop) hs u.reads);
                   follows = t.follows ∙ ap (λ ts. before ps (token bar (sign 124) ts)) u.follows
-                      ∙ sym (before_append ps line (token stop (sign 46) (tokens_in from rest e.at)));
+                      ∙ sym (before_append ps line (token stop (sign 46) (tokens_in from rest r.cursor.at)));
                   no_stop = open_append ps line gave.no_stop (refl, u.no_stop);
                   forward = u.forward;
                   stands = rw (eN, eV) u.stands;
@@ -249,7 +257,7 @@ module _ (k : ℕ) (few : k < 128) (text rest : Bytes) (from : ℕ) (known vars 
                   in_table = in_table;
                   count_is = many ∙ sym guards_are;
                   few = omega (arith, gave.few);
-                  bar_is = (refl, gave.forward, gave.stands.inside);
+                  bar_is = rw bar_so (refl, gave.stands.inside);
                   named = rw eN (still_named_guards known₂ (names_over qs known₂) base m gs named_so);
                   table_size = size_g;
                   counted = in_guards_so;
@@ -257,18 +265,20 @@ module _ (k : ℕ) (few : k < 128) (text rest : Bytes) (from : ℕ) (known vars 
                 },
               )
 
-          pub at_bar : (found : Bool) → TestedIs s₂ s₃ l₃ n base (clause_tests_from k) known₂ es found → (r : Ruled)
+          pub at_bar : (found : Bool) → TestedIs s₂ s₃ l₃ n base (clause_tests_from k) known₂ es found → (r : Result Ruled Refused)
               → GuardedIs k n found text rest from known₂ vars₂ d s₃ item₄ s₄ names₄ item₅ r
               → BodyIs k text rest from known vars c s item s₄ names₄ item₅ in_guards l₃ r
-          at_bar true (gs, in_table, many, set_is, licences, o) (Got guards at w e) (found_so, guards_are, at_is, hs, qs, stop, u) =
-              rw at_is (bar_got gs in_table many set_is licences (only_tests s₃ o) guards w e guards_are hs qs stop u)
-          at_bar false tested (Got guards at w d') told = let no : false ≡ true = told.0 in let z : ◌≡◌ {A = ℕ} 0 1 = cc in absurd (omega arith)
-          at_bar true tested Unknown told = let no : true ≡ false = told.0 in let z : ◌≡◌ {A = ℕ} 0 1 = cc in absurd (omega arith)
-          at_bar false (e, o) Unknown (found_so, hs, counted, left, h, o₄) =
+          at_bar true (gs, in_table, many, set_is, licences, o) (Ok r) (found_so, guards_are, bar_so, hs, qs, stop, u) =
+              bar_got gs in_table many set_is licences (only_tests s₃ o) r guards_are bar_so hs qs stop u
+          at_bar false tested (Ok r) told = never (sym told.0)
+          at_bar true tested (Err Unknown) told = never told.0
+          at_bar false (e, o) (Err Unknown) (found_so, hs, counted, left, h, o₄) =
               (barred es after hs, counted, left, t.reads ∙ bar_read es bar_counted counted after left hs h, e, only_then 0 trial_region s s₃ s₄ (only_tests s₃ o) o₄)
-          at_bar true tested (Malformed p) (h, inside, o₄) =
+          at_bar true tested (Err (Malformed p)) (h, inside, o₄) =
               (t.reads ∙ bar_malformed es bar_counted after (from + p) h, inside, only_then 0 trial_region s s₃ s₄ (tested_only s₃ l₃ true tested) o₄)
-          at_bar true tested Exceeded (h, o₄) = (t.reads ∙ bar_passed es bar_counted after h, only_then 0 trial_region s s₃ s₄ (tested_only s₃ l₃ true tested) o₄)
-          at_bar false tested (Malformed p) (h, inside, o₄) =
+          at_bar false tested (Err (Malformed p)) (h, inside, o₄) =
               (t.reads ∙ bar_malformed es bar_counted after (from + p) h, inside, only_then 0 trial_region s s₃ s₄ (tested_only s₃ l₃ false tested) o₄)
-          at_bar false tested Exceeded (h, o₄) = (t.reads ∙ bar_passed es bar_counted after h, only_then 0 trial_region s s₃ s₄ (tested_only s₃ l₃ false tested) o₄)
+          at_bar true tested (Err Exceeded) (h, o₄) = (t.reads ∙ bar_passed es bar_counted after h, only_then 0 trial_region s s₃ s₄ (tested_only s₃ l₃ true tested) o₄)
+          at_bar false tested (Err Exceeded) (h, o₄) = (t.reads ∙ bar_passed es bar_counted after h, only_then 0 trial_region s s₃ s₄ (tested_only s₃ l₃ false tested) o₄)
+          at_bar true tested (Err (Broken f)) told = absurd told
+          at_bar false tested (Err (Broken f)) told = absurd told

@@ -1,99 +1,77 @@
 -- Behind a clause's bar: its full stop, or goals up to it.
-use Prim.Native.Nat.{ℕ, ◌+◌, ◌≤◌, ◌<◌, min}
-use mathlib.Core.Path.{◌≡◌, refl, ap, sym, ◌∙◌}
-use mathlib.Core.Bool.{Bool, true, false, ◌||◌}
+use Prim.Native.Nat.{ℕ, ◌+◌}
+use mathlib.Core.Path.{◌≡◌, refl, ◌∙◌}
+use mathlib.Core.Bool.{Bool}
 use mathlib.Core.List.{List, [], ◌∷◌}
 use native.Mathlib.Omega.{arith}
-use lib.Dec.{eqb}
-use lib.ListN.{length, get_or}
+use Rattle.std.specs.Prelude.{Result, Ok, Err}
 use Rattle.meaning.specs.Bytes.{Bytes, byte, when◌then◌else◌}
-use Rattle.meaning.specs.Terms.{Half, Named, goals_occurrences}
-use Rattle.meaning.specs.Tokens.{Token, name, variable, integer, sign, bad, Tokens, ends, token}
-use Rattle.meaning.specs.Items.{Counted, Reader, read, malformed, passed, give, is, if_next, goals}
-use Rattle.term.specs.Frames.{Only}
+use Rattle.meaning.specs.Terms.{goals_occurrences}
+use Rattle.meaning.specs.Tokens.{sign, Tokens, ends, token}
+use Rattle.meaning.specs.Items.{Counted, read, give, is, if_next, goals}
 use Rattle.term.specs.Jobs.{GoalsKnown}
 use Rattle.term.specs.Layout.{trial_region, clause_base, clause_goals_from}
 use Rattle.term.proofs.Frames.{only_same}
 use Rattle.load_tokens.specs.Fronts.{tokens_in}
 use Rattle.load_tokens.specs.Nexts.{SignAt, one_of, Stops}
-use Rattle.load_names.specs.Places.{Place, Placed, before, names_over, variables_over, item_places}
+use Rattle.load_names.specs.Places.{Place, before, names_over, variables_over}
 use Rattle.load_image.specs.Image.{goals_stored}
-use Rattle.load_openings.specs.Reading.{piece, counted_at, half_place, Stands, Open}
+use Rattle.load_openings.specs.Reading.{piece, counted_at, Stands, Open}
 use Rattle.load_openings.specs.declared.cursor.Cursor.{Cursor}
-use Rattle.load_openings.specs.declared.cursor.Read.{Read as Answer}
-use Rattle.load_openings.specs.declared.cursor.Read.TheVariants as reads
-use Rattle.load_openings.proofs.Expected.{piece_stop}
-use Rattle.load_goals.specs.Endings.{goals_part, Ended, EndIs}
-use Rattle.load_goals.proofs.Partly.{behind_it, stands_behind}
+use Rattle.load_openings.specs.declared.cursor.Unread.{Unread}
+use Rattle.load_openings.specs.declared.cursor.Unread.TheVariants as unread
+use Rattle.load_openings.proofs.Expected.{piece_stop, if_next_other}
+use Rattle.load_openings.proofs.Passing.{piece_stops}
+use Rattle.load_goals.specs.Endings.{goals_part, EndIs}
+use Rattle.load_openings.proofs.Moves.{moved_to, stands_moved}
 use Rattle.load_items.proofs.Counted.{half_few}
 use Rattle.load_items.specs.Rules.{perhaps_goals, GuardedIs}
-use Rattle.load_items.specs.declared.rule.Ruled.TheVariants.{Got, Unknown, Malformed, Exceeded}
+use Rattle.load_items.specs.Refusing.{refused_as}
 
 perhaps_stop : (counted : Counted) (p : ℕ) (ts us : Tokens) → ts ≡ token p (sign 46) us → perhaps_goals counted (piece ts) ≡ read [] counted (ends p)
 unfolding perhaps_goals if_next is byte when◌then◌else◌ give
 perhaps_stop counted p ts us e = rw (e, piece_stop p (sign 46) us refl)
 
-or_left : (a b : Bool) → (a || b) ≡ false → a ≡ false
-or_left false b h = refl
-or_left true b h = h
+perhaps_other : (counted : Counted) (place : ℕ) (ts : Tokens) → Stops (one_of (46 ∷ [])) place ts → perhaps_goals counted (piece ts) ≡ goals 8 counted (piece ts)
+unfolding perhaps_goals byte
+perhaps_other counted place ts h = if_next_other counted "." (give []) (goals 8) place (piece ts) (piece_stops (one_of (46 ∷ [])) place ts h)
 
-perhaps_other : (counted : Counted) (place : ℕ) (ts : Tokens) → Stops (one_of 46 46 46) place ts → perhaps_goals counted (piece ts) ≡ goals 8 counted (piece ts)
-unfolding perhaps_goals if_next piece is byte when◌then◌else◌ one_of
-perhaps_other counted place (ends p) h = refl
-perhaps_other counted place (token p (name f) ts) h = refl
-perhaps_other counted place (token p (variable k x) ts) h = refl
-perhaps_other counted place (token p (integer i) ts) h = refl
-perhaps_other counted place (token p (sign b) ts) h = rw (or_left (eqb b 46) (eqb b 46 || eqb b 46) h.1)
-perhaps_other counted place (token p bad ts) h = refl
-
-module _ (k n : ℕ) (found : Bool) (text rest : Bytes) (from : ℕ) (known vars : List Place) (c : Cursor) (s names item : List ℕ)
+module _ (k : ℕ) (text rest : Bytes) (from : ℕ) (known vars : List Place) (c : Cursor) (s names item : List ℕ)
     (st : Stands text rest from names item c known vars) where
   abbrev counted : Counted
   counted = counted_at known vars c.compounds
 
   -- No goal.
-  module _ (behind : ℕ) (next : SignAt rest c.at 46 behind) where
-    none_read : perhaps_goals counted (piece (tokens_in from rest c.at)) ≡ read [] counted (ends (from + next.place))
-    none_read = perhaps_stop counted (from + next.place) (tokens_in from rest c.at) (tokens_in from rest behind) (next.follows from)
-
-    pub bar_stop : found ≡ true → GuardedIs k n found text rest from known vars c s item s names item (Got n c.at 0 (behind_it c behind))
-    unfolding goals_part goals_stored goals_occurrences before names_over variables_over Open GoalsKnown
-    bar_stop f = (
-      f,
-      refl,
-      refl,
-      [],
-      [],
-      from + next.place,
-      record {
-        reads = none_read;
-        follows = next.follows from;
-        no_stop = tt;
-        forward = omega (arith, next.forward);
-        stands = stands_behind text rest from names item c known vars behind st next.inside;
-        size_is = refl;
-        stored_is = refl;
-        known_names = tt;
-        halves = λ h m l. omega (arith, half_few rest vars item st.variables_in h m l);
-        only = only_same 0 trial_region s;
-      },
-    )
-
-    pub bar_stop_unknown : found ≡ false → GuardedIs k n found text rest from known vars c s item s names item Unknown
-    bar_stop_unknown f = (f, [], counted, ends (from + next.place), none_read, only_same 0 trial_region s)
+  pub none_behind : (behind : ℕ) (next : SignAt rest c.at 46 behind)
+      → EndIs (goals_part (clause_goals_from k)) perhaps_goals text rest from (clause_base k) known vars c s item s names item (Ok (0, moved_to c behind))
+  unfolding goals_part goals_stored goals_occurrences before names_over variables_over Open GoalsKnown
+  none_behind behind next = (
+    [],
+    [],
+    from + next.place,
+    record {
+      reads = perhaps_stop counted (from + next.place) (tokens_in from rest c.at) (tokens_in from rest behind) (next.follows from);
+      follows = next.follows from;
+      no_stop = tt;
+      forward = omega (arith, next.forward);
+      stands = stands_moved behind st next.inside;
+      size_is = refl;
+      stored_is = refl;
+      known_names = tt;
+      halves = λ h m l. omega (arith, half_few rest vars item st.variables_in h m l);
+      only = only_same 0 trial_region s;
+    },
+  )
 
   -- Goals.
-  module _ (a : ℕ) (other : Stops (one_of 46 46 46) (from + a) (tokens_in from rest c.at)) (s' names' item' : List ℕ) where
+  module _ (a : ℕ) (other : Stops (one_of (46 ∷ [])) (from + a) (tokens_in from rest c.at)) (s' names' item' : List ℕ) where
     goals_read : perhaps_goals counted (piece (tokens_in from rest c.at)) ≡ goals 8 counted (piece (tokens_in from rest c.at))
     goals_read = perhaps_other counted (from + a) (tokens_in from rest c.at) other
 
-    pub bar_goals : (w : ℕ) (d : Cursor)
-        → EndIs (goals_part (clause_goals_from k)) (goals 8) text rest from (clause_base k) known vars c s item s' names' item' (reads.Got w d)
-        → found ≡ true → GuardedIs k n found text rest from known vars c s item s' names' item' (Got n c.at w d)
-    bar_goals w d (gs, ps, stop, t) f = (
-      f,
-      refl,
-      refl,
+    pub some_behind : (r : Result (ℕ × Cursor) Unread)
+        → EndIs (goals_part (clause_goals_from k)) (goals 8) text rest from (clause_base k) known vars c s item s' names' item' r
+        → EndIs (goals_part (clause_goals_from k)) perhaps_goals text rest from (clause_base k) known vars c s item s' names' item' r
+    some_behind (Ok (w, d)) (gs, ps, stop, t) = (
       gs,
       ps,
       stop,
@@ -110,17 +88,11 @@ module _ (k n : ℕ) (found : Bool) (text rest : Bytes) (from : ℕ) (known vars
         only = t.only;
       },
     )
+    some_behind (Err (unread.Malformed p)) (h, inside, only) = (goals_read ∙ h, inside, only)
+    some_behind (Err unread.Exceeded) (h, only) = (goals_read ∙ h, only)
 
-    pub bar_goals_unknown : (w : ℕ) (d : Cursor)
-        → EndIs (goals_part (clause_goals_from k)) (goals 8) text rest from (clause_base k) known vars c s item s' names' item' (reads.Got w d)
-        → found ≡ false → GuardedIs k n found text rest from known vars c s item s' names' item' Unknown
-    bar_goals_unknown w d (gs, ps, stop, t) f = (f, gs, _, _, goals_read ∙ t.reads, t.only)
-
-    pub bar_malformed : (p : ℕ)
-        → EndIs (goals_part (clause_goals_from k)) (goals 8) text rest from (clause_base k) known vars c s item s' names' item' (reads.Malformed p)
-        → GuardedIs k n found text rest from known vars c s item s' names' item' (Malformed p)
-    bar_malformed p (h, inside, only) = (goals_read ∙ h, inside, only)
-
-    pub bar_passed : EndIs (goals_part (clause_goals_from k)) (goals 8) text rest from (clause_base k) known vars c s item s' names' item' reads.Exceeded
-        → GuardedIs k n found text rest from known vars c s item s' names' item' Exceeded
-    bar_passed (h, only) = (goals_read ∙ h, only)
+pub bar_unread : (k n : ℕ) (found : Bool) (text rest : Bytes) (from : ℕ) (known vars : List Place) (c : Cursor) (s item s' names' item' : List ℕ) (why : Unread)
+    → EndIs (goals_part (clause_goals_from k)) perhaps_goals text rest from (clause_base k) known vars c s item s' names' item' (Err why)
+    → GuardedIs k n found text rest from known vars c s item s' names' item' (Err (refused_as why))
+bar_unread k n found text rest from known vars c s item s' names' item' (unread.Malformed p) h = h
+bar_unread k n found text rest from known vars c s item s' names' item' unread.Exceeded h = h

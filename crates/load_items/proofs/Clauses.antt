@@ -1,5 +1,5 @@
 -- A clause read: its guards and the rules are judged after its full stop, and its words are the definitions'.
-use Prim.Native.Nat.{ℕ, ◌+◌, ◌-◌, ◌*◌, ◌≤◌, ◌<◌, min}
+use Prim.Native.Nat.{ℕ, ◌+◌, ◌≤◌, ◌<◌, min}
 use mathlib.Core.Path.{◌≡◌, refl, ap, sym, ◌∙◌}
 use mathlib.Core.Bool.{Bool, true, false, not, ◌&&◌}
 use mathlib.Core.List.{List, [], ◌∷◌}
@@ -8,6 +8,7 @@ use native.Mathlib.Omega.{arith}
 use lib.Dec.{eqb}
 use lib.ListN.{length, get_or, set, take, drop, length-drop}
 use lib.Seq.{get_or-drop, take_all}
+use Rattle.std.specs.Prelude.{Err}
 use Rattle.meaning.specs.Bytes.{Bytes, all, when◌then◌else◌}
 use Rattle.meaning.specs.Terms.{Half, writer, reader, Guard, Clause, all_occurrences, goals_occurrences}
 use Rattle.meaning.specs.Tokens.{name, Tokens, ends, token}
@@ -40,14 +41,17 @@ use Rattle.term.proofs.Frames.{only_set, only_then}
 use Rattle.term.specs.Layout.{trial_region, clause_base, clause_pairs_word, clause_compounds_word, clause_goals_word, clause_guards_word}
 use Rattle.load_tokens.specs.Fronts.{tokens_in}
 use Rattle.load_names.specs.Places.{Place, Placed, spellings, names_over, variables_over}
-use Rattle.load_openings.specs.Reading.{piece, counted_at, half_place, Stands}
+use Rattle.load_openings.specs.Reading.{piece, counted_at, half_place}
 use Rattle.load_names.specs.Rules.{clause_kept}
-use Rattle.load_image.specs.Image.{so_far, clause_stored, head_word}
+use Rattle.load_image.specs.Image.{so_far, clause_stored}
 use Rattle.load_goals.specs.Endings.{Ended}
 use Rattle.load_guards.specs.Judged.{head_place, Counts}
-use Rattle.load_items.specs.Rules.{rule_part, GuardsAre, RuleRead, RuledIs}
-use Rattle.load_items.specs.Outcomes.{Begins, TookClause, Took}
+use Rattle.load_items.specs.Rules.{rule_part, RuledIs}
+use Rattle.load_items.specs.Outcomes.{TookClause, RefusedIs}
+use Rattle.load_items.specs.declared.refused.Refused.{Refused}
+use Rattle.load_items.specs.declared.refused.Refused.TheVariants.{Malformed, Unknown, Broken, Exceeded}
 use Rattle.load_items.specs.Judging.{Whole, Judging}
+use Rattle.load_items.specs.declared.rule.Ruled.{Ruled}
 use Rattle.load_openings.specs.declared.cursor.Cursor.{Cursor}
 use Rattle.load_names.proofs.Numbering.{spellings_length}
 use Rattle.load_faults.specs.Finding.{Searches}
@@ -105,29 +109,42 @@ module _ (rest : Bytes) (from : ℕ) (known : List Place) (k queries begins : �
         ≡ clause_piece (k + 1) (from + begins) (piece (tokens_in from rest c.at)) (rule (counted_at known [] c.compounds) (piece (tokens_in from rest c.at)))
     reads_rule = rw (at_first, none_yet, tokens) (clause_reads known k queries (from + begins) ts f few)
 
-    pub clause_malformed : (a : ℕ) → rule (counted_at known [] c.compounds) (piece (tokens_in from rest c.at)) ≡ malformed (from + a)
+    clause_malformed : (a : ℕ) → rule (counted_at known [] c.compounds) (piece (tokens_in from rest c.at)) ≡ malformed (from + a)
         → item (so_far known k queries) (piece (tokens_in from rest 0)) ≡ refused (no_item (from + a))
     unfolding clause_piece
     clause_malformed a h = rw (reads_rule, h)
 
-    pub clause_passed : rule (counted_at known [] c.compounds) (piece (tokens_in from rest c.at)) ≡ passed
+    clause_passed : rule (counted_at known [] c.compounds) (piece (tokens_in from rest c.at)) ≡ passed
         → item (so_far known k queries) (piece (tokens_in from rest 0)) ≡ refused (figure (from + begins))
     unfolding clause_piece
     clause_passed h = rw (reads_rule, h)
 
-    pub clause_unknown : (r : Rule) (d : Counted) (left : Tokens) → rule (counted_at known [] c.compounds) (piece (tokens_in from rest c.at)) ≡ read r d left
+    clause_unknown : (r : Rule) (d : Counted) (left : Tokens) → rule (counted_at known [] c.compounds) (piece (tokens_in from rest c.at)) ≡ read r d left
         → as_guards r.body.guards ≡ none → item (so_far known k queries) (piece (tokens_in from rest 0)) ≡ refused (guard_rule (from + begins))
     unfolding clause_piece unless_unknown
     clause_unknown r d left h e = rw (reads_rule, h, e)
 
+    pub clause_refused : (text : Bytes) (s item heads s' names' item' heads' h₁ g₁ l₁ : List ℕ) (why : Refused)
+        → RuledIs k text rest from known [] c s item heads s' names' item' heads' h₁ g₁ l₁ (Err why) → RefusedIs rest from known k queries begins s s' why
+    clause_refused text s item heads s' names' item' heads' h₁ g₁ l₁ (Malformed a) (h, inside, only) = (clause_malformed a h, inside, only)
+    clause_refused text s item heads s' names' item' heads' h₁ g₁ l₁ Unknown (r, d, left, h, e, only) = (clause_unknown r d left h e, only)
+    clause_refused text s item heads s' names' item' heads' h₁ g₁ l₁ Exceeded (h, only) = (clause_passed h, only)
+    clause_refused text s item heads s' names' item' heads' h₁ g₁ l₁ (Broken fault) told = absurd told
+
 -- The head's counts are the last part of their table.
-pub part_counts : (l : List ℕ) (i : ℕ) → get_or (take (length l - 32) (drop 32 l)) i 0 ≡ get_or l (32 + i) 0
-part_counts l i = ap (λ m. get_or m i 0) (take_all (length l - 32) (drop 32 l) (omega (arith, length-drop 32 l))) ∙ get_or-drop 32 l i 0
+pub part_counts : (l : List ℕ) (n : ℕ) → length l ≤ 32 + n → (i : ℕ) → get_or (take n (drop 32 l)) i 0 ≡ get_or l (32 + i) 0
+part_counts l n enough i = ap (λ m. get_or m i 0) (take_all n (drop 32 l) (omega (arith, length-drop 32 l))) ∙ get_or-drop 32 l i 0
 
 -- Judged behind its full stop.
-module _ (rest : Bytes) (s table in_head in_guards licences : List ℕ) (k begins guards bar goals : ℕ) (c : Cursor) (w : Whole) (few : k < 128)
-    (j : Judging rest s table in_head in_guards licences k begins guards bar goals c w)
+module _ (rest : Bytes) (s table in_head in_guards licences : List ℕ) (k : ℕ) (ruled : Ruled) (w : Whole) (few : k < 128)
+    (j : Judging rest s table in_head in_guards licences k ruled w)
     (part : List ℕ) (part_is : (i : ℕ) → get_or part i 0 ≡ get_or in_head (32 + i) 0) where
+  abbrev c : Cursor
+  c = ruled.cursor
+
+  abbrev begins : ℕ
+  begins = w.begins
+
   abbrev from : ℕ
   from = w.from
 
@@ -149,7 +166,7 @@ module _ (rest : Bytes) (s table in_head in_guards licences : List ℕ) (k begin
   abbrev after : Counted
   after = counted_at known' vars' c.compounds
 
-  abbrev ended : Ended (rule_part k gs) rule w.text rest from (clause_base k) w.known [] w.start w.scratch w.item s w.names' table goals c r w.passed w.stop
+  abbrev ended : Ended (rule_part k gs) rule w.text rest from (clause_base k) w.known [] w.start w.scratch w.item s w.names' table ruled.goals c r w.passed w.stop
   ended = j.was_read.ended
 
   whole : Tokens
@@ -253,15 +270,15 @@ module _ (rest : Bytes) (s table in_head in_guards licences : List ℕ) (k begin
       -- A rule is broken: there is a least fault, and the search for it has what it asks.
       pub broken : clause_kept table part licences c.variables ≡ false
           → (f : Fault) × (reading ≡ refused (occurrence_rule (from + begins) f))
-          × Searches rest from table c.variables true 0 bar licences vars' freed r.body.behind f
+          × Searches rest from table c.variables true 0 ruled.bar licences vars' freed r.body.behind f
       unfolding whole when◌then◌else◌
       broken h =
           let (f, is_least, is_first) = clause_fault freed paired (spellings vars') r.head r.body.goals distinct rising counts head_tokens_so (licensed gs)
           (free_licensed gs (spellings vars')) (rw size (sym kept_is ∙ h)) in (
             f,
             reads_all ∙ judged_broken (k + 1) (from + begins) whole r known' vars' c.compounds (ends w.stop) gs j.was_read.guards_are.in_table heads_only f is_least,
-            searches_from rest from table licences c.variables true w.start.at 0 bar vars' freed r.body.behind f j.at_first.0
-                (searches rest from w.start.at bar table licences c.variables vars' (r.head ∷ r.body.goals) freed r.body.behind ended.stands.variables_in
+            searches_from rest from table licences c.variables true w.start.at 0 ruled.bar vars' freed r.body.behind f j.at_first.0
+                (searches rest from w.start.at ruled.bar table licences c.variables vars' (r.head ∷ r.body.goals) freed r.body.behind ended.stands.variables_in
                 ended.stands.variables_count j.was_read.guards_are.bar_is halves
                 (sound_among whole paired (rule_sound before after whole r w.stop ended.reads) (paired_stands over cut)) counts
                 j.was_read.guards_are.licences.size frees true f is_first),
@@ -286,16 +303,16 @@ module _ (rest : Bytes) (s table in_head in_guards licences : List ℕ) (k begin
           (clause_clean freed paired (spellings vars') r.head r.body.goals distinct rising counts head_tokens_so (licensed gs) (free_licensed gs (spellings vars'))
           (rw size (sym kept_is ∙ h)))
 
-      pub clause_took : (v n u : ℕ) → clause_kept table part licences c.variables ≡ true → v ≡ c.variables → n ≡ c.compounds → u ≡ guards
+      pub clause_took : (v n u : ℕ) → clause_kept table part licences c.variables ≡ true → v ≡ c.variables → n ≡ c.compounds → u ≡ ruled.guards
           → (cl : Clause) × (ps : List Placed) × (stop : ℕ)
           × TookClause w.text rest from w.known k queries w.scratch w.heads
-          (set (set (set (set s (clause_pairs_word k) v) (clause_compounds_word k) n) (clause_goals_word k) goals) (clause_guards_word k) u) w.names' w.heads' c.at c.names cl ps stop
-          × Only 0 trial_region w.scratch (set (set (set (set s (clause_pairs_word k) v) (clause_compounds_word k) n) (clause_goals_word k) goals) (clause_guards_word k) u)
+          (set (set (set (set s (clause_pairs_word k) v) (clause_compounds_word k) n) (clause_goals_word k) ruled.goals) (clause_guards_word k) u) w.names' w.heads' c.at c.names cl ps stop
+          × Only 0 trial_region w.scratch (set (set (set (set s (clause_pairs_word k) v) (clause_compounds_word k) n) (clause_goals_word k) ruled.goals) (clause_guards_word k) u)
       unfolding the_clause rule_part clause_stored
       clause_took v n u h ev en eu =
           let s₁ = set s (clause_pairs_word k) v in
           let s₂ = set s₁ (clause_compounds_word k) n in
-          let s₃ = set s₂ (clause_goals_word k) goals in (
+          let s₃ = set s₂ (clause_goals_word k) ruled.goals in (
             the_clause,
             w.passed,
             w.stop,
@@ -310,7 +327,7 @@ module _ (rest : Bytes) (s table in_head in_guards licences : List ℕ) (k begin
               };
               reads = clause_accepted h;
               stored_is = four_words s _ (clause_pairs_word k) (clause_compounds_word k) (clause_goals_word k) (clause_guards_word k) v (length vars') n c.compounds
-                  goals (length r.body.goals) u (length gs) ended.stored_is (ev ∙ sym pairs_are) en ended.size_is (eu ∙ sym j.was_read.guards_are.count_is);
+                  ruled.goals (length r.body.goals) u (length gs) ended.stored_is (ev ∙ sym pairs_are) en ended.size_is (eu ∙ sym j.was_read.guards_are.count_is);
               noted = j.was_read.noted;
               known_names = ended.known_names;
               guards_named = j.was_read.guards_are.named;
@@ -321,6 +338,6 @@ module _ (rest : Bytes) (s table in_head in_guards licences : List ℕ) (k begin
                 (only_then 0 trial_region w.scratch s₁ s₂
                 (only_then 0 trial_region w.scratch s s₁ ended.only (only_set 0 trial_region s (clause_pairs_word k) v (omega arith) (omega arith)))
                 (only_set 0 trial_region s₁ (clause_compounds_word k) n (omega arith) (omega arith)))
-                (only_set 0 trial_region s₂ (clause_goals_word k) goals (omega arith) (omega arith)))
+                (only_set 0 trial_region s₂ (clause_goals_word k) ruled.goals (omega arith) (omega arith)))
                 (only_set 0 trial_region s₃ (clause_guards_word k) u (omega arith) (omega arith)),
           )

@@ -1,8 +1,9 @@
 -- The item's table where its counts are other ones: it still holds the variables' places. A clause without guards has nothing counted for them.
-use Prim.Native.Nat.{ℕ, ◌+◌, ◌*◌, ◌≤◌, ◌<◌, min}
-use mathlib.Core.Path.{◌≡◌, refl, sym, ◌∙◌}
+use Prim.Native.Nat.{ℕ, ◌+◌, ◌*◌, ◌≤◌, ◌<◌}
+use mathlib.Core.Path.{◌≡◌, refl, ◌∙◌}
 use mathlib.Core.List.{List, []}
 use mathlib.Core.Option.{none}
+use Rattle.std.specs.Prelude.{None}
 use native.Mathlib.Omega.{arith}
 use lib.ListN.{length, get_or, replicate, length-replicate, get_or-replicate}
 use Rattle.meaning.specs.Bytes.{Bytes, any, when◌then◌else◌}
@@ -14,7 +15,6 @@ use Rattle.load_names.specs.Tables.{VariablesIn}
 use Rattle.load_openings.specs.Reading.{half_place, Stands}
 use Rattle.load_openings.specs.declared.cursor.Cursor.{Cursor}
 use Rattle.load_elements.specs.Elements.{elements_occurrences}
-use Rattle.load_guards.specs.Judged.{Licences}
 use Rattle.load_items.specs.Rules.{GuardsNamed, GuardsAre}
 
 pub counts_stand : (text rest : Bytes) (from : ℕ) (names item item' : List ℕ) (c : Cursor) (known vars : List Place) → Stands text rest from names item c known vars
@@ -59,13 +59,13 @@ none_at writer m l = get_or-replicate {A = ℕ} 64 (32 + m) 0 0 (omega arith)
 none_at reader m l = get_or-replicate {A = ℕ} 64 (48 + m) 0 0 (omega arith)
 
 pub no_guards : (rest : Bytes) (from : ℕ) (names : List Bytes) (in_guards licensed : List ℕ) (b : Body) → in_guards ≡ replicate 64 0 → licensed ≡ replicate 16 0
-    → b.guards ≡ [] → b.behind ≡ none → GuardsAre rest from names in_guards licensed 0 0 b []
+    → b.guards ≡ [] → b.behind ≡ none → GuardsAre rest from names in_guards licensed 0 None b []
 unfolding as_guards GuardsNamed elements_occurrences licensed any when◌then◌else◌
 no_guards rest from names in_guards table b eg el ge be = record {
   in_table = rw ge refl;
   count_is = refl;
   few = omega arith;
-  bar_is = rw be refl;
+  bar_is = rw be tt;
   named = tt;
   table_size = rw eg (length-replicate {A = ℕ} 64 0);
   counted = λ h m l. rw (eg, ge) (none_at h m l);

@@ -1,13 +1,14 @@
 -- An item that was read: its tokens hold what its terms hold, so it has a fault exactly if the rules are broken, and then the walk finds the least.
 -- Its variables are told apart, its tokens' places rise, none of them is bad: what the search for the fault asks.
-use Prim.Native.Nat.{ℕ, zero, suc, ◌+◌, ◌-◌, ◌≤◌, ◌<◌, min}
-use mathlib.Core.Path.{◌≡◌, refl, sym, ap, ◌∙◌}
+use Prim.Native.Nat.{ℕ, ◌+◌, ◌-◌, ◌<◌, min}
+use mathlib.Core.Path.{◌≡◌, refl, ap, ◌∙◌}
 use mathlib.Core.Bool.{Bool, true, false, not, ◌&&◌}
-use mathlib.Core.List.{List, [], ◌∷◌, ◌++◌}
+use mathlib.Core.List.{List, [], ◌∷◌}
 use mathlib.Core.Option.{Option, none, some}
 use native.Mathlib.Omega.{arith}
 use lib.Dec.{eqb}
 use lib.ListN.{length, get_or}
+use Rattle.std.specs.Prelude.{Option as Maybe}
 use Rattle.meaning.specs.Bytes.{Bytes, same, any, when◌then◌else◌}
 use Rattle.meaning.specs.Terms.{Half, Named, all_occurrences, goals_occurrences}
 use Rattle.meaning.specs.Tokens.{Token, name, variable, integer, sign, bad, Tokens, ends, token}
@@ -29,8 +30,7 @@ use Rattle.load_names.specs.Tables.{VariablesIn}
 use Rattle.load_names.proofs.Numbering.{spellings_snoc, with_known, with_new}
 use Rattle.load_names.proofs.Spellings.{has_place}
 use Rattle.load_openings.specs.Reading.{piece, half_place}
-use Rattle.load_openings.proofs.Expected.{piece_open, piece_stop}
-use Rattle.load_faults.specs.Finding.{BarIs, Searched, Searches}
+use Rattle.load_faults.specs.Finding.{BarIs, Searches}
 use Rattle.load_faults.proofs.Sound.{Sound, walkable}
 
 -- The variables' spellings are told apart.
@@ -130,7 +130,7 @@ module _ (free : Bytes → Bool) (whole : Tokens) (xs : List Bytes) (head : Name
       go (f ∷ l) e = (_, ap least e, first ∙ ap least e)
 
 -- So the search for the fault has what it asks.
-module _ (rest : Bytes) (from begins bar : ℕ) (item licensed : List ℕ) (count : ℕ) (places : List Place) (gs : List Named) (free : Bytes → Bool) (behind : Option Tokens)
+module _ (rest : Bytes) (from begins : ℕ) (bar : Maybe ℕ) (item licensed : List ℕ) (count : ℕ) (places : List Place) (gs : List Named) (free : Bytes → Bool) (behind : Option Tokens)
     (table : VariablesIn rest places item) (count_is : count ≡ length places) (bar_is : BarIs rest from bar behind)
     (halves : (h : Half) (n : ℕ) → n < 16 → get_or item (half_place h n) 0 ≡ min 2 (goals_occurrences h n gs))
     (sound : Sound (pairing behind (piece (tokens_in from rest begins))))
@@ -158,6 +158,6 @@ module _ (rest : Bytes) (from begins bar : ℕ) (item licensed : List ℕ) (coun
         found = found;
       }
 
-pub searches_from : (rest : Bytes) (from : ℕ) (item licensed : List ℕ) (count : ℕ) (both : Bool) (m n bar : ℕ) (places : List Place) (free : Bytes → Bool) (behind : Option Tokens)
+pub searches_from : (rest : Bytes) (from : ℕ) (item licensed : List ℕ) (count : ℕ) (both : Bool) (m n : ℕ) (bar : Maybe ℕ) (places : List Place) (free : Bytes → Bool) (behind : Option Tokens)
     (f : Fault) → m ≡ n → Searches rest from item count both m bar licensed places free behind f → Searches rest from item count both n bar licensed places free behind f
 searches_from rest from item licensed count both m n bar places free behind f e s = rw e at s

@@ -1,38 +1,43 @@
 -- A clause's head, and behind it its body, a full stop, or something that cannot stand.
-use Prim.Native.Nat.{ℕ, zero, suc, ◌+◌, ◌*◌, ◌-◌, ◌≤◌, ◌<◌, min}
+use Prim.Native.Nat.{ℕ, ◌+◌, ◌≤◌, ◌<◌, min}
 use mathlib.Core.Path.{◌≡◌, refl, ap, sym, ◌∙◌, subst}
-use mathlib.Core.Bool.{Bool, true, false}
 use mathlib.Core.List.{List, [], ◌∷◌, ◌++◌}
 use mathlib.Core.Option.{none}
 use native.Mathlib.Omega.{arith}
 use lib.ListN.{length, get_or, set, replicate}
 use lib.Seq.{get_or-set_same}
+use Rattle.std.specs.Prelude.{None, Result, Ok, Err}
 use Rattle.meaning.specs.Bytes.{Bytes, byte, when◌then◌else◌}
 use Rattle.meaning.specs.Terms.{Half, Named, Guard, named, as_term, count, goals_occurrences, occurrences, all_occurrences}
-use Rattle.meaning.specs.Tokens.{Token, sign, Tokens, ends, token}
-use Rattle.meaning.specs.Items.{Counted, Read, Body, Rule, read, malformed, passed, read_on, ◌>>=◌, give, is, either, goal, body, rule}
+use Rattle.meaning.specs.Tokens.{sign, Tokens, ends, token}
+use Rattle.meaning.specs.Items.{Counted, Body, read, malformed, passed, read_on, ◌>>=◌, give, is, either, goal, body, rule}
 use Rattle.term.specs.Cells.{functor_word, stored, arguments_stored, Known, Numbered}
 use Rattle.term.specs.Frames.{Only}
 use Rattle.term.proofs.Frames.{only_then, only_wider}
 use Rattle.term.proofs.Cells.{arguments_stored_only}
 use Rattle.term.proofs.Names.{functor_word_more}
 use Rattle.term.specs.Jobs.{GoalsKnown}
-use Rattle.term.specs.Layout.{trial_region, trial_base, item_start, item_end, item_place, item_compounds, clause_base, clause_goals_from, clause_tests_from}
+use Rattle.term.specs.Layout.{trial_region, item_start, item_end, item_place, clause_base}
 use Rattle.load_tokens.specs.Fronts.{tokens_in}
 use Rattle.load_names.specs.Places.{Place, Placed, spellings, before, with_name, with_variable, names_over, variables_over, item_places}
-use Rattle.load_openings.specs.Reading.{piece, counted_at, half_place, Stands, Open, Gave}
+use Rattle.load_openings.specs.Reading.{piece, counted_at, half_place, Open, Gave, ReadIs}
 use Rattle.load_tokens.specs.Nexts.{SignAt, one_of, Stops}
 use Rattle.load_image.specs.Image.{goals_stored, guards_stored, head_word}
 use Rattle.load_goals.specs.Endings.{Ended}
 use Rattle.load_openings.specs.declared.cursor.Cursor.{Cursor}
-use Rattle.load_openings.proofs.Expected.{piece_open, piece_stop, either_first, either_second, either_none}
-use Rattle.load_openings.proofs.Passing.{More, names_append, variables_append, before_append, open_append, names_more}
+use Rattle.load_openings.specs.declared.cursor.Unread.{Unread}
+use Rattle.load_openings.specs.declared.cursor.Unread.TheVariants as unread
+use Rattle.load_openings.proofs.Expected.{piece_open, piece_stop, either_first, either_second, either_stops}
+use Rattle.load_openings.proofs.Passing.{More, names_append, variables_append, before_append, open_append, names_more, piece_stops}
 use Rattle.load_goals.proofs.GoalLists.{places_more, still_stored, still_named}
-use Rattle.load_goals.proofs.Partly.{behind_it, stands_behind, gave_only}
+use Rattle.load_openings.proofs.Given.{gave_only}
+use Rattle.load_openings.proofs.Moves.{moved_to, stands_moved}
 use Rattle.load_items.specs.Counts.{Copied}
-use Rattle.load_items.specs.Rules.{body_part, rule_part, GuardsAre, BodyIs, RuleRead, RuledIs}
+use Rattle.load_items.specs.Rules.{body_part, rule_part, BodyIs, RuledIs}
+use Rattle.load_items.specs.Refusing.{refused_as}
 use Rattle.load_items.specs.declared.rule.Ruled.{Ruled}
-use Rattle.load_items.specs.declared.rule.Ruled.TheVariants.{Got, Unknown, Malformed, Exceeded}
+use Rattle.load_items.specs.declared.refused.Refused.{Refused}
+use Rattle.load_items.specs.declared.refused.Refused.TheVariants.{Malformed, Unknown, Broken, Exceeded}
 use Rattle.load_items.proofs.Counted.{by_half, no_guards}
 
 abbrev no_body : Body
@@ -66,9 +71,9 @@ module _ (counted counted' : Counted) (ts us : Tokens) (g : Named) (h : goal cou
         either_second counted' ":" "." p (sign 46) (ends p) refl refl,
       )
 
-  rule_other : (place : ℕ) → Stops (one_of 58 46 46) place us → rule counted ts ≡ malformed place
+  rule_other : (place : ℕ) → Stops (one_of (58 ∷ 46 ∷ [])) place us → rule counted ts ≡ malformed place
   unfolding read_on byte
-  rule_other place s = rw (rule_suc counted counted' ts (piece us) g h, either_none counted' ":" "." 46 place us s)
+  rule_other place s = rw (rule_suc counted counted' ts (piece us) g h, either_stops counted' ":" "." place (piece us) (piece_stops (one_of (58 ∷ 46 ∷ [])) place us s))
 
 rule_malformed : (counted : Counted) (ts : Tokens) (place : ℕ) → goal counted ts ≡ malformed place → rule counted ts ≡ malformed place
 unfolding rule ◌>>=◌ read_on
@@ -105,19 +110,15 @@ module _ (k : ℕ) (text rest : Bytes) (from : ℕ) (known vars : List Place) (c
   abbrev base : ℕ
   base = clause_base k
 
-  pub head_malformed : (s' names' item' heads' h₁ g₁ l₁ : List ℕ) (p : ℕ)
-      → goal (counted_at known vars c.compounds) (piece (tokens_in from rest c.at)) ≡ malformed (from + p) → p ≤ length rest
-      → Only (item_start base) (item_end base) s s' → RuledIs k text rest from known vars c s item heads s' names' item' heads' h₁ g₁ l₁ (Malformed p)
-  head_malformed s' names' item' heads' h₁ g₁ l₁ p h inside only = (
+  pub head_unread : (s' names' item' heads' h₁ g₁ l₁ : List ℕ) (why : Unread)
+      → ReadIs as_term goal text rest from base known vars c s item s' names' item' (Err why)
+      → RuledIs k text rest from known vars c s item heads s' names' item' heads' h₁ g₁ l₁ (Err (refused_as why))
+  head_unread s' names' item' heads' h₁ g₁ l₁ (unread.Malformed p) (h, inside, only) = (
     rule_malformed (counted_at known vars c.compounds) (piece (tokens_in from rest c.at)) (from + p) h,
     inside,
     only_wider (item_start base) (item_end base) 0 trial_region s s' (omega arith) (omega arith) only,
   )
-
-  pub head_passed : (s' names' item' heads' h₁ g₁ l₁ : List ℕ)
-      → goal (counted_at known vars c.compounds) (piece (tokens_in from rest c.at)) ≡ passed
-      → Only (item_start base) (item_end base) s s' → RuledIs k text rest from known vars c s item heads s' names' item' heads' h₁ g₁ l₁ Exceeded
-  head_passed s' names' item' heads' h₁ g₁ l₁ h only = (
+  head_unread s' names' item' heads' h₁ g₁ l₁ unread.Exceeded (h, only) = (
     rule_passed (counted_at known vars c.compounds) (piece (tokens_in from rest c.at)) h,
     only_wider (item_start base) (item_end base) 0 trial_region s s' (omega arith) (omega arith) only,
   )
@@ -142,7 +143,7 @@ module _ (k : ℕ) (text rest : Bytes) (from : ℕ) (known vars : List Place) (c
     few = few_arguments c.compounds e.compounds g gave.numbered
 
     head_only : Only 0 trial_region s s'
-    head_only = gave_only gave (omega arith)
+    head_only = only_wider (item_start base) (item_end base) 0 trial_region s s' (omega arith) (omega arith) (gave_only gave)
 
     in_head : (h : Half) (m : ℕ) → m < 16 → get_or h₁ (half_place h m) 0 ≡ min 2 (get_or item (half_place h m) 0 + all_occurrences h m g.arguments)
     unfolding occurrences as_term
@@ -151,8 +152,8 @@ module _ (k : ℕ) (text rest : Bytes) (from : ℕ) (known vars : List Place) (c
     pub same_counts : (i : ℕ) → i < 32 → get_or h₁ (32 + i) 0 ≡ get_or item' (32 + i) 0
     same_counts = counts_kept.counts
 
-    pub head_other : (g₁ l₁ : List ℕ) (p : ℕ) → Stops (one_of 58 46 46) (from + p) (tokens_in from rest e.at) → p ≤ length rest
-        → RuledIs k text rest from known vars c s item heads s' names' item' (set heads k (get_or s' (item_start base) 0)) h₁ g₁ l₁ (Malformed p)
+    pub head_other : (g₁ l₁ : List ℕ) (p : ℕ) → Stops (one_of (58 ∷ 46 ∷ [])) (from + p) (tokens_in from rest e.at) → p ≤ length rest
+        → RuledIs k text rest from known vars c s item heads s' names' item' (set heads k (get_or s' (item_start base) 0)) h₁ g₁ l₁ (Err (Malformed p))
     head_other g₁ l₁ p h inside' = (
       rule_other counted (counted_at known' vars' e.compounds) (piece (tokens_in from rest c.at)) (tokens_in from rest e.at) g gave.reads (from + p) h,
       inside',
@@ -161,7 +162,8 @@ module _ (k : ℕ) (text rest : Bytes) (from : ℕ) (known vars : List Place) (c
 
     -- A fact: `head.`
     pub head_stop : (g₁ l₁ : List ℕ) → g₁ ≡ replicate 64 0 → l₁ ≡ replicate 16 0 → (behind : ℕ) (next : SignAt rest e.at 46 behind)
-        → RuledIs k text rest from known vars c s item heads s' names' item' (set heads k (get_or s' (item_start base) 0)) h₁ g₁ l₁ (Got 0 0 0 (behind_it e behind))
+        → RuledIs k text rest from known vars c s item heads s' names' item' (set heads k (get_or s' (item_start base) 0)) h₁ g₁ l₁
+        (Ok (record { guards = 0; bar = None; goals = 0; cursor = moved_to e behind }))
     unfolding rule_part goals_stored guards_stored goals_occurrences occurrences as_term GoalsKnown
     head_stop g₁ l₁ no_counts no_licences behind next =
         let there : tokens_in from rest e.at ≡ token (from + next.place) (sign 46) (tokens_in from rest behind) = next.follows from in (
@@ -177,7 +179,7 @@ module _ (k : ℕ) (text rest : Bytes) (from : ℕ) (known vars : List Place) (c
               follows = gave.follows ∙ ap (before qs) there;
               no_stop = gave.no_stop;
               forward = omega (arith, next.forward);
-              stands = stands_behind text rest from names' item' e known' vars' behind gave.stands next.inside;
+              stands = stands_moved behind gave.stands next.inside;
               size_is = refl;
               stored_is = gave.stored_is;
               known_names = (gave.known_names, tt);
@@ -195,7 +197,7 @@ module _ (k : ℕ) (text rest : Bytes) (from : ℕ) (known vars : List Place) (c
     -- A body behind `:-`.
     module _ (behind : ℕ) (next : SignAt rest e.at 58 behind) (s'' names'' item'' g₁ l₁ : List ℕ) where
       abbrev d : Cursor
-      d = behind_it e behind
+      d = moved_to e behind
 
       there : tokens_in from rest e.at ≡ token (from + next.place) (sign 58) (tokens_in from rest behind)
       there = next.follows from
@@ -235,10 +237,10 @@ module _ (k : ℕ) (text rest : Bytes) (from : ℕ) (known vars : List Place) (c
             only = then_only t.only;
           }
 
-      pub head_body : (r : Ruled) → BodyIs k text rest from known' vars' d s' item' s'' names'' item'' g₁ l₁ r
+      pub head_body : (r : Result Ruled Refused) → BodyIs k text rest from known' vars' d s' item' s'' names'' item'' g₁ l₁ r
           → RuledIs k text rest from known vars c s item heads s'' names'' item'' (set heads k (get_or s' (item_start base) 0)) h₁ g₁ l₁ r
       unfolding read_on give names_over with_name
-      head_body (Got guards bar n c'') (b, gs, ps, stop, t, guards_are) =
+      head_body (Ok r) (b, gs, ps, stop, t, guards_are) =
           let colon : List Placed = record { at = from + next.place; token = sign 58 } ∷ ps in
           let eN : names_over (qs ++ colon) known ≡ names_over ps known' = names_append qs colon known in (
             record { head = g; body = b },
@@ -246,7 +248,7 @@ module _ (k : ℕ) (text rest : Bytes) (from : ℕ) (known vars : List Place) (c
             qs ++ colon,
             stop,
             record {
-              ended = body_ended n c'' b gs ps stop t;
+              ended = body_ended r.goals r.cursor b gs ps stop t;
               guards_are = rw eN guards_are;
               noted = ap (set heads k) (rw eN (noted ∙ sym (still_head known' (names_over ps known') (names_more ps known') g gave.known_names)));
               arguments_few = few;
@@ -254,6 +256,7 @@ module _ (k : ℕ) (text rest : Bytes) (from : ℕ) (known vars : List Place) (c
               in_head = in_head;
             },
           )
-      head_body Unknown (b, counted₁, left, h, unknown, only) = (record { head = g; body = b }, counted₁, left, rw (body_reads, h), unknown, then_only only)
-      head_body (Malformed p) (h, inside', only) = (rw (body_reads, h), inside', then_only only)
-      head_body Exceeded (h, only) = (rw (body_reads, h), then_only only)
+      head_body (Err Unknown) (b, counted₁, left, h, unknown, only) = (record { head = g; body = b }, counted₁, left, rw (body_reads, h), unknown, then_only only)
+      head_body (Err (Malformed p)) (h, inside', only) = (rw (body_reads, h), inside', then_only only)
+      head_body (Err Exceeded) (h, only) = (rw (body_reads, h), then_only only)
+      head_body (Err (Broken f)) told = absurd told

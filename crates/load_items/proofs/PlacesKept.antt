@@ -1,9 +1,9 @@
 -- The places that a table holds, kept in the scratch one after the other, are those places.
 use Prim.Native.Nat.{ℕ, zero, suc, ◌+◌, ◌*◌, ◌≤◌, ◌<◌}
-use mathlib.Core.Path.{◌≡◌, refl, ap, sym, ◌∙◌}
+use mathlib.Core.Path.{◌≡◌, refl, ap, ◌∙◌}
 use mathlib.Core.List.{List, [], ◌∷◌, ◌++◌, map, map-append}
 use native.Mathlib.Omega.{arith}
-use lib.ListN.{length, get_or, set, take, length-take, length-map, length-set}
+use lib.ListN.{length, get_or, set, take, length-take, length-map}
 use lib.Seq.{take-suc, take-length}
 use Rattle.term.specs.Frames.{Only}
 use Rattle.term.proofs.Frames.{only_same, only_set, only_then}

@@ -1,45 +1,32 @@
 -- A query read: nothing occurs twice in it, and its words are the definitions', with where its variables first stand.
-use Prim.Native.Nat.{ℕ, zero, suc, ◌+◌, ◌*◌, ◌≤◌, ◌<◌, min}
+use Prim.Native.Nat.{ℕ, zero, suc, ◌+◌, ◌≤◌, ◌<◌}
 use mathlib.Core.Path.{◌≡◌, refl, ap, sym, ◌∙◌}
-use mathlib.Core.Bool.{Bool, true, false, ◌&&◌}
+use mathlib.Core.Bool.{true, false}
 use mathlib.Core.List.{List, [], ◌∷◌, map}
 use mathlib.Core.Option.{none, some}
 use native.Mathlib.Omega.{arith}
 use lib.ListN.{length, get_or, set, replicate, length-replicate}
-use Rattle.meaning.specs.Bytes.{Bytes, byte, when◌then◌else◌}
+use Rattle.std.specs.Prelude.{None, Err}
+use Rattle.meaning.specs.Bytes.{Bytes, byte}
 use Rattle.meaning.specs.Terms.{Half, Named, Query, goals_occurrences}
 use Rattle.meaning.specs.Tokens.{sign, Tokens, ends, token}
 use Rattle.meaning.specs.Faults.{Fault, occurs_at, pairing, query_faults, least}
-use Rattle.meaning.specs.Items.{
-  Counted,
-  Piece,
-  query,
-  refused,
-  no_item,
-  occurrence_rule,
-  figure,
-  read,
-  malformed,
-  passed,
-  is,
-  goals,
-  place_of,
-  unless_broken,
-  query_piece,
-  item,
-}
+use Rattle.meaning.specs.Items.{query, refused, no_item, occurrence_rule, figure, read, malformed, passed, is, goals, place_of, unless_broken, query_piece, item}
 use Rattle.term.specs.Frames.{Only}
 use Rattle.term.proofs.Frames.{only_set, only_then}
 use Rattle.term.specs.Layout.{trial_region, query_record, query_base, query_pairs_word, query_compounds_word, query_goals_from, query_variables_from}
 use Rattle.load_tokens.specs.Fronts.{tokens_in}
 use Rattle.load_names.specs.Places.{Place, Placed, spellings, before, names_over, variables_over, with_name, with_variable}
-use Rattle.load_openings.specs.Reading.{piece, counted_at, Stands, Open}
+use Rattle.load_openings.specs.Reading.{piece, counted_at, Open}
 use Rattle.load_names.specs.Rules.{none_twice}
 use Rattle.load_image.specs.Kept.{pairs_kept}
 use Rattle.load_image.specs.Image.{so_far, query_stored, places_stored}
-use Rattle.load_goals.specs.Endings.{goals_part, Ended}
-use Rattle.load_items.specs.Outcomes.{Begins, TookQuery, Took, shifted}
+use Rattle.load_goals.specs.Endings.{goals_part, Ended, EndIs}
+use Rattle.load_items.specs.Outcomes.{Begins, TookQuery, RefusedIs, shifted}
+use Rattle.load_items.specs.Refusing.{refused_as}
 use Rattle.load_openings.specs.declared.cursor.Cursor.{Cursor}
+use Rattle.load_openings.specs.declared.cursor.Unread.{Unread}
+use Rattle.load_openings.specs.declared.cursor.Unread.TheVariants as unread
 use Rattle.load_names.proofs.Numbering.{spellings_length}
 use Rattle.load_faults.specs.Finding.{Searches}
 use Rattle.load_faults.proofs.Sound.{goals_sound}
@@ -91,15 +78,21 @@ module _ (text rest : Bytes) (from : ℕ) (names item₀ : List ℕ) (count₀ :
         ≡ query_piece (from + begins) (piece (tokens_in from rest c.at)) (goals 8 (counted_at known [] c.compounds) (piece (tokens_in from rest c.at)))
     reads_goals = rw (at_first, none_yet, tokens) (query_reads known clauses k (from + begins) (tokens_in from rest (begins + 2)) few)
 
-    pub query_malformed : (a : ℕ) → goals 8 (counted_at known [] c.compounds) (piece (tokens_in from rest c.at)) ≡ malformed (from + a)
+    query_malformed : (a : ℕ) → goals 8 (counted_at known [] c.compounds) (piece (tokens_in from rest c.at)) ≡ malformed (from + a)
         → item (so_far known clauses k) (piece (tokens_in from rest 0)) ≡ refused (no_item (from + a))
     unfolding query_piece
     query_malformed a h = rw (reads_goals, h)
 
-    pub query_passed : goals 8 (counted_at known [] c.compounds) (piece (tokens_in from rest c.at)) ≡ passed
+    query_passed : goals 8 (counted_at known [] c.compounds) (piece (tokens_in from rest c.at)) ≡ passed
         → item (so_far known clauses k) (piece (tokens_in from rest 0)) ≡ refused (figure (from + begins))
     unfolding query_piece
     query_passed h = rw (reads_goals, h)
+
+    pub query_unread : (s' names' item' : List ℕ) (why : Unread)
+        → EndIs (goals_part (query_goals_from k)) (goals 8) text rest from (query_base k) known [] c s item₀ s' names' item' (Err why)
+        → RefusedIs rest from known clauses k begins s s' (refused_as why)
+    query_unread s' names' item' (unread.Malformed a) (h, inside, only) = (query_malformed a h, inside, only)
+    query_unread s' names' item' unread.Exceeded (h, only) = (query_passed h, only)
 
     module _ (s' names' item' : List ℕ) (w : ℕ) (c' : Cursor) (gs : List Named) (ps : List Placed) (stop : ℕ)
         (t : Ended (goals_part (query_goals_from k)) (goals 8) text rest from (query_base k) known [] c s item₀ s' names' item' w c' gs ps stop) where
@@ -136,7 +129,7 @@ module _ (text rest : Bytes) (from : ℕ) (names item₀ : List ℕ) (count₀ :
       -- Something occurs twice: there is a least fault, and the search for it has what it asks.
       pub query_broken : none_twice item' c'.variables ≡ false
           → (f : Fault) × (item (so_far known clauses k) (piece (tokens_in from rest 0)) ≡ refused (occurrence_rule (from + begins) f))
-          × Searches rest from item' c'.variables false (begins + 2) 0 (replicate 16 0) vars' none_free none f
+          × Searches rest from item' c'.variables false (begins + 2) None (replicate 16 0) vars' none_free none f
       unfolding whole goals_part pairing
       query_broken h =
           let size : length (spellings vars') ≡ c'.variables = spellings_length vars' ∙ sym t.stands.variables_count in
@@ -144,8 +137,8 @@ module _ (text rest : Bytes) (from : ℕ) (names item₀ : List ℕ) (count₀ :
           let (f, is_least, is_first) = query_fault whole (spellings vars') gs distinct (item_rising from rest c.at) counts (rw size once) in (
             f,
             reads_all ∙ judged_broken (from + begins) whole gs known' vars' c'.compounds (ends stop) f is_least,
-            searches_from rest from item' (replicate 16 0) c'.variables false c.at (begins + 2) 0 vars' none_free none f at_first
-                (searches rest from c.at 0 item' (replicate 16 0) c'.variables vars' gs none_free none t.stands.variables_in t.stands.variables_count refl
+            searches_from rest from item' (replicate 16 0) c'.variables false c.at (begins + 2) None vars' none_free none f at_first
+                (searches rest from c.at None item' (replicate 16 0) c'.variables vars' gs none_free none t.stands.variables_in t.stands.variables_count tt
                 (halves_from_none item₀ item' gs b.empty t.halves)
                 (goals_sound (counted_at known [] c.compounds) (counted_at known' vars' c'.compounds) whole gs stop t.reads) counts (length-replicate {A = ℕ} 16 0)
                 (λ x n e. rw (none_licensed n) refl) false f is_first),

@@ -1,33 +1,15 @@
 -- An item begins: its table is empty, and its first token says whether it is a clause, a query or none.
-use Prim.Native.Nat.{ℕ, zero, suc, ◌+◌, ◌*◌, ◌≤◌, ◌<◌, min}
-use mathlib.Core.Path.{◌≡◌, refl, ap, sym, ◌∙◌}
-use mathlib.Core.Bool.{Bool, true, false, ◌&&◌}
-use mathlib.Core.List.{List, [], ◌∷◌}
+use Prim.Native.Nat.{ℕ, ◌+◌, ◌≤◌, ◌<◌, min}
+use mathlib.Core.Path.{◌≡◌, refl, ◌∙◌}
+use mathlib.Core.Bool.{false}
+use mathlib.Core.List.{List, []}
 use native.Mathlib.Omega.{arith}
 use lib.ListN.{length, get_or, replicate, length-replicate, get_or-replicate}
 use borrow.Author.Tests.{lt-ltb, le-ltb}
 use Rattle.meaning.specs.Bytes.{Bytes, byte, when◌then◌else◌}
 use Rattle.meaning.specs.Terms.{Half, writer, reader, Named, goals_occurrences}
-use Rattle.meaning.specs.Tokens.{Token, name, variable, integer, sign, bad, Tokens, ends, token}
-use Rattle.meaning.specs.Items.{
-  Counted,
-  Piece,
-  refused,
-  no_item,
-  figure,
-  fresh,
-  is,
-  is_name,
-  rule,
-  goals,
-  clause_piece,
-  query_piece,
-  clause_from,
-  query_from,
-  item_from,
-  item,
-}
-use Rattle.load_tokens.specs.Fronts.{tokens_in}
+use Rattle.meaning.specs.Tokens.{Token, name, sign, Tokens, token}
+use Rattle.meaning.specs.Items.{refused, no_item, figure, fresh, is, is_name, rule, goals, clause_piece, query_piece, clause_from, query_from, item_from, item}
 use Rattle.load_names.specs.Places.{Place, spellings}
 use Rattle.load_names.specs.Tables.{VariablesIn}
 use Rattle.load_openings.specs.Reading.{piece, counted_at, half_place, Stands}

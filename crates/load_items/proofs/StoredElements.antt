@@ -1,6 +1,6 @@
 -- Elements in the scratch: words outside of their compounds may be set before or after them, and what they hold they hold.
 -- So their words as goals, or as guards, may be set when all are read.
-use Prim.Native.Nat.{ℕ, suc, ◌+◌, ◌*◌, ◌≤◌, ◌<◌}
+use Prim.Native.Nat.{ℕ, suc, ◌+◌, ◌≤◌, ◌<◌}
 use mathlib.Core.Path.{◌≡◌, refl, ap, sym, ◌∙◌}
 use mathlib.Core.Logic.{◌≢◌}
 use mathlib.Core.Bool.{Bool, true, false, ◌&&◌}
@@ -8,38 +8,17 @@ use mathlib.Core.List.{List, [], ◌∷◌}
 use mathlib.Core.Option.{Option, none, some}
 use native.Mathlib.Omega.{arith}
 use lib.Dec.{eqb}
-use lib.ListN.{length, get_or, set, length-set}
-use lib.Seq.{set_comm, get_or-set_same, get_or-set_other}
+use lib.ListN.{length, set}
+use lib.Seq.{set_comm}
 use Rattle.meaning.specs.Bytes.{Bytes, bytes, same}
-use Rattle.meaning.specs.Terms.{
-  Half,
-  Test,
-  Term,
-  Terms,
-  compound,
-  end,
-  more,
-  Row,
-  Named,
-  named,
-  Guard,
-  as_term,
-  count,
-  occurrences,
-  goals_occurrences,
-}
+use Rattle.meaning.specs.Terms.{Half, Term, Terms, compound, end, more, Row, Named, named, Guard, as_term, count, occurrences, goals_occurrences}
 use Rattle.meaning.specs.Table.{Element, whole, bare, equals, as_goals, row, rows_before, rows_between, rows_alone, in_rows, as_guard, with_guard, as_guards}
 use Rattle.laws.proofs.Lists.Tests.{differ, and_left, same_true}
-use Rattle.term.specs.Cells.{Places as CellPlaces, term_word, stored, Known, Numbered}
-use Rattle.term.specs.Frames.{Only}
+use Rattle.term.specs.Cells.{Places as CellPlaces, term_word, stored, Known}
 use Rattle.term.specs.Guards.{guard_word}
-use Rattle.term.specs.Holds.{Holds, HoldsFrom}
 use Rattle.term.specs.Jobs.{GoalsKnown}
-use Rattle.term.specs.Layout.{item_start, item_end, item_place}
-use Rattle.term.proofs.Cells.{numbered_order, stored_only, stored_set}
-use Rattle.term.proofs.Frames.{only_same, only_set, only_then, only_wider}
-use Rattle.term.proofs.Holds.{holds_kept, stored_holds}
-use Rattle.load_names.specs.Places.{Place, spellings, item_places}
+use Rattle.term.specs.Layout.{item_start, item_place}
+use Rattle.term.proofs.Cells.{numbered_order, stored_set}
 use Rattle.load_image.specs.Image.{goals_stored, test_stored, guards_stored}
 use Rattle.load_elements.specs.Elements.{
   element_stored,
@@ -51,9 +30,8 @@ use Rattle.load_elements.specs.Elements.{
   ElementKnown,
   ElementsKnown,
 }
-use Rattle.load_elements.proofs.Lists.{element_only}
-use Rattle.load_guards.specs.Judged.{HoldsElement, HoldsElements, tests_set}
-use Rattle.load_guards.proofs.Held.{element_order, elements_order, element_kept}
+use Rattle.load_guards.specs.Judged.{tests_set}
+use Rattle.load_guards.proofs.Held.{element_order, elements_order}
 use Rattle.load_items.specs.Rules.{goals_set, TestNamed, GuardsNamed}
 
 -- Words set before or after.

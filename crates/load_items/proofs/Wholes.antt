@@ -1,18 +1,17 @@
 -- Elements taken as goals one by one, by their words: a compound's tag tells one that can be.
-use Prim.Native.Nat.{ℕ, suc, ◌+◌, ◌*◌, ◌%◌, ◌≤◌, ◌<◌}
+use Prim.Native.Nat.{ℕ, suc, ◌+◌, ◌%◌, ◌<◌}
 use mathlib.Core.Path.{◌≡◌, refl, ap, sym, ◌∙◌}
 use mathlib.Core.Logic.{◌≢◌}
-use mathlib.Core.Bool.{Bool, true, false}
-use mathlib.Core.List.{List, [], ◌∷◌, ◌++◌, map, append_assoc}
-use mathlib.Core.Option.{Option, none, some}
+use mathlib.Core.List.{List, [], ◌∷◌, ◌++◌, map}
+use mathlib.Core.Option.{none, some}
 use native.Mathlib.Omega.{arith}
 use lib.ListN.{length, get_or, set, length-append, length-map}
+use Rattle.std.proofs.lemmas.List.{append-nil}
 use Rattle.meaning.specs.Terms.{Named, as_term}
 use Rattle.meaning.specs.Table.{Element, whole, bare, equals, as_goals}
 use Rattle.term.specs.Cells.{Places as CellPlaces, term_word}
-use Rattle.term.specs.Frames.{Only}
 use Rattle.load_elements.specs.Elements.{element_word}
-use Rattle.load_items.specs.Rules.{Worded, goals_set, SetIs}
+use Rattle.load_items.specs.Rules.{Worded, goals_set}
 
 as_goals_all : (gs : List Named) → as_goals (map whole gs) ≡ some gs
 unfolding as_goals
@@ -44,10 +43,6 @@ goals_set_more places place (f ∷ gs) g s =
     goals_set_more places (place + 1) gs g s₁
     ∙ set_at (goals_set places (place + 1) gs s₁) (term_word places (as_term g)) (place + 1 + length gs) (place + suc (length gs)) (omega arith)
 
-append_none : (l : List Element) → l ++ [] ≡ l
-append_none [] = refl
-append_none (d ∷ l) = ap (λ m. d ∷ m) (append_none l)
-
 -- The first i elements are goals, and their words are set.
 pub record Taken (s₀ s : List ℕ) (place : ℕ) (places : CellPlaces) (es : List Element) (i : ℕ) : Type 0 where
   pub goals : List Named
@@ -60,24 +55,24 @@ pub taken_none : (s₀ : List ℕ) (place : ℕ) (places : CellPlaces) (es : Lis
 unfolding goals_set
 taken_none s₀ place places es = record { goals = []; later = es; are = refl; count_is = refl; set_is = refl }
 
-module _ (s₀ s words : List ℕ) (n place : ℕ) (places : CellPlaces) (es : List Element) (i : ℕ) (worded : Worded words n places es)
+module _ (s₀ s words : List ℕ) (place : ℕ) (places : CellPlaces) (es : List Element) (i : ℕ) (worded : Worded words places es)
     (t : Taken s₀ s place places es i) where
   enough : length es ≡ i + length t.later
   enough = ap length t.are ∙ length-append (map whole t.goals) t.later ∙ omega (arith, length-map t.goals whole, t.count_is)
 
-  pub taken_all : i ≡ n → as_goals es ≡ some t.goals
+  pub taken_all : i ≡ length words → as_goals es ≡ some t.goals
   taken_all e = go t.later refl
     where
       go : (l : List Element) → t.later ≡ l → as_goals es ≡ some t.goals
       go [] q =
           let es_are : es ≡ map whole t.goals ++ [] = rw q at t.are in
-          let no_more : map whole t.goals ++ [] ≡ map whole t.goals = append_none (map whole t.goals) in
+          let no_more : map whole t.goals ++ [] ≡ map whole t.goals = append-nil (map whole t.goals) in
           rw (es_are, no_more) (as_goals_all t.goals)
       go (d ∷ l) q =
           let more : length t.later ≡ suc (length l) = rw q refl in
           absurd (omega (arith, enough, worded.count_is, more))
 
-  module _ (room : i < n) where
+  module _ (room : i < length words) where
     here : (d : Element) (l : List Element) → t.later ≡ d ∷ l → get_or words i 0 ≡ element_word places d
     here d l q =
         let es_are : es ≡ map whole t.goals ++ (d ∷ l) = rw q at t.are in

@@ -1,4 +1,5 @@
 pub mod Counts
 pub mod Judging
 pub mod Outcomes
+pub mod Refusing
 pub mod Rules

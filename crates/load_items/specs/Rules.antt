@@ -1,5 +1,5 @@
 -- What reading a clause answers, up to its full stop, against the definitions' `body` and `rule`.
-use Rattle.std.specs.Prelude.{ℕ, ◌+◌, ◌≤◌, ◌<◌, min, ◌≡◌, Bool, true, false, List, [], ◌∷◌, map, length, get_or, set}
+use Rattle.std.specs.Prelude.{ℕ, ◌+◌, ◌≤◌, ◌<◌, min, ◌≡◌, Bool, true, false, List, [], ◌∷◌, map, length, get_or, set, Option, Some, Result, Ok, Err}
 use Rattle.std.proofs.Math.Option.{none, some}
 use Rattle.meaning.specs.Bytes.{Bytes}
 use Rattle.meaning.specs.Terms.{
@@ -31,13 +31,14 @@ use Rattle.load_goals.specs.Endings.{Part, goals_part, Ended}
 use Rattle.load_faults.specs.Finding.{BarIs}
 use Rattle.load_elements.specs.Elements.{element_word, elements_occurrences}
 use Rattle.load_guards.specs.Judged.{tests_set, Licences}
+use Rattle.load_items.specs.declared.refused.Refused.{Refused}
+use Rattle.load_items.specs.declared.refused.Refused.TheVariants.{Malformed, Unknown, Broken, Exceeded}
 use Rattle.load_items.specs.declared.rule.Ruled.{Ruled}
-use Rattle.load_items.specs.declared.rule.Ruled.TheVariants.{Got, Unknown, Malformed, Exceeded}
 
--- The words of n elements, from the beginning of a table on.
-pub record Worded (words : List ℕ) (n : ℕ) (places : CellPlaces) (es : List Element) : Type 0 where
-  pub count_is : length es ≡ n
-  pub words_are : (i : ℕ) → i < n → get_or words i 0 ≡ get_or (map (element_word places) es) i 0
+-- The words of elements.
+pub record Worded (words : List ℕ) (places : CellPlaces) (es : List Element) : Type 0 where
+  pub count_is : length es ≡ length words
+  pub words_are : (i : ℕ) → i < length words → get_or words i 0 ≡ get_or (map (element_word places) es) i 0
 
 -- Goals' words, one behind the other.
 unfoldable pub goals_set : CellPlaces → ℕ → List Named → List ℕ → List ℕ
@@ -78,21 +79,22 @@ perhaps_goals = if_next "." (give []) (goals 8)
 
 -- What stands behind the bar of the clause k, whose n guards the table has, or not.
 abbrev pub GuardedIs : (k n : ℕ) (found : Bool) (text rest : Bytes) (from : ℕ) (known vars : List Place) (c : Cursor)
-    (s item s' names' item' : List ℕ) → Ruled → Type 0
-GuardedIs k n found text rest from known vars c s item s' names' item' (Got guards bar w c') =
-    (found ≡ true) × (guards ≡ n) × (bar ≡ c.at)
+    (s item s' names' item' : List ℕ) → Result Ruled Refused → Type 0
+GuardedIs k n found text rest from known vars c s item s' names' item' (Ok r) =
+    (found ≡ true) × (r.guards ≡ n) × (r.bar ≡ Some c.at)
     × (gs : List Named) × (passed : List Placed) × (stop : ℕ)
-    × Ended (goals_part (clause_goals_from k)) perhaps_goals text rest from (clause_base k) known vars c s item s' names' item' w c' gs passed stop
-GuardedIs k n found text rest from known vars c s item s' names' item' Unknown =
+    × Ended (goals_part (clause_goals_from k)) perhaps_goals text rest from (clause_base k) known vars c s item s' names' item' r.goals r.cursor gs passed stop
+GuardedIs k n found text rest from known vars c s item s' names' item' (Err Unknown) =
     (found ≡ false)
     × (gs : List Named) × (d : Counted) × (left : Tokens)
     × (perhaps_goals (counted_at known vars c.compounds) (piece (tokens_in from rest c.at)) ≡ read gs d left)
     × Only 0 trial_region s s'
-GuardedIs k n found text rest from known vars c s item s' names' item' (Malformed a) =
+GuardedIs k n found text rest from known vars c s item s' names' item' (Err (Malformed a)) =
     (perhaps_goals (counted_at known vars c.compounds) (piece (tokens_in from rest c.at)) ≡ malformed (from + a))
     × (a ≤ length rest) × Only 0 trial_region s s'
-GuardedIs k n found text rest from known vars c s item s' names' item' Exceeded =
+GuardedIs k n found text rest from known vars c s item s' names' item' (Err Exceeded) =
     (perhaps_goals (counted_at known vars c.compounds) (piece (tokens_in from rest c.at)) ≡ passed) × Only 0 trial_region s s'
+GuardedIs k n found text rest from known vars c s item s' names' item' (Err (Broken fault)) = ⊥
 
 -- A clause's body and the whole clause, with these guards: their words and those of the goals stand from two places on.
 unfoldable pub body_part : ℕ → List Guard → Part Body
@@ -110,7 +112,7 @@ rule_part k gs = record {
 }
 
 -- The guards of a clause that was read, as the table has them: the elements' halves are counted, and the readers that they license noted.
-pub record GuardsAre (rest : Bytes) (from : ℕ) (names : List Bytes) (in_guards licensed : List ℕ) (guards bar : ℕ) (b : Body) (gs : List Guard) : Type 0 where
+pub record GuardsAre (rest : Bytes) (from : ℕ) (names : List Bytes) (in_guards licensed : List ℕ) (guards : ℕ) (bar : Option ℕ) (b : Body) (gs : List Guard) : Type 0 where
   pub in_table : as_guards b.guards ≡ some gs
   pub count_is : length gs ≡ guards
   pub few : guards ≤ 8
@@ -121,24 +123,25 @@ pub record GuardsAre (rest : Bytes) (from : ℕ) (names : List Bytes) (in_guards
   pub licences : Licences licensed gs
 
 abbrev pub BodyIs : (k : ℕ) (text rest : Bytes) (from : ℕ) (known vars : List Place) (c : Cursor)
-    (s item s' names' item' in_guards' licensed' : List ℕ) → Ruled → Type 0
-BodyIs k text rest from known vars c s item s' names' item' in_guards' licensed' (Got guards bar w c') =
+    (s item s' names' item' in_guards' licensed' : List ℕ) → Result Ruled Refused → Type 0
+BodyIs k text rest from known vars c s item s' names' item' in_guards' licensed' (Ok r) =
     (b : Body) × (gs : List Guard) × (passed : List Placed) × (stop : ℕ)
-    × Ended (body_part k gs) (body 8 []) text rest from (clause_base k) known vars c s item s' names' item' w c' b passed stop
-    × GuardsAre rest from (spellings (names_over passed known)) in_guards' licensed' guards bar b gs
-BodyIs k text rest from known vars c s item s' names' item' in_guards' licensed' Unknown =
+    × Ended (body_part k gs) (body 8 []) text rest from (clause_base k) known vars c s item s' names' item' r.goals r.cursor b passed stop
+    × GuardsAre rest from (spellings (names_over passed known)) in_guards' licensed' r.guards r.bar b gs
+BodyIs k text rest from known vars c s item s' names' item' in_guards' licensed' (Err Unknown) =
     (b : Body) × (d : Counted) × (left : Tokens)
     × (body 8 [] (counted_at known vars c.compounds) (piece (tokens_in from rest c.at)) ≡ read b d left)
     × (as_guards b.guards ≡ none) × Only 0 trial_region s s'
-BodyIs k text rest from known vars c s item s' names' item' in_guards' licensed' (Malformed a) =
+BodyIs k text rest from known vars c s item s' names' item' in_guards' licensed' (Err (Malformed a)) =
     (body 8 [] (counted_at known vars c.compounds) (piece (tokens_in from rest c.at)) ≡ malformed (from + a))
     × (a ≤ length rest) × Only 0 trial_region s s'
-BodyIs k text rest from known vars c s item s' names' item' in_guards' licensed' Exceeded =
+BodyIs k text rest from known vars c s item s' names' item' in_guards' licensed' (Err Exceeded) =
     (body 8 [] (counted_at known vars c.compounds) (piece (tokens_in from rest c.at)) ≡ passed) × Only 0 trial_region s s'
+BodyIs k text rest from known vars c s item s' names' item' in_guards' licensed' (Err (Broken fault)) = ⊥
 
 -- A clause read whole, with its head's word noted, and its head's halves counted.
 pub record RuleRead (k : ℕ) (text rest : Bytes) (from : ℕ) (known vars : List Place) (c : Cursor) (s item heads s' names' item' heads' in_head' in_guards' licensed' : List ℕ)
-    (guards bar w : ℕ) (c' : Cursor) (r : Rule) (gs : List Guard) (passed : List Placed) (stop : ℕ) : Type 0 where
+    (guards : ℕ) (bar : Option ℕ) (w : ℕ) (c' : Cursor) (r : Rule) (gs : List Guard) (passed : List Placed) (stop : ℕ) : Type 0 where
   pub ended : Ended (rule_part k gs) rule text rest from (clause_base k) known vars c s item s' names' item' w c' r passed stop
   pub guards_are : GuardsAre rest from (spellings (names_over passed known)) in_guards' licensed' guards bar r.body gs
   pub noted : heads' ≡ set heads k (head_word (names_over passed known) r.head)
@@ -147,16 +150,18 @@ pub record RuleRead (k : ℕ) (text rest : Bytes) (from : ℕ) (known vars : Lis
   pub in_head : (h : Half) (m : ℕ) → m < 16 → get_or in_head' (half_place h m) 0 ≡ min 2 (get_or item (half_place h m) 0 + all_occurrences h m r.head.arguments)
 
 abbrev pub RuledIs : (k : ℕ) (text rest : Bytes) (from : ℕ) (known vars : List Place) (c : Cursor)
-    (s item heads s' names' item' heads' in_head' in_guards' licensed' : List ℕ) → Ruled → Type 0
-RuledIs k text rest from known vars c s item heads s' names' item' heads' in_head' in_guards' licensed' (Got guards bar w c') =
-    (r : Rule) × (gs : List Guard) × (passed : List Placed) × (stop : ℕ)
-    × RuleRead k text rest from known vars c s item heads s' names' item' heads' in_head' in_guards' licensed' guards bar w c' r gs passed stop
-RuledIs k text rest from known vars c s item heads s' names' item' heads' in_head' in_guards' licensed' Unknown =
+    (s item heads s' names' item' heads' in_head' in_guards' licensed' : List ℕ) → Result Ruled Refused → Type 0
+RuledIs k text rest from known vars c s item heads s' names' item' heads' in_head' in_guards' licensed' (Ok r) =
+    (whole : Rule) × (gs : List Guard) × (passed : List Placed) × (stop : ℕ)
+    × RuleRead k text rest from known vars c s item heads s' names' item' heads' in_head' in_guards' licensed' r.guards r.bar r.goals r.cursor
+    whole gs passed stop
+RuledIs k text rest from known vars c s item heads s' names' item' heads' in_head' in_guards' licensed' (Err Unknown) =
     (r : Rule) × (d : Counted) × (left : Tokens)
     × (rule (counted_at known vars c.compounds) (piece (tokens_in from rest c.at)) ≡ read r d left)
     × (as_guards r.body.guards ≡ none) × Only 0 trial_region s s'
-RuledIs k text rest from known vars c s item heads s' names' item' heads' in_head' in_guards' licensed' (Malformed a) =
+RuledIs k text rest from known vars c s item heads s' names' item' heads' in_head' in_guards' licensed' (Err (Malformed a)) =
     (rule (counted_at known vars c.compounds) (piece (tokens_in from rest c.at)) ≡ malformed (from + a))
     × (a ≤ length rest) × Only 0 trial_region s s'
-RuledIs k text rest from known vars c s item heads s' names' item' heads' in_head' in_guards' licensed' Exceeded =
+RuledIs k text rest from known vars c s item heads s' names' item' heads' in_head' in_guards' licensed' (Err Exceeded) =
     (rule (counted_at known vars c.compounds) (piece (tokens_in from rest c.at)) ≡ passed) × Only 0 trial_region s s'
+RuledIs k text rest from known vars c s item heads s' names' item' heads' in_head' in_guards' licensed' (Err (Broken fault)) = ⊥

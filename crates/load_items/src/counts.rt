@@ -8,22 +8,7 @@ pub fn copy_counts(source: &[u64], table: &mut [u64])
     requires { (length source.now ≡ 64) × (length table.old ≡ 64) }
     ensures { Copied source.now table.old table.new }
 {
-    let mut i = 32;
-    while i < 64 {
-        table[i] = source[i];
-        i += 1;
-    }
-}
-
-// The smaller of two and the sum of two counts.
-fn sum(a: u64, b: u64) -> u64
-    requires { (a ≤ 2) × (b ≤ 2) }
-    ensures { result ≡ min 2 (a + b) }
-{
-    if 2 < a + b {
-        return 2;
-    }
-    a + b
+    table[32..].copy_from_slice(&source[32..]);
 }
 
 // The counts of one table are added to another's.
@@ -32,9 +17,7 @@ pub fn add_counts(table: &mut [u64], source: &[u64])
     requires by_index { (i : ℕ) → i < 32 → (get_or source.now (32 + i) 0 ≤ 2) × (get_or table.old (32 + i) 0 ≤ 2) }
     ensures { Added source.now table.old table.new }
 {
-    let mut i = 32;
-    while i < 64 {
-        table[i] = sum(table[i], source[i]);
-        i += 1;
+    for i in 32..64 {
+        table[i] = (table[i] + source[i]).min(2);
     }
 }

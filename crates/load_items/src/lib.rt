@@ -5,4 +5,5 @@
 
 pub mod counts;
 pub mod items;
+pub mod refused;
 pub mod rule;

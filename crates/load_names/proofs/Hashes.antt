@@ -3,35 +3,33 @@
 use Prim.Native.Nat.{ℕ, zero, suc, ◌+◌, ◌*◌, ◌%◌, ◌≤◌, ◌<◌}
 use mathlib.Core.Path.{◌≡◌, refl, sym, ap, ◌∙◌}
 use mathlib.Core.Bool.{Bool, true, false}
-use mathlib.Core.List.{List, [], ◌∷◌, ◌++◌}
+use mathlib.Core.List.{List, ◌++◌}
 use mathlib.Core.Option.{none, some}
 use native.Mathlib.Omega.{arith}
 use native.Mathlib.Numerals.{add-one}
 use lib.Dec.{eqb, ltb}
 use borrow.Author.Tests.{eqb-true, eqb-false, ltb-true, ltb-false, eq-eqb, ne_eqb}
-use lib.ListN.{length, get_or, get_or-append}
-use lib.Seq.{slice, slice-cons, slice_empty}
+use lib.ListN.{length, drop, get_or, get_or-append, drop_of_length-le}
+use lib.Seq.{drop-cons}
 use Rattle.meaning.specs.Bytes.{Bytes, same, when◌then◌else◌}
 use Rattle.meaning.specs.Items.{place_of}
 use Rattle.laws.proofs.Lists.Tests.{same_true}
 use Rattle.load_names.specs.Places.{Place, spellings}
 use Rattle.load_names.specs.Tables.{hash_from, hash_of, no_place, last_with}
-use Rattle.term.proofs.Compared.{same_false}
-use Rattle.load_names.proofs.Spellings.{place_at, place_none}
+use Rattle.load_names.proofs.Spellings.{same_false, place_at, place_none}
 
 pub hash_fits : (f : Bytes) → hash_of f < 256
 unfolding hash_of
 hash_fits f = omega arith
 
 -- One byte more, and none left.
-pub hash_next : (rest : Bytes) (h i e : ℕ) → i < e → e ≤ length rest
-    → hash_from ((h * 33 + get_or rest i 0) % 4294967296) (slice (i + 1) e rest) ≡ hash_from h (slice i e rest)
+pub hash_next : (part : Bytes) (h i : ℕ) → i < length part → hash_from ((h * 33 + get_or part i 0) % 4294967296) (drop (i + 1) part) ≡ hash_from h (drop i part)
 unfolding hash_from
-hash_next rest h i e turn within = rw (add-one i, slice-cons i e rest 0 turn within)
+hash_next part h i turn = rw (add-one i, drop-cons part i 0 turn)
 
-pub hash_ends : (rest : Bytes) (h i e : ℕ) → i ≡ e → hash_from h (slice i e rest) ≡ h
+pub hash_ends : (part : Bytes) (h i : ℕ) → length part ≤ i → hash_from h (drop i part) ≡ h
 unfolding hash_from
-hash_ends rest h i e all = rw (all, slice_empty e rest)
+hash_ends part h i all = rw (drop_of_length-le part {i = i} all)
 
 -- The last place of a hash among the first ones, by the last of these.
 module _ (h : ℕ) (places : List Place) where

@@ -17,7 +17,7 @@ use Rattle.meaning.specs.Items.{place_of}
 use Rattle.load_names.specs.Places.{Place, spellings}
 use Rattle.load_names.specs.Tables.{hash_of, no_place, last_with, StandsAt, NamesIn, stored_name}
 use Rattle.load_names.specs.Answers.{NameIs}
-use Rattle.load_names.specs.declared.names.Numbered.TheVariants.{Number, Exceeded}
+use Rattle.std.specs.Prelude.{Some, None}
 use Rattle.load_names.proofs.Lists.{length_more, each_more, getD_zeros}
 use Rattle.load_names.proofs.Spellings.{has_place, with_known, not_known, with_new, new_place, not_spelled}
 use Rattle.load_names.proofs.Hashes.{hash_fits, last_hit, last_miss, last_before}
@@ -156,12 +156,12 @@ module _ (text : Bytes) (places : List Place) (table : List ℕ) (p : Place) (ke
 -- What `number` answers: of a name that is known, of a new one, and of the 257th.
 module _ (text : Bytes) (places : List Place) (table : List ℕ) (count at : ℕ) (f : Bytes) (kept : NamesIn text places table)
     (counted : count ≡ length places) where
-  pub name_known : (n : ℕ) → place_of f (spellings places) ≡ some n → NameIs text places at f table table (Number n count)
+  pub name_known : (n : ℕ) → place_of f (spellings places) ≡ some n → NameIs text places at f table table (Some (n, count))
   name_known n h = rw (with_known f places n at h) (kept, counted, rw counted (has_place f places n h), h)
 
   pub name_new : (h size : ℕ) (table' : List ℕ) → place_of f (spellings places) ≡ none → count < 256
       → (at + length f ≤ length text) × (slice at (at + length f) text ≡ f) → h ≡ hash_of f → size ≡ length f
-      → table' ≡ stored_name table count h at size → NameIs text places at f table table' (Number count (count + 1))
+      → table' ≡ stored_name table count h at size → NameIs text places at f table table' (Some (count, count + 1))
   name_new h size table' unknown few part hashed sized after =
       let p : Place = record { at = at; spelling = f } in
       let added = name_added text places table p kept (rw counted at few) part.0 part.1 (not_spelled f places unknown) in
@@ -172,5 +172,5 @@ module _ (text : Bytes) (places : List Place) (table : List ℕ) (count at : ℕ
         rw counted (new_place f places at unknown),
       )
 
-  pub name_passed : place_of f (spellings places) ≡ none → 256 ≤ count → NameIs text places at f table table Exceeded
+  pub name_passed : place_of f (spellings places) ≡ none → 256 ≤ count → NameIs text places at f table table None
   name_passed h many = (not_known f places h, rw counted at many, refl)

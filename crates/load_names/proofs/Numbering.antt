@@ -1,25 +1,16 @@
 -- Spellings in a list: a spelling's place is there exactly if it is among them, and one that is not there gets the next place.
-use Prim.Native.Nat.{ℕ, suc, ◌+◌, ◌<◌}
+use Prim.Native.Nat.{ℕ, suc, ◌<◌}
 use mathlib.Core.Path.{◌≡◌, refl, ap, sym, ◌∙◌}
 use mathlib.Core.Bool.{Bool, true, false, ◌||◌}
 use mathlib.Core.List.{List, [], ◌∷◌, ◌++◌, map-append}
 use mathlib.Core.Option.{Option, none, some}
 use native.Mathlib.Omega.{arith}
-use lib.Dec.{eqb}
-use borrow.Author.Tests.{eq-eqb}
 use lib.ListN.{length, length-map}
 use Rattle.meaning.specs.Bytes.{Bytes, same, any, when◌then◌else◌}
 use Rattle.meaning.specs.Items.{place_of}
+use Rattle.laws.proofs.Lists.Tests.{same_refl}
 use Rattle.term.specs.Cells.{number_of}
 use Rattle.load_names.specs.Places.{Place, spellings, with_place}
-
-eqb_self : (n : ℕ) → eqb n n ≡ true
-eqb_self n = eq-eqb n n refl
-
-pub same_self : (f : Bytes) → same f f ≡ true
-unfolding same
-same_self [] = refl
-same_self (c ∷ cs) = rw (eqb_self c) (same_self cs)
 
 -- What `place_of` does at one spelling, over the place among those behind it.
 abbrev one_behind : Bool → Option ℕ → Option ℕ
@@ -52,7 +43,7 @@ place_none x (y ∷ ys) h =
 
 pub place_last : (x : Bytes) (ys : List Bytes) → any (same x) ys ≡ false → place_of x (ys ++ (x ∷ [])) ≡ some (length ys)
 unfolding any place_of
-place_last x [] h = behind_here (same x x) none (same_self x)
+place_last x [] h = behind_here (same x x) none (same_refl x)
 place_last x (y ∷ ys) h =
     let both = or_false (same x y) (any (same x) ys) h in
     behind_next (same x y) (place_of x (ys ++ (x ∷ []))) (length ys) both.0 (place_last x ys both.1)

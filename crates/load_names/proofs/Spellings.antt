@@ -1,34 +1,27 @@
 -- Spellings: the definitions' test tells exactly whether two are the same, and the place of one among others is the first that is the same.
 -- All by recursion on the lists; a test's outcome goes to a helper with its equation.
-use Prim.Native.Nat.{ℕ, zero, suc, ◌+◌, ◌*◌, ◌-◌, ◌≤◌, ◌<◌}
-use mathlib.Core.Path.{◌≡◌, refl, sym, ap, ap₂, ◌∙◌}
+use Prim.Native.Nat.{ℕ, zero, suc, ◌+◌, ◌*◌, ◌<◌}
+use mathlib.Core.Path.{◌≡◌, refl, sym, ap, ◌∙◌}
 use mathlib.Core.Bool.{Bool, true, false, ◌||◌}
 use mathlib.Core.List.{List, [], ◌∷◌, ◌++◌, map-append}
 use mathlib.Core.Option.{Option, none, some}
 use native.Mathlib.Omega.{arith}
-use lib.Dec.{eqb}
-use borrow.Author.Tests.{eqb-true, eq-eqb, ne_eqb}
 use lib.ListN.{length, get_or, length-map}
-use lib.Seq.{slice, slice-cons, slice_empty, length-slice}
 use Rattle.meaning.specs.Bytes.{Bytes, same, any, when◌then◌else◌}
 use Rattle.meaning.specs.Items.{place_of}
-use Rattle.laws.proofs.Lists.Tests.{same_refl, same_true}
-use Rattle.term.proofs.Compared.{same_false}
+use Rattle.laws.proofs.Lists.Tests.{not_true_is_false, same_refl, same_true}
+use Rattle.std.specs.Prelude.{slice_range}
+use Rattle.std.proofs.lemmas.Slice.{between_is}
 use Rattle.load_names.specs.Places.{Place, spellings, with_place}
 use Rattle.load_names.specs.Tables.{no_place, StandsAt}
 
--- A place of a table is compared by its length first, then by its bytes.
-module _ (text rest : Bytes) (table : List ℕ) (n a e : ℕ) (f : Bytes) (stands : StandsAt text table n f) (ordered : a ≤ e) (within : e ≤ length rest)
-    (size : ℕ) (sized : size ≡ get_or table (2 * n + 1) 0) where
-  pub stands_longer : (size ≡ e - a → ⊥) → same (slice a e rest) f ≡ false
-  stands_longer h = same_false (slice a e rest) f (λ w. h (sized ∙ stands.size ∙ ap length (sym w) ∙ length-slice a e rest within))
+pub same_false : (f g : Bytes) → (f ≡ g → ⊥) → same f g ≡ false
+same_false f g h = not_true_is_false (same f g) (λ e. h (same_true f g e))
 
-  pub stands_spelled : (start : ℕ) → start ≡ get_or table (2 * n) 0 → size ≡ e - a
-      → (r : Bool) → r ≡ same (slice a (a + size) rest) (slice start (start + size) text) → r ≡ same (slice a e rest) f
-  stands_spelled start started h r compared =
-      let reaches : a + size ≡ e = omega arith in
-      let spelled : slice start (start + size) text ≡ f = rw (started, sized, stands.size) stands.spelled in
-      rw (reaches, spelled) at compared
+-- The part of the text that a place of a table names is its spelling.
+pub part_spelled : (text : Bytes) (table : List ℕ) (n : ℕ) (f : Bytes) → StandsAt text table n f → (start size : ℕ)
+    → start ≡ get_or table (2 * n) 0 → size ≡ get_or table (2 * n + 1) 0 → slice_range text start (start + size) ≡ f
+part_spelled text table n f stands start size started sized = between_is text start (start + size) ∙ rw (started, sized, stands.size) stands.spelled
 
 -- The place of a spelling, by the first of the others.
 hit : (x y : Bytes) (ys : List Bytes) → same x y ≡ true → place_of x (y ∷ ys) ≡ some 0

@@ -1,29 +1,13 @@
--- A test over the numbers up to n, as a loop makes it: one number more that passes keeps all passing, one that fails decides.
-use Prim.Native.Nat.{ℕ, zero, suc, ◌+◌, ◌≤◌, ◌<◌, min}
-use mathlib.Core.Path.{◌≡◌, refl, ap, sym, ◌∙◌}
-use mathlib.Core.Bool.{Bool, true, false, ◌&&◌}
+-- A test over the numbers up to n, one number more at a time and as the library makes it.
+use Prim.Native.Nat.{ℕ, zero, suc, ◌+◌}
+use mathlib.Core.Path.{◌≡◌, refl, sym, ap, ◌∙◌}
+use mathlib.Core.Bool.{Bool, true, false, ◌&&◌, and_assoc, and-true}
 use mathlib.Core.List.{List, [], ◌∷◌, ◌++◌}
-use mathlib.Core.Logic.{⊎_elim}
 use native.Mathlib.Omega.{arith}
-use native.Mathlib.Nat.{eq-or-lt_of_le}
+use native.Mathlib.Nat.{add-zero, zero-add}
 use native.Mathlib.Numerals.{add-one}
-use lib.Dec.{leb, eqb}
-use lib.ListN.{get_or}
-use borrow.Author.Tests.{le-leb, lt-leb, eq-eqb, ne_eqb}
+use Rattle.std.specs.List.{list_all, range_with_len}
 use Rattle.meaning.specs.Bytes.{all, up_to}
-use Rattle.load_names.specs.Rules.{once, alike}
-
-and_assoc : (a b c : Bool) → (a && b) && c ≡ a && (b && c)
-and_assoc true b c = refl
-and_assoc false b c = refl
-
-and_true : (a : Bool) → a && true ≡ a
-and_true true = refl
-and_true false = refl
-
-pub and_false : (a : Bool) → a && false ≡ false
-and_false true = refl
-and_false false = refl
 
 all_append : (test : ℕ → Bool) (xs ys : List ℕ) → all test (xs ++ ys) ≡ all test xs && all test ys
 unfolding all
@@ -33,25 +17,20 @@ all_append test (x ∷ xs) ys = rw (all_append test xs ys) (sym (and_assoc (test
 -- One number more.
 pub all_suc : (test : ℕ → Bool) (n : ℕ) → all test (up_to (suc n)) ≡ all test (up_to n) && test n
 unfolding up_to all
-all_suc test n = rw (all_append test (up_to n) (n ∷ []), and_true (test n))
+all_suc test n = rw (all_append test (up_to n) (n ∷ []), and-true (test n))
 
-pub all_next : (test : ℕ → Bool) (n : ℕ) → all test (up_to n) ≡ true → test n ≡ true → all test (up_to (n + 1)) ≡ true
-all_next test n h t = rw (add-one n, all_suc test n, h, t)
+-- As the library tests them, from some number on.
+all_from : (test : ℕ → Bool) (a n : ℕ) → (all test (up_to a) && list_all test (range_with_len a n)) ≡ all test (up_to (a + n))
+all_from test a zero = rw (add-zero a) (and-true (all test (up_to a)))
+all_from test a (suc n) =
+    sym (and_assoc (all test (up_to a)) (test a) (list_all test (range_with_len (a + 1) n)))
+    ∙ ap (λ t. t && list_all test (range_with_len (a + 1) n)) (sym (rw (add-one a) (all_suc test a)))
+    ∙ all_from test (a + 1) n
+    ∙ ap (λ k. all test (up_to k)) (omega arith)
 
-pub all_none : (test : ℕ → Bool) → all test (up_to 0) ≡ true
+pub all_counted : (test : ℕ → Bool) (n : ℕ) → list_all test (range_with_len 0 n) ≡ all test (up_to n)
 unfolding up_to all
-all_none test = refl
-
--- One that fails.
-pub all_fails : (test : ℕ → Bool) (m n : ℕ) → n < m → test n ≡ false → all test (up_to m) ≡ false
-all_fails test zero n h t = absurd (omega arith)
-all_fails test (suc m) n h t =
-    let below : n ≤ m = omega arith in
-    rw (all_suc test m)
-    (⊎_elim
-    (λ (e : n ≡ m). rw (rw e at t) (and_false (all test (up_to m))))
-    (λ (l : n < m). rw (all_fails test m n l t))
-    (eq-or-lt_of_le below))
+all_counted test n = all_from test 0 n ∙ ap (λ k. all test (up_to k)) (zero-add n)
 
 -- Both tests at once.
 pub swap_and : (a b c d : Bool) → (a && b) && (c && d) ≡ (a && c) && (b && d)
@@ -59,25 +38,3 @@ swap_and true true c d = refl
 swap_and true false true d = refl
 swap_and true false false d = refl
 swap_and false b c d = refl
-
--- The tests of one pair, from the table's two words.
-module _ (item : List ℕ) (n : ℕ) where
-  pub once_fails : 1 < get_or item (32 + n) 0 → once item n ≡ false
-  unfolding once
-  once_fails h = rw (lt-leb (get_or item (32 + n) 0) 1 h)
-
-  pub once_fails_2 : 1 < get_or item (48 + n) 0 → once item n ≡ false
-  unfolding once
-  once_fails_2 h = rw (lt-leb (get_or item (48 + n) 0) 1 h) (and_false (leb (get_or item (32 + n) 0) 1))
-
-  pub once_passes : get_or item (32 + n) 0 ≤ 1 → get_or item (48 + n) 0 ≤ 1 → once item n ≡ true
-  unfolding once
-  once_passes h k = rw (le-leb (get_or item (32 + n) 0) 1 h, le-leb (get_or item (48 + n) 0) 1 k)
-
-  pub alike_fails : (get_or item (32 + n) 0 ≡ get_or item (48 + n) 0 → ⊥) → alike item n ≡ false
-  unfolding alike
-  alike_fails h = ne_eqb (get_or item (32 + n) 0) (get_or item (48 + n) 0) h
-
-  pub alike_passes : get_or item (32 + n) 0 ≡ get_or item (48 + n) 0 → alike item n ≡ true
-  unfolding alike
-  alike_passes h = eq-eqb (get_or item (32 + n) 0) (get_or item (48 + n) 0) h

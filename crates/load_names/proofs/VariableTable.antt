@@ -17,7 +17,7 @@ use Rattle.meaning.specs.Items.{place_of}
 use Rattle.load_names.specs.Places.{Place, spellings}
 use Rattle.load_names.specs.Tables.{no_place, StandsAt, VariablesIn, stored_variable, counted_half}
 use Rattle.load_names.specs.Answers.{VariableIs}
-use Rattle.load_names.specs.declared.variables.Numbered.TheVariants.{Number, Exceeded}
+use Rattle.std.specs.Prelude.{Some, None}
 use Rattle.load_names.proofs.Lists.{length_more, each_more, getD_zeros}
 use Rattle.load_names.proofs.Spellings.{has_place, with_known, not_known, with_new, new_place}
 
@@ -118,7 +118,7 @@ module _ (rest : Bytes) (places : List Place) (table : List ℕ) (kept : Variabl
 module _ (rest : Bytes) (places : List Place) (table : List ℕ) (count half at : ℕ) (x : Bytes) (kept : VariablesIn rest places table)
     (counted : count ≡ length places) (behind : 32 ≤ half) (within : half ≤ 48) where
   pub variable_known : (n : ℕ) (table' : List ℕ) → place_of x (spellings places) ≡ some n → table' ≡ counted_half table (half + n)
-      → VariableIs rest places half at x table table' (Number n count)
+      → VariableIs rest places half at x table table' (Some (n, count))
   variable_known n table' h after =
       let inside = has_place x places n h in
       let reach : half + n < 64 = omega (arith, kept.few) in
@@ -133,7 +133,7 @@ module _ (rest : Bytes) (places : List Place) (table : List ℕ) (count half at 
 
   pub variable_new : (size : ℕ) (table' : List ℕ) → place_of x (spellings places) ≡ none → count < 16
       → (at + length x ≤ length rest) × (slice at (at + length x) rest ≡ x) → size ≡ length x
-      → table' ≡ counted_half (stored_variable table count at size) (half + count) → VariableIs rest places half at x table table' (Number count (count + 1))
+      → table' ≡ counted_half (stored_variable table count at size) (half + count) → VariableIs rest places half at x table table' (Some (count, count + 1))
   variable_new size table' unknown few part sized after =
       let p : Place = record { at = at; spelling = x } in
       let before = stored_variable table (length places) at (length x) in
@@ -151,5 +151,5 @@ module _ (rest : Bytes) (places : List Place) (table : List ℕ) (count half at 
         λ k l d. get_or-set_other before place k (min 2 (get_or before place 0 + 1)) 0 d ∙ word k (omega arith) (omega arith),
       )
 
-  pub variable_passed : place_of x (spellings places) ≡ none → 16 ≤ count → VariableIs rest places half at x table table Exceeded
+  pub variable_passed : place_of x (spellings places) ≡ none → 16 ≤ count → VariableIs rest places half at x table table None
   variable_passed h many = (not_known x places h, rw counted at many, refl)

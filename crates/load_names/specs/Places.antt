@@ -1,7 +1,7 @@
 -- Where the names of a text and the variables of an item first stand.
-use Rattle.std.specs.Prelude.{ℕ, ◌+◌, ◌*◌, ◌-◌, Bool, true, false, List, [], ◌∷◌, ◌++◌, map}
+use Rattle.std.specs.Prelude.{ℕ, ◌-◌, List, [], ◌∷◌, ◌++◌, map}
 use Rattle.meaning.specs.Bytes.{Bytes, same, any, when◌then◌else◌}
-use Rattle.meaning.specs.Tokens.{Token, Tokens, ends, token, name, variable, integer, sign, bad}
+use Rattle.meaning.specs.Tokens.{Token, Tokens, token, name, variable, integer, sign, bad}
 use Rattle.term.specs.Cells.{Places as CellPlaces}
 use Rattle.term.specs.Layout.{item_place}
 

@@ -9,73 +9,48 @@ ghost use Rattle.load_names.specs.Places.{Place, spellings};
 ghost use Rattle.load_names.specs.Tables.{hash_of, StandsAt, NamesIn, stored_name};
 ghost use Rattle.load_names.specs.Answers.{found, NameIs};
 
-use term::bytes::same;
+use crate::source::Source;
 use term::word::{index, word};
 
-#[derive(Clone, Copy)]
-pub enum Numbered {
-    // The name's number, and how many names there are then.
-    Number(usize, usize),
-    Exceeded,
-}
-
-// The number of the place that a search has found, if any.
-#[derive(Clone, Copy)]
-pub enum Found {
-    At(usize),
-    Nothing,
-}
-
-fn wide(c: u8) -> usize
-    ensures { result ≡ c }
-{
-    c as usize
-}
-
-// A hash below 256 of the bytes from a to e.
-fn hash(rest: &[u8], a: usize, e: usize) -> usize
-    requires { (a ≤ e) × (e ≤ length rest.now) }
-    ensures { result ≡ hash_of (slice a e rest.now) }
+// A hash below 256 of a spelling.
+fn hash(spelling: &[u8]) -> usize
+    ensures { result ≡ hash_of spelling.now }
 {
     let mut h: usize = 0;
-    let mut i = a;
-    while i < e {
-        h = (h * 33 + wide(rest[i])) % 4_294_967_296;
-        i += 1;
+    for c in spelling {
+        h = (h * 33 + usize::from(*c)) % 4_294_967_296;
     }
     h % 256
 }
 
-// Whether the place of this number is spelled as the bytes of the rest from a to e.
-pub fn spelled(text: &[u8], rest: &[u8], table: &[u64], n: usize, a: usize, e: usize) -> bool
-    requires a_le_e { (a ≤ e) × (e ≤ length rest.now) }
+// Whether the place of this number is spelled so.
+pub fn spelled(text: &[u8], table: &[u64], n: usize, spelling: &[u8]) -> bool
     requires stands_at { (f : Bytes) × StandsAt text.now table.now n f }
-    ensures { (f : Bytes) → StandsAt text.now table.now n f → result ≡ alike (slice a e rest.now) f }
+    ensures { (f : Bytes) → StandsAt text.now table.now n f → result ≡ alike spelling.now f }
 {
     let start = index(table[2 * n]);
     let size = index(table[2 * n + 1]);
-    if size != e - a {
-        return false;
-    }
-    same(rest, a, text, start, size)
+    spelling == &text[start..start + size]
 }
 
 // The number of the name that is spelled so, among those with this hash.
-fn find(text: &[u8], rest: &[u8], table: &[u64], h: usize, a: usize, e: usize) -> Found
-    requires a_le_e { (a ≤ e) × (e ≤ length rest.now) × (h ≡ hash_of (slice a e rest.now)) }
+#[tactic(auto, using(crate::proofs::Hashes::hash_fits))]
+fn find(text: &[u8], table: &[u64], h: usize, spelling: &[u8]) -> Option<usize>
+    requires hashed { h ≡ hash_of spelling.now }
     requires names_in { (places : List Place) × NamesIn text.now places table.now }
     ensures { (places : List Place) → NamesIn text.now places table.now
-        → found result ≡ place_of (slice a e rest.now) (spellings places) }
+        → found result ≡ place_of spelling.now (spellings places) }
 {
+    // Stays a number: a link is a word of the table, 0 for none.
     let mut next = index(table[512 + h]);
     while next != 0 {
         let n = next - 1;
-        if spelled(text, rest, table, n, a, e) {
-            return Found::At(n);
+        if spelled(text, table, n, spelling) {
+            return Some(n);
         }
         next = index(table[768 + n]);
     }
-    Found::Nothing
+    None
 }
 
 // A new name becomes the last one of its hash.
@@ -90,28 +65,30 @@ fn add(table: &mut [u64], count: usize, h: usize, start: usize, size: usize)
     table[512 + h] = word(count + 1);
 }
 
-// The number of the name from a to e of the rest, which begins at an offset of the text; the new name may pass the figure.
+// Stays a table with its count beside it: fixed memory, lent by the loader; the count goes on by value in the cursor.
+// The number of the name from a to e of the rest, which begins at an offset of the text, and how many names there are then; none where a new
+// name passes the figure.
 pub fn number(
-    text: &[u8],
-    rest: &[u8],
-    from: usize,
+    src: Source<'_>,
     table: &mut [u64],
     count: usize,
     a: usize,
     e: usize,
-) -> Numbered
-    requires from_in_bounds { (from ≤ length text.now) × (rest.now ≡ drop from text.now) × (a < e) × (e ≤ length rest.now) × (e ≤ a + 31) }
-    requires names_in { (places : List Place) × NamesIn text.now places table.old × (count ≡ length places) }
-    ensures { (places : List Place) → NamesIn text.now places table.old → count ≡ length places
-        → NameIs text.now places (from + a) (slice a e rest.now) table.old table.new result }
+) -> Option<(usize, usize)>
+    requires in_rest { (a < e) × (e ≤ length src.rest.now) × (e ≤ a + 31) }
+    requires names_in { (places : List Place) × NamesIn src.text.now places table.old × (count ≡ length places) }
+    ensures { (places : List Place) → NamesIn src.entry.text.now places table.old → count ≡ length places
+        → NameIs src.entry.text.now places (src.entry.from + a) (slice a e src.entry.rest.now)
+        table.old table.new result }
 {
-    let h = hash(rest, a, e);
-    if let Found::At(n) = find(text, rest, table, h, a, e) {
-        return Numbered::Number(n, count);
+    let spelling = &src.rest[a..e];
+    let h = hash(spelling);
+    if let Some(n) = find(src.text, table, h, spelling) {
+        return Some((n, count));
     }
     if 256 <= count {
-        return Numbered::Exceeded;
+        return None;
     }
-    add(table, count, h, from + a, e - a);
-    Numbered::Number(count, count + 1)
+    add(table, count, h, src.from + a, spelling.len());
+    Some((count, count + 1))
 }

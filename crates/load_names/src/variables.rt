@@ -7,31 +7,21 @@ ghost use Rattle.load_names.specs.Places.{Place, spellings};
 ghost use Rattle.load_names.specs.Tables.{VariablesIn, stored_variable, counted_half};
 ghost use Rattle.load_names.specs.Answers.{found, VariableIs};
 
-use crate::names::{Found, spelled};
+use crate::names::spelled;
 use term::word::word;
 
-#[derive(Clone, Copy)]
-pub enum Numbered {
-    // The variable's number, and how many there are then.
-    Number(usize, usize),
-    Exceeded,
-}
-
-// The number of the variable that is spelled as the bytes from a to e.
-pub fn find(rest: &[u8], table: &[u64], count: usize, a: usize, e: usize) -> Found
-    requires a_le_e { (a ≤ e) × (e ≤ length rest.now) }
+// The number of the variable that is spelled so.
+pub fn find(rest: &[u8], table: &[u64], count: usize, spelling: &[u8]) -> Option<usize>
     requires variables_in { (places : List Place) × VariablesIn rest.now places table.now × (count ≡ length places) }
     ensures { (places : List Place) → VariablesIn rest.now places table.now → count ≡ length places
-        → found result ≡ place_of (slice a e rest.now) (spellings places) }
+        → found result ≡ place_of spelling.now (spellings places) }
 {
-    let mut n = 0;
-    while n < count {
-        if spelled(rest, rest, table, n, a, e) {
-            return Found::At(n);
+    for n in 0..count {
+        if spelled(rest, table, n, spelling) {
+            return Some(n);
         }
-        n += 1;
     }
-    Found::Nothing
+    None
 }
 
 // A new variable's place.
@@ -48,14 +38,13 @@ fn occurs(table: &mut [u64], place: usize)
     requires { (place < length table.old) × (get_or table.old place 0 ≤ 2) }
     ensures { table.new ≡ counted_half table.old place }
 {
-    let often = table[place];
-    if often < 2 {
-        table[place] = often + 1;
-    }
+    table[place] = 2.min(table[place] + 1);
 }
 
-// The number of the variable from a to e, one of whose halves occurs here, 32 for the writer and 48 for the reader; the seventeenth pair
-// passes the figure.
+// Stays a table with its count beside it: fixed memory, lent by the loader; the count goes on by value in the cursor.
+// Stays a number for the half: it is the place from which on the table counts it, so an enum would only be turned back into it here.
+// The number of the variable from a to e, one of whose halves occurs here, 32 for the writer and 48 for the reader, and how many variables
+// there are then; none where a new one passes the figure.
 pub fn number(
     rest: &[u8],
     table: &mut [u64],
@@ -63,20 +52,20 @@ pub fn number(
     half: usize,
     a: usize,
     e: usize,
-) -> Numbered
+) -> Option<(usize, usize)>
     requires a_lt_e { (a < e) × (e ≤ length rest.now) × (32 ≤ half) × (half ≤ 48) }
     requires variables_in { (places : List Place) × VariablesIn rest.now places table.old × (count ≡ length places) }
     ensures { (places : List Place) → VariablesIn rest.now places table.old → count ≡ length places
         → VariableIs rest.now places half a (slice a e rest.now) table.old table.new result }
 {
-    if let Found::At(n) = find(rest, table, count, a, e) {
+    if let Some(n) = find(rest, table, count, &rest[a..e]) {
         occurs(table, half + n);
-        return Numbered::Number(n, count);
+        return Some((n, count));
     }
     if 16 <= count {
-        return Numbered::Exceeded;
+        return None;
     }
     add(table, count, a, e - a);
     occurs(table, half + count);
-    Numbered::Number(count, count + 1)
+    Some((count, count + 1))
 }

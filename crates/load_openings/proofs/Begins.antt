@@ -1,7 +1,8 @@
 -- The reader of a term by its first token, and by the next where that is a name or `[`: each lemma is one arm of the code.
-use Prim.Native.Nat.{ℕ, zero, suc, ◌-◌}
+use Prim.Native.Nat.{ℕ, zero, suc}
 use mathlib.Core.Path.{◌≡◌, refl, ◌∙◌}
 use mathlib.Core.Bool.{false}
+use mathlib.Core.List.{[], ◌∷◌}
 use lib.Dec.{eqb}
 use Rattle.meaning.specs.Bytes.{Bytes, byte, when◌then◌else◌}
 use Rattle.meaning.specs.Terms.{Half, Integer, Constant, empty, Term}
@@ -9,7 +10,7 @@ use Rattle.meaning.specs.Tokens.{Tokens, ends, token, name, variable, integer, s
 use Rattle.meaning.specs.Items.{Counted, Reader, read, malformed, passed, read_on, ◌>>=◌, ◌>>◌, give, cannot_stand, passes, next, is, if_next, count_name, count_variable, elements, list_of, term_from, term}
 use Rattle.load_tokens.specs.Nexts.{one_of, Stops}
 use Rattle.load_openings.specs.Reading.{round_of}
-use Rattle.load_openings.proofs.Readers.{if_next_other, if_next_other_bracket}
+use Rattle.load_openings.proofs.Expected.{if_next_other}
 
 -- What may stand in a round or a square bracket.
 abbrev round : ℕ → Bytes → Reader Term
@@ -60,12 +61,12 @@ module _ (left : ℕ) (counted : Counted) (p : ℕ) where
     unfolding next term_from ◌>>◌ read_on give
     term_name_passed e = term_is left counted (token p (name f) behind) ∙ rw e
 
-    pub term_name : (counted' : Counted) (place : ℕ) → count_name f counted behind ≡ read tt counted' behind → Stops (one_of 40 40 40) place behind
+    pub term_name : (counted' : Counted) (place : ℕ) → count_name f counted behind ≡ read tt counted' behind → Stops (one_of (40 ∷ [])) place behind
         → term left counted (token p (name f) behind) ≡ read (Term.constant (Constant.name f)) counted' behind
-    unfolding next term_from ◌>>◌ read_on give
+    unfolding next term_from ◌>>◌ read_on give byte
     term_name counted' place e h =
         term_is left counted (token p (name f) behind)
-        ∙ rw (e, if_next_other (round left f) (give (Term.constant (Constant.name f))) place counted' behind h)
+        ∙ rw (e, if_next_other counted' "(" (round left f) (give (Term.constant (Constant.name f))) place behind h)
 
   -- A round bracket behind a name.
   module _ (f : Bytes) (q : ℕ) (behind : Tokens) (counted' : Counted)
@@ -91,11 +92,11 @@ module _ (left : ℕ) (counted : Counted) (p : ℕ) where
     unfolding passes
     term_square_passed z = term_list ∙ rw z
 
-    pub term_square : (l place : ℕ) → left ≡ suc l → Stops (one_of 93 93 93) place behind
+    pub term_square : (l place : ℕ) → left ≡ suc l → Stops (one_of (93 ∷ [])) place behind
         → term left counted (token p (sign 91) behind) ≡ elements (term l) 32 counted behind
-    unfolding list_of
+    unfolding list_of byte
     term_square l place z h =
-        term_list ∙ rw (z, if_next_other_bracket (give (Term.constant empty)) (elements (term l) 32) place counted behind h)
+        term_list ∙ rw (z, if_next_other counted "]" (give (Term.constant empty)) (elements (term l) 32) place behind h)
 
   pub term_empty : (l q : ℕ) (behind : Tokens) → left ≡ suc l
       → term left counted (token p (sign 91) (token q (sign 93) behind)) ≡ read (Term.constant empty) counted behind

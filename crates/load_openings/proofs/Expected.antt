@@ -1,33 +1,19 @@
--- The definitions' small readers at the tokens in front: a piece up to a token that is no full stop, a name counted, a sign that comes next
--- or none of those expected.
-use Prim.Native.Nat.{ℕ, zero, suc, ◌+◌, ◌≤◌, ◌<◌}
+-- The definitions' small readers at the tokens in front: a piece up to a token that is no full stop, a sign that comes next or none of those
+-- expected.
+use Prim.Native.Nat.{ℕ}
 use Prim.Native.Char.{Char}
-use mathlib.Core.Path.{◌≡◌, refl, ap, sym, ◌∙◌}
-use mathlib.Core.Bool.{Bool, true, false, ◌||◌}
-use mathlib.Core.List.{List, [], ◌∷◌, ◌++◌, map}
+use mathlib.Core.Path.{◌≡◌, refl, ap}
+use mathlib.Core.Bool.{true, false}
+use mathlib.Core.List.{List, [], ◌∷◌}
 use native.Mathlib.Omega.{arith}
-use lib.Dec.{ltb, eqb}
-use lib.ListN.{length, length-append, length-map}
-use borrow.Author.Tests.{lt-ltb, le-ltb}
-use Rattle.meaning.specs.Bytes.{Bytes, byte, same, any, when◌then◌else◌}
+use lib.Dec.{eqb}
+use borrow.Author.Tests.{ne_eqb}
+use Rattle.std.proofs.lemmas.Bool.Decides.{nat_tests}
+use Rattle.meaning.specs.Bytes.{byte, among, when◌then◌else◌}
+use Rattle.meaning.specs.Terms.{Term}
 use Rattle.meaning.specs.Tokens.{Token, name, variable, integer, sign, bad, Tokens, ends, token}
-use Rattle.meaning.specs.Items.{
-  Counted,
-  read,
-  malformed,
-  passed,
-  read_on,
-  give,
-  cannot_stand,
-  next,
-  is,
-  expect,
-  either,
-  count_name,
-}
-use Rattle.load_names.specs.Places.{Place, spellings, with_place}
-use Rattle.load_names.proofs.Numbering.{spellings_snoc, spellings_length}
-use Rattle.load_openings.specs.Reading.{piece, counted_at}
+use Rattle.meaning.specs.Items.{Counted, Reader, read, malformed, give, cannot_stand, next, is, expect, either, if_next, tail_of}
+use Rattle.load_openings.specs.Reading.{piece}
 use Rattle.load_tokens.specs.Nexts.{one_of, Stops}
 
 -- A piece goes on behind a token that is no full stop, and ends behind one that is.
@@ -39,30 +25,30 @@ pub piece_stop : (at : ℕ) (t : Token) (ts : Tokens) → is "." t ≡ true → 
 unfolding piece when◌then◌else◌
 piece_stop at t ts h = rw h
 
--- None of three signs: so neither the first nor the second.
-or_left : (a b : Bool) → (a || b) ≡ false → a ≡ false
-or_left false b h = refl
-or_left true b h = h
+-- A token that is none of some signs is no one of them.
+other_sign : (b x : ℕ) (signs : List ℕ) → among x signs ≡ true → among b signs ≡ false → eqb b x ≡ false
+other_sign b x signs m h = ne_eqb b x (λ e. let z : among b signs ≡ true = rw e m in cc)
 
-or_right : (a b : Bool) → (a || b) ≡ false → b ≡ false
-or_right false b h = h
-or_right true b h = let z : true ≡ false = h in cc
-
-none_first : (c : Char) (y z : ℕ) (t : Token) → one_of (byte c) y z t ≡ false → is c t ≡ false
+none_of : (c : Char) (signs : List ℕ) (t : Token) → among (byte c) signs ≡ true → one_of signs t ≡ false → is c t ≡ false
 unfolding is one_of
-none_first c y z (name f) h = refl
-none_first c y z (variable k x) h = refl
-none_first c y z (integer i) h = refl
-none_first c y z (sign b) h = or_left (eqb b (byte c)) (eqb b y || eqb b z) h
-none_first c y z bad h = refl
+none_of c signs (name f) m h = refl
+none_of c signs (variable k x) m h = refl
+none_of c signs (integer i) m h = refl
+none_of c signs (sign b) m h = other_sign b (byte c) signs m h
+none_of c signs bad m h = refl
 
-none_second : (c : Char) (x z : ℕ) (t : Token) → one_of x (byte c) z t ≡ false → is c t ≡ false
-unfolding is one_of
-none_second c x z (name f) h = refl
-none_second c x z (variable k v) h = refl
-none_second c x z (integer i) h = refl
-none_second c x z (sign b) h = or_left (eqb b (byte c)) (eqb b z) (or_right (eqb b x) (eqb b (byte c) || eqb b z) h)
-none_second c x z bad h = refl
+-- Of two signs, what is not the second is the first.
+pub first_of_two : (b x y : ℕ) → among b (x ∷ y ∷ []) ≡ true → (b ≡ y → ⊥) → b ≡ x
+unfolding among
+first_of_two b x y h p = grind (arith, nat_tests)
+
+first_among : (x : ℕ) (signs : List ℕ) → among x (x ∷ signs) ≡ true
+unfolding among
+first_among x signs = grind (arith, nat_tests)
+
+second_among : (x y : ℕ) (signs : List ℕ) → among y (x ∷ y ∷ signs) ≡ true
+unfolding among
+second_among x y signs = grind (arith, nat_tests)
 
 module _ (counted : Counted) where
   pub expect_this : (c : Char) (at : ℕ) (t : Token) (ts : Tokens) → is c t ≡ true → expect c counted (token at t ts) ≡ read tt counted ts
@@ -78,51 +64,38 @@ module _ (counted : Counted) where
   unfolding either next give when◌then◌else◌
   either_second c d at t ts h k = rw (h, k)
 
-  pub expect_none : (c : Char) (y z place : ℕ) (ts : Tokens) → Stops (one_of (byte c) y z) place ts → expect c counted (piece ts) ≡ malformed place
-  unfolding expect next piece cannot_stand when◌then◌else◌
-  expect_none c y z place (ends n) h = ap malformed h
-  expect_none c y z place (token at t ts) h = rw (none_first c y z t h.1) (ap malformed h.0)
+  -- Where no sign comes next that can stand there.
+  pub expect_stops : (c : Char) (place : ℕ) (ts : Tokens) → Stops (one_of (byte c ∷ [])) place ts → expect c counted ts ≡ malformed place
+  unfolding expect next cannot_stand when◌then◌else◌
+  expect_stops c place (ends n) h = ap malformed h
+  expect_stops c place (token at t ts) h = rw (none_of c (byte c ∷ []) t (first_among (byte c) []) h.1) (ap malformed h.0)
 
-  pub either_none : (c e : Char) (z place : ℕ) (ts : Tokens) → Stops (one_of (byte c) (byte e) z) place ts
-      → either c e counted (piece ts) ≡ malformed place
-  unfolding either next piece cannot_stand when◌then◌else◌
-  either_none c e z place (ends n) h = ap malformed h
-  either_none c e z place (token at t ts) h =
-      rw (none_first c (byte e) z t h.1, none_second e (byte c) z t h.1) (ap malformed h.0)
+  pub either_stops : (c e : Char) (place : ℕ) (ts : Tokens) → Stops (one_of (byte c ∷ byte e ∷ [])) place ts
+      → either c e counted ts ≡ malformed place
+  unfolding either next cannot_stand when◌then◌else◌
+  either_stops c e place (ends n) h = ap malformed h
+  either_stops c e place (token at t ts) h =
+      let signs : List ℕ = byte c ∷ byte e ∷ [] in
+      let first = none_of c signs t (first_among (byte c) (byte e ∷ [])) h.1 in
+      let second = none_of e signs t (second_among (byte c) (byte e) []) h.1 in
+      rw (first, second) (ap malformed h.0)
 
--- A name is counted where it first stands, unless it is known.
-module _ (at : ℕ) (f : Bytes) (known vars : List Place) (n : ℕ) (ts : Tokens) where
-  pub name_known : any (same f) (spellings known) ≡ true
-      → count_name f (counted_at known vars n) ts ≡ read tt (counted_at (with_place at f known) vars n) ts
-  unfolding count_name counted_at with_place when◌then◌else◌
-  name_known h = rw h
+  pub tail_stops : (element others : Reader Term) (place : ℕ) (ts : Tokens) → Stops (one_of (44 ∷ 124 ∷ 93 ∷ [])) place ts
+      → next (tail_of element others) counted ts ≡ malformed place
+  unfolding next tail_of cannot_stand byte among when◌then◌else◌
+  tail_stops element others place (ends n) h = ap malformed h
+  tail_stops element others place (token at t ts) h =
+      let signs : List ℕ = 44 ∷ 124 ∷ 93 ∷ [] in
+      let comma = none_of "," signs t refl h.1 in
+      let bar = none_of "|" signs t refl h.1 in
+      let bracket = none_of "]" signs t refl h.1 in
+      rw (comma, bar, bracket) (ap malformed h.0)
 
-  pub name_new : any (same f) (spellings known) ≡ false → length known < 256
-      → count_name f (counted_at known vars n) ts ≡ read tt (counted_at (with_place at f known) vars n) ts
-  unfolding count_name counted_at with_place when◌then◌else◌
-  name_new h few =
-      let l : length (spellings known) < 256 = omega (arith, spellings_length known) in
-      rw (h, lt-ltb (length (spellings known)) 256 l, spellings_snoc known at f)
-
-  pub name_passed : any (same f) (spellings known) ≡ false → 256 ≤ length known → count_name f (counted_at known vars n) ts ≡ passed
-  unfolding count_name counted_at when◌then◌else◌
-  name_passed h many =
-      let l : 256 ≤ length (spellings known) = omega (arith, spellings_length known) in
-      rw (h, le-ltb (length (spellings known)) 256 l)
-
-  with_new : any (same f) (spellings known) ≡ false → length (with_place at f known) ≡ length known + 1
-  unfolding with_place when◌then◌else◌
-  with_new h = rw h (length-append known (record { at = at; spelling = f } ∷ []))
-
-  -- Whichever it was, it is counted where there are no more than 256 then.
-  counted_by : (b : Bool) → any (same f) (spellings known) ≡ b → length (with_place at f known) ≤ 256
-      → count_name f (counted_at known vars n) ts ≡ read tt (counted_at (with_place at f known) vars n) ts
-  counted_by true h few = name_known h
-  counted_by false h few = name_new h (omega (arith, with_new h))
-
-  pub name_counted : length (with_place at f known) ≤ 256
-      → count_name f (counted_at known vars n) ts ≡ read tt (counted_at (with_place at f known) vars n) ts
-  name_counted few = counted_by (any (same f) (spellings known)) refl few
+  pub if_next_other : {A : Type 0} (c : Char) (first second : Reader A) (place : ℕ) (ts : Tokens) → Stops (one_of (byte c ∷ [])) place ts
+      → if_next c first second counted ts ≡ second counted ts
+  unfolding if_next when◌then◌else◌
+  if_next_other c first second place (ends p) h = refl
+  if_next_other c first second place (token p t ts) h = rw (none_of c (byte c ∷ []) t (first_among (byte c) []) h.1)
 
 -- A sign is itself, so it cannot come as another answer.
 pub never : {P : Type 0} → true ≡ false → P

@@ -1,5 +1,6 @@
 -- What a reader gave, carried over to the reader that called it: behind a bracket, behind a sign, as a term.
-use Prim.Native.Nat.{ℕ, ◌+◌, ◌*◌, ◌-◌, ◌<◌, min}
+use Rattle.std.specs.Prelude.{Result, Ok, Err}
+use Prim.Native.Nat.{ℕ, ◌+◌, ◌<◌, min}
 use mathlib.Core.Path.{◌≡◌, refl, ap, ◌∙◌}
 use mathlib.Core.Bool.{false}
 use mathlib.Core.List.{List, [], ◌∷◌, ◌++◌}
@@ -17,8 +18,8 @@ use Rattle.load_names.specs.Places.{Place, Placed, spellings, names_over, variab
 use Rattle.load_tokens.specs.Nexts.{SignAt}
 use Rattle.load_openings.specs.Reading.{piece, counted_at, half_place, Stands, Gave, ReadIs, round_of, Opened}
 use Rattle.load_openings.specs.declared.cursor.Cursor.{Cursor}
-use Rattle.load_openings.specs.declared.cursor.Read.{Read}
-use Rattle.load_openings.specs.declared.cursor.Read.TheVariants.{Got, Malformed, Exceeded}
+use Rattle.load_openings.specs.declared.cursor.Unread.{Unread}
+use Rattle.load_openings.specs.declared.cursor.Unread.TheVariants.{Malformed, Exceeded}
 use Rattle.load_openings.proofs.Moves.{Moves, moves_then, moves_sign, sign_placed, piece_sign, moved_to, stands_moved, stored_in_item}
 
 -- What was given, by the places that the tokens lead to.
@@ -61,11 +62,11 @@ gave_only {seen = seen} {base = base} {known = known} {c = c} {s = s} {c' = c'} 
 
 module _ (text rest : Bytes) (from base : ℕ) (s s' names' item' : List ℕ) where
   -- A compound as a term.
-  pub round_read : (argument : Reader Term) (f : Bytes) (known vars : List Place) (c : Cursor) (item : List ℕ) (r : Read)
+  pub round_read : (argument : Reader Term) (f : Bytes) (known vars : List Place) (c : Cursor) (item : List ℕ) (r : Result (ℕ × Cursor) Unread)
       → ReadIs as_term (compound_of argument f) text rest from base known vars c s item s' names' item' r
       → ReadIs (λ (t : Term). t) (round_of argument f) text rest from base known vars c s item s' names' item' r
   unfolding round_of ◌>>=◌ read_on give
-  round_read argument f known vars c item (Got w c') g = (
+  round_read argument f known vars c item (Ok (w, c')) g = (
     as_term g.0,
     g.1,
     record {
@@ -80,15 +81,15 @@ module _ (text rest : Bytes) (from base : ℕ) (s s' names' item' : List ℕ) wh
       halves = g.2.halves;
     },
   )
-  round_read argument f known vars c item (Malformed place) g = (rw g.0, g.1, g.2)
-  round_read argument f known vars c item Exceeded g = (rw g.0, g.1)
+  round_read argument f known vars c item (Err (Malformed place)) g = (rw g.0, g.1, g.2)
+  round_read argument f known vars c item (Err Exceeded) g = (rw g.0, g.1)
 
   -- Behind tokens that add no compound and leave the item's table as it was.
-  pub opened_read : (by opened : Reader Term) (known vars : List Place) (c d : Cursor) (item names₁ item₁ : List ℕ) (over : List Placed) (r : Read)
+  pub opened_read : (by opened : Reader Term) (known vars : List Place) (c d : Cursor) (item names₁ item₁ : List ℕ) (over : List Placed) (r : Result (ℕ × Cursor) Unread)
       → Opened by opened text rest from known vars c item names₁ item₁ d over
       → ReadIs (λ (t : Term). t) opened text rest from base (names_over over known) (variables_over from over vars) d s item₁ s' names' item' r
       → ReadIs (λ (t : Term). t) by text rest from base known vars c s item s' names' item' r
-  opened_read by opened known vars c d item names₁ item₁ over (Got w c') o g =
+  opened_read by opened known vars c d item names₁ item₁ over (Ok (w, c')) o g =
       let moves = moves_then from rest c.at d.at c'.at known vars (names_over over known) (variables_over from over vars)
       (names_over g.1 (names_over over known)) (variables_over from g.1 (variables_over from over vars)) over g.1
       (record { follows = o.follows; names = refl; variables = refl; no_stop = o.no_stop }) (gave_moves g.2) in (
@@ -103,11 +104,11 @@ module _ (text rest : Bytes) (from base : ℕ) (s s' names' item' : List ℕ) wh
             g.2.known_names
             (rw o.item_same at g.2.halves),
       )
-  opened_read by opened known vars c d item names₁ item₁ over (Malformed place) o g = (o.reads ∙ g.0, g.1, g.2)
-  opened_read by opened known vars c d item names₁ item₁ over Exceeded o g = (o.reads ∙ g.0, g.1)
+  opened_read by opened known vars c d item names₁ item₁ over (Err (Malformed place)) o g = (o.reads ∙ g.0, g.1, g.2)
+  opened_read by opened known vars c d item names₁ item₁ over (Err Exceeded) o g = (o.reads ∙ g.0, g.1)
 
   -- Behind a sign, with another reader from there.
-  pub sign_read : (by opened : Reader Term) (known vars : List Place) (c : Cursor) (x b : ℕ) (names item : List ℕ) (r : Read)
+  pub sign_read : (by opened : Reader Term) (known vars : List Place) (c : Cursor) (x b : ℕ) (names item : List ℕ) (r : Result (ℕ × Cursor) Unread)
       → (sign_at : SignAt rest c.at x b) → eqb x 46 ≡ false
       → Stands text rest from names item c known vars
       → ((counted : Counted) (p : ℕ) (ts : Tokens) → by counted (token p (sign x) ts) ≡ opened counted ts)

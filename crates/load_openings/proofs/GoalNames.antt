@@ -1,47 +1,28 @@
 -- A goal at its first tokens: a name, its parenthesis, and behind it what `compound` reads.
-use Prim.Native.Nat.{ℕ, zero, suc, ◌+◌, ◌*◌, ◌≤◌, ◌<◌}
-use mathlib.Core.Path.{◌≡◌, refl, ap, sym, ◌∙◌}
-use mathlib.Core.Bool.{Bool, true, false, ◌||◌}
-use mathlib.Core.List.{List, [], ◌∷◌, ◌++◌}
+use Rattle.std.specs.Prelude.{Ok, Err, Some, None}
+use Prim.Native.Nat.{ℕ, ◌+◌, ◌≤◌}
+use mathlib.Core.Path.{◌≡◌, refl, ap, ◌∙◌}
+use mathlib.Core.Bool.{Bool, true, false}
+use mathlib.Core.List.{List, [], ◌∷◌}
 use native.Mathlib.Omega.{arith}
-use lib.Dec.{eqb}
 use lib.ListN.{length}
 use lib.Seq.{slice}
 use Rattle.meaning.specs.Bytes.{Bytes, byte, same, any, when◌then◌else◌}
-use Rattle.meaning.specs.Terms.{Half, writer, reader, Integer, as_term}
-use Rattle.meaning.specs.Tokens.{Token, name, variable, integer, sign, bad, Tokens, ends, token}
-use Rattle.meaning.specs.Items.{
-  Counted,
-  read,
-  malformed,
-  passed,
-  read_on,
-  ◌>>◌,
-  give,
-  cannot_stand,
-  next,
-  is,
-  expect,
-  count_name,
-  compound_of,
-  term,
-  goal_from,
-  goal,
-}
-use Rattle.term.specs.Frames.{Only}
+use Rattle.meaning.specs.Terms.{Half, writer, reader, Integer}
+use Rattle.meaning.specs.Tokens.{name, variable, integer, sign, bad, Tokens, ends, token}
+use Rattle.meaning.specs.Items.{Counted, malformed, passed, read_on, ◌>>◌, cannot_stand, next, is, expect, count_name, compound_of, term, goal_from, goal}
 use Rattle.load_tokens.specs.Fronts.{tokens_in, double_sign, behind, FrontIs}
 use Rattle.load_names.specs.Answers.{NameIs}
-use Rattle.load_openings.specs.Openings.{Opens, OpeningIs}
-use Rattle.load_names.specs.Places.{Place, Placed, spellings, with_place, with_name, with_variable, before, names_over, variables_over}
-use Rattle.load_openings.specs.Reading.{piece, counted_at, Stands, Gave, ReadIs, Open}
+use Rattle.load_openings.specs.Openings.{OpeningIs}
+use Rattle.load_names.specs.Places.{Place, spellings, with_place}
+use Rattle.load_openings.specs.Reading.{piece, counted_at, Stands}
 use Rattle.load_tokens.specs.Nexts.{one_of, Stops, SignAt}
 use Rattle.load_tokens.specs.declared.token.Token.TheVariants.{End, Name, Writer, Reader, Integer as AnInteger, Sign, Bad}
-use Rattle.load_names.specs.declared.names.Numbered.TheVariants.{Number, Exceeded as NameExceeded}
-use Rattle.load_openings.specs.declared.goal.Opening.TheVariants.{Named, NotNamed, Overfull}
 use Rattle.load_openings.specs.declared.cursor.Cursor.{Cursor}
-use Rattle.load_openings.specs.declared.cursor.Read.{Read}
-use Rattle.load_openings.specs.declared.cursor.Read.TheVariants.{Got, Malformed, Exceeded}
-use Rattle.load_openings.proofs.Expected.{piece_open, expect_this, expect_none, name_counted, name_passed}
+use Rattle.load_openings.specs.declared.cursor.Unread.TheVariants.{Malformed, Exceeded}
+use Rattle.load_openings.proofs.Expected.{piece_open, expect_this, expect_stops}
+use Rattle.load_openings.proofs.Passing.{piece_stops}
+use Rattle.load_openings.proofs.Readers.{count_name_with, count_name_passed}
 
 goal_named : (counted : Counted) (p : ℕ) (f : Bytes) (ts : Tokens)
     → goal counted (piece (token p (name f) ts)) ≡ read_on (count_name f counted (piece ts)) (λ u. expect "(" >> compound_of (term 15) f)
@@ -53,18 +34,19 @@ module _ (p at : ℕ) (f : Bytes) (known vars : List Place) (n : ℕ) (ts : Toke
   pub goal_passed : any (same f) (spellings known) ≡ false → 256 ≤ length known
       → goal (counted_at known vars n) (piece (token p (name f) ts)) ≡ passed
   unfolding read_on
-  goal_passed h many = rw (goal_named (counted_at known vars n) p f ts, name_passed at f known vars n (piece ts) h many)
+  goal_passed h many = rw (goal_named (counted_at known vars n) p f ts, count_name_passed f known vars n (piece ts) h many)
 
   goal_counted : length (with_place at f known) ≤ 256
       → goal (counted_at known vars n) (piece (token p (name f) ts))
       ≡ read_on (expect "(" (counted_at (with_place at f known) vars n) (piece ts)) (λ u. compound_of (term 15) f)
   unfolding read_on ◌>>◌
-  goal_counted few = rw (goal_named (counted_at known vars n) p f ts, name_counted at f known vars n (piece ts) few)
+  goal_counted few = rw (goal_named (counted_at known vars n) p f ts, count_name_with at f known vars n (piece ts) few)
 
-  pub goal_lacks : length (with_place at f known) ≤ 256 → (y z place : ℕ) → Stops (one_of (byte "(") y z) place ts
+  pub goal_lacks : length (with_place at f known) ≤ 256 → (place : ℕ) → Stops (one_of (byte "(" ∷ [])) place ts
       → goal (counted_at known vars n) (piece (token p (name f) ts)) ≡ malformed place
   unfolding read_on
-  goal_lacks few y z place h = rw (goal_counted few, expect_none (counted_at (with_place at f known) vars n) "(" y z place ts h)
+  goal_lacks few place h =
+      rw (goal_counted few, expect_stops (counted_at (with_place at f known) vars n) "(" place (piece ts) (piece_stops (one_of (byte "(" ∷ [])) place ts h))
 
   pub goal_opens : length (with_place at f known) ≤ 256 → (q : ℕ) (us : Tokens) → ts ≡ token q (sign 40) us
       → goal (counted_at known vars n) (piece (token p (name f) ts)) ≡ compound_of (term 15) f (counted_at (with_place at f known) vars n) (piece us)
@@ -109,9 +91,9 @@ module _ (text rest : Bytes) (from : ℕ) (names names' item : List ℕ) (c : Cu
   named_tokens a e h = h.4 from
 
   pub opening_named : (a e n count behind : ℕ) → FrontIs rest c.at (Name a e)
-      → NameIs text known (from + a) (slice a e rest) names names' (Number n count) → SignAt rest e 40 behind
+      → NameIs text known (from + a) (slice a e rest) names names' (Some (n, count)) → SignAt rest e 40 behind
       → OpeningIs text rest from names' item known vars c
-      (Named n (record { at = behind; names = count; variables = c.variables; compounds = c.compounds }))
+      (Ok (n, record { at = behind; names = count; variables = c.variables; compounds = c.compounds }))
   opening_named a e n count behind h k opens =
       let f = slice a e rest in
       let there = opens.follows from in (
@@ -137,43 +119,43 @@ module _ (text rest : Bytes) (from : ℕ) (names names' item : List ℕ) (c : Cu
         },
       )
 
-  pub opening_lacks : (a e n count place y z : ℕ) → FrontIs rest c.at (Name a e)
-      → NameIs text known (from + a) (slice a e rest) names names' (Number n count)
-      → place ≤ length rest → ((from : ℕ) → Stops (one_of 40 y z) (from + place) (tokens_in from rest e))
-      → OpeningIs text rest from names' item known vars c (NotNamed place)
+  pub opening_lacks : (a e n count place : ℕ) → FrontIs rest c.at (Name a e)
+      → NameIs text known (from + a) (slice a e rest) names names' (Some (n, count))
+      → place ≤ length rest → ((from : ℕ) → Stops (one_of (40 ∷ [])) (from + place) (tokens_in from rest e))
+      → OpeningIs text rest from names' item known vars c (Err (Malformed place))
   unfolding byte
-  opening_lacks a e n count place y z h k inside stops = (
+  opening_lacks a e n count place h k inside stops = (
     rw (named_tokens a e h)
-        (goal_lacks (from + a) (from + a) (slice a e rest) known vars c.compounds (tokens_in from rest e) k.0.few y z (from + place) (stops from)),
+        (goal_lacks (from + a) (from + a) (slice a e rest) known vars c.compounds (tokens_in from rest e) k.0.few (from + place) (stops from)),
     inside,
   )
 
-  pub opening_passed : (a e : ℕ) → FrontIs rest c.at (Name a e) → NameIs text known (from + a) (slice a e rest) names names' NameExceeded
-      → OpeningIs text rest from names' item known vars c Overfull
+  pub opening_passed : (a e : ℕ) → FrontIs rest c.at (Name a e) → NameIs text known (from + a) (slice a e rest) names names' None
+      → OpeningIs text rest from names' item known vars c (Err Exceeded)
   opening_passed a e h k =
       rw (named_tokens a e h)
       (goal_passed (from + a) (from + a) (slice a e rest) known vars c.compounds (tokens_in from rest e) k.0 k.1)
 
   -- Any other token is no goal's first.
-  pub opening_writer : (a e : ℕ) → FrontIs rest c.at (Writer a e) → OpeningIs text rest from names' item known vars c (NotNamed a)
+  pub opening_writer : (a e : ℕ) → FrontIs rest c.at (Writer a e) → OpeningIs text rest from names' item known vars c (Err (Malformed a))
   opening_writer a e h =
       (rw (h.4 from) (goal_variable (counted_at known vars c.compounds) (from + a) (tokens_in from rest e) writer (slice a e rest)), omega arith)
 
-  pub opening_reader : (a e : ℕ) → FrontIs rest c.at (Reader a e) → OpeningIs text rest from names' item known vars c (NotNamed a)
+  pub opening_reader : (a e : ℕ) → FrontIs rest c.at (Reader a e) → OpeningIs text rest from names' item known vars c (Err (Malformed a))
   opening_reader a e h =
       (rw (h.4 from) (goal_variable (counted_at known vars c.compounds) (from + a) (tokens_in from rest (e + 1)) reader (slice a e rest)), omega arith)
 
-  pub opening_integer : (w a e : ℕ) → FrontIs rest c.at (AnInteger w a e) → OpeningIs text rest from names' item known vars c (NotNamed a)
+  pub opening_integer : (w a e : ℕ) → FrontIs rest c.at (AnInteger w a e) → OpeningIs text rest from names' item known vars c (Err (Malformed a))
   opening_integer w a e h =
       (rw (h.6 from) (goal_integer (counted_at known vars c.compounds) (from + a) (tokens_in from rest e) h.4), omega arith)
 
-  pub opening_sign : (b a : ℕ) → FrontIs rest c.at (Sign b a) → OpeningIs text rest from names' item known vars c (NotNamed a)
+  pub opening_sign : (b a : ℕ) → FrontIs rest c.at (Sign b a) → OpeningIs text rest from names' item known vars c (Err (Malformed a))
   opening_sign b a h =
       (rw (h.2 from) (goal_sign (counted_at known vars c.compounds) (from + a) (tokens_in from rest (behind b a)) b), omega (arith, behind_after b a))
 
-  pub opening_bad : (a : ℕ) → FrontIs rest c.at (Bad a) → OpeningIs text rest from names' item known vars c (NotNamed a)
+  pub opening_bad : (a : ℕ) → FrontIs rest c.at (Bad a) → OpeningIs text rest from names' item known vars c (Err (Malformed a))
   opening_bad a h =
       (rw (h.2 from).1 (goal_bad (counted_at known vars c.compounds) (from + a) (h.2 from).0), omega arith)
 
-  pub opening_ends : FrontIs rest c.at End → OpeningIs text rest from names' item known vars c (NotNamed (length rest))
+  pub opening_ends : FrontIs rest c.at End → OpeningIs text rest from names' item known vars c (Err (Malformed (length rest)))
   opening_ends h = (rw (h from) (goal_ends (counted_at known vars c.compounds) (from + length rest)), omega arith)

@@ -1,4 +1,5 @@
 -- A term by its first token, as the code's answers say it: read whole, or opened by a bracket, or refused.
+use Rattle.std.specs.Prelude.{Result, Ok, Err, Some}
 use Prim.Native.Nat.{ℕ, ◌+◌, ◌*◌, ◌-◌, ◌≤◌, ◌<◌, min}
 use mathlib.Core.Path.{◌≡◌, refl, ap, sym, ◌∙◌}
 use mathlib.Core.Bool.{Bool, true, false}
@@ -22,11 +23,12 @@ use Rattle.load_names.specs.Answers.{NameIs}
 use Rattle.load_tokens.specs.Nexts.{SignAt, one_of}
 use Rattle.load_openings.specs.Begun.{BehindName, BehindBracket, VariableBegun}
 use Rattle.load_openings.specs.Reading.{piece, counted_at, half_place, Stands, BegunIs}
-use Rattle.load_names.specs.declared.names.Numbered.TheVariants.{Number as NameNumber}
 use Rattle.load_tokens.specs.declared.token.Token.TheVariants.{End, Name, Integer as AnInteger, Sign, Bad}
 use Rattle.load_openings.specs.declared.cursor.Cursor.{Cursor}
 use Rattle.load_openings.specs.declared.begin.Begun.{Begun}
-use Rattle.load_openings.specs.declared.begin.Begun.TheVariants.{Got, Round, Square, Malformed, Exceeded}
+use Rattle.load_openings.specs.declared.begin.Begun.TheVariants.{Got, Round, Square}
+use Rattle.load_openings.specs.declared.cursor.Unread.{Unread}
+use Rattle.load_openings.specs.declared.cursor.Unread.TheVariants.{Malformed, Exceeded}
 use Rattle.load_names.proofs.Numbering.{placed}
 use Rattle.load_openings.proofs.Expected.{piece_open}
 use Rattle.load_openings.proofs.Passing.{piece_stops}
@@ -97,18 +99,18 @@ module _ (left : ℕ) (text rest : Bytes) (from : ℕ) (known vars : List Place)
   here = piece (tokens_in from rest c.at)
 
   -- No term begins here.
-  pub begun_end : FrontIs rest c.at End → BegunIs left text rest from known vars c item names item (Malformed (length rest))
+  pub begun_end : FrontIs rest c.at End → BegunIs left text rest from known vars c item names item (Err (Malformed (length rest)))
   unfolding piece
   begun_end f = (ap (λ ts. term left so_far (piece ts)) (f from) ∙ term_end left so_far (from + length rest), omega arith)
 
-  pub begun_bad : (a : ℕ) → FrontIs rest c.at (Bad a) → BegunIs left text rest from known vars c item names item (Malformed a)
+  pub begun_bad : (a : ℕ) → FrontIs rest c.at (Bad a) → BegunIs left text rest from known vars c item names item (Err (Malformed a))
   unfolding piece is when◌then◌else◌
   begun_bad a f =
       let o = f.2 from in
       (ap (λ ts. term left so_far (piece ts)) o.1 ∙ term_bad left so_far (from + a) (piece o.0), omega (arith, f.1))
 
   pub begun_sign : (b a : ℕ) → FrontIs rest c.at (Sign b a) → eqb b 91 ≡ false
-      → BegunIs left text rest from known vars c item names item (Malformed a)
+      → BegunIs left text rest from known vars c item names item (Err (Malformed a))
   unfolding piece
   begun_sign b a f e =
       let behind_it = tokens_in from rest (behind b a) in (
@@ -126,7 +128,7 @@ module _ (left : ℕ) (text rest : Bytes) (from : ℕ) (known vars : List Place)
   nothing_more h n few = once (get_or item (half_place h n) 0) (half_small stands.variables_in h n few)
 
   pub begun_integer : (w a e : ℕ) → FrontIs rest c.at (AnInteger w a e)
-      → BegunIs left text rest from known vars c item names item (Got (integer_word w) (moved_to c e))
+      → BegunIs left text rest from known vars c item names item (Ok (Got (integer_word w) (moved_to c e)))
   unfolding with_name with_variable is Numbered Known occurrences stored
   begun_integer w a e f =
       let i = f.4 in
@@ -153,10 +155,10 @@ module _ (left : ℕ) (text rest : Bytes) (from : ℕ) (known vars : List Place)
     unfolding is
     first = ap piece follows ∙ piece_open (from + a) (variable h x) (tokens_in from rest next) refl
 
-    pub begun_variable : (item' : List ℕ) (r : Begun) → VariableBegun rest vars tag a x next c item item' r
+    pub begun_variable : (item' : List ℕ) (r : Result Begun Unread) → VariableBegun rest vars tag a x next c item item' r
         → BegunIs left text rest from known vars c item names item' r
     unfolding with_name with_variable is item_places stored Numbered Known
-    begun_variable item' (Got w d) v =
+    begun_variable item' (Ok (Got w d)) v =
         let n = v.0 in
         let total = v.1 in
         let is_so = v.4 in
@@ -189,10 +191,10 @@ module _ (left : ℕ) (text rest : Bytes) (from : ℕ) (known vars : List Place)
               tt
               (λ k o small. occurs h k n o item item' few small up kept (half_small stands.variables_in k o small)),
         )
-    begun_variable item' (Round m d) v = absurd v
-    begun_variable item' (Square d) v = absurd v
-    begun_variable item' (Malformed place) v = absurd v
-    begun_variable item' Exceeded v =
+    begun_variable item' (Ok (Round m d)) v = absurd v
+    begun_variable item' (Ok (Square d)) v = absurd v
+    begun_variable item' (Err (Malformed place)) v = absurd v
+    begun_variable item' (Err Exceeded) v =
         ap (term left so_far) first
         ∙ term_variable_passed left so_far (from + a) h x (piece (tokens_in from rest next))
         (count_variable_passed x known vars c.compounds (piece (tokens_in from rest next)) v.0 v.1)
@@ -210,13 +212,13 @@ module _ (left : ℕ) (text rest : Bytes) (from : ℕ) (known vars : List Place)
     named = ap piece (front.4 from) ∙ piece_open (from + a) (name f) (tokens_in from rest e) refl
 
     pub begun_name_passed : any (same f) (spellings known) ≡ false → 256 ≤ length known → (names' : List ℕ)
-        → BegunIs left text rest from known vars c item names' item Exceeded
+        → BegunIs left text rest from known vars c item names' item (Err Exceeded)
     begun_name_passed u many names' =
         ap (term left so_far) named
         ∙ term_name_passed left so_far (from + a) f (piece (tokens_in from rest e))
         (count_name_passed f known vars c.compounds (piece (tokens_in from rest e)) u many)
 
-    module _ (n total : ℕ) (names' : List ℕ) (numbered : NameIs text known (from + a) f names names' (NameNumber n total)) where
+    module _ (n total : ℕ) (names' : List ℕ) (numbered : NameIs text known (from + a) f names names' (Some (n, total))) where
       abbrev d : Cursor
       d = record { at = e; names = total; variables = c.variables; compounds = c.compounds }
 
@@ -241,7 +243,7 @@ module _ (left : ℕ) (text rest : Bytes) (from : ℕ) (known vars : List Place)
       round : (b : ℕ) (s : SignAt rest e 40 b) → piece (tokens_in from rest e) ≡ token (from + s.place) (sign 40) (piece (tokens_in from rest b))
       round b s = piece_sign from rest e 40 b s refl
 
-      opens : (b : ℕ) (s : SignAt rest e 40 b) → 0 < left → BegunIs left text rest from known vars c item names' item (Round n (moved_to d b))
+      opens : (b : ℕ) (s : SignAt rest e 40 b) → 0 < left → BegunIs left text rest from known vars c item names' item (Ok (Round n (moved_to d b)))
       opens b s some_left =
           let m = moves_then from rest c.at e b known vars known' vars known' vars (record { at = from + a; token = name f } ∷ [])
           (sign_placed from rest s ∷ []) moves (moves_sign from rest e 40 b known' vars s refl) in (
@@ -262,9 +264,9 @@ module _ (left : ℕ) (text rest : Bytes) (from : ℕ) (known vars : List Place)
             },
           )
 
-      pub begun_name : (r : Begun) → BehindName rest left n d r → BegunIs left text rest from known vars c item names' item r
+      pub begun_name : (r : Result Begun Unread) → BehindName rest left n d r → BegunIs left text rest from known vars c item names' item r
       unfolding item_places stored Numbered Known occurrences
-      begun_name (Got w d') b =
+      begun_name (Ok (Got w d')) b =
           rw b.1 (
             Term.constant (Constant.name f),
             record { at = from + a; token = name f } ∷ [],
@@ -272,7 +274,7 @@ module _ (left : ℕ) (text rest : Bytes) (from : ℕ) (known vars : List Place)
                 (ap (term left so_far) named
                 ∙ term_name left so_far (from + a) f (piece (tokens_in from rest e)) (counted_at known' vars c.compounds) (from + b.2)
                 (count_it (piece (tokens_in from rest e)))
-                (piece_stops (one_of 40 40 40) (from + b.2) (tokens_in from rest e) (b.3 from)))
+                (piece_stops (one_of (40 ∷ [])) (from + b.2) (tokens_in from rest e) (b.3 from)))
                 stands_named
                 (b.0 ∙ ap (λ k. name_word k) (sym (placed f (spellings known') n numbered.3).number))
                 refl
@@ -280,10 +282,10 @@ module _ (left : ℕ) (text rest : Bytes) (from : ℕ) (known vars : List Place)
                 (placed f (spellings known') n numbered.3).among
                 nothing_more,
           )
-      begun_name (Round m d') b = rw (b.0, b.4) (opens b.2 b.3 b.1)
-      begun_name (Square d') b = absurd b
-      begun_name (Malformed place) b = absurd b
-      begun_name Exceeded b =
+      begun_name (Ok (Round m d')) b = rw (b.0, b.4) (opens b.2 b.3 b.1)
+      begun_name (Ok (Square d')) b = absurd b
+      begun_name (Err (Malformed place)) b = absurd b
+      begun_name (Err Exceeded) b =
           ap (term left so_far) (named ∙ ap (token (from + a) (name f)) (round b.1 b.2))
           ∙ term_round_passed left so_far (from + a) f (from + b.2.place) (piece (tokens_in from rest b.1))
           (counted_at known' vars c.compounds) (count_it (token (from + b.2.place) (sign 40) (piece (tokens_in from rest b.1)))) b.0
@@ -306,9 +308,9 @@ module _ (left : ℕ) (text rest : Bytes) (from : ℕ) (known vars : List Place)
     unfolding with_name with_variable is byte
     moves_in = moves_token from rest c.at (a + 1) a (sign 91) known vars follows refl
 
-    pub begun_list : (r : Begun) → BehindBracket rest left (moved_to c (a + 1)) r → BegunIs left text rest from known vars c item names item r
+    pub begun_list : (r : Result Begun Unread) → BehindBracket rest left (moved_to c (a + 1)) r → BegunIs left text rest from known vars c item names item r
     unfolding item_places stored Numbered Known occurrences
-    begun_list (Got w d') k =
+    begun_list (Ok (Got w d')) k =
         let e = k.2 in
         let s = k.3 in
         let m = moves_then from rest c.at (a + 1) e known vars known vars known vars (record { at = from + a; token = sign 91 } ∷ [])
@@ -326,8 +328,8 @@ module _ (left : ℕ) (text rest : Bytes) (from : ℕ) (known vars : List Place)
               tt
               nothing_more,
         )
-    begun_list (Round n d') k = absurd k
-    begun_list (Square d') k =
+    begun_list (Ok (Round n d')) k = absurd k
+    begun_list (Ok (Square d')) k =
         rw k.1 (
           record { at = from + a; token = sign 91 } ∷ [],
           k.0,
@@ -335,7 +337,7 @@ module _ (left : ℕ) (text rest : Bytes) (from : ℕ) (known vars : List Place)
             reads = rw (moves_in.names, moves_in.variables)
                 (ap (term left so_far) bracket
                 ∙ term_square left so_far (from + a) (piece (tokens_in from rest (a + 1))) (left - 1) (from + k.2) (omega (arith, k.0))
-                (piece_stops (one_of 93 93 93) (from + k.2) (tokens_in from rest (a + 1)) (k.3 from)));
+                (piece_stops (one_of (93 ∷ [])) (from + k.2) (tokens_in from rest (a + 1)) (k.3 from)));
             follows = moves_in.follows;
             stands = rw (moves_in.names, moves_in.variables) (stands_moved (a + 1) stands inside);
             compounds_same = refl;
@@ -343,6 +345,6 @@ module _ (left : ℕ) (text rest : Bytes) (from : ℕ) (known vars : List Place)
             item_same = refl;
           },
         )
-    begun_list (Malformed place) k = absurd k
-    begun_list Exceeded k =
+    begun_list (Err (Malformed place)) k = absurd k
+    begun_list (Err Exceeded) k =
         ap (term left so_far) bracket ∙ term_square_passed left so_far (from + a) (piece (tokens_in from rest (a + 1))) k

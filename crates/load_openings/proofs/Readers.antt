@@ -1,19 +1,18 @@
 -- The definitions' readers at the tokens where the code branches: each lemma is one arm of the code.
-use Prim.Native.Nat.{ℕ, ◌+◌, ◌-◌, ◌≤◌, ◌<◌}
+use Prim.Native.Nat.{ℕ, ◌+◌, ◌≤◌, ◌<◌}
 use mathlib.Core.Path.{◌≡◌, refl, ap, sym, ◌∙◌}
-use mathlib.Core.Bool.{Bool, true, false, ◌||◌}
+use mathlib.Core.Bool.{Bool, true, false}
 use mathlib.Core.List.{List, [], ◌∷◌, ◌++◌}
 use mathlib.Core.Option.{none, some}
 use native.Mathlib.Omega.{arith}
-use lib.Dec.{eqb, ltb}
+use lib.Dec.{ltb}
 use lib.ListN.{length, length-append}
 use borrow.Author.Tests.{lt-ltb, le-ltb}
-use Rattle.meaning.specs.Bytes.{Bytes, same, any, byte, when◌then◌else◌}
-use Rattle.meaning.specs.Terms.{Term, compound}
-use Rattle.meaning.specs.Tokens.{Tokens, ends, token, name, variable, integer, sign, bad}
-use Rattle.meaning.specs.Items.{Counted, Reader, read, malformed, passed, cannot_stand, next, is, begins_term, standing, expect, either, if_next, count_name, place_of, new_variable, count_variable, count_compound, tail_of, term}
+use Rattle.meaning.specs.Bytes.{Bytes, same, any, when◌then◌else◌}
+use Rattle.meaning.specs.Tokens.{Tokens, ends, token}
+use Rattle.meaning.specs.Items.{Counted, read, malformed, passed, begins_term, standing, count_name, place_of, new_variable, count_variable, count_compound}
 use Rattle.load_names.specs.Places.{Place, spellings, with_place}
-use Rattle.load_tokens.specs.Nexts.{one_of, Stops, Goes}
+use Rattle.load_tokens.specs.Nexts.{Stops, Goes}
 use Rattle.load_openings.specs.Reading.{counted_at}
 use Rattle.load_names.proofs.Numbering.{place_none, place_last, spellings_append, spellings_length, with_known, with_new}
 
@@ -103,67 +102,6 @@ count_compound_with known vars k ts few = rw (lt-ltb k 32 few)
 pub count_compound_passed : (known vars : List Place) (k : ℕ) (ts : Tokens) → 32 ≤ k → count_compound (counted_at known vars k) ts ≡ passed
 unfolding count_compound counted_at when◌then◌else◌
 count_compound_passed known vars k ts many = rw (le-ltb k 32 many)
-
--- Where none of three signs comes next.
-or_parts : (a b c : Bool) → (a || (b || c)) ≡ false → (a ≡ false) × (b ≡ false) × (c ≡ false)
-or_parts true b c h = let z : ◌≡◌ {A = ℕ} 0 1 = cc in absurd (omega arith)
-or_parts false true c h = let z : ◌≡◌ {A = ℕ} 0 1 = cc in absurd (omega arith)
-or_parts false false c h = (refl, refl, h)
-
-pub either_stops : (place : ℕ) (counted : Counted) (ts : Tokens) → Stops (one_of 44 41 41) place ts → either "," ")" counted ts ≡ malformed place
-unfolding either next one_of is cannot_stand byte when◌then◌else◌
-either_stops place counted (ends p) h = ap malformed h
-either_stops place counted (token p (name f) ts) h = ap malformed h.0
-either_stops place counted (token p (variable g f) ts) h = ap malformed h.0
-either_stops place counted (token p (integer i) ts) h = ap malformed h.0
-either_stops place counted (token p (sign b) ts) h =
-    let none_of = or_parts (eqb b 44) (eqb b 41) (eqb b 41) h.1 in
-    rw (none_of.0, none_of.1) (ap malformed h.0)
-either_stops place counted (token p bad ts) h = ap malformed h.0
-
-pub expect_stops : (place : ℕ) (counted : Counted) (ts : Tokens) → Stops (one_of 93 93 93) place ts → expect "]" counted ts ≡ malformed place
-unfolding expect next one_of is cannot_stand byte when◌then◌else◌
-expect_stops place counted (ends p) h = ap malformed h
-expect_stops place counted (token p (name f) ts) h = ap malformed h.0
-expect_stops place counted (token p (variable g f) ts) h = ap malformed h.0
-expect_stops place counted (token p (integer i) ts) h = ap malformed h.0
-expect_stops place counted (token p (sign b) ts) h =
-    let none_of = or_parts (eqb b 93) (eqb b 93) (eqb b 93) h.1 in
-    rw none_of.0 (ap malformed h.0)
-expect_stops place counted (token p bad ts) h = ap malformed h.0
-
-pub tail_stops : (element others : Reader Term) (place : ℕ) (counted : Counted) (ts : Tokens) → Stops (one_of 44 124 93) place ts
-    → next (tail_of element others) counted ts ≡ malformed place
-unfolding next tail_of one_of is cannot_stand byte when◌then◌else◌
-tail_stops element others place counted (ends p) h = ap malformed h
-tail_stops element others place counted (token p (name f) ts) h = ap malformed h.0
-tail_stops element others place counted (token p (variable g f) ts) h = ap malformed h.0
-tail_stops element others place counted (token p (integer i) ts) h = ap malformed h.0
-tail_stops element others place counted (token p (sign b) ts) h =
-    let none_of = or_parts (eqb b 44) (eqb b 124) (eqb b 93) h.1 in
-    rw (none_of.0, none_of.1, none_of.2) (ap malformed h.0)
-tail_stops element others place counted (token p bad ts) h = ap malformed h.0
-
--- `if_next` where its sign does not come next.
-pub if_next_other : {A : Type 0} (first second : Reader A) (place : ℕ) (counted : Counted) (ts : Tokens) → Stops (one_of 40 40 40) place ts
-    → if_next "(" first second counted ts ≡ second counted ts
-unfolding if_next one_of is byte when◌then◌else◌
-if_next_other first second place counted (ends p) h = refl
-if_next_other first second place counted (token p (name f) ts) h = refl
-if_next_other first second place counted (token p (variable g f) ts) h = refl
-if_next_other first second place counted (token p (integer i) ts) h = refl
-if_next_other first second place counted (token p (sign b) ts) h = rw (or_parts (eqb b 40) (eqb b 40) (eqb b 40) h.1).0
-if_next_other first second place counted (token p bad ts) h = refl
-
-pub if_next_other_bracket : {A : Type 0} (first second : Reader A) (place : ℕ) (counted : Counted) (ts : Tokens)
-    → Stops (one_of 93 93 93) place ts → if_next "]" first second counted ts ≡ second counted ts
-unfolding if_next one_of is byte when◌then◌else◌
-if_next_other_bracket first second place counted (ends p) h = refl
-if_next_other_bracket first second place counted (token p (name f) ts) h = refl
-if_next_other_bracket first second place counted (token p (variable g f) ts) h = refl
-if_next_other_bracket first second place counted (token p (integer i) ts) h = refl
-if_next_other_bracket first second place counted (token p (sign b) ts) h = rw (or_parts (eqb b 93) (eqb b 93) (eqb b 93) h.1).0
-if_next_other_bracket first second place counted (token p bad ts) h = refl
 
 -- What can begin a term, and what cannot.
 pub standing_goes : (counted : Counted) (ts : Tokens) → Goes begins_term ts → standing begins_term counted ts ≡ read tt counted ts

@@ -1,5 +1,5 @@
 -- What reading a goal's name and its parenthesis answers against the definitions' `goal`.
-use Rattle.std.specs.Prelude.{ℕ, ◌+◌, ◌≤◌, ◌≡◌, List, length}
+use Rattle.std.specs.Prelude.{ℕ, ◌+◌, ◌≤◌, ◌≡◌, List, length, Result, Ok, Err}
 use Rattle.std.proofs.Math.Option.{some}
 use Rattle.meaning.specs.Bytes.{Bytes}
 use Rattle.meaning.specs.Tokens.{token, name, sign}
@@ -8,8 +8,8 @@ use Rattle.load_tokens.specs.Fronts.{tokens_in}
 use Rattle.load_names.specs.Places.{Place, spellings, with_place}
 use Rattle.load_openings.specs.Reading.{piece, counted_at, Stands}
 use Rattle.load_openings.specs.declared.cursor.Cursor.{Cursor}
-use Rattle.load_openings.specs.declared.goal.Opening.{Opening}
-use Rattle.load_openings.specs.declared.goal.Opening.TheVariants.{Named, NotNamed, Overfull}
+use Rattle.load_openings.specs.declared.cursor.Unread.{Unread}
+use Rattle.load_openings.specs.declared.cursor.Unread.TheVariants.{Malformed, Exceeded}
 
 -- A goal's name and parenthesis are read: reading goes on there with the compound's arguments.
 pub record Opens (text rest : Bytes) (from : ℕ) (names' item : List ℕ) (known vars : List Place) (c : Cursor) (n : ℕ) (c' : Cursor)
@@ -21,10 +21,10 @@ pub record Opens (text rest : Bytes) (from : ℕ) (names' item : List ℕ) (know
   pub compounds_same : c'.compounds ≡ c.compounds
   pub stands : Stands text rest from names' item c' (with_place p f known) vars
 
-abbrev pub OpeningIs : (text rest : Bytes) (from : ℕ) (names' item : List ℕ) (known vars : List Place) (c : Cursor) → Opening → Type 0
-OpeningIs text rest from names' item known vars c (Named n c') =
+abbrev pub OpeningIs : (text rest : Bytes) (from : ℕ) (names' item : List ℕ) (known vars : List Place) (c : Cursor) → Result (ℕ × Cursor) Unread → Type 0
+OpeningIs text rest from names' item known vars c (Ok (n, c')) =
     (f : Bytes) × (p : ℕ) × (q : ℕ) × Opens text rest from names' item known vars c n c' f p q
-OpeningIs text rest from names' item known vars c (NotNamed place) =
+OpeningIs text rest from names' item known vars c (Err (Malformed place)) =
     (goal (counted_at known vars c.compounds) (piece (tokens_in from rest c.at)) ≡ malformed (from + place)) × (place ≤ length rest)
-OpeningIs text rest from names' item known vars c Overfull =
+OpeningIs text rest from names' item known vars c (Err Exceeded) =
     goal (counted_at known vars c.compounds) (piece (tokens_in from rest c.at)) ≡ passed

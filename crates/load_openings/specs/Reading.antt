@@ -1,5 +1,5 @@
 -- What reading a term, a compound's arguments or a list's elements answers, against the definitions' readers.
-use Rattle.std.specs.Prelude.{ℕ, ◌+◌, ◌*◌, ◌-◌, ◌≤◌, ◌<◌, min, ◌≡◌, Bool, true, false, List, [], ◌∷◌, length, get_or, drop}
+use Rattle.std.specs.Prelude.{ℕ, ◌+◌, ◌-◌, ◌≤◌, ◌<◌, min, ◌≡◌, false, List, [], ◌∷◌, length, get_or, drop, Result, Ok, Err}
 use Rattle.std.proofs.Math.Option.{some}
 use Rattle.meaning.specs.Bytes.{Bytes, when◌then◌else◌}
 use Rattle.meaning.specs.Terms.{Half, writer, reader, Term, Terms, count, as_term, occurrences, all_occurrences}
@@ -20,23 +20,17 @@ use Rattle.meaning.specs.Items.{
   elements,
   term,
 }
-use Rattle.term.specs.Cells.{Places as CellPlaces, term_word, stored, arguments_stored, Numbered, AllNumbered, Known, AllKnown}
+use Rattle.term.specs.Cells.{term_word, stored, arguments_stored, Numbered, AllNumbered, Known, AllKnown}
 use Rattle.term.specs.Frames.{Only}
 use Rattle.term.specs.Layout.{item_start, item_end}
 use Rattle.load_tokens.specs.Fronts.{tokens_in}
 use Rattle.load_names.specs.Places.{Place, Placed, spellings, before, names_over, variables_over, item_places}
 use Rattle.load_names.specs.Tables.{NamesIn, VariablesIn}
 use Rattle.load_openings.specs.declared.cursor.Cursor.{Cursor}
-use Rattle.load_openings.specs.declared.cursor.Read.{Read}
-use Rattle.load_openings.specs.declared.cursor.Read.TheVariants.{Got, Malformed, Exceeded}
+use Rattle.load_openings.specs.declared.cursor.Unread.{Unread}
+use Rattle.load_openings.specs.declared.cursor.Unread.TheVariants.{Malformed, Exceeded}
 use Rattle.load_openings.specs.declared.begin.Begun.{Begun}
-use Rattle.load_openings.specs.declared.begin.Begun.TheVariants.{
-  Got as BegunGot,
-  Round,
-  Square,
-  Malformed as BegunMalformed,
-  Exceeded as BegunExceeded,
-}
+use Rattle.load_openings.specs.declared.begin.Begun.TheVariants.{Got, Round, Square}
 
 -- The tokens up to and with the first full stop: the piece that an item is read from.
 unfoldable pub piece : Tokens → Tokens
@@ -85,14 +79,14 @@ pub record Gave {A : Type 0} (seen : A → Term) (by : Reader A) (text rest : By
 
 -- The code's answer against the definitions' reader, from where the reading stands.
 abbrev pub ReadIs : {A : Type 0} (seen : A → Term) (by : Reader A) (text rest : Bytes) (from base : ℕ) (known vars : List Place) (c : Cursor)
-    (s item s' names' item' : List ℕ) → Read → Type 0
-ReadIs {A} seen by text rest from base known vars c s item s' names' item' (Got w c') =
+    (s item s' names' item' : List ℕ) → Result (ℕ × Cursor) Unread → Type 0
+ReadIs {A} seen by text rest from base known vars c s item s' names' item' (Ok (w, c')) =
     (a : A) × (passed : List Placed) × Gave seen by text rest from base known vars c s item s' names' item' w c' a passed
-ReadIs seen by text rest from base known vars c s item s' names' item' (Malformed place) =
+ReadIs seen by text rest from base known vars c s item s' names' item' (Err (Malformed place)) =
     (by (counted_at known vars c.compounds) (piece (tokens_in from rest c.at)) ≡ malformed (from + place))
     × (place ≤ length rest)
     × Only (item_start base) (item_end base) s s'
-ReadIs seen by text rest from base known vars c s item s' names' item' Exceeded =
+ReadIs seen by text rest from base known vars c s item s' names' item' (Err Exceeded) =
     (by (counted_at known vars c.compounds) (piece (tokens_in from rest c.at)) ≡ passed)
     × Only (item_start base) (item_end base) s s'
 
@@ -113,14 +107,14 @@ pub record GaveArguments (n i : ℕ) (by : Reader Terms) (text rest : Bytes) (fr
       → get_or item' (half_place h m) 0 ≡ min 2 (get_or item (half_place h m) 0 + all_occurrences h m ts)
 
 abbrev pub ArgumentsAre : (n i : ℕ) (by : Reader Terms) (text rest : Bytes) (from base : ℕ) (known vars : List Place) (c : Cursor)
-    (s item s' names' item' : List ℕ) → Read → Type 0
-ArgumentsAre n i by text rest from base known vars c s item s' names' item' (Got w c') =
+    (s item s' names' item' : List ℕ) → Result (ℕ × Cursor) Unread → Type 0
+ArgumentsAre n i by text rest from base known vars c s item s' names' item' (Ok (w, c')) =
     (ts : Terms) × (passed : List Placed) × GaveArguments n i by text rest from base known vars c s item s' names' item' w c' ts passed
-ArgumentsAre n i by text rest from base known vars c s item s' names' item' (Malformed place) =
+ArgumentsAre n i by text rest from base known vars c s item s' names' item' (Err (Malformed place)) =
     (by (counted_at known vars c.compounds) (piece (tokens_in from rest c.at)) ≡ malformed (from + place))
     × (place ≤ length rest)
     × Only (item_start base) (item_end base) s s'
-ArgumentsAre n i by text rest from base known vars c s item s' names' item' Exceeded =
+ArgumentsAre n i by text rest from base known vars c s item s' names' item' (Err Exceeded) =
     (by (counted_at known vars c.compounds) (piece (tokens_in from rest c.at)) ≡ passed)
     × Only (item_start base) (item_end base) s s'
 
@@ -143,17 +137,17 @@ pub record Opened (by opened : Reader Term) (text rest : Bytes) (from : ℕ) (kn
   pub item_same : item' ≡ item
 
 -- A term begun, against the definitions' reader. One that is read whole has no compounds to store.
-abbrev pub BegunIs : (left : ℕ) (text rest : Bytes) (from : ℕ) (known vars : List Place) (c : Cursor) (item names' item' : List ℕ) → Begun → Type 0
-BegunIs left text rest from known vars c item names' item' (BegunGot w c') =
+abbrev pub BegunIs : (left : ℕ) (text rest : Bytes) (from : ℕ) (known vars : List Place) (c : Cursor) (item names' item' : List ℕ) → Result Begun Unread → Type 0
+BegunIs left text rest from known vars c item names' item' (Ok (Got w c')) =
     (a : Term) × (passed : List Placed)
     × ((base : ℕ) (s : List ℕ) → Gave (λ (t : Term). t) (term left) text rest from base known vars c s item s names' item' w c' a passed)
-BegunIs left text rest from known vars c item names' item' (Round n c') =
+BegunIs left text rest from known vars c item names' item' (Ok (Round n c')) =
     (f : Bytes) × (passed : List Placed) × (0 < left) × (place_of f (spellings (names_over passed known)) ≡ some n)
     × Opened (term left) (round_of (term (left - 1)) f) text rest from known vars c item names' item' c' passed
-BegunIs left text rest from known vars c item names' item' (Square c') =
+BegunIs left text rest from known vars c item names' item' (Ok (Square c')) =
     (passed : List Placed) × (0 < left)
     × Opened (term left) (elements (term (left - 1)) 32) text rest from known vars c item names' item' c' passed
-BegunIs left text rest from known vars c item names' item' (BegunMalformed place) =
+BegunIs left text rest from known vars c item names' item' (Err (Malformed place)) =
     (term left (counted_at known vars c.compounds) (piece (tokens_in from rest c.at)) ≡ malformed (from + place)) × (place ≤ length rest)
-BegunIs left text rest from known vars c item names' item' BegunExceeded =
+BegunIs left text rest from known vars c item names' item' (Err Exceeded) =
     term left (counted_at known vars c.compounds) (piece (tokens_in from rest c.at)) ≡ passed

@@ -4,49 +4,32 @@ ghost use Rattle.load_names.specs.Places.{Place};
 ghost use Rattle.load_openings.specs.Reading.{Stands};
 ghost use Rattle.load_openings.specs.Openings.{OpeningIs};
 
-use crate::cursor::Cursor;
+use crate::cursor::{Cursor, Unread};
 use load_names::names;
-use load_tokens::next::{IsNext, next_is};
+use load_names::source::Source;
+use load_tokens::next::next_is;
 use load_tokens::token::{Token, front};
 
-// A goal's name with its number, and the cursor behind its parenthesis; or 4 at a place, or 6.
-#[derive(Clone, Copy)]
-pub enum Opening {
-    Named(usize, Cursor),
-    NotNamed(usize),
-    Overfull,
-}
-
-// "Heads and goals are compounds with a name": the name, and its parenthesis.
-pub fn goal_name(text: &[u8], rest: &[u8], from: usize, names: &mut [u64], c: Cursor) -> Opening
-    requires { (known : List Place) × (vars : List Place) × (item : List ℕ) × Stands text.now rest.now from names.old item c known vars }
-    ensures { (known : List Place) (vars : List Place) (item : List ℕ) → Stands text.now rest.now from names.old item c known vars
-        → OpeningIs text.now rest.now from names.new item known vars c result }
+// "Heads and goals are compounds with a name": the name's number, and the cursor behind its parenthesis.
+pub fn goal_name(src: Source<'_>, names: &mut [u64], c: Cursor) -> Result<(usize, Cursor), Unread>
+    requires { (known : List Place) × (vars : List Place) × (item : List ℕ)
+        × Stands src.text.now src.rest.now src.from names.old item c known vars }
+    ensures { (known : List Place) (vars : List Place) (item : List ℕ)
+        → Stands src.entry.text.now src.entry.rest.now src.entry.from names.old item c known vars
+        → OpeningIs src.entry.text.now src.entry.rest.now src.entry.from names.new item known vars c result }
 {
-    let at = c.at;
-    match front(rest, at) {
+    match front(src.rest, c.at) {
         Token::Name(a, e) => {
-            let known = c.names;
-            match names::number(text, rest, from, names, known, a, e) {
-                names::Numbered::Number(n, count) => match next_is(rest, e, b'(') {
-                    IsNext::Yes(behind) => Opening::Named(
-                        n,
-                        Cursor {
-                            at: behind,
-                            names: count,
-                            ..c
-                        },
-                    ),
-                    IsNext::No(a) => Opening::NotNamed(a),
-                },
-                names::Numbered::Exceeded => Opening::Overfull,
-            }
+            let numbered = names::number(src, names, c.names, a, e);
+            let (n, names) = numbered.ok_or(Unread::Exceeded)?;
+            let at = next_is(src.rest, e, b'(')?;
+            Ok((n, Cursor { at, names, ..c }))
         }
-        Token::Writer(a, _) => Opening::NotNamed(a),
-        Token::Reader(a, _) => Opening::NotNamed(a),
-        Token::Integer(_, a, _) => Opening::NotNamed(a),
-        Token::Sign(_, a) => Opening::NotNamed(a),
-        Token::Bad(a) => Opening::NotNamed(a),
-        Token::End => Opening::NotNamed(rest.len()),
+        Token::Writer(a, _)
+        | Token::Reader(a, _)
+        | Token::Integer(_, a, _)
+        | Token::Sign(_, a)
+        | Token::Bad(a) => Err(Unread::Malformed(a)),
+        Token::End => Err(Unread::Malformed(src.rest.len())),
     }
 }

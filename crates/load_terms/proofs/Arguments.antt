@@ -1,13 +1,13 @@
 -- The arguments of a compound: one more in front of those behind it, the last one, or an argument that stops; and the compound itself.
-use Prim.Native.Nat.{ℕ, suc, ◌+◌, ◌*◌, ◌-◌, ◌≤◌, ◌<◌, min}
+use Rattle.std.specs.Prelude.{Result, Ok, Err}
+use Prim.Native.Nat.{ℕ, suc, ◌+◌, ◌-◌, ◌≤◌, ◌<◌, min}
 use mathlib.Core.Path.{◌≡◌, refl, ap, ◌∙◌}
 use mathlib.Core.List.{List, [], ◌∷◌, ◌++◌}
 use mathlib.Core.Option.{some}
 use native.Mathlib.Omega.{arith}
-use lib.ListN.{length, get_or, set}
+use lib.ListN.{get_or, set}
 use Rattle.meaning.specs.Bytes.{Bytes}
 use Rattle.meaning.specs.Terms.{Term, Terms, end, more, count, as_term, occurrences, all_occurrences}
-use Rattle.meaning.specs.Tokens.{token, sign}
 use Rattle.meaning.specs.Items.{Reader, read, read_on, give, begins_term, place_of, arguments, compound_of}
 use Rattle.term.specs.Cells.{number_of, stored, arguments_stored, Numbered, AllNumbered, Known, AllKnown}
 use Rattle.term.specs.Frames.{Only}
@@ -18,11 +18,13 @@ use Rattle.term.specs.Layout.{item_start, item_end, item_place}
 use Rattle.term.specs.Words.{compound_word, packed}
 use Rattle.load_tokens.specs.Fronts.{tokens_in}
 use Rattle.load_names.specs.Places.{Place, Placed, spellings, names_over, variables_over, item_places}
-use Rattle.load_tokens.specs.Nexts.{SignAt, Stops, Goes, one_of}
+use Rattle.load_tokens.specs.Nexts.{SignAt, StopsAt, Goes, one_of}
+use Rattle.load_tokens.specs.declared.next.Misplaced.{Misplaced}
 use Rattle.load_openings.specs.Reading.{piece, counted_at, half_place, Gave, ReadIs, ArgumentsAre}
 use Rattle.load_openings.specs.declared.cursor.Cursor.{Cursor}
-use Rattle.load_openings.specs.declared.cursor.Read.{Read}
-use Rattle.load_openings.specs.declared.cursor.Read.TheVariants.{Got, Malformed, Exceeded}
+use Rattle.load_openings.specs.declared.cursor.Unread.{Unread}
+use Rattle.load_openings.specs.declared.cursor.Unread.{Unread}
+use Rattle.load_openings.specs.declared.cursor.Unread.TheVariants.{Malformed, Exceeded}
 use Rattle.load_names.proofs.Numbering.{placed}
 use Rattle.load_openings.proofs.Passing.{names_more, piece_stops, piece_goes}
 use Rattle.load_terms.proofs.Arms.{
@@ -47,17 +49,13 @@ module _ (text rest : Bytes) (from base : ℕ) (known vars : List Place) (c : Cu
   six' : 6 - (i + 1) ≡ 5 - i
   six' = omega arith
 
-  -- The argument itself stops.
-  pub argument_malformed : (place : ℕ) (s' names' item' : List ℕ)
-      → ReadIs (λ (t : Term). t) argument text rest from base known vars c s item s' names' item' (Malformed place)
-      → ArgumentsAre n i (arguments argument (6 - i)) text rest from base known vars c s item s' names' item' (Malformed place)
-  argument_malformed place s' names' item' g =
+  -- The argument itself is not read.
+  pub argument_unread : (u : Unread) (s' names' item' : List ℕ)
+      → ReadIs (λ (t : Term). t) argument text rest from base known vars c s item s' names' item' (Err u)
+      → ArgumentsAre n i (arguments argument (6 - i)) text rest from base known vars c s item s' names' item' (Err u)
+  argument_unread (Malformed place) s' names' item' g =
       (rw six (arguments_malformed argument (5 - i) (counted_at known vars c.compounds) (piece (tokens_in from rest c.at)) (from + place) g.0), g.1, g.2)
-
-  pub argument_passed : (s' names' item' : List ℕ)
-      → ReadIs (λ (t : Term). t) argument text rest from base known vars c s item s' names' item' Exceeded
-      → ArgumentsAre n i (arguments argument (6 - i)) text rest from base known vars c s item s' names' item' Exceeded
-  argument_passed s' names' item' g =
+  argument_unread Exceeded s' names' item' g =
       (rw six (arguments_passed argument (5 - i) (counted_at known vars c.compounds) (piece (tokens_in from rest c.at)) g.0), g.1)
 
   -- The argument was read, and its word stored.
@@ -79,20 +77,20 @@ module _ (text rest : Bytes) (from base : ℕ) (known vars : List Place) (c : Cu
         (only_set (item_start base) (item_end base) s₁ (item_place base n + 1 + i) w (omega arith) (omega arith)))
 
     -- Neither sign comes next.
-    pub argument_stop : (place : ℕ) → place ≤ length rest → ((from : ℕ) → Stops (one_of 44 41 41) (from + place) (tokens_in from rest e.at))
-        → ArgumentsAre n i (arguments argument (6 - i)) text rest from base known vars c s item s₂ names₁ item₁ (Malformed place)
-    argument_stop place small stops = (
+    pub argument_stop : (m : Misplaced) → StopsAt (one_of (44 ∷ 41 ∷ [])) rest e.at m
+        → ArgumentsAre n i (arguments argument (6 - i)) text rest from base known vars c s item s₂ names₁ item₁ (Err (Malformed m.0))
+    argument_stop m stops = (
       rw six
           (arguments_stop argument (5 - i) (counted_at known vars c.compounds) (piece (tokens_in from rest c.at)) t
-          (counted_at known₁ vars₁ e.compounds) (from + place) (piece (tokens_in from rest e.at)) g.reads
-          (piece_stops (one_of 44 41 41) (from + place) (tokens_in from rest e.at) (stops from))),
-      small,
+          (counted_at known₁ vars₁ e.compounds) (from + m.0) (piece (tokens_in from rest e.at)) g.reads
+          (piece_stops (one_of (44 ∷ 41 ∷ [])) (from + m.0) (tokens_in from rest e.at) (stops.1 from))),
+      stops.0,
       argument_only,
     )
 
     -- It is the last one.
     pub argument_last : (b : ℕ) → SignAt rest e.at 41 b
-        → ArgumentsAre n i (arguments argument (6 - i)) text rest from base known vars c s item s₂ names₁ item₁ (Got (i + 1) (moved_to e b))
+        → ArgumentsAre n i (arguments argument (6 - i)) text rest from base known vars c s item s₂ names₁ item₁ (Ok (i + 1, moved_to e b))
     unfolding arguments_stored AllNumbered AllKnown count all_occurrences item_places
     argument_last b sign_at =
         let m = moves_then from rest c.at e.at b known vars known₁ vars₁ known₁ vars₁ p (sign_placed from rest sign_at ∷ []) (gave_moves g)
@@ -125,12 +123,12 @@ module _ (text rest : Bytes) (from base : ℕ) (known vars : List Place) (c : Cu
         (g.reads ∙ ap (λ ts. read t (counted_at known₁ vars₁ e.compounds) ts) (piece_sign from rest e.at 44 b sign_at refl))
 
     -- Others follow.
-    pub argument_more : (b : ℕ) (sign_at : SignAt rest e.at 44 b) (s₃ names₃ item₃ : List ℕ) (r : Read)
+    pub argument_more : (b : ℕ) (sign_at : SignAt rest e.at 44 b) (s₃ names₃ item₃ : List ℕ) (r : Result (ℕ × Cursor) Unread)
         → ArgumentsAre n (i + 1) (arguments argument (6 - (i + 1))) text rest from base (names_over p known) (variables_over from p vars)
         (moved_to e b) s₂ item₁ s₃ names₃ item₃ r
         → ArgumentsAre n i (arguments argument (6 - i)) text rest from base known vars c s item s₃ names₃ item₃ r
     unfolding arguments_stored AllNumbered AllKnown count all_occurrences item_places read_on give
-    argument_more b sign_at s₃ names₃ item₃ (Got w₃ c₃) a =
+    argument_more b sign_at s₃ names₃ item₃ (Ok (w₃, c₃)) a =
         let ts = a.0 in
         let q = a.1 in
         let g₃ = a.2 in
@@ -158,9 +156,9 @@ module _ (text rest : Bytes) (from base : ℕ) (known vars : List Place) (c : Cu
                 ∙ twice (get_or item (half_place h k) 0) (occurrences h k t) (all_occurrences h k ts);
           },
         )
-    argument_more b sign_at s₃ names₃ item₃ (Malformed place) a =
+    argument_more b sign_at s₃ names₃ item₃ (Err (Malformed place)) a =
         (rw six (step b sign_at ∙ rw (rw six' at a.0)), a.1, only_then (item_start base) (item_end base) s s₂ s₃ argument_only a.2)
-    argument_more b sign_at s₃ names₃ item₃ Exceeded a =
+    argument_more b sign_at s₃ names₃ item₃ (Err Exceeded) a =
         (rw six (step b sign_at ∙ rw (rw six' at a.0)), only_then (item_start base) (item_end base) s s₂ s₃ argument_only a.1)
 
 -- The seventh argument's first token.
@@ -170,27 +168,27 @@ module _ (text rest : Bytes) (from base : ℕ) (known vars : List Place) (c : Cu
   none_left = omega arith
 
   pub seventh_passed : ((from : ℕ) → Goes begins_term (tokens_in from rest c.at))
-      → ArgumentsAre n i (arguments argument (6 - i)) text rest from base known vars c s item s names item Exceeded
+      → ArgumentsAre n i (arguments argument (6 - i)) text rest from base known vars c s item s names item (Err Exceeded)
   seventh_passed goes = (
     rw none_left
         (arguments_many argument (counted_at known vars c.compounds) (piece (tokens_in from rest c.at)) (piece_goes begins_term (tokens_in from rest c.at) (goes from))),
     only_same (item_start base) (item_end base) s,
   )
 
-  pub seventh_malformed : (place : ℕ) → place ≤ length rest → ((from : ℕ) → Stops begins_term (from + place) (tokens_in from rest c.at))
-      → ArgumentsAre n i (arguments argument (6 - i)) text rest from base known vars c s item s names item (Malformed place)
-  seventh_malformed place small stops = (
+  pub seventh_cannot : (m : Misplaced) → StopsAt begins_term rest c.at m
+      → ArgumentsAre n i (arguments argument (6 - i)) text rest from base known vars c s item s names item (Err (Malformed m.0))
+  seventh_cannot m stops = (
     rw none_left
-        (arguments_cannot argument (from + place) (counted_at known vars c.compounds) (piece (tokens_in from rest c.at))
-        (piece_stops begins_term (from + place) (tokens_in from rest c.at) (stops from))),
-    small,
+        (arguments_cannot argument (from + m.0) (counted_at known vars c.compounds) (piece (tokens_in from rest c.at))
+        (piece_stops begins_term (from + m.0) (tokens_in from rest c.at) (stops.1 from))),
+    stops.0,
     only_same (item_start base) (item_end base) s,
   )
 
 -- The compound over its arguments.
 module _ (text rest : Bytes) (from base : ℕ) (known vars : List Place) (c : Cursor) (s item : List ℕ) (argument : Reader Term) (f : Bytes) where
   pub compound_none : (names : List ℕ) → 32 ≤ c.compounds
-      → ReadIs as_term (compound_of argument f) text rest from base known vars c s item s names item Exceeded
+      → ReadIs as_term (compound_of argument f) text rest from base known vars c s item s names item (Err Exceeded)
   compound_none names many =
       (compound_many argument f known vars c.compounds (piece (tokens_in from rest c.at)) many, only_same (item_start base) (item_end base) s)
 
@@ -200,22 +198,18 @@ module _ (text rest : Bytes) (from base : ℕ) (known vars : List Place) (c : Cu
         (λ (os : Terms). give (record { number = c.compounds; name = f; arguments = os }))
     over = compound_over argument f known vars c.compounds (piece (tokens_in from rest c.at)) few
 
-    pub compound_malformed : (place : ℕ)
-        → ArgumentsAre c.compounds 0 (arguments argument 6) text rest from base known vars (counted_one c) s item s₁ names₁ item₁ (Malformed place)
-        → ReadIs as_term (compound_of argument f) text rest from base known vars c s item s₁ names₁ item₁ (Malformed place)
+    pub compound_unread : (u : Unread)
+        → ArgumentsAre c.compounds 0 (arguments argument 6) text rest from base known vars (counted_one c) s item s₁ names₁ item₁ (Err u)
+        → ReadIs as_term (compound_of argument f) text rest from base known vars c s item s₁ names₁ item₁ (Err u)
     unfolding read_on
-    compound_malformed place a = (over ∙ rw a.0, a.1, a.2)
-
-    pub compound_passed : ArgumentsAre c.compounds 0 (arguments argument 6) text rest from base known vars (counted_one c) s item s₁ names₁ item₁ Exceeded
-        → ReadIs as_term (compound_of argument f) text rest from base known vars c s item s₁ names₁ item₁ Exceeded
-    unfolding read_on
-    compound_passed a = (over ∙ rw a.0, a.1)
+    compound_unread (Malformed place) a = (over ∙ rw a.0, a.1, a.2)
+    compound_unread Exceeded a = (over ∙ rw a.0, a.1)
 
     pub compound_got : (s₂ : List ℕ) (name w k : ℕ) (e : Cursor) → place_of f (spellings known) ≡ some name
-        → ArgumentsAre c.compounds 0 (arguments argument 6) text rest from base known vars (counted_one c) s item s₁ names₁ item₁ (Got k e)
+        → ArgumentsAre c.compounds 0 (arguments argument 6) text rest from base known vars (counted_one c) s item s₁ names₁ item₁ (Ok (k, e))
         → s₂ ≡ set s₁ (item_place base c.compounds) (packed k (name + 1))
         → w ≡ compound_word (item_place base c.compounds)
-        → ReadIs as_term (compound_of argument f) text rest from base known vars c s item s₂ names₁ item₁ (Got w e)
+        → ReadIs as_term (compound_of argument f) text rest from base known vars c s item s₂ names₁ item₁ (Ok (w, e))
     unfolding read_on give as_term item_places stored Numbered Known occurrences
     compound_got s₂ name w k e place a kept word =
         let ts = a.0 in

@@ -1,8 +1,8 @@
 -- The readers of terms, arguments and lists, over what their parts read: each lemma is one arm of the code.
-use Prim.Native.Nat.{ℕ, suc, ◌+◌, ◌-◌, ◌≤◌, ◌<◌}
+use Prim.Native.Nat.{ℕ, suc, ◌+◌, ◌≤◌, ◌<◌}
 use mathlib.Core.Path.{◌≡◌, refl, ap, sym, ◌∙◌}
 use mathlib.Core.Bool.{Bool, true, false}
-use mathlib.Core.List.{List}
+use mathlib.Core.List.{List, [], ◌∷◌}
 use Rattle.meaning.specs.Bytes.{Bytes, byte, when◌then◌else◌}
 use Rattle.meaning.specs.Terms.{empty, cell, Term, Terms, compound, end, more}
 use Rattle.meaning.specs.Tokens.{Token, Tokens, ends, token, name, variable, integer, sign, bad}
@@ -11,15 +11,8 @@ use Rattle.load_names.specs.Places.{Place}
 use Rattle.load_tokens.specs.Nexts.{one_of, Stops, Goes}
 use Rattle.load_openings.specs.Reading.{counted_at, closed}
 use Rattle.load_openings.proofs.Begins.{term_end, term_bad, term_sign}
-use Rattle.load_openings.proofs.Expected.{never}
-use Rattle.load_openings.proofs.Readers.{
-  count_compound_with,
-  count_compound_passed,
-  either_stops,
-  expect_stops,
-  standing_goes,
-  standing_stops,
-}
+use Rattle.load_openings.proofs.Expected.{either_stops, expect_stops}
+use Rattle.load_openings.proofs.Readers.{count_compound_with, count_compound_passed, standing_goes, standing_stops}
 
 -- Arguments: the next one stops, is followed by another, is the last, or by neither sign.
 module _ (argument : Reader Term) (left : ℕ) (counted : Counted) (ts : Tokens) where
@@ -44,9 +37,9 @@ module _ (argument : Reader Term) (left : ℕ) (counted : Counted) (ts : Tokens)
   arguments_last t counted' p behind e = rw e
 
   pub arguments_stop : (t : Term) (counted' : Counted) (place : ℕ) (behind : Tokens) → argument counted ts ≡ read t counted' behind
-      → Stops (one_of 44 41 41) place behind → arguments argument (suc left) counted ts ≡ malformed place
-  unfolding arguments ◌>>=◌ read_on
-  arguments_stop t counted' place behind e h = rw (e, either_stops place counted' behind h)
+      → Stops (one_of (44 ∷ 41 ∷ [])) place behind → arguments argument (suc left) counted ts ≡ malformed place
+  unfolding arguments ◌>>=◌ read_on byte
+  arguments_stop t counted' place behind e h = rw (e, either_stops counted' "," ")" place behind h)
 
 -- The seventh argument's first token.
 pub arguments_many : (argument : Reader Term) (counted : Counted) (ts : Tokens) → Goes begins_term ts
@@ -93,9 +86,9 @@ module _ (element : Reader Term) (left : ℕ) (known vars : List Place) (k : ℕ
 -- Where the element is a term, it need not be asked first whether the token can begin one.
 term_cannot : (depth : ℕ) (counted : Counted) (p : ℕ) (t : Token) (ts : Tokens) → begins_term t ≡ false → term depth counted (token p t ts) ≡ malformed p
 unfolding begins_term byte
-term_cannot depth counted p (name f) ts h = never h
-term_cannot depth counted p (variable k x) ts h = never h
-term_cannot depth counted p (integer i) ts h = never h
+term_cannot depth counted p (name f) ts h = cc
+term_cannot depth counted p (variable k x) ts h = cc
+term_cannot depth counted p (integer i) ts h = cc
 term_cannot depth counted p (sign b) ts h = term_sign depth counted p b ts h
 term_cannot depth counted p bad ts h = term_bad depth counted p ts
 
@@ -155,6 +148,6 @@ module _ (element : Reader Term) (counted : Counted) (ts : Tokens) where
   closed_read t counted' p behind e = rw e
 
   pub closed_stop : (t : Term) (counted' : Counted) (place : ℕ) (behind : Tokens) → element counted ts ≡ read t counted' behind
-      → Stops (one_of 93 93 93) place behind → closed element counted ts ≡ malformed place
-  unfolding closed ◌>>=◌ ◌>>◌ read_on
-  closed_stop t counted' place behind e h = rw (e, expect_stops place counted' behind h)
+      → Stops (one_of (93 ∷ [])) place behind → closed element counted ts ≡ malformed place
+  unfolding closed ◌>>=◌ ◌>>◌ read_on byte
+  closed_stop t counted' place behind e h = rw (e, expect_stops counted' "]" place behind h)

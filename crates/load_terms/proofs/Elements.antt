@@ -1,12 +1,13 @@
 -- The elements of a list: an element and its tail make a list cell; the tail behind a sign; the last tail with its closing bracket.
-use Prim.Native.Nat.{ℕ, zero, suc, ◌+◌, ◌*◌, ◌-◌, ◌≤◌, ◌<◌, min}
+use Rattle.std.specs.Prelude.{Ok, Err}
+use Prim.Native.Nat.{ℕ, zero, suc, ◌+◌, ◌≤◌, ◌<◌, min}
 use mathlib.Core.Path.{◌≡◌, refl, ap, sym, ◌∙◌}
 use mathlib.Core.List.{List, [], ◌∷◌, ◌++◌}
 use native.Mathlib.Omega.{arith}
-use lib.ListN.{length, get_or, set}
+use lib.ListN.{get_or, set}
 use Rattle.meaning.specs.Bytes.{Bytes}
 use Rattle.meaning.specs.Terms.{empty, cell, Term, compound, end, more, count, occurrences, all_occurrences}
-use Rattle.meaning.specs.Tokens.{Tokens, token, sign}
+use Rattle.meaning.specs.Tokens.{Tokens}
 use Rattle.meaning.specs.Items.{Counted, Reader, read, read_on, give, begins_term, next, tail_of, elements, term}
 use Rattle.term.specs.Cells.{term_word, stored, arguments_stored, Numbered, AllNumbered, Known, AllKnown}
 use Rattle.term.specs.Frames.{Only}
@@ -16,12 +17,14 @@ use Rattle.term.specs.Layout.{item_start, item_end, item_place}
 use Rattle.term.specs.Words.{compound_word}
 use Rattle.load_tokens.specs.Fronts.{tokens_in}
 use Rattle.load_names.specs.Places.{Place, Placed, names_over, variables_over, item_places}
-use Rattle.load_tokens.specs.Nexts.{SignAt, Stops, Goes, one_of}
+use Rattle.load_tokens.specs.Nexts.{SignAt, StopsAt, Goes, one_of}
+use Rattle.load_tokens.specs.declared.next.Misplaced.{Misplaced}
 use Rattle.load_openings.specs.Reading.{piece, counted_at, half_place, Stands, Gave, ReadIs, closed}
 use Rattle.load_openings.specs.declared.cursor.Cursor.{Cursor}
-use Rattle.load_openings.specs.declared.cursor.Read.TheVariants.{Got, Malformed, Exceeded}
+use Rattle.load_openings.specs.declared.cursor.Unread.{Unread}
+use Rattle.load_openings.specs.declared.cursor.Unread.TheVariants.{Malformed, Exceeded}
 use Rattle.load_openings.proofs.Passing.{piece_stops, piece_goes}
-use Rattle.load_openings.proofs.Readers.{tail_stops}
+use Rattle.load_openings.proofs.Expected.{tail_stops}
 use Rattle.load_terms.proofs.Arms.{elements_cannot, elements_many, elements_term, elements_none, elements_none_cannot, tail_empty, closed_malformed, closed_passed, closed_read, closed_stop}
 use Rattle.load_openings.proofs.Moves.{moves_then, moves_sign, sign_placed, piece_sign, moved_to, counted_one, stands_moved, word_later, stored_later, known_later, once, twice, half_small}
 use Rattle.load_openings.proofs.Given.{gave_by, gave_moves, gave_only}
@@ -56,18 +59,18 @@ cell_then_stored known base n w v lo hi t s m below =
 
 module _ (text rest : Bytes) (from base : ℕ) (known vars : List Place) (c : Cursor) (s item : List ℕ) (element : Reader Term) where
   -- The first token cannot begin a term.
-  pub start_cannot : (names : List ℕ) (left place : ℕ) → place ≤ length rest → ((from : ℕ) → Stops begins_term (from + place) (tokens_in from rest c.at))
-      → ReadIs (λ (t : Term). t) (elements element left) text rest from base known vars c s item s names item (Malformed place)
-  start_cannot names zero place small stops = (
-    elements_none_cannot element (from + place) (counted_at known vars c.compounds) (piece (tokens_in from rest c.at))
-        (piece_stops begins_term (from + place) (tokens_in from rest c.at) (stops from)),
-    small,
+  pub start_cannot : (names : List ℕ) (left : ℕ) (m : Misplaced) → StopsAt begins_term rest c.at m
+      → ReadIs (λ (t : Term). t) (elements element left) text rest from base known vars c s item s names item (Err (Malformed m.0))
+  start_cannot names zero m stops = (
+    elements_none_cannot element (from + m.0) (counted_at known vars c.compounds) (piece (tokens_in from rest c.at))
+        (piece_stops begins_term (from + m.0) (tokens_in from rest c.at) (stops.1 from)),
+    stops.0,
     only_same (item_start base) (item_end base) s,
   )
-  start_cannot names (suc left) place small stops = (
-    elements_cannot element left known vars c.compounds (piece (tokens_in from rest c.at)) (from + place)
-        (piece_stops begins_term (from + place) (tokens_in from rest c.at) (stops from)),
-    small,
+  start_cannot names (suc left) m stops = (
+    elements_cannot element left known vars c.compounds (piece (tokens_in from rest c.at)) (from + m.0)
+        (piece_stops begins_term (from + m.0) (tokens_in from rest c.at) (stops.1 from)),
+    stops.0,
     only_same (item_start base) (item_end base) s,
   )
 
@@ -77,7 +80,7 @@ module _ (text rest : Bytes) (from base : ℕ) (known vars : List Place) (c : Cu
 
     -- The 33rd compound.
     pub element_many : (names : List ℕ) (left : ℕ) → 32 ≤ c.compounds
-        → ReadIs (λ (t : Term). t) (elements element left) text rest from base known vars c s item s names item Exceeded
+        → ReadIs (λ (t : Term). t) (elements element left) text rest from base known vars c s item s names item (Err Exceeded)
     element_many names zero many = (
       elements_none element (counted_at known vars c.compounds) (piece (tokens_in from rest c.at)) goes_on,
       only_same (item_start base) (item_end base) s,
@@ -99,18 +102,13 @@ module _ (text rest : Bytes) (from base : ℕ) (known vars : List Place) (c : Cu
         (λ (tail : Term). give (compound c.compounds cell (more t (more tail end)))))
     over = elements_term depth left known vars c.compounds few (piece (tokens_in from rest c.at))
 
-    -- The element stops.
-    pub element_malformed : (s₁ names₁ item₁ : List ℕ) (place : ℕ)
-        → ReadIs (λ (t : Term). t) element text rest from base known vars (counted_one c) s item s₁ names₁ item₁ (Malformed place)
-        → ReadIs (λ (t : Term). t) (elements element (suc left)) text rest from base known vars c s item s₁ names₁ item₁ (Malformed place)
+    -- The element is not read.
+    pub element_unread : (u : Unread) (s₁ names₁ item₁ : List ℕ)
+        → ReadIs (λ (t : Term). t) element text rest from base known vars (counted_one c) s item s₁ names₁ item₁ (Err u)
+        → ReadIs (λ (t : Term). t) (elements element (suc left)) text rest from base known vars c s item s₁ names₁ item₁ (Err u)
     unfolding read_on
-    element_malformed s₁ names₁ item₁ place g = (over ∙ rw g.0, g.1, g.2)
-
-    pub element_passed : (s₁ names₁ item₁ : List ℕ)
-        → ReadIs (λ (t : Term). t) element text rest from base known vars (counted_one c) s item s₁ names₁ item₁ Exceeded
-        → ReadIs (λ (t : Term). t) (elements element (suc left)) text rest from base known vars c s item s₁ names₁ item₁ Exceeded
-    unfolding read_on
-    element_passed s₁ names₁ item₁ g = (over ∙ rw g.0, g.1)
+    element_unread (Malformed place) s₁ names₁ item₁ g = (over ∙ rw g.0, g.1, g.2)
+    element_unread Exceeded s₁ names₁ item₁ g = (over ∙ rw g.0, g.1)
 
     -- The element was read; then its tail.
     module _ (s₁ names₁ item₁ : List ℕ) (w : ℕ) (e : Cursor) (t : Term) (p : List Placed)
@@ -124,21 +122,16 @@ module _ (text rest : Bytes) (from base : ℕ) (known vars : List Place) (c : Cu
       abbrev rest_of_list : Reader Term
       rest_of_list = next (tail_of element (elements element left))
 
-      pub tail_malformed : (s₂ s₃ names₃ item₃ : List ℕ) (place : ℕ) → Only (item_start base) (item_end base) s₁ s₂
-          → ReadIs (λ (t : Term). t) rest_of_list text rest from base known₁ vars₁ e s₂ item₁ s₃ names₃ item₃ (Malformed place)
-          → ReadIs (λ (t : Term). t) (elements element (suc left)) text rest from base known vars c s item s₃ names₃ item₃ (Malformed place)
+      pub tail_unread : (u : Unread) (s₂ s₃ names₃ item₃ : List ℕ) → Only (item_start base) (item_end base) s₁ s₂
+          → ReadIs (λ (t : Term). t) rest_of_list text rest from base known₁ vars₁ e s₂ item₁ s₃ names₃ item₃ (Err u)
+          → ReadIs (λ (t : Term). t) (elements element (suc left)) text rest from base known vars c s item s₃ names₃ item₃ (Err u)
       unfolding read_on
-      tail_malformed s₂ s₃ names₃ item₃ place only a = (
+      tail_unread (Malformed place) s₂ s₃ names₃ item₃ only a = (
         over ∙ rw (g.reads, a.0),
         a.1,
         only_then (item_start base) (item_end base) s s₁ s₃ (gave_only g) (only_then (item_start base) (item_end base) s₁ s₂ s₃ only a.2),
       )
-
-      pub tail_passed : (s₂ s₃ names₃ item₃ : List ℕ) → Only (item_start base) (item_end base) s₁ s₂
-          → ReadIs (λ (t : Term). t) rest_of_list text rest from base known₁ vars₁ e s₂ item₁ s₃ names₃ item₃ Exceeded
-          → ReadIs (λ (t : Term). t) (elements element (suc left)) text rest from base known vars c s item s₃ names₃ item₃ Exceeded
-      unfolding read_on
-      tail_passed s₂ s₃ names₃ item₃ only a = (
+      tail_unread Exceeded s₂ s₃ names₃ item₃ only a = (
         over ∙ rw (g.reads, a.0),
         only_then (item_start base) (item_end base) s s₁ s₃ (gave_only g) (only_then (item_start base) (item_end base) s₁ s₂ s₃ only a.1),
       )
@@ -148,7 +141,7 @@ module _ (text rest : Bytes) (from base : ℕ) (known vars : List Place) (c : Cu
           → Gave (λ (t : Term). t) rest_of_list text rest from base known₁ vars₁ e s₂ item₁ s₃ names₃ item₃ v d tail q
           → s₄ ≡ cell_stored base c.compounds w v (stored (item_places (names_over q known₁) base) tail s₁)
           → cell_word ≡ compound_word (item_place base c.compounds)
-          → ReadIs (λ (t : Term). t) (elements element (suc left)) text rest from base known vars c s item s₄ names₃ item₃ (Got cell_word d)
+          → ReadIs (λ (t : Term). t) (elements element (suc left)) text rest from base known vars c s item s₄ names₃ item₃ (Ok (cell_word, d))
       unfolding read_on give item_places stored arguments_stored Numbered AllNumbered Known AllKnown occurrences all_occurrences count
       tail_got s₂ s₃ names₃ item₃ s₄ v cell_word d tail q h kept word =
           let here = item_place base c.compounds in
@@ -180,10 +173,10 @@ module _ (text rest : Bytes) (from base : ℕ) (known vars : List Place) (c : Cu
 
       -- The cell's words are stored behind its tail's.
       pub cell_behind : (s₂ names₂ item₂ s₃ : List ℕ) (v cell_word : ℕ) (d : Cursor)
-          → ReadIs (λ (t : Term). t) rest_of_list text rest from base known₁ vars₁ e s₁ item₁ s₂ names₂ item₂ (Got v d)
+          → ReadIs (λ (t : Term). t) rest_of_list text rest from base known₁ vars₁ e s₁ item₁ s₂ names₂ item₂ (Ok (v, d))
           → s₃ ≡ cell_stored base c.compounds w v s₂
           → cell_word ≡ compound_word (item_place base c.compounds)
-          → ReadIs (λ (t : Term). t) (elements element (suc left)) text rest from base known vars c s item s₃ names₂ item₂ (Got cell_word d)
+          → ReadIs (λ (t : Term). t) (elements element (suc left)) text rest from base known vars c s item s₃ names₂ item₂ (Ok (cell_word, d))
       cell_behind s₂ names₂ item₂ s₃ v cell_word d a kept word =
           tail_got s₁ s₂ names₂ item₂ s₃ v cell_word d a.0 a.1 a.2
           (kept ∙ ap (cell_stored base c.compounds w v) a.2.stored_is) word
@@ -191,9 +184,9 @@ module _ (text rest : Bytes) (from base : ℕ) (known vars : List Place) (c : Cu
       -- The cell's words are stored first, its tail's known beforehand.
       pub cell_first : (s₂ s₃ names₃ item₃ : List ℕ) (v cell_word : ℕ) (d : Cursor)
           → s₂ ≡ cell_stored base c.compounds w v s₁
-          → ReadIs (λ (t : Term). t) rest_of_list text rest from base known₁ vars₁ e s₂ item₁ s₃ names₃ item₃ (Got v d)
+          → ReadIs (λ (t : Term). t) rest_of_list text rest from base known₁ vars₁ e s₂ item₁ s₃ names₃ item₃ (Ok (v, d))
           → cell_word ≡ compound_word (item_place base c.compounds)
-          → ReadIs (λ (t : Term). t) (elements element (suc left)) text rest from base known vars c s item s₃ names₃ item₃ (Got cell_word d)
+          → ReadIs (λ (t : Term). t) (elements element (suc left)) text rest from base known vars c s item s₃ names₃ item₃ (Ok (cell_word, d))
       cell_first s₂ s₃ names₃ item₃ v cell_word d kept a word =
           let places = item_places (names_over a.1 known₁) base in
           tail_got s₂ s₃ names₃ item₃ s₃ v cell_word d a.0 a.1 a.2
@@ -205,7 +198,7 @@ module _ (text rest : Bytes) (from base : ℕ) (known vars : List Place) (c : Cu
 -- The tail behind an element: `[]`, or none of its three signs.
 module _ (text rest : Bytes) (from base : ℕ) (known vars : List Place) (c : Cursor) (s names item : List ℕ) (element others : Reader Term) where
   pub tail_third : (b : ℕ) → Stands text rest from names item c known vars → SignAt rest c.at 93 b
-      → ReadIs (λ (t : Term). t) (next (tail_of element others)) text rest from base known vars c s item s names item (Got 5 (moved_to c b))
+      → ReadIs (λ (t : Term). t) (next (tail_of element others)) text rest from base known vars c s item s names item (Ok (5, moved_to c b))
   unfolding item_places stored Numbered Known occurrences
   tail_third b stands sign_at =
       let m = moves_sign from rest c.at 93 b known vars sign_at refl in (
@@ -222,40 +215,37 @@ module _ (text rest : Bytes) (from base : ℕ) (known vars : List Place) (c : Cu
             (λ h n few. once (get_or item (half_place h n) 0) (half_small stands.variables_in h n few)),
       )
 
-  pub tail_other : (place : ℕ) → place ≤ length rest → ((from : ℕ) → Stops (one_of 44 124 93) (from + place) (tokens_in from rest c.at))
-      → ReadIs (λ (t : Term). t) (next (tail_of element others)) text rest from base known vars c s item s names item (Malformed place)
-  tail_other place small stops = (
-    tail_stops element others (from + place) (counted_at known vars c.compounds) (piece (tokens_in from rest c.at))
-        (piece_stops (one_of 44 124 93) (from + place) (tokens_in from rest c.at) (stops from)),
-    small,
+  pub tail_other : (m : Misplaced) → StopsAt (one_of (44 ∷ 124 ∷ 93 ∷ [])) rest c.at m
+      → ReadIs (λ (t : Term). t) (next (tail_of element others)) text rest from base known vars c s item s names item (Err (Malformed m.0))
+  tail_other m stops = (
+    tail_stops (counted_at known vars c.compounds) element others (from + m.0) (piece (tokens_in from rest c.at))
+        (piece_stops (one_of (44 ∷ 124 ∷ 93 ∷ [])) (from + m.0) (tokens_in from rest c.at) (stops.1 from)),
+    stops.0,
     only_same (item_start base) (item_end base) s,
   )
 
 -- The last tail, and its closing bracket.
 module _ (text rest : Bytes) (from base : ℕ) (known vars : List Place) (c : Cursor) (s item s₁ names₁ item₁ : List ℕ) (element : Reader Term) where
-  pub last_malformed : (place : ℕ) → ReadIs (λ (t : Term). t) element text rest from base known vars c s item s₁ names₁ item₁ (Malformed place)
-      → ReadIs (λ (t : Term). t) (closed element) text rest from base known vars c s item s₁ names₁ item₁ (Malformed place)
-  last_malformed place g =
+  pub last_unread : (u : Unread) → ReadIs (λ (t : Term). t) element text rest from base known vars c s item s₁ names₁ item₁ (Err u)
+      → ReadIs (λ (t : Term). t) (closed element) text rest from base known vars c s item s₁ names₁ item₁ (Err u)
+  last_unread (Malformed place) g =
       (closed_malformed element (counted_at known vars c.compounds) (piece (tokens_in from rest c.at)) (from + place) g.0, g.1, g.2)
-
-  pub last_passed : ReadIs (λ (t : Term). t) element text rest from base known vars c s item s₁ names₁ item₁ Exceeded
-      → ReadIs (λ (t : Term). t) (closed element) text rest from base known vars c s item s₁ names₁ item₁ Exceeded
-  last_passed g = (closed_passed element (counted_at known vars c.compounds) (piece (tokens_in from rest c.at)) g.0, g.1)
+  last_unread Exceeded g = (closed_passed element (counted_at known vars c.compounds) (piece (tokens_in from rest c.at)) g.0, g.1)
 
   module _ (w : ℕ) (e : Cursor) (t : Term) (p : List Placed)
       (g : Gave (λ (t : Term). t) element text rest from base known vars c s item s₁ names₁ item₁ w e t p) where
-    pub last_other : (place : ℕ) → place ≤ length rest → ((from : ℕ) → Stops (one_of 93 93 93) (from + place) (tokens_in from rest e.at))
-        → ReadIs (λ (t : Term). t) (closed element) text rest from base known vars c s item s₁ names₁ item₁ (Malformed place)
-    last_other place small stops = (
+    pub last_other : (m : Misplaced) → StopsAt (one_of (93 ∷ [])) rest e.at m
+        → ReadIs (λ (t : Term). t) (closed element) text rest from base known vars c s item s₁ names₁ item₁ (Err (Malformed m.0))
+    last_other m stops = (
       closed_stop element (counted_at known vars c.compounds) (piece (tokens_in from rest c.at)) t
-          (counted_at (names_over p known) (variables_over from p vars) e.compounds) (from + place) (piece (tokens_in from rest e.at)) g.reads
-          (piece_stops (one_of 93 93 93) (from + place) (tokens_in from rest e.at) (stops from)),
-      small,
+          (counted_at (names_over p known) (variables_over from p vars) e.compounds) (from + m.0) (piece (tokens_in from rest e.at)) g.reads
+          (piece_stops (one_of (93 ∷ [])) (from + m.0) (tokens_in from rest e.at) (stops.1 from)),
+      stops.0,
       gave_only g,
     )
 
     pub last_got : (b : ℕ) → SignAt rest e.at 93 b
-        → ReadIs (λ (t : Term). t) (closed element) text rest from base known vars c s item s₁ names₁ item₁ (Got w (moved_to e b))
+        → ReadIs (λ (t : Term). t) (closed element) text rest from base known vars c s item s₁ names₁ item₁ (Ok (w, moved_to e b))
     last_got b sign_at =
         let known₁ = names_over p known in
         let vars₁ = variables_over from p vars in

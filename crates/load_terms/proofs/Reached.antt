@@ -1,5 +1,6 @@
 -- A compound's arguments, one after the other: some have been read, and whatever the others answer is the answer of all.
-use Prim.Native.Nat.{ℕ, ◌+◌, ◌*◌, ◌-◌, ◌<◌}
+use Rattle.std.specs.Prelude.{Result}
+use Prim.Native.Nat.{ℕ, ◌+◌, ◌-◌, ◌<◌}
 use mathlib.Core.Path.{◌≡◌}
 use mathlib.Core.List.{List}
 use native.Mathlib.Omega.{arith}
@@ -13,7 +14,7 @@ use Rattle.load_names.specs.Places.{Place, Placed, names_over, variables_over}
 use Rattle.load_tokens.specs.Nexts.{SignAt}
 use Rattle.load_openings.specs.Reading.{Stands, Gave, ArgumentsAre}
 use Rattle.load_openings.specs.declared.cursor.Cursor.{Cursor}
-use Rattle.load_openings.specs.declared.cursor.Read.{Read}
+use Rattle.load_openings.specs.declared.cursor.Unread.{Unread}
 use Rattle.load_openings.proofs.Moves.{moved_to, stands_moved}
 use Rattle.load_terms.proofs.Arguments.{argument_more}
 
@@ -24,7 +25,7 @@ pub record Reached (argument : Reader Term) (n i : ℕ) (text rest : Bytes) (fro
   pub vars₁ : List Place
   pub stands : Stands text rest from names₁ item₁ d known₁ vars₁
   pub behind : n < d.compounds
-  pub answers : (s' names' item' : List ℕ) (r : Read)
+  pub answers : (s' names' item' : List ℕ) (r : Result (ℕ × Cursor) Unread)
       → ArgumentsAre n i (arguments argument (6 - i)) text rest from base known₁ vars₁ d s₁ item₁ s' names' item' r
       → ArgumentsAre n 0 (arguments argument 6) text rest from base known vars c s item s' names' item' r
 

@@ -1,65 +1,43 @@
 -- The classes of bytes by the numbers of their bytes: a byte of one class lies outside the others.
 -- A test that passes bounds the byte, and a byte out of bounds fails the test.
 use Prim.Native.Nat.{ℕ, ◌≤◌, ◌<◌}
-use Prim.Native.Char.{Char}
 use mathlib.Core.Path.{◌≡◌, refl}
-use mathlib.Core.Bool.{Bool, true, false, ◌&&◌, ◌||◌, and-false}
+use mathlib.Core.Bool.{Bool, true, false, ◌||◌}
 use native.Mathlib.Omega.{arith}
-use lib.Dec.{leb, eqb}
-use borrow.Author.Tests.{leb-true, le-leb, lt-leb, eqb-true, ne_eqb}
+use lib.Dec.{eqb}
+use borrow.Author.Tests.{eqb-true}
+use Rattle.std.specs.Char.{is_ascii_digit, is_ascii_lowercase, is_ascii_uppercase}
+use Rattle.std.proofs.lemmas.Bool.Decides.{nat_tests}
 use Rattle.meaning.specs.Bytes.{byte}
-use Rattle.meaning.specs.Tokens.{tokens_words, between, lowercase, uppercase, digit, separates, single_sign}
-
-pub both : (a b : Bool) → (a && b) ≡ true → (a ≡ true) × (b ≡ true)
-both true b e = (refl, e)
-both false b e = (e, cc)
-
-in_between : (low high : Char) (c : ℕ) → between low high c ≡ true → (byte low ≤ c) × (c ≤ byte high)
-unfolding between
-in_between low high c e =
-    let t = both (leb (byte low) c) (leb c (byte high)) e in
-    (leb-true _ _ t.0, leb-true _ _ t.1)
-
-pub inside : (low high : Char) (c : ℕ) → byte low ≤ c → c ≤ byte high → between low high c ≡ true
-unfolding between
-inside low high c l h = rw (le-leb (byte low) c l, le-leb c (byte high) h)
-
-pub below : (low high : Char) (c : ℕ) → c < byte low → between low high c ≡ false
-unfolding between
-below low high c h = rw (lt-leb (byte low) c h)
-
-pub above : (low high : Char) (c : ℕ) → byte high < c → between low high c ≡ false
-unfolding between
-above low high c h = rw (lt-leb c (byte high) h, and-false (leb (byte low) c))
+use Rattle.meaning.specs.Tokens.{tokens_words, lowercase, uppercase, digit, separates, single_sign}
 
 pub lowercase_bytes : (c : ℕ) → lowercase c ≡ true → (97 ≤ c) × (c ≤ 122)
-unfolding lowercase byte
-lowercase_bytes c e = in_between "a" "z" c e
+unfolding tokens_words
+lowercase_bytes c e = (grind (arith, nat_tests), grind (arith, nat_tests))
 
 pub uppercase_bytes : (c : ℕ) → uppercase c ≡ true → (65 ≤ c) × (c ≤ 90)
-unfolding uppercase byte
-uppercase_bytes c e = in_between "A" "Z" c e
+unfolding tokens_words
+uppercase_bytes c e = (grind (arith, nat_tests), grind (arith, nat_tests))
 
 pub digit_bytes : (c : ℕ) → digit c ≡ true → (48 ≤ c) × (c ≤ 57)
-unfolding digit byte
-digit_bytes c e = in_between "0" "9" c e
+unfolding tokens_words
+digit_bytes c e = (grind (arith, nat_tests), grind (arith, nat_tests))
 
 pub not_lowercase : (c : ℕ) → c < 97 → lowercase c ≡ false
 unfolding tokens_words
-not_lowercase c h = rw (lt-leb 97 c h)
+not_lowercase c h = grind (arith, nat_tests)
 
 pub not_uppercase : (c : ℕ) → c < 65 → uppercase c ≡ false
 unfolding tokens_words
-not_uppercase c h = rw (lt-leb 65 c h)
+not_uppercase c h = grind (arith, nat_tests)
 
 pub not_separates : (c : ℕ) → 32 < c → separates c ≡ false
 unfolding tokens_words
-not_separates c h =
-    rw (ne_eqb c 32 (λ e. omega arith), ne_eqb c 9 (λ e. omega arith), ne_eqb c 13 (λ e. omega arith), ne_eqb c 10 (λ e. omega arith))
+not_separates c h = grind (arith, nat_tests)
 
 pub not_remark : (c : ℕ) → 37 < c → eqb c (byte "%") ≡ false
 unfolding byte
-not_remark c h = ne_eqb c 37 (λ e. omega arith)
+not_remark c h = grind (arith, nat_tests)
 
 pub either : (a b : Bool) → (a || b) ≡ false → (a ≡ false) × (b ≡ false)
 either true b e = (cc, cc)
@@ -77,3 +55,16 @@ of_signs P round close square shut comma bar stop c =
     let two = one_more P c 41 (eqb c 40) (λ t. rw (eqb-true c 40 t) round) close in
     let four = one_more P c 93 _ (one_more P c 91 _ two square) shut in
     one_more P c 46 _ (one_more P c 124 _ (one_more P c 44 _ four comma) bar) stop
+
+-- The library's classes are the definitions'.
+pub digit_is : (c : ℕ) → is_ascii_digit c ≡ digit c
+unfolding tokens_words
+digit_is c = grind (arith, nat_tests)
+
+pub lowercase_is : (c : ℕ) → is_ascii_lowercase c ≡ lowercase c
+unfolding tokens_words
+lowercase_is c = grind (arith, nat_tests)
+
+pub uppercase_is : (c : ℕ) → is_ascii_uppercase c ≡ uppercase c
+unfolding tokens_words
+uppercase_is c = grind (arith, nat_tests)

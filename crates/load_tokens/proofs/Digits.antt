@@ -1,19 +1,21 @@
 -- The value of decimal digits, and the integer that they are: more than ten digits without a leading zero pass every limit.
--- What the code reads of at most ten bytes is their value, or a number beyond every limit.
-use Prim.Native.Nat.{ℕ, suc, ◌+◌, ◌*◌, ◌-◌, ◌^◌, ◌≤◌, ◌<◌}
-use mathlib.Core.Path.{◌≡◌, refl}
+-- What the code reads of at most ten bytes is their value, or none.
+use Prim.Native.Nat.{ℕ, ◌+◌, ◌*◌, ◌-◌, ◌^◌, ◌≤◌, ◌<◌}
+use mathlib.Core.Path.{◌≡◌, refl, sym, ◌∙◌}
 use mathlib.Core.Bool.{Bool, true, false, ◌&&◌, and-true, and-false}
 use mathlib.Core.List.{[], ◌∷◌}
 use native.Mathlib.Nat.{pow-succ', mul_assoc, mul-le-mul_right, pow-le-pow_right, one-le-pow, le_trans}
 use native.Mathlib.Omega.{arith}
+use native.Mathlib.Numerals.{add-one}
 use lib.Dec.{leb}
-use lib.ListN.{length, get_or}
-use lib.Seq.{slice}
+use lib.ListN.{length, drop, get_or}
 use borrow.Author.Tests.{le-leb, lt-leb, ne_eqb}
 use Rattle.meaning.specs.Bytes.{Bytes, byte, bytes, same, all, when◌then◌else◌}
 use Rattle.meaning.specs.Terms.{plus, minus}
 use Rattle.meaning.specs.Tokens.{tokens_words, integer, bad, digit, value, no_leading_zero, unsigned, negative}
-use Rattle.load_tokens.proofs.Parts.{slice_next}
+use Rattle.std.specs.Prelude.{Option, Some, None}
+use Rattle.std.proofs.lemmas.Option.{none-some}
+use Rattle.load_tokens.proofs.Parts.{drop_next}
 
 value_least : (n : ℕ) (cs : Bytes) → n * 10 ^ length cs ≤ value n cs
 unfolding value
@@ -37,49 +39,58 @@ value_long c cs h k =
     let ten : 10 ^ 10 ≤ 10 ^ length cs = pow-le-pow_right (omega arith) k in
     omega (arith, value_led c cs h, ten)
 
--- One digit more keeps the value below the next power of ten, and ten digits fit 64 bits.
-pub value_below : (v d k : ℕ) → v < 10 ^ k → d < 10 → v * 10 + d < 10 ^ suc k
-value_below v d k h l = rw (pow-succ' 10 k) (omega arith)
+-- One digit more keeps the value below the next power of ten.
+pub value_below : (v d k : ℕ) → v < 10 ^ k → d < 10 → v * 10 + d < 10 ^ (k + 1)
+value_below v d k h l = rw (add-one k, pow-succ' 10 k) (omega arith)
 
-pub power_small : (k : ℕ) → k < 10 → 10 ^ k ≤ 1000000000
-power_small k h = pow-le-pow_right {n = 10} (omega arith) {j = 9} (omega arith)
-
-module _ (rest : Bytes) (i e : ℕ) (h : i < e) (k : e ≤ length rest) where
-  pub value_next : (v : ℕ) → value v (slice i e rest) ≡ value (v * 10 + (get_or rest i 0 - 48)) (slice (i + 1) e rest)
+module _ (digits : Bytes) (i : ℕ) (h : i < length digits) where
+  pub value_next : (v : ℕ) → value v (drop i digits) ≡ value (v * 10 + (get_or digits i 0 - 48)) (drop (i + 1) digits)
   unfolding value
-  value_next v = rw (slice_next i e rest h k)
+  value_next v = rw (drop_next digits i h)
 
-  pub digits_next : digit (get_or rest i 0) ≡ true → all digit (slice i e rest) ≡ all digit (slice (i + 1) e rest)
+  pub digits_next : digit (get_or digits i 0) ≡ true → all digit (drop i digits) ≡ all digit (drop (i + 1) digits)
   unfolding all
-  digits_next d = rw (slice_next i e rest h k, d)
+  digits_next d = rw (drop_next digits i h, d)
 
-  pub digits_stop : digit (get_or rest i 0) ≡ false → all digit (slice i e rest) ≡ false
+  pub digits_stop : digit (get_or digits i 0) ≡ false → all digit (drop i digits) ≡ false
   unfolding all
-  digits_stop d = rw (slice_next i e rest h k, d)
+  digits_stop d = rw (drop_next digits i h, d)
 
 -- What the code reads.
-abbrev pub reading : Bytes → ℕ
-reading cs = when all digit cs then value 0 cs else 9999999999
+abbrev pub reading : Bytes → Option ℕ
+reading cs = when all digit cs then Some (value 0 cs) else None
 
-read_within : (cs : Bytes) (v : ℕ) → v ≡ reading cs → v < 9999999999 → (b : Bool) → all digit cs ≡ b → (all digit cs ≡ true) × (v ≡ value 0 cs)
+read_within : (cs : Bytes) (v : ℕ) → Some v ≡ reading cs → (b : Bool) → all digit cs ≡ b → (all digit cs ≡ true) × (v ≡ value 0 cs)
 unfolding when◌then◌else◌
-read_within cs v q h true e = (e, rw e at q)
-read_within cs v q h false e =
-    let large : v ≡ 9999999999 = rw e at q in
-    absurd (omega arith)
+read_within cs v q true e =
+    let same : Some v ≡ Some (value 0 cs) = rw e at q in
+    (e, cc)
+read_within cs v q false e =
+    let none : ◌≡◌ {A = Option ℕ} (Some v) None = rw e at q in
+    absurd (none-some v (sym none))
 
-pub within : (cs : Bytes) (v : ℕ) → v ≡ reading cs → v < 9999999999 → (all digit cs ≡ true) × (v ≡ value 0 cs)
-within cs v q h = read_within cs v q h (all digit cs) refl
+pub within : (cs : Bytes) (v : ℕ) → Some v ≡ reading cs → (all digit cs ≡ true) × (v ≡ value 0 cs)
+within cs v q = read_within cs v q (all digit cs) refl
 
-read_beyond : (cs : Bytes) (v limit : ℕ) → v ≡ reading cs → limit < v → (b : Bool) → all digit cs ≡ b → (all digit cs && leb (value 0 cs) limit) ≡ false
+read_beyond : (cs : Bytes) (limit : ℕ) → ((v : ℕ) → Some v ≡ reading cs → limit < v) → (b : Bool) → all digit cs ≡ b → (all digit cs && leb (value 0 cs) limit) ≡ false
 unfolding when◌then◌else◌
-read_beyond cs v limit q h true e =
-    let whole : v ≡ value 0 cs = rw e at q in
-    rw (e, lt-leb (value 0 cs) limit (omega arith))
-read_beyond cs v limit q h false e = rw e
+read_beyond cs limit q true e =
+    let more : limit < value 0 cs = q (value 0 cs) (rw e refl) in
+    rw (e, lt-leb (value 0 cs) limit more)
+read_beyond cs limit q false e = rw e
 
-pub beyond : (cs : Bytes) (v limit : ℕ) → v ≡ reading cs → limit < v → (all digit cs && leb (value 0 cs) limit) ≡ false
-beyond cs v limit q h = read_beyond cs v limit q h (all digit cs) refl
+pub beyond : (cs : Bytes) (limit : ℕ) → ((v : ℕ) → Some v ≡ reading cs → limit < v) → (all digit cs && leb (value 0 cs) limit) ≡ false
+beyond cs limit q = read_beyond cs limit q (all digit cs) refl
+
+pub above : (cs : Bytes) (limit w : ℕ) → Some w ≡ reading cs → limit < w → (v : ℕ) → Some v ≡ reading cs → limit < v
+above cs limit w read more v q =
+    let same : Some w ≡ Some v = read ∙ sym q in
+    grind arith
+
+pub no_value : (cs : Bytes) (limit : ℕ) → None ≡ reading cs → (v : ℕ) → Some v ≡ reading cs → limit < v
+no_value cs limit read v q =
+    let same : None ≡ Some v = read ∙ sym q in
+    absurd (none-some v same)
 
 -- A leading zero is the byte 48.
 module _ (c : ℕ) (cs : Bytes) (nonzero : c ≡ 48 → ⊥) where

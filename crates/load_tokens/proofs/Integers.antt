@@ -6,13 +6,14 @@ use mathlib.Core.Bool.{true}
 use mathlib.Core.List.{◌∷◌}
 use native.Mathlib.Omega.{arith}
 use lib.ListN.{length, drop, get_or}
-use lib.Seq.{slice}
+use Rattle.std.specs.Prelude.{Some, slice_range}
 use Rattle.meaning.specs.Bytes.{Bytes, byte, when◌then◌else◌}
 use Rattle.meaning.specs.Terms.{plus, minus}
 use Rattle.meaning.specs.Tokens.{Token, Front, integer, bad, digit, run, unsigned, negative, minus_front, front}
 use Rattle.load_tokens.specs.Fronts.{FrontIs}
 use Rattle.load_tokens.specs.Ends.{end_of_run}
 use Rattle.load_tokens.specs.declared.token.Token.TheVariants.{Integer as AnInteger, Bad}
+use Rattle.load_tokens.proofs.Parts.{between_slice}
 use Rattle.load_tokens.proofs.Ends.{led, led_inside, run_part, run_inside, run_of_digit}
 use Rattle.load_tokens.proofs.TokensIn.{token_in_front, bad_in_front}
 use Rattle.load_tokens.proofs.Classes.{digit_bytes}
@@ -48,21 +49,20 @@ module _ (rest : Bytes) (a e : ℕ) (h : a < length rest) (q : e ≡ end_of_run 
         let first : 49 ≤ get_or rest a 0 = omega arith in
         bad_unsigned_is (unsigned_bad (get_or rest a 0) cs nonzero (too_long (get_or rest a 0) cs nonzero 2147483647 (omega arith) first (omega arith)))
 
-    module _ (v : ℕ) (r : v ≡ reading (slice a e rest)) where
-      read_led : v ≡ reading (get_or rest a 0 ∷ run (drop (a + 1) rest))
-      read_led = rw (led rest a e h q) at r
+    led_part : slice_range rest a e ≡ get_or rest a 0 ∷ run (drop (a + 1) rest)
+    led_part = between_slice a e rest ∙ led rest a e h q
 
-      pub unsigned_within_is : v ≤ 2147483647 → FrontIs rest a (AnInteger v a e)
-      unsigned_within_is k =
-          let cs = run (drop (a + 1) rest) in
-          let w = within (get_or rest a 0 ∷ cs) v read_led (omega arith) in
-          let good = unsigned_good (get_or rest a 0) cs nonzero w.0 (omega (arith, w.1)) in
-          unsigned_is v (omega arith) (good ∙ ap (λ n. integer (plus n)) (sym w.1))
+    pub unsigned_within_is : (v : ℕ) → Some v ≡ reading (slice_range rest a e) → v ≤ 2147483647 → FrontIs rest a (AnInteger v a e)
+    unsigned_within_is v r k =
+        let cs = run (drop (a + 1) rest) in
+        let w = within (get_or rest a 0 ∷ cs) v (rw led_part at r) in
+        let good = unsigned_good (get_or rest a 0) cs nonzero w.0 (omega (arith, w.1)) in
+        unsigned_is v (omega arith) (good ∙ ap (λ n. integer (plus n)) (sym w.1))
 
-      pub unsigned_beyond_is : 2147483647 < v → FrontIs rest a (Bad a)
-      unsigned_beyond_is k =
-          let cs = run (drop (a + 1) rest) in
-          bad_unsigned_is (unsigned_bad (get_or rest a 0) cs nonzero (beyond (get_or rest a 0 ∷ cs) v 2147483647 read_led k))
+    pub unsigned_beyond_is : ((v : ℕ) → Some v ≡ reading (slice_range rest a e) → 2147483647 < v) → FrontIs rest a (Bad a)
+    unsigned_beyond_is k =
+        let cs = run (drop (a + 1) rest) in
+        bad_unsigned_is (unsigned_bad (get_or rest a 0) cs nonzero (beyond (get_or rest a 0 ∷ cs) 2147483647 (rw led_part at k)))
 
 module _ (rest : Bytes) (a e : ℕ) (h : a + 1 < length rest) (q : e ≡ end_of_run rest (a + 1)) (m : get_or rest a 0 ≡ byte "-") (d : digit (get_or rest (a + 1) 0) ≡ true) where
   before : a < length rest
@@ -97,24 +97,28 @@ module _ (rest : Bytes) (a e : ℕ) (h : a + 1 < length rest) (q : e ≡ end_of_
         let many : 10 ≤ length cs = omega (arith, ap length digits_behind) in
         bad_negative_is (negative_bad (get_or rest (a + 1) 0) cs nonzero (too_long (get_or rest (a + 1) 0) cs nonzero 2147483648 (omega arith) first_digit many))
 
-    module _ (v : ℕ) (r : v ≡ reading (slice (a + 1) e rest)) where
-      read_behind : v ≡ reading (get_or rest (a + 1) 0 ∷ run (drop (a + 1 + 1) rest))
-      read_behind =
-          let same : slice (a + 1) e rest ≡ get_or rest (a + 1) 0 ∷ run (drop (a + 1 + 1) rest) = rw q (sym (run_part rest (a + 1)) ∙ digits_behind) in
-          rw same at r
+    part_behind : slice_range rest (a + 1) e ≡ get_or rest (a + 1) 0 ∷ run (drop (a + 1 + 1) rest)
+    part_behind = between_slice (a + 1) e rest ∙ rw q (sym (run_part rest (a + 1)) ∙ digits_behind)
 
-      pub negative_within_is : v ≤ 2147483648 → FrontIs rest a (AnInteger (4294967296 - v) a e)
-      negative_within_is k =
-          let c = get_or rest (a + 1) 0 in
-          let cs = run (drop (a + 1 + 1) rest) in
-          let w = within (c ∷ cs) v read_behind (omega arith) in
-          let good = negative_good c cs nonzero w.0 (omega (arith, w.1)) ∙ ap (λ n. integer (minus n)) (sym w.1) in
-          let some : 0 < v = omega (arith, w.1, value_positive c cs first_digit) in
-          let inside : e ≤ length rest = rw q (run_inside rest (a + 1) (omega arith)) in
-          (omega arith, omega arith, inside, omega arith, minus v, refl, token_in_front rest a before (length (run (drop (a + 1) rest))) e (integer (minus v)) (minus_digits (integer (minus v)) good) (sym q) inside)
+    pub negative_within_is : (v : ℕ) → Some v ≡ reading (slice_range rest (a + 1) e) → v ≤ 2147483648 → FrontIs rest a (AnInteger (4294967296 - v) a e)
+    negative_within_is v r k =
+        let c = get_or rest (a + 1) 0 in
+        let cs = run (drop (a + 1 + 1) rest) in
+        let w = within (c ∷ cs) v (rw part_behind at r) in
+        let good = negative_good c cs nonzero w.0 (omega (arith, w.1)) ∙ ap (λ n. integer (minus n)) (sym w.1) in
+        let some : 0 < v = omega (arith, w.1, value_positive c cs first_digit) in
+        let inside : e ≤ length rest = rw q (run_inside rest (a + 1) (omega arith)) in (
+          omega arith,
+          omega arith,
+          inside,
+          omega arith,
+          minus v,
+          refl,
+          token_in_front rest a before (length (run (drop (a + 1) rest))) e (integer (minus v)) (minus_digits (integer (minus v)) good) (sym q) inside,
+        )
 
-      pub negative_beyond_is : 2147483648 < v → FrontIs rest a (Bad a)
-      negative_beyond_is k =
-          let c = get_or rest (a + 1) 0 in
-          let cs = run (drop (a + 1 + 1) rest) in
-          bad_negative_is (negative_bad c cs nonzero (beyond (c ∷ cs) v 2147483648 read_behind k))
+    pub negative_beyond_is : ((v : ℕ) → Some v ≡ reading (slice_range rest (a + 1) e) → 2147483648 < v) → FrontIs rest a (Bad a)
+    negative_beyond_is k =
+        let c = get_or rest (a + 1) 0 in
+        let cs = run (drop (a + 1 + 1) rest) in
+        bad_negative_is (negative_bad c cs nonzero (beyond (c ∷ cs) 2147483648 (rw part_behind at k)))

@@ -5,6 +5,8 @@ use mathlib.Core.Path.{◌≡◌, ◌∙◌}
 use mathlib.Core.List.{List, [], ◌∷◌}
 use native.Mathlib.Nat.{zero-add, suc-add}
 use native.Mathlib.Numerals.{add-one}
+use Rattle.std.specs.Prelude.{slice_range}
+use Rattle.std.proofs.lemmas.Slice.{between_is}
 use lib.ListN.{length, take, drop, get_or}
 use lib.Seq.{drop-cons, take-nil, slice, slice-cons}
 
@@ -19,3 +21,7 @@ pub take_drop : (f k : ℕ) (l : List ℕ) → take k (drop f l) ≡ slice f (f 
 take_drop zero k l = rw (zero-add k)
 take_drop (suc f) k [] = take-nil k ∙ rw (suc-add f k)
 take_drop (suc f) k (x ∷ xs) = rw (suc-add f k) (take_drop f k xs)
+
+-- The code's part of a slice.
+pub between_slice : (f t : ℕ) (l : List ℕ) → slice_range l f t ≡ slice f t l
+between_slice f t l = between_is l f t

@@ -5,10 +5,10 @@ use mathlib.Core.Path.{◌≡◌, refl, sym, ap, ◌∙◌}
 use mathlib.Core.Bool.{Bool, true, false}
 use mathlib.Core.List.{◌∷◌}
 use native.Mathlib.Omega.{arith}
-use lib.Dec.{leb, eqb}
+use lib.Dec.{eqb}
 use lib.ListN.{length, drop, get_or}
 use lib.Seq.{slice, drop-drop}
-use borrow.Author.Tests.{le-leb, lt-leb, leb-true, leb-false}
+use borrow.Author.Tests.{le-leb, lt-leb}
 use Rattle.meaning.specs.Bytes.{Bytes, byte, when◌then◌else◌}
 use Rattle.meaning.specs.Terms.{writer, reader}
 use Rattle.meaning.specs.Tokens.{Token, Front, name, variable, bad, lowercase, uppercase, run, next_is, unless_overlong, name_front, variable_front}
@@ -17,7 +17,7 @@ use Rattle.load_tokens.specs.Ends.{end_of_run}
 use Rattle.load_tokens.specs.declared.token.Token.TheVariants.{Name, Writer, Reader, Bad}
 use Rattle.load_tokens.proofs.Ends.{led, led_inside}
 use Rattle.load_tokens.proofs.TokensIn.{token_in_front, bad_in_front}
-use Rattle.load_tokens.proofs.Leads.{next_in, next_out, name_leads, variable_leads}
+use Rattle.load_tokens.proofs.Leads.{next_inside, name_leads, variable_leads}
 
 module _ (c : ℕ) (cs : Bytes) where
   one_less : length (c ∷ cs) - 1 ≡ length cs
@@ -60,25 +60,17 @@ module _ (rest : Bytes) (a e : ℕ) (h : a < length rest) (q : e ≡ end_of_run 
   as_led : (t : Bytes → Token) (n : ℕ) → Front.token n (t (get_or rest a 0 ∷ run (drop (a + 1) rest))) ≡ Front.token n (t (slice a e rest))
   as_led t n = ap (λ s. Front.token n (t s)) (sym (led rest a e h q))
 
-  name_is : lowercase (get_or rest a 0) ≡ true → e - a ≤ 31 → FrontIs rest a (Name a e)
+  pub name_is : lowercase (get_or rest a 0) ≡ true → e - a ≤ 31 → FrontIs rest a (Name a e)
   name_is l k =
       let cs = run (drop (a + 1) rest) in
       let found = name_leads (get_or rest a 0) (drop (a + 1) rest) l ∙ short_name (get_or rest a 0) cs (omega arith) ∙ as_led name (length cs) in
       let inside : e ≤ length rest = led_inside rest a e h q in
       (omega arith, omega arith, inside, omega arith, token_in_front rest a h (length cs) e (name (slice a e rest)) found (sym q) inside)
 
-  long_name_is : lowercase (get_or rest a 0) ≡ true → 31 < e - a → FrontIs rest a (Bad a)
+  pub long_name_is : lowercase (get_or rest a 0) ≡ true → 31 < e - a → FrontIs rest a (Bad a)
   long_name_is l k =
       let cs = run (drop (a + 1) rest) in
       bad_in_front rest a h (length cs) (name_leads (get_or rest a 0) (drop (a + 1) rest) l ∙ long_name (get_or rest a 0) cs (omega arith))
-
-  name_by : lowercase (get_or rest a 0) ≡ true → (b : Bool) → leb (e - a) 31 ≡ b → FrontIs rest a (when b then Name a e else Bad a)
-  unfolding when◌then◌else◌
-  name_by l true k = name_is l (leb-true _ _ k)
-  name_by l false k = long_name_is l (leb-false _ _ k)
-
-  pub named : lowercase (get_or rest a 0) ≡ true → FrontIs rest a (when leb (e - a) 31 then Name a e else Bad a)
-  named l = name_by l (leb (e - a) 31) refl
 
   module _ (u : uppercase (get_or rest a 0) ≡ true) where
     pub long_variable_is : 31 < e - a → FrontIs rest a (Bad a)
@@ -90,8 +82,8 @@ module _ (rest : Bytes) (a e : ℕ) (h : a < length rest) (q : e ≡ end_of_run 
     behind_run : drop (length (run (drop (a + 1) rest))) (drop (a + 1) rest) ≡ drop e rest
     behind_run = drop-drop (length (run (drop (a + 1) rest))) (a + 1) rest ∙ ap (λ i. drop i rest) (sym q)
 
-    writer_by : e - a ≤ 31 → next_is (λ d. eqb d (byte "?")) (drop e rest) ≡ false → FrontIs rest a (Writer a e)
-    writer_by k fails =
+    pub writer_is : e - a ≤ 31 → next_is (λ d. eqb d (byte "?")) (drop e rest) ≡ false → FrontIs rest a (Writer a e)
+    writer_is k fails =
         let cs = run (drop (a + 1) rest) in
         let behind = drop (length cs) (drop (a + 1) rest) in
         let none : next_is (λ d. eqb d (byte "?")) behind ≡ false = rw behind_run fails in
@@ -99,16 +91,11 @@ module _ (rest : Bytes) (a e : ℕ) (h : a < length rest) (q : e ≡ end_of_run 
         let inside : e ≤ length rest = led_inside rest a e h q in
         (omega arith, omega arith, inside, omega arith, token_in_front rest a h (length cs) e (variable writer (slice a e rest)) found (sym q) inside)
 
-    pub last_writer_is : e - a ≤ 31 → length rest ≤ e → FrontIs rest a (Writer a e)
-    last_writer_is k end = writer_by k (next_out _ rest e end)
-
-    pub writer_is : e - a ≤ 31 → e < length rest → eqb (get_or rest e 0) (byte "?") ≡ false → FrontIs rest a (Writer a e)
-    writer_is k more fails = writer_by k (next_in _ rest e more ∙ fails)
-
-    pub reader_is : e - a ≤ 31 → e < length rest → eqb (get_or rest e 0) (byte "?") ≡ true → FrontIs rest a (Reader a e)
-    reader_is k more passes =
+    pub reader_is : e - a ≤ 31 → next_is (λ d. eqb d (byte "?")) (drop e rest) ≡ true → FrontIs rest a (Reader a e)
+    reader_is k passes =
         let cs = run (drop (a + 1) rest) in
         let behind = drop (length cs) (drop (a + 1) rest) in
-        let some : next_is (λ d. eqb d (byte "?")) behind ≡ true = rw behind_run (next_in _ rest e more ∙ passes) in
+        let some : next_is (λ d. eqb d (byte "?")) behind ≡ true = rw behind_run passes in
         let found = variable_leads (get_or rest a 0) (drop (a + 1) rest) u ∙ short_reader (get_or rest a 0) cs behind (omega arith) some ∙ as_led (variable reader) (suc (length cs)) in
+        let more : e < length rest = next_inside _ rest e passes in
         (omega arith, omega arith, more, omega arith, token_in_front rest a h (suc (length cs)) (e + 1) (variable reader (slice a e rest)) found (omega arith) (omega arith))

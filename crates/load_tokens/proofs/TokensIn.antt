@@ -3,7 +3,7 @@
 use Prim.Native.Nat.{ℕ, zero, suc, ◌+◌, ◌≤◌, ◌<◌}
 use mathlib.Core.Path.{◌≡◌, refl, ap, ◌∙◌}
 use mathlib.Core.Bool.{false}
-use mathlib.Core.List.{[], ◌∷◌}
+use mathlib.Core.List.{List, [], ◌∷◌}
 use native.Mathlib.Nat.{add-zero}
 use native.Mathlib.Omega.{arith}
 use lib.ListN.{length, drop, get_or, length-drop}
@@ -57,11 +57,11 @@ module _ (rest : Bytes) (a : ℕ) (h : a < length rest) where
   bad_in_front n e =
       (omega arith, h, λ from. (tokens_from (from + a + 1) n (drop (a + 1) rest), tokens_front from ∙ rw e))
 
-  -- The tokens stop at a token that is none of three signs.
-  pub stops_in_front : (x y z n : ℕ) (t : Token) → front (get_or rest a 0) (drop (a + 1) rest) ≡ Front.token n t → one_of x y z t ≡ false
-      → (from : ℕ) → Stops (one_of x y z) (from + a) (tokens_in from rest a)
+  -- The tokens stop at a token that is none of these signs.
+  pub stops_in_front : (signs : List ℕ) (n : ℕ) (t : Token) → front (get_or rest a 0) (drop (a + 1) rest) ≡ Front.token n t → one_of signs t ≡ false
+      → (from : ℕ) → Stops (one_of signs) (from + a) (tokens_in from rest a)
   unfolding placed
-  stops_in_front x y z n t e f from = rw (tokens_front from, e) (refl, f)
+  stops_in_front signs n t e f from = rw (tokens_front from, e) (refl, f)
 
 -- What stands in front at a later offset, behind bytes between tokens, stands in front here.
 pub from_later : (rest : Bytes) (at a : ℕ) (r : Code) → at ≤ a → ((from : ℕ) → tokens_in from rest at ≡ tokens_in from rest a) → FrontIs rest a r → FrontIs rest at r

@@ -1,8 +1,8 @@
 -- The token in front, as the code has it and as document 01 has it.
-use Rattle.std.specs.Prelude.{ℕ, ◌+◌, ◌-◌, ◌≤◌, ◌<◌, ◌≡◌, Bool, true, false, ◌&&◌, ◌||◌, eqb, length, drop}
+use Rattle.std.specs.Prelude.{ℕ, ◌+◌, ◌-◌, ◌≤◌, ◌<◌, ◌≡◌, Bool, ◌&&◌, ◌||◌, eqb, length, drop}
 use Rattle.std.proofs.Math.Seq.{slice}
 use Rattle.meaning.specs.Bytes.{Bytes, byte, when◌then◌else◌}
-use Rattle.meaning.specs.Terms.{Half, writer, reader, Integer, plus, minus}
+use Rattle.meaning.specs.Terms.{writer, reader, Integer, plus, minus}
 use Rattle.meaning.specs.Tokens.{Tokens, ends, token, name, variable, integer, sign, bad, single_sign, next_is, tokens_from}
 use Rattle.load_tokens.specs.declared.token.Token.{Token}
 use Rattle.load_tokens.specs.declared.token.Token.TheVariants.{End, Name, Writer, Reader, Integer as AnInteger, Sign, Bad}

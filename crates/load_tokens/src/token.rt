@@ -1,7 +1,6 @@
 // Document 01, 'Job text', first paragraph, with `==` of document 02, T-02: the token in front of a part of the text, from an offset on.
 
-ghost use Rattle.std.specs.Prelude.{◌≡◌, true, ◌+◌, ◌-◌, ◌≤◌, ◌<◌, leb, eqb, length, drop, get_or};
-ghost use Rattle.std.proofs.Math.Seq.{slice};
+ghost use Rattle.std.specs.Prelude.{◌≡◌, true, ◌+◌, ◌≤◌, ◌<◌, eqb, length, drop, get_or, Some, None};
 ghost use Rattle.meaning.specs.Bytes.{byte, when◌then◌else◌, all};
 ghost use Rattle.meaning.specs.Tokens.{value, next_is};
 ghost use Rattle.meaning.specs.Tokens as tokens;
@@ -20,83 +19,40 @@ pub enum Token {
     Bad(usize),
 }
 
-// A byte as a number of 64 bits.
-fn wide(c: u8) -> u64
-    ensures { result ≡ c }
-{
-    c as u64
-}
-
-fn lowercase(c: u8) -> bool
-    ensures { result ≡ tokens.lowercase c }
-{
-    b'a' <= c && c <= b'z'
-}
-
-fn uppercase(c: u8) -> bool
-    ensures { result ≡ tokens.uppercase c }
-{
-    b'A' <= c && c <= b'Z'
-}
-
-fn digit(c: u8) -> bool
-    ensures { result ≡ tokens.digit c }
-{
-    b'0' <= c && c <= b'9'
-}
-
 // Space, tab, CR and LF.
+#[tactic(auto, using(std::proofs::lemmas::Bool::Decides::nat_tests), unfolding(meaning::specs::Tokens::tokens_words))]
 fn separates(c: u8) -> bool
     ensures { result ≡ tokens.separates c }
 {
-    match c {
-        b' ' => true,
-        b'\t' => true,
-        b'\r' => true,
-        b'\n' => true,
-        _ => false,
-    }
+    matches!(c, b' ' | b'\t' | b'\r' | b'\n')
 }
 
 // The bytes of a name: document 02's 'one visible row of ranges in rising order'. Variables and integers share them.
+#[tactic(auto, using(std::proofs::lemmas::Bool::Decides::nat_tests), unfolding(meaning::specs::Tokens::tokens_words))]
 fn in_run(c: u8) -> bool
     ensures { result ≡ tokens.in_run c }
 {
-    match c {
-        b'0'..=b'9' | b'A'..=b'Z' | b'_' | b'a'..=b'z' => true,
-        _ => false,
-    }
+    matches!(c, b'0'..=b'9' | b'A'..=b'Z' | b'_' | b'a'..=b'z')
 }
 
 // The signs of a single byte.
+#[tactic(auto, using(std::proofs::lemmas::Bool::Decides::nat_tests), unfolding(meaning::specs::Tokens::tokens_words))]
 fn single_sign(c: u8) -> bool
     ensures { result ≡ tokens.single_sign c }
 {
-    match c {
-        b'(' => true,
-        b')' => true,
-        b'[' => true,
-        b']' => true,
-        b',' => true,
-        b'|' => true,
-        b'.' => true,
-        _ => false,
-    }
+    matches!(c, b'(' | b')' | b'[' | b']' | b',' | b'|' | b'.')
 }
 
 // The first byte of `:-`, of `?-` and of `==`.
+#[tactic(auto, using(std::proofs::lemmas::Bool::Decides::nat_tests), unfolding(meaning::specs::Tokens::tokens_words, crate::specs::Fronts::double_sign))]
 fn begins_double(c: u8) -> bool
     ensures { result ≡ double_sign c }
 {
-    match c {
-        b':' => true,
-        b'?' => true,
-        b'=' => true,
-        _ => false,
-    }
+    matches!(c, b':' | b'?' | b'=')
 }
 
 // The second byte of a sign of two bytes, by its first.
+#[tactic(auto, using(std::proofs::lemmas::Bool::Decides::nat_tests), unfolding(meaning::specs::Tokens::tokens_words, crate::specs::Fronts::second))]
 fn second_byte(c: u8) -> u8
     ensures { result ≡ second c }
 {
@@ -108,14 +64,7 @@ fn remark_end(rest: &[u8], at: usize) -> usize
     requires { at ≤ length rest.now }
     ensures { (result ≡ end_of_remark rest.now at) × (result ≤ length rest.now) }
 {
-    let mut i = at;
-    while i < rest.len() {
-        if rest[i] == b'\n' {
-            return i;
-        }
-        i += 1;
-    }
-    i
+    at + rest[at..].iter().take_while(|c| **c != b'\n').count()
 }
 
 // The first byte that is neither a separator nor in a remark, or the end of the text.
@@ -142,39 +91,30 @@ fn run_end(rest: &[u8], at: usize) -> usize
     requires { at ≤ length rest.now }
     ensures { (result ≡ end_of_run rest.now at) × (result ≤ length rest.now) }
 {
-    let mut i = at;
-    while i < rest.len() {
-        if !in_run(rest[i]) {
-            return i;
-        }
-        i += 1;
-    }
-    i
+    at + rest[at..].iter().take_while(|c| in_run(**c)).count()
 }
 
-// The value of the decimal digits from a to e, at most ten of them; or 9,999,999,999 where one is no digit.
-fn digits_value(rest: &[u8], a: usize, e: usize) -> u64
-    requires { (a ≤ e) × (e ≤ length rest.now) × (e ≤ a + 10) }
-    ensures { result ≡ when all tokens.digit (slice a e rest.now) then value 0 (slice a e rest.now) else 9999999999 }
+// The value of decimal digits, at most ten of them; none where a byte is no digit.
+fn digits_value(digits: &[u8]) -> Option<u64>
+    requires { length digits.now ≤ 10 }
+    ensures { result ≡ when all tokens.digit digits.now then Some (value 0 digits.now) else None }
 {
     let mut v: u64 = 0;
-    let mut i = a;
-    while i < e {
-        let c = rest[i];
-        if !digit(c) {
-            return 9_999_999_999;
+    for c in digits {
+        if !c.is_ascii_digit() {
+            return None;
         }
-        v = v * 10 + (wide(c) - 48);
-        i += 1;
+        v = v * 10 + u64::from(*c - b'0');
     }
-    v
+    Some(v)
 }
 
 // A run led by a digit: an integer without a sign, or bad.
-fn unsigned(rest: &[u8], a: usize, e: usize) -> Token
-    requires { (a < length rest.now) × (e ≡ end_of_run rest.now (a + 1)) × (tokens.digit (get_or rest.now a 0) ≡ true) }
+fn unsigned(rest: &[u8], a: usize) -> Token
+    requires { (a < length rest.now) × (tokens.digit (get_or rest.now a 0) ≡ true) }
     ensures { FrontIs rest.now a result }
 {
+    let e = run_end(rest, a + 1);
     if rest[a] == b'0' {
         if e == a + 1 {
             return Token::Integer(0, a, e);
@@ -184,38 +124,36 @@ fn unsigned(rest: &[u8], a: usize, e: usize) -> Token
     if 10 < e - a {
         return Token::Bad(a);
     }
-    let v = digits_value(rest, a, e);
-    if v <= 2_147_483_647 {
-        Token::Integer(v, a, e)
-    } else {
-        Token::Bad(a)
+    match digits_value(&rest[a..e]) {
+        Some(v) if v <= 2_147_483_647 => Token::Integer(v, a, e),
+        _ => Token::Bad(a),
     }
 }
 
 // A `-` at a, right before a digit: a negative integer, or bad.
-fn negative(rest: &[u8], a: usize, e: usize) -> Token
-    requires { (a + 1 < length rest.now) × (e ≡ end_of_run rest.now (a + 1)) × (get_or rest.now a 0 ≡ byte "-") × (tokens.digit (get_or rest.now (a + 1) 0) ≡ true) }
+fn negative(rest: &[u8], a: usize) -> Token
+    requires { (a + 1 < length rest.now) × (get_or rest.now a 0 ≡ byte "-") × (tokens.digit (get_or rest.now (a + 1) 0) ≡ true) }
     ensures { FrontIs rest.now a result }
 {
     if rest[a + 1] == b'0' {
         return Token::Bad(a);
     }
+    let e = run_end(rest, a + 1);
     if 11 < e - a {
         return Token::Bad(a);
     }
-    let v = digits_value(rest, a + 1, e);
-    if v <= 2_147_483_648 {
-        Token::Integer(4_294_967_296 - v, a, e)
-    } else {
-        Token::Bad(a)
+    match digits_value(&rest[a + 1..e]) {
+        Some(v) if v <= 2_147_483_648 => Token::Integer(4_294_967_296 - v, a, e),
+        _ => Token::Bad(a),
     }
 }
 
 // A run led by a lowercase letter: a name, or bad if it is overlong.
-fn name(a: usize, e: usize) -> Token
-    requires { a ≤ e }
-    ensures { result ≡ when leb (e - a) 31 then Token.Name a e else Token.Bad a }
+fn name(rest: &[u8], a: usize) -> Token
+    requires { (a < length rest.now) × (tokens.lowercase (get_or rest.now a 0) ≡ true) }
+    ensures { FrontIs rest.now a result }
 {
+    let e = run_end(rest, a + 1);
     if e - a <= 31 {
         Token::Name(a, e)
     } else {
@@ -224,45 +162,37 @@ fn name(a: usize, e: usize) -> Token
 }
 
 // A run led by an uppercase letter: a reader where a `?` stands directly behind it, else a writer; or bad if it is overlong.
-fn variable(rest: &[u8], a: usize, e: usize) -> Token
-    requires { (a < length rest.now) × (e ≡ end_of_run rest.now (a + 1)) × (tokens.uppercase (get_or rest.now a 0) ≡ true) }
+fn variable(rest: &[u8], a: usize) -> Token
+    requires { (a < length rest.now) × (tokens.uppercase (get_or rest.now a 0) ≡ true) }
     ensures { FrontIs rest.now a result }
 {
+    let e = run_end(rest, a + 1);
     if 31 < e - a {
-        return Token::Bad(a);
+        Token::Bad(a)
+    } else if stands_at(rest, e, b'?') {
+        Token::Reader(a, e)
+    } else {
+        Token::Writer(a, e)
     }
-    if rest.len() <= e {
-        return Token::Writer(a, e);
-    }
-    if rest[e] == b'?' {
-        return Token::Reader(a, e);
-    }
-    Token::Writer(a, e)
 }
 
-// Whether this byte stands right behind a place.
-fn followed(rest: &[u8], a: usize, by: u8) -> bool
-    requires { a < length rest.now }
-    ensures { result ≡ next_is (λ d. eqb d by) (drop (a + 1) rest.now) }
+// Whether this byte stands at a place.
+fn stands_at(rest: &[u8], at: usize, byte: u8) -> bool
+    ensures { result ≡ next_is (λ c. eqb c byte) (drop at rest.now) }
 {
-    if rest.len() <= a + 1 {
-        return false;
+    match rest.get(at) {
+        Some(c) => *c == byte,
+        None => false,
     }
-    rest[a + 1] == by
 }
 
 // Whether a byte begins a sign: one of a single byte, or `:-`, `?-` or `==`.
+#[tactic(auto, unfolding(crate::specs::Fronts::begins_sign))]
 pub fn begins_sign(rest: &[u8], a: usize, c: u8) -> bool
     requires { a < length rest.now }
     ensures { result ≡ begins_sign_meant c (drop (a + 1) rest.now) }
 {
-    if single_sign(c) {
-        return true;
-    }
-    if begins_double(c) {
-        return followed(rest, a, second_byte(c));
-    }
-    false
+    single_sign(c) || begins_double(c) && stands_at(rest, a + 1, second_byte(c))
 }
 
 // A `-`: an integer's where a digit stands right behind it, or bad.
@@ -270,31 +200,26 @@ fn minus(rest: &[u8], a: usize) -> Token
     requires { (a < length rest.now) × (get_or rest.now a 0 ≡ byte "-") }
     ensures { FrontIs rest.now a result }
 {
-    if rest.len() <= a + 1 {
-        return Token::Bad(a);
+    match rest.get(a + 1) {
+        Some(d) if d.is_ascii_digit() => negative(rest, a),
+        _ => Token::Bad(a),
     }
-    if digit(rest[a + 1]) {
-        let e = run_end(rest, a + 1);
-        return negative(rest, a, e);
-    }
-    Token::Bad(a)
 }
 
 // A run, by its first byte: a name, a variable or an integer; one led by `_` is bad.
-fn led(rest: &[u8], a: usize, e: usize, c: u8) -> Token
-    requires { (a < length rest.now) × (e ≡ end_of_run rest.now (a + 1)) × (get_or rest.now a 0 ≡ c) × (tokens.in_run c ≡ true) }
+fn led(rest: &[u8], a: usize, c: u8) -> Token
+    requires { (a < length rest.now) × (get_or rest.now a 0 ≡ c) × (tokens.in_run c ≡ true) }
     ensures { FrontIs rest.now a result }
 {
-    if lowercase(c) {
-        return name(a, e);
+    if c.is_ascii_lowercase() {
+        name(rest, a)
+    } else if c.is_ascii_uppercase() {
+        variable(rest, a)
+    } else if c.is_ascii_digit() {
+        unsigned(rest, a)
+    } else {
+        Token::Bad(a)
     }
-    if uppercase(c) {
-        return variable(rest, a, e);
-    }
-    if digit(c) {
-        return unsigned(rest, a, e);
-    }
-    Token::Bad(a)
 }
 
 // The first token at or behind an offset.
@@ -308,19 +233,18 @@ pub fn front(rest: &[u8], at: usize) -> Token
     }
     let c = rest[a];
     if begins_sign(rest, a, c) {
-        return Token::Sign(c, a);
+        Token::Sign(c, a)
+    } else if in_run(c) {
+        led(rest, a, c)
+    } else if c == b'-' {
+        minus(rest, a)
+    } else {
+        Token::Bad(a)
     }
-    if in_run(c) {
-        let e = run_end(rest, a + 1);
-        return led(rest, a, e, c);
-    }
-    if c == b'-' {
-        return minus(rest, a);
-    }
-    Token::Bad(a)
 }
 
 // The first byte behind a sign.
+#[tactic(auto, using(std::proofs::lemmas::Bool::Decides::nat_tests), unfolding(crate::specs::Fronts::behind, meaning::specs::Bytes::bytes_words))]
 pub fn behind_sign(c: u8, a: usize) -> usize
     requires { a < 9223372036854775808 }
     ensures { result ≡ behind c a }

@@ -1,30 +1,17 @@
 -- Entries one behind the other, and as they were where more names are known.
-use Prim.Native.Nat.{ℕ, zero, suc, ◌+◌, ◌*◌, ◌≤◌, ◌<◌}
-use mathlib.Core.Path.{◌≡◌, refl, ap, sym, ◌∙◌}
-use mathlib.Core.List.{List, [], ◌∷◌, ◌++◌, map}
+use Prim.Native.Nat.{ℕ, suc, ◌+◌}
+use mathlib.Core.Path.{◌≡◌, refl, ap, ◌∙◌}
+use mathlib.Core.List.{List, [], ◌∷◌, ◌++◌}
 use native.Mathlib.Omega.{arith}
-use lib.ListN.{length, set}
+use lib.ListN.{length}
 use Rattle.meaning.specs.Bytes.{Bytes}
-use Rattle.meaning.specs.Terms.{Clause, Query, Job, as_term, count}
+use Rattle.meaning.specs.Terms.{Clause, Query, as_term}
 use Rattle.meaning.specs.Items.{Refusal, Reading, job, refused, with_clause, with_query}
 use Rattle.term.specs.Jobs.{GoalsKnown}
 use Rattle.term.specs.Cells.{stored}
 use Rattle.term.specs.Layout.{clause_base, query_base, query_goals_from, clause_goals_from, clause_tests_from}
 use Rattle.load_names.specs.Places.{Place, spellings, item_places}
-use Rattle.load_image.specs.Image.{
-  Entry,
-  a_clause,
-  a_query,
-  clauses_of,
-  queries_of,
-  clause_stored,
-  query_stored,
-  entries_stored,
-  head_word,
-  head_words,
-  goals_stored,
-  places_stored,
-}
+use Rattle.load_image.specs.Image.{Entry, a_clause, a_query, clauses_of, queries_of, clause_stored, query_stored, entries_stored, head_word, head_words}
 use Rattle.loader.specs.Loading.{with_entries, EntriesKnown}
 use Rattle.load_openings.proofs.Passing.{More}
 use Rattle.load_goals.proofs.GoalLists.{still_known, still_goals, still_stored}

@@ -1,22 +1,22 @@
 -- What `load` makes of all items: the job and its image, or a refusal and a cleared scratch.
-use Prim.Native.Nat.{ℕ, zero, suc, ◌+◌, ◌*◌, ◌-◌, ◌≤◌, ◌<◌}
+use Prim.Native.Nat.{ℕ, zero, suc, ◌+◌, ◌≤◌, ◌<◌}
 use mathlib.Core.Path.{◌≡◌, refl, ap, sym, ◌∙◌}
 use mathlib.Core.Bool.{Bool, true, false, ◌||◌}
 use mathlib.Core.List.{List, [], ◌∷◌, ◌++◌, map}
 use native.Mathlib.Omega.{arith}
-use lib.ListN.{length, get_or, take, drop, replicate, length-drop, length-take, length-map}
+use lib.ListN.{length, get_or, take, drop, replicate, length-drop}
 use lib.Seq.{ext_get_or, get_or-drop, get_or-take}
 use borrow.Author.Tests.{le-leb}
+use Rattle.std.proofs.lemmas.List.{append-nil}
 use Rattle.meaning.specs.Bytes.{Bytes, same, any, when◌then◌else◌}
-use Rattle.meaning.specs.Terms.{Clause, Job, count, named}
-use Rattle.meaning.specs.Tokens.{Tokens, ends, token, tokens}
-use Rattle.meaning.specs.Items.{Refusal, no_query, Reading, job, refused, item, items, pieces, asked, reading}
+use Rattle.meaning.specs.Terms.{Clause, Job, count}
+use Rattle.meaning.specs.Tokens.{ends}
+use Rattle.meaning.specs.Items.{no_query, job, refused, item, items, pieces, asked, reading}
 use Rattle.meaning.specs.Call.{cleared}
-use Rattle.term.specs.Cells.{number_of, functor_word}
+use Rattle.term.specs.Cells.{number_of}
 use Rattle.term.specs.Frames.{Only}
 use Rattle.load_tokens.specs.Fronts.{tokens_at}
 use Rattle.load_names.specs.Places.{Place, spellings, item_places}
-use Rattle.load_names.specs.Tables.{NamesIn}
 use Rattle.load_image.specs.Kept.{pairs_kept}
 use Rattle.load_image.specs.Image.{
   names_in,
@@ -90,10 +90,6 @@ shifted_none (p ∷ ps) =
     let e : 0 + p.at ≡ p.at = omega arith in
     rw (e, shifted_none ps)
 
-append_none : (es : List Entry) → es ++ [] ≡ es
-append_none [] = refl
-append_none (e ∷ es) = ap (λ l. e ∷ l) (append_none es)
-
 items_end : (places : List Place) (clauses queries n : ℕ) → items (so_far places clauses queries) (pieces (ends n)) ≡ job (record { clauses = []; queries = [] })
 unfolding items pieces item
 items_end places clauses queries n = refl
@@ -133,7 +129,7 @@ module _ (text : Bytes) (s₀ s names heads : List ℕ) (from clauses queries kn
   unfolding text_entries
   entries_all =
       r.entries_are ∙ ap (λ ts. done ++ entries places clauses queries (pieces ts)) nothing_left
-      ∙ ap (λ l. done ++ l) (entries_end places clauses queries n) ∙ append_none done
+      ∙ ap (λ l. done ++ l) (entries_end places clauses queries n) ∙ append-nil done
 
   image_all : image text s₀ ≡ places_stored 0 places (linked 0 (head_words places (clauses_of done)) (entries_stored places 0 0 done s₀))
   unfolding image

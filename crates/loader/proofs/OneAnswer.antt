@@ -3,7 +3,7 @@ use Prim.Native.Nat.{ℕ}
 use mathlib.Core.Path.{◌≡◌, refl, ap, sym, ◌∙◌}
 use mathlib.Core.List.{List}
 use native.Mathlib.Omega.{arith}
-use lib.ListN.{length}
+use Rattle.std.specs.Prelude.{Result, Ok, Err}
 use Rattle.meaning.specs.Bytes.{Bytes}
 use Rattle.meaning.specs.Terms.{Job}
 use Rattle.meaning.specs.Faults.{Broken, twice, writer_alone, reader_alone}
@@ -30,8 +30,6 @@ use Rattle.loader.specs.Loading.{LoadedIs}
 use Rattle.loader.specs.Refusals.{refusal_answer}
 use Rattle.loader.specs.declared.refusal.Refusal.{Refusal as Why}
 use Rattle.loader.specs.declared.refusal.Refusal.TheVariants.{NoItems, GuardRefused, OccurrenceBroken, FigurePassed}
-use Rattle.loader.specs.declared.load.Loaded.{Loaded}
-use Rattle.loader.specs.declared.load.Loaded.TheVariants.{Job as AJob, Refused}
 
 same_job : (x : Reading) (i j : Job) → x ≡ job i → x ≡ job j → i ≡ j
 same_job x i j a b = cc
@@ -77,13 +75,13 @@ back_refusal (FigurePassed at) = refl
 pub one_refusal : (x y : Why) → refusal_answer x ≡ refusal_answer y → x ≡ y
 one_refusal x y e = sym (back_refusal x) ∙ ap back e ∙ back_refusal y
 
-pub one_answer : (text : Bytes) (figures : Room) (s s₁ s₂ : List ℕ) (r₁ r₂ : Loaded) → LoadedIs text figures s s₁ r₁ → LoadedIs text figures s s₂ r₂
+pub one_answer : (text : Bytes) (figures : Room) (s s₁ s₂ : List ℕ) (r₁ r₂ : Result (ℕ × ℕ) Why) → LoadedIs text figures s s₁ r₁ → LoadedIs text figures s s₂ r₂
     → (r₁ ≡ r₂) × (s₁ ≡ s₂)
-one_answer text figures s s₁ s₂ (AJob c q) (AJob d p) (i, a, b, e, f, n, u, o) (j, g, h, k, l, m, v, w) =
+one_answer text figures s s₁ s₂ (Ok (c, q)) (Ok (d, p)) (i, a, b, e, f, n, u, o) (j, g, h, k, l, m, v, w) =
     let same = same_job (reading text) i j a g in
     (rw (b, e, h, k, same), f ∙ sym l)
-one_answer text figures s s₁ s₂ (AJob c q) (Refused x) (i, a, b, e, f, n, u, o) (j, g, h, l) = not_both (reading text) i j a g
-one_answer text figures s s₁ s₂ (Refused x) (AJob d p) (i, a, b, f) (j, g, h, k, l, m, v, w) = not_both (reading text) j i g a
-one_answer text figures s s₁ s₂ (Refused x) (Refused y) (i, a, b, f) (j, g, h, l) =
+one_answer text figures s s₁ s₂ (Ok (c, q)) (Err x) (i, a, b, e, f, n, u, o) (j, g, h, l) = not_both (reading text) i j a g
+one_answer text figures s s₁ s₂ (Err x) (Ok (d, p)) (i, a, b, f) (j, g, h, k, l, m, v, w) = not_both (reading text) j i g a
+one_answer text figures s s₁ s₂ (Err x) (Err y) (i, a, b, f) (j, g, h, l) =
     let same = same_refusal (reading text) i j a g in
-    (ap Refused (one_refusal x y (b ∙ ap (refusal text) same ∙ sym h)), f ∙ sym l)
+    (ap Err (one_refusal x y (b ∙ ap (refusal text) same ∙ sym h)), f ∙ sym l)

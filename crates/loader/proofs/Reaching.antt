@@ -1,15 +1,16 @@
 -- From one item to the next: the definitions' reading goes on behind the full stop, and the scratch has one entry more.
-use Prim.Native.Nat.{ℕ, zero, suc, ◌+◌, ◌*◌, ◌-◌, ◌≤◌, ◌<◌}
+use Prim.Native.Nat.{ℕ, ◌+◌, ◌≤◌, ◌<◌}
 use mathlib.Core.Path.{◌≡◌, refl, ap, sym, ◌∙◌}
 use mathlib.Core.List.{List, [], ◌∷◌, ◌++◌, map, append_assoc}
 use native.Mathlib.Omega.{arith}
 use native.Mathlib.Numerals.{add-one}
-use lib.ListN.{length, get_or, take, drop, set, replicate, length-drop, length-set, length-append, length-replicate, get_or-replicate}
+use lib.ListN.{length, drop, replicate, length-drop, length-set, length-replicate, get_or-replicate}
 use lib.Seq.{take-suc-set}
+use Rattle.std.proofs.lemmas.List.{append-nil, length_push}
 use Rattle.meaning.specs.Bytes.{Bytes}
-use Rattle.meaning.specs.Terms.{Clause, Query, count}
+use Rattle.meaning.specs.Terms.{Clause, Query}
 use Rattle.meaning.specs.Tokens.{Tokens, ends, token, sign, tokens}
-use Rattle.meaning.specs.Items.{Reading, Piece, clause, query, nothing, job, refused, Refusal, SoFar, with_clause, with_query, item, items, pieces}
+use Rattle.meaning.specs.Items.{Piece, clause, query, refused, Refusal, with_clause, with_query, item, items, pieces}
 use Rattle.term.proofs.Frames.{only_same, only_then}
 use Rattle.term.specs.Frames.{Only}
 use Rattle.term.specs.Layout.{trial_region}
@@ -84,15 +85,8 @@ reached_none text s names heads e size = record {
   only = only_same 0 trial_region s;
 }
 
-snoc_length : {A : Type 0} (l : List A) (a : A) → length (l ++ (a ∷ [])) ≡ length l + 1
-snoc_length l a = length-append l (a ∷ [])
-
 zero_plus : (n : ℕ) → n ≡ 0 + n
 zero_plus n = omega arith
-
-none : {A : Type 0} (l : List A) → l ++ [] ≡ l
-none [] = refl
-none (a ∷ l) = ap (λ m. a ∷ m) (none l)
 
 words_snoc : (places : List Place) (cs : List Clause) (c : Clause) → head_words places (cs ++ (c ∷ [])) ≡ head_words places cs ++ (head_word places c.head ∷ [])
 unfolding head_words
@@ -171,8 +165,8 @@ module _ (text : Bytes) (s₀ s names heads : List ℕ) (from clauses queries kn
         inside = next_inside names' at count' ps stop t;
         names_table = t.names_in;
         count_is = t.count_is;
-        clauses_are = rw eC (omega (arith, r.clauses_are, snoc_length (clauses_of done) c));
-        queries_are = r.queries_are ∙ ap length (sym (queries_snoc done (a_clause c ∷ []) ∙ none (queries_of done)));
+        clauses_are = rw eC (omega (arith, r.clauses_are, length_push (clauses_of done) c));
+        queries_are = r.queries_are ∙ ap length (sym (queries_snoc done (a_clause c ∷ []) ∙ append-nil (queries_of done)));
         few = (omega (arith, k.few.0), r.few.1);
         reads =
             r.reads ∙ ap (λ l. with_entries done (items (so_far places clauses queries) l)) cut_here
@@ -214,7 +208,7 @@ module _ (text : Bytes) (s₀ s names heads : List ℕ) (from clauses queries kn
       let p = before ps (token stop (sign 46) (ends stop)) in
       let after = pieces (tokens_at text (from + at)) in
       let cut_here = all_pieces names' at count' ps stop t in
-      let eC : clauses_of (done ++ (a_query q vs ∷ [])) ≡ clauses_of done = clauses_snoc done (a_query q vs ∷ []) ∙ none (clauses_of done) in
+      let eC : clauses_of (done ++ (a_query q vs ∷ [])) ≡ clauses_of done = clauses_snoc done (a_query q vs ∷ []) ∙ append-nil (clauses_of done) in
       let eQ : queries_of (done ++ (a_query q vs ∷ [])) ≡ queries_of done ++ (q ∷ []) = queries_snoc done (a_query q vs ∷ []) in
       let eV : variables_in p [] ≡ vs = variables_of_piece (drop from text) from 0 ps stop (token stop (sign 46) (tokens_in from (drop from text) at)) t.follows in
       record {
@@ -222,7 +216,7 @@ module _ (text : Bytes) (s₀ s names heads : List ℕ) (from clauses queries kn
         names_table = t.names_in;
         count_is = t.count_is;
         clauses_are = rw eC r.clauses_are;
-        queries_are = rw eQ (omega (arith, r.queries_are, snoc_length (queries_of done) q));
+        queries_are = rw eQ (omega (arith, r.queries_are, length_push (queries_of done) q));
         few = (r.few.0, omega (arith, k.few));
         reads =
             r.reads ∙ ap (λ l. with_entries done (items (so_far places clauses queries) l)) cut_here

@@ -1,7 +1,7 @@
 -- A loaded text is ready to run: its image holds the job, the words that the run begins with are zero, and nothing behind the needed part has changed.
-use Prim.Native.Nat.{ℕ, ◌+◌, ◌*◌, ◌-◌, ◌≤◌, ◌<◌}
-use mathlib.Core.Path.{◌≡◌, refl, ap, sym, ◌∙◌}
-use mathlib.Core.List.{List, [], ◌∷◌, ◌++◌}
+use Prim.Native.Nat.{ℕ, ◌+◌, ◌*◌, ◌≤◌, ◌<◌}
+use mathlib.Core.Path.{◌≡◌, refl, ◌∙◌}
+use mathlib.Core.List.{List, [], ◌∷◌}
 use mathlib.Core.Bool.{Bool, true, false}
 use mathlib.Core.Logic.{◌⊎◌, inl, inr, ⊎_elim}
 use native.Mathlib.Omega.{arith}
@@ -39,7 +39,7 @@ use Rattle.load_image.specs.Image.{
 use Rattle.load_names.proofs.Numbering.{spellings_length}
 use Rattle.load_image.proofs.Keeping.{goals_two, places_only}
 use Rattle.load_image.proofs.KeptItems.{clause_two, query_two}
-use Rattle.load_image.proofs.KeptEntries.{EntriesLaid, entries_earlier}
+use Rattle.load_image.proofs.KeptEntries.{EntriesLaid}
 use Rattle.load_image.proofs.Procedures.{LinkKept, linked_kept}
 use Rattle.load_image.proofs.ImageHolds.{entries_clauses_few, entries_headed}
 use Rattle.load_image.proofs.Loaded.{accepted_laid_out}

@@ -1,13 +1,12 @@
 -- Where reading stops: the first refused item decides, and where nothing is left all that was read is the job.
-use Prim.Native.Nat.{ℕ, zero, suc, ◌+◌, ◌*◌, ◌-◌, ◌≤◌, ◌<◌}
-use mathlib.Core.Path.{◌≡◌, refl, ap, sym, ◌∙◌}
+use Prim.Native.Nat.{ℕ}
+use mathlib.Core.Path.{◌≡◌, refl, ap, ◌∙◌}
 use mathlib.Core.Bool.{Bool, true, false}
-use mathlib.Core.List.{List, [], ◌∷◌, ◌++◌}
-use native.Mathlib.Omega.{arith}
-use lib.ListN.{length, drop}
+use mathlib.Core.List.{List, [], ◌∷◌}
+use lib.ListN.{drop}
 use Rattle.meaning.specs.Bytes.{Bytes, when◌then◌else◌}
-use Rattle.meaning.specs.Tokens.{Token, Tokens, ends, token, tokens}
-use Rattle.meaning.specs.Items.{Piece, Refusal, Reading, job, refused, is, onto, item, items, pieces, asked, reading}
+use Rattle.meaning.specs.Tokens.{Token, Tokens, ends, token}
+use Rattle.meaning.specs.Items.{Piece, Refusal, refused, is, onto, item, items, pieces, asked, reading}
 use Rattle.load_tokens.specs.Fronts.{tokens_at, tokens_in}
 use Rattle.load_names.specs.Places.{Place, spellings}
 use Rattle.load_openings.specs.Reading.{piece}

@@ -1,16 +1,16 @@
 -- What loading answers, and how far it has come between two items.
-use Rattle.std.specs.Prelude.{ℕ, ◌+◌, ◌*◌, ◌-◌, ◌≤◌, ◌<◌, ◌≡◌, List, [], ◌∷◌, ◌++◌, length, take}
+use Rattle.std.specs.Prelude.{ℕ, ◌*◌, ◌-◌, ◌≤◌, ◌≡◌, List, [], ◌∷◌, ◌++◌, length, take, drop, Option, Result, Ok, Err}
 use Rattle.meaning.specs.Bytes.{Bytes}
 use Rattle.meaning.specs.Terms.{Job, count}
 use Rattle.meaning.specs.Tokens.{Tokens, tokens}
-use Rattle.meaning.specs.Items.{Refusal, Reading, job, refused, with_clause, with_query, items, pieces, reading}
+use Rattle.meaning.specs.Items.{Refusal, Piece, Reading, job, refused, with_clause, with_query, item, items, pieces, reading}
 use Rattle.meaning.specs.State.{Room}
 use Rattle.meaning.specs.Call.{refusal, cleared}
 use Rattle.term.specs.Frames.{Only, zeroed}
 use Rattle.term.specs.Jobs.{GoalsKnown}
 use Rattle.term.specs.Layout.{procedures_region, items_region, trial_region, values_region, marks_region, ends_region, need_of}
 use Rattle.term.specs.States.{Ready}
-use Rattle.load_tokens.specs.Fronts.{tokens_at}
+use Rattle.load_tokens.specs.Fronts.{tokens_at, tokens_in}
 use Rattle.load_names.specs.Places.{Place, spellings}
 use Rattle.load_names.specs.Tables.{NamesIn}
 use Rattle.load_image.specs.Image.{
@@ -26,12 +26,13 @@ use Rattle.load_image.specs.Image.{
   head_words,
   image,
 }
+use Rattle.load_openings.specs.Reading.{piece}
+use Rattle.load_items.specs.Outcomes.{RefusedIs, ItemIs}
 use Rattle.load_items.specs.Rules.{GuardsNamed}
-use Rattle.loader.specs.Refusals.{refusal_answer, at_line}
-use Rattle.loader.specs.declared.load.Loaded.{Loaded}
-use Rattle.loader.specs.declared.load.Loaded.TheVariants.{Job as AJob, Refused}
-use Rattle.loader.specs.declared.load.Listed.{Listed}
-use Rattle.loader.specs.declared.load.Listed.TheVariants.{Items, Stopped}
+use Rattle.load_items.specs.declared.items.Item.{Item}
+use Rattle.load_items.specs.declared.items.Unfit.{Unfit}
+use Rattle.loader.specs.Refusals.{refusal_answer}
+use Rattle.loader.specs.declared.refusal.Refusal.{Refusal as Why}
 
 -- A reading with these entries before it.
 unfoldable pub with_entries : List Entry → Reading → Reading
@@ -63,14 +64,31 @@ pub record Reached (text : Bytes) (s₀ s names heads : List ℕ) (from clauses 
   pub known_names : EntriesKnown (spellings places) done
   pub only : Only 0 trial_region s₀ s
 
--- All items read, or the first refused item's refusal with its place.
-abbrev pub ListedIs : (text : Bytes) (s₀ s names heads : List ℕ) → Listed → Type 0
-ListedIs text s₀ s names heads (Items clauses queries known) =
+-- The item that begins at an offset of the text is refused, and with this answer.
+abbrev pub UnfitIs : (text : Bytes) (from : ℕ) (places : List Place) (clauses queries : ℕ) (s s' : List ℕ) → Unfit → Type 0
+UnfitIs text from places clauses queries s s' unfit =
+    (from ≤ length text) × (unfit.begins ≤ length (drop from text)) × RefusedIs (drop from text) from places clauses queries unfit.begins s s' unfit.why
+
+abbrev pub ToldIs : (text : Bytes) (from : ℕ) (places : List Place) (clauses queries : ℕ) (s s' : List ℕ) → Why → Type 0
+ToldIs text from places clauses queries s s' why =
+    (r : Refusal) × (item (so_far places clauses queries) (piece (tokens_in from (drop from text) 0)) ≡ Piece.refused r)
+    × (refusal_answer why ≡ refusal text r) × Only 0 trial_region s s'
+
+-- The item at an offset of the text, or that nothing is left.
+abbrev pub ItemAtIs : (text : Bytes) (from : ℕ) (places : List Place) (clauses queries : ℕ) (s heads s' names names' heads' : List ℕ)
+    → Result (Option Item) Why → Type 0
+ItemAtIs text from places clauses queries s heads s' names names' heads' (Ok found) =
+    ItemIs text (drop from text) from places clauses queries s heads s' names names' heads' (Ok found)
+ItemAtIs text from places clauses queries s heads s' names names' heads' (Err why) = ToldIs text from places clauses queries s s' why
+
+-- All items read, with a query among them; or the first refused item's refusal, or that of a text without a query.
+abbrev pub ListedIs : (text : Bytes) (s₀ s names heads : List ℕ) → Result (ℕ × ℕ × ℕ) Why → Type 0
+ListedIs text s₀ s names heads (Ok (clauses, queries, known)) =
     (places : List Place) × (done : List Entry) × (n : ℕ) × (from : ℕ)
     × Reached text s₀ s names heads from clauses queries known places done
-    × (tokens_at text from ≡ Tokens.ends n)
-ListedIs text s₀ s names heads (Stopped why) =
-    (r : Refusal) × (reading text ≡ refused r) × (refusal_answer (at_line text why) ≡ refusal text r) × Only 0 trial_region s₀ s
+    × (tokens_at text from ≡ Tokens.ends n) × (queries ≡ 0 → ⊥)
+ListedIs text s₀ s names heads (Err why) =
+    (r : Refusal) × (reading text ≡ refused r) × (refusal_answer why ≡ refusal text r) × Only 0 trial_region s₀ s
 
 -- What is zeroed before a text is loaded: the table of procedures and the records of clauses and of queries; and of the pairs values and waiters, marks,
 -- and ends.
@@ -83,10 +101,10 @@ prepared figures s =
 
 -- The answer of `load`: a job, every word of the scratch, and that it is ready to run, with nothing changed behind the needed part; or the definition's
 -- answer for the refused text, and the needed part is zero.
-abbrev pub LoadedIs : (text : Bytes) (figures : Room) (s s' : List ℕ) → Loaded → Type 0
-LoadedIs text figures s s' (AJob clauses queries) =
+abbrev pub LoadedIs : (text : Bytes) (figures : Room) (s s' : List ℕ) → Result (ℕ × ℕ) Why → Type 0
+LoadedIs text figures s s' (Ok (clauses, queries)) =
     (j : Job) × (reading text ≡ job j) × (clauses ≡ length j.clauses) × (queries ≡ length j.queries)
     × (s' ≡ image text (prepared figures s))
     × (names : List Bytes) × Ready s' text names figures j × Only 0 (need_of figures) s s'
-LoadedIs text figures s s' (Refused why) =
+LoadedIs text figures s s' (Err why) =
     (r : Refusal) × (reading text ≡ refused r) × (refusal_answer why ≡ refusal text r) × (s' ≡ cleared (need_of figures) s)

@@ -4,7 +4,7 @@ ghost use Rattle.term.specs.Layout.{need_of, figures, InRange};
 ghost use Rattle.loader.specs.Loading.{prepared};
 
 use term::clear::clear_part;
-use term::layout::{ITEMS, PROCEDURES, Room, ends, marks, values};
+use term::layout::{ITEMS, PROCEDURES, Room};
 
 // Zeroes the tables of procedures, the records of clauses and queries, and of the pairs values, waiters, marks and ends.
 pub fn prepare(s: &mut [u64], room: Room)
@@ -12,7 +12,7 @@ pub fn prepare(s: &mut [u64], room: Room)
     ensures { s.new ≡ prepared (figures room) s.old }
 {
     clear_part(s, PROCEDURES, ITEMS - PROCEDURES);
-    clear_part(s, values(room), 2 * room.pairs);
-    clear_part(s, marks(room), room.pairs);
-    clear_part(s, ends(room), room.pairs);
+    clear_part(s, room.values(), 2 * room.pairs);
+    clear_part(s, room.marks(), room.pairs);
+    clear_part(s, room.ends(), room.pairs);
 }

@@ -1,8 +1,6 @@
 -- From the queries entered to the run, and from the run's end to what the report is given.
 use Prim.Native.Nat.{ℕ, ◌+◌, ◌≤◌, ◌<◌}
 use mathlib.Core.Path.{◌≡◌, refl, subst, ◌∙◌}
-use mathlib.Core.Bool.{true}
-use mathlib.Core.Logic.{◌≢◌}
 use mathlib.Core.List.{List, []}
 use native.Mathlib.Omega.{arith}
 use lib.ListN.{length, get_or}
@@ -11,22 +9,21 @@ use Rattle.meaning.specs.Terms.{Job}
 use Rattle.meaning.specs.State.{Room, start}
 use Rattle.meaning.specs.Run.{run}
 use Rattle.term.specs.Jobs.{HoldsJob, KeptButIndex}
-use Rattle.term.specs.Layout.{waiters_region, sets_region, marks_region, ends_region, waiting_region, clause_record, query_record}
-use Rattle.term.specs.States.{Atlas, HoldsState, Ready, Finished, verdict_of}
+use Rattle.term.specs.Layout.{waiters_region, marks_region, ends_region, clause_record, query_record}
+use Rattle.term.specs.States.{Atlas, Ready, Finished}
 use Rattle.term.specs.declared.state.Standing.{Standing}
 use Rattle.term.specs.declared.state.Verdict.{Verdict}
 use Rattle.term.proofs.Jobs.{holds_job_but_index}
 use Rattle.term.proofs.Spellings.{holds_text_kept}
 use Rattle.term.proofs.Zeroing.{pairs_zero_kept}
-use Rattle.run_queues.specs.Log.{Slot, present, LogOk}
+use Rattle.run_queues.specs.Log.{present}
 use Rattle.run_index.specs.Index.{Indexed, IndexOnly}
 use Rattle.run_index.proofs.Kept.{indexed_kept}
 use Rattle.run_enter.specs.Entering.{EnterOnly, Entered}
 use Rattle.run_between.specs.Running.{RunOnly, Running}
 use Rattle.run_between.proofs.GroundMarks.{grounds_none}
 use Rattle.machine.specs.Ending.{Untouched, GoneOn, RanIs}
-use Rattle.machine.specs.declared.run.Ran.{Ran}
-use Rattle.machine.specs.declared.run.Ran.TheVariants.{Ended, QueriesPassRoom}
+use Rattle.std.specs.Prelude.{Some}
 use Rattle.machine.proofs.Going.{run_starts}
 
 -- All queries are entered: the run is at its start, and nobody waits.
@@ -112,7 +109,7 @@ untouched_job figures s s' u = record { size = omega (arith, u.size); before = u
 -- The run has ended.
 pub finished : (figures : Room) (s₀ sᵢ s₁ s : List ℕ) (text : Bytes) (names : List Bytes) (j : Job) (atlas : Atlas) (first : Standing) (limit : ℕ) (v : Verdict) (t : Standing)
     → Ready s₀ text names figures j → IndexOnly s₀ sᵢ → EnterOnly figures sᵢ s₁ → Entered s₁ text names j figures j.queries atlas first → RunOnly figures s₁ s
-    → limit ≤ 1000000 → GoneOn s names j figures limit (Ended v t)
+    → limit ≤ 1000000 → GoneOn s names j figures limit (v, t)
     → Untouched figures s₀ s × Finished s text names figures j limit v t
 finished figures s₀ sᵢ s₁ s text names j atlas first limit v t ready i e entered r few g =
     let all = built_then_run figures s₀ sᵢ s₁ s i e r in
@@ -132,9 +129,8 @@ finished figures s₀ sᵢ s₁ s text names j atlas first limit v t ready i e e
       },
     )
 
-pub ran_is : (figures : Room) (s₀ sᵢ s₁ s : List ℕ) (text : Bytes) (names : List Bytes) (j : Job) (atlas : Atlas) (first : Standing) (limit : ℕ) (r : Ran)
+pub ran_is : (figures : Room) (s₀ sᵢ s₁ s : List ℕ) (text : Bytes) (names : List Bytes) (j : Job) (atlas : Atlas) (first : Standing) (limit : ℕ) (r : Verdict × Standing)
     → Ready s₀ text names figures j → IndexOnly s₀ sᵢ → EnterOnly figures sᵢ s₁ → Entered s₁ text names j figures j.queries atlas first → RunOnly figures s₁ s
-    → limit ≤ 1000000 → GoneOn s names j figures limit r → RanIs s₀ s text names j figures limit r
-ran_is figures s₀ sᵢ s₁ s text names j atlas first limit (Ended v t) ready i e entered r few g =
+    → limit ≤ 1000000 → GoneOn s names j figures limit r → RanIs s₀ s text names j figures limit (Some r)
+ran_is figures s₀ sᵢ s₁ s text names j atlas first limit (v, t) ready i e entered r few g =
     finished figures s₀ sᵢ s₁ s text names j atlas first limit v t ready i e entered r few g
-ran_is figures s₀ sᵢ s₁ s text names j atlas first limit QueriesPassRoom ready i e entered r few g = absurd g

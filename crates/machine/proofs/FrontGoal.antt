@@ -1,5 +1,5 @@
 -- The goal in front: what the step reads of it, what it hands to the choice, and what each answer of the choice is to the rest of the step.
-use Prim.Native.Nat.{ℕ, ◌+◌, ◌*◌, ◌/◌, ◌%◌, ◌<◌}
+use Prim.Native.Nat.{ℕ, ◌+◌, ◌*◌, ◌<◌}
 use mathlib.Core.Path.{◌≡◌, sym, ap, ◌∙◌}
 use mathlib.Core.List.{List, ◌∷◌}
 use native.Mathlib.Omega.{arith}
@@ -20,9 +20,9 @@ use Rattle.run_trial.specs.Choosing.{unit_of, Trying, MarksBelow, ChoiceTold, Ch
 use Rattle.run_queues.specs.Log.{Slot}
 use Rattle.run_between.specs.Running.{RunOnly, Running, StepIs}
 use Rattle.run_between.specs.Taking.{Taken, Reducing, JoiningWaiting, JoiningFailed}
-use Rattle.run_between.specs.declared.stepped.Stepped.{Stepped}
-use Rattle.run_trial.specs.declared.choice.ChoiceResult.{ChoiceResult}
-use Rattle.run_trial.specs.declared.choice.ChoiceResult.TheVariants.{Reduces, Waits, Fails}
+use Rattle.std.specs.Prelude.{Option, Result as Outcome, Ok, Err}
+use Rattle.run_asked.specs.declared.asking.Hindered.{Hindered}
+use Rattle.run_asked.specs.declared.asking.Hindered.TheVariants.{Waits, Fails}
 use Rattle.run_between.proofs.GroundMarks.{grounds_tried}
 use Rattle.run_between.proofs.FramesRunning.{few_units, front_word, front_stands, front_low, trying, trial_run_only, run_only_then, running_tried}
 
@@ -81,7 +81,7 @@ module _ (s : List ℕ) (text : Bytes) (names : List Bytes) (j : Job) (figures :
   choice_stamps = (omega arith, omega (arith, f.steps_are))
 
   -- The choice is made.
-  module _ (s₁ : List ℕ) (fate : ChoiceResult) (told : ChoiceIs s s₁ names j limit figures (atlas g.query) g marks (steps * 32768 + 2) fate) where
+  module _ (s₁ : List ℕ) (fate : Outcome (ℕ × ℕ) Hindered) (told : ChoiceIs s s₁ names j limit figures (atlas g.query) g marks (steps * 32768 + 2) fate) where
     tried_only : RunOnly figures s s₁
     tried_only = trial_run_only figures s s₁ (rw f.marks_is at told.only)
 
@@ -97,30 +97,30 @@ module _ (s : List ℕ) (text : Bytes) (names : List Bytes) (j : Job) (figures :
           more = more;
         }
 
-    pub choice_reduces : (k n : ℕ) → fate ≡ Reduces k n
+    pub choice_reduces : (k n : ℕ) → fate ≡ Ok (k, n)
         → (c : Clause) × (given : List Assignment) × Reducing s₁ names j figures limit atlas g query k n c given
     unfolding choice_for
     choice_reduces k n e =
         let its : ChoiceTold s₁ names (setting figures (atlas g.query) (unit_of j limit figures g)) (marks + figures.pairs)
-        (choice j.clauses (unit_of j limit figures g) g.goal) (Reduces k n) = rw e at told.told
+        (choice j.clauses (unit_of j limit figures g) g.goal) (Ok (k, n)) = rw e at told.told
         in
         (its.0, its.1, record { query_is = its_query; chosen = its.2; at = its.3; gave = its.4 })
 
-    pub choice_waits : (n : ℕ) → fate ≡ Waits n → (readers : List ℕ) × JoiningWaiting s₁ j figures limit atlas g goal query n readers
+    pub choice_waits : (n : ℕ) → fate ≡ Err (Waits n) → (readers : List ℕ) × JoiningWaiting s₁ j figures limit atlas g goal query n readers
     unfolding choice_for
     choice_waits n e =
         let its : ChoiceTold s₁ names (setting figures (atlas g.query) (unit_of j limit figures g)) (marks + figures.pairs)
-        (choice j.clauses (unit_of j limit figures g) g.goal) (Waits n) = rw e at told.told
+        (choice j.clauses (unit_of j limit figures g) g.goal) (Err (Waits n)) = rw e at told.told
         in
         let here : marks + figures.pairs ≡ readers_region figures = omega (arith, f.marks_is) in (
           its.0,
           record { goal_is = its_word; query_is = its_query; chosen = its.1; few = its.2; listed_are = ap (λ b. listed s₁ b n) (sym here) ∙ its.3; inside = its.4 },
         )
 
-    pub choice_fails : fate ≡ Fails → JoiningFailed j figures limit atlas g goal query
+    pub choice_fails : fate ≡ Err Fails → JoiningFailed j figures limit atlas g goal query
     unfolding choice_for
     choice_fails e = record { goal_is = its_word; query_is = its_query; chosen = rw e at told.told }
 
-    pub step_from : (s' : List ℕ) (answer : Stepped) → StepIs s₁ s' text names j figures limit atlas g others t answer
+    pub step_from : (s' : List ℕ) (answer : Option Standing) → StepIs s₁ s' text names j figures limit atlas g others t answer
         → StepIs s s' text names j figures limit atlas g others t answer
     step_from s' answer is = record { only = run_only_then figures s s₁ s' tried_only is.only; told = is.told }

@@ -1,13 +1,12 @@
 -- How a run ends, told from the state after some of its steps: what `go_on` sees before each step decides how the whole run ends.
-use Prim.Native.Nat.{ℕ, zero, suc, ◌+◌, ◌≤◌, ◌<◌}
-use mathlib.Core.Path.{◌≡◌, refl, sym, ap, ◌∙◌}
-use mathlib.Core.Bool.{Bool, true, false}
+use Prim.Native.Nat.{ℕ, zero, suc, ◌+◌, ◌<◌}
+use mathlib.Core.Path.{◌≡◌, refl, ap, ◌∙◌}
+use mathlib.Core.Bool.{false}
 use mathlib.Core.List.{List, [], ◌∷◌}
-use native.Mathlib.Omega.{arith}
 use Rattle.meaning.specs.Terms.{Clause, Job}
 use Rattle.meaning.specs.State.{Room, Goal, State, start}
 use Rattle.meaning.specs.Step.{without_front}
-use Rattle.meaning.specs.Run.{Verdict, rest, budget, room, Ended, ended, fits, choice_for, onward, run}
+use Rattle.meaning.specs.Run.{rest, budget, room, ended, fits, choice_for, onward, run}
 use Rattle.laws.proofs.Runs.{run_goes_on, rest_exactly_if_queue_empty, budget_exactly_if_spent, room_exactly_if_goal_and_budget_left}
 use Rattle.laws.proofs.Runs.Further.{goes_on}
 

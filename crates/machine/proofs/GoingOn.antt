@@ -1,7 +1,6 @@
 -- The run between two steps, and how each way to go on ends or keeps it.
-use Prim.Native.Nat.{ℕ, zero, suc, ◌+◌, ◌*◌, ◌-◌, ◌≤◌, ◌<◌}
-use mathlib.Core.Path.{◌≡◌, refl, sym, ap, ◌∙◌}
-use mathlib.Core.Bool.{true, false}
+use Prim.Native.Nat.{ℕ, ◌+◌, ◌*◌, ◌-◌, ◌≤◌, ◌<◌}
+use mathlib.Core.Path.{◌≡◌, refl, sym, ap}
 use mathlib.Core.Logic.{◌≢◌}
 use mathlib.Core.List.{List, [], ◌∷◌}
 use native.Mathlib.Omega.{arith}
@@ -10,30 +9,29 @@ use Rattle.meaning.specs.Bytes.{Bytes}
 use Rattle.meaning.specs.Terms.{Job}
 use Rattle.meaning.specs.State.{Room, Goal}
 use Rattle.meaning.specs.Run.{run}
-use Rattle.term.specs.States.{Atlas, HoldsState, verdict_of}
+use Rattle.term.specs.States.{Atlas}
 use Rattle.term.specs.declared.state.Standing.{Standing}
 use Rattle.term.specs.declared.state.Verdict.TheVariants.{Rest, Budget, Room as NoRoomLeft}
 use Rattle.run_queues.specs.Log.{Slot}
 use Rattle.run_between.specs.Running.{RunOnly, Running, StepIs}
 use Rattle.machine.specs.Ending.{GoneOn}
-use Rattle.run_between.specs.declared.stepped.Stepped.TheVariants.{Next, NoRoom}
-use Rattle.machine.specs.declared.run.Ran.TheVariants.{Ended}
+use Rattle.std.specs.Prelude.{Some, None}
 use Rattle.run_between.proofs.FramesRunning.{run_only_then}
 use Rattle.machine.proofs.Going.{ends_at_rest, ends_for_room, ends_by_budget}
 
--- After so many steps, of which the budget has some left.
-pub record GoesOn (s₀ s : List ℕ) (text : Bytes) (names : List Bytes) (j : Job) (figures : Room) (budget left : ℕ) (t : Standing) : Type 0 where
+-- After so many steps, no more than the budget.
+pub record GoesOn (s₀ s : List ℕ) (text : Bytes) (names : List Bytes) (j : Job) (figures : Room) (budget : ℕ) (t : Standing) : Type 0 where
   pub limit : ℕ
   pub atlas : Atlas
   pub slots : List Slot
   pub only : RunOnly figures s₀ s
   pub running : Running s text names j figures limit atlas slots t (t.steps * 32768 + 2)
   pub steps : t.steps ≡ limit
-  pub left_is : limit + left ≡ budget
+  pub within : limit ≤ budget
   pub few : budget ≤ 1000000
 
 pub goes_starts : (s : List ℕ) (text : Bytes) (names : List Bytes) (j : Job) (figures : Room) (budget : ℕ) (t : Standing) (atlas : Atlas) (slots : List Slot)
-    → Running s text names j figures 0 atlas slots t 2 → t.steps ≡ 0 → budget ≤ 1000000 → GoesOn s s text names j figures budget budget t
+    → Running s text names j figures 0 atlas slots t 2 → t.steps ≡ 0 → budget ≤ 1000000 → GoesOn s s text names j figures budget t
 goes_starts s text names j figures budget t atlas slots r none few =
     let stamp : t.steps * 32768 + 2 ≡ 2 = omega (arith, none) in
     record {
@@ -49,14 +47,21 @@ goes_starts s text names j figures budget t atlas slots r none few =
       };
       running = rw stamp r;
       steps = none;
-      left_is = omega arith;
+      within = omega arith;
       few = few;
     }
 
-module _ {s₀ s : List ℕ} {text : Bytes} {names : List Bytes} {j : Job} {figures : Room} {budget left : ℕ} {t : Standing}
-    (h : GoesOn s₀ s text names j figures budget left t) where
+module _ {s₀ s : List ℕ} {text : Bytes} {names : List Bytes} {j : Job} {figures : Room} {budget : ℕ} {t : Standing}
+    (h : GoesOn s₀ s text names j figures budget t) where
   steps_are : (run j h.limit figures).state.steps ≡ h.limit
   steps_are = omega (arith, h.running.state.steps, h.steps)
+
+  -- The steps that the budget has left.
+  abbrev left : ℕ
+  left = budget - h.limit
+
+  left_is : h.limit + left ≡ budget
+  left_is = omega (arith, h.within)
 
   -- What stands in front, where the queue is not empty.
   pub front : t.active ≢ 0 → (g : Goal) × (others : List Goal) × ((run j h.limit figures).state.goals.queue ≡ g ∷ others)
@@ -79,24 +84,27 @@ module _ {s₀ s : List ℕ} {text : Bytes} {names : List Bytes} {j : Job} {figu
           let one : length (g ∷ others) ≡ 1 + length others = omega arith in
           absurd (omega (arith, size, one, none, h.running.state.queue.number))
 
-  pub goes_to_rest : t.active ≡ 0 → GoneOn s names j figures budget (Ended Rest t)
+  pub goes_to_rest : t.active ≡ 0 → GoneOn s names j figures budget (Rest, t)
   goes_to_rest none =
-      let e = rw h.left_is at (ends_at_rest j figures h.limit left (queue_empty none)) in
+      let e = rw left_is at (ends_at_rest j figures h.limit left (queue_empty none)) in
       (sym e.1, h.atlas, rw e.0 h.running.state)
 
-  pub goes_to_budget : t.active ≢ 0 → left ≡ 0 → GoneOn s names j figures budget (Ended Budget t)
+  pub goes_to_budget : t.active ≢ 0 → t.steps ≡ budget → GoneOn s names j figures budget (Budget, t)
   goes_to_budget more spent =
       let f = front more in
-      let all : h.limit ≡ budget = omega (arith, h.left_is, spent) in
+      let all : h.limit ≡ budget = omega (arith, h.steps, spent) in
       (sym (rw all at (ends_by_budget j figures h.limit f.0 f.1 f.2 steps_are)), h.atlas, rw all at h.running.state)
 
   -- There is budget for a step.
-  pub steps_few : left ≢ 0 → t.steps < 1000000
-  steps_few more = omega (arith, h.left_is, h.few, h.steps, more)
+  pub steps_few : t.steps ≢ budget → t.steps < 1000000
+  steps_few more = omega (arith, h.within, h.few, h.steps, more)
 
-  module _ (g : Goal) (others : List Goal) (first : (run j h.limit figures).state.goals.queue ≡ g ∷ others) (some : left ≢ 0) (s' : List ℕ) where
-    pub goes_to_next : (u : Standing) → StepIs s s' text names j figures h.limit h.atlas g others t (Next u)
-        → GoesOn s₀ s' text names j figures budget (left - 1) u
+  pub steps_left : t.steps ≢ budget → t.steps < budget
+  steps_left more = omega (arith, h.within, h.steps, more)
+
+  module _ (g : Goal) (others : List Goal) (first : (run j h.limit figures).state.goals.queue ≡ g ∷ others) (some : t.steps ≢ budget) (s' : List ℕ) where
+    pub goes_to_next : (u : Standing) → StepIs s s' text names j figures h.limit h.atlas g others t (Some u)
+        → GoesOn s₀ s' text names j figures budget u
     goes_to_next u k =
         let n = k.told in
         record {
@@ -106,13 +114,13 @@ module _ {s₀ s : List ℕ} {text : Bytes} {names : List Bytes} {j : Job} {figu
           only = run_only_then figures s₀ s s' h.only k.only;
           running = n.4;
           steps = omega (arith, n.3, h.steps);
-          left_is = omega (arith, h.left_is, some);
+          within = omega (arith, steps_left some, h.steps);
           few = h.few;
         }
 
-    pub goes_to_room : StepIs s s' text names j figures h.limit h.atlas g others t NoRoom → GoneOn s' names j figures budget (Ended NoRoomLeft t)
+    pub goes_to_room : StepIs s s' text names j figures h.limit h.atlas g others t None → GoneOn s' names j figures budget (NoRoomLeft, t)
     goes_to_room k =
         let n = k.told in
-        let less : (run j h.limit figures).state.steps < h.limit + left = omega (arith, steps_are, some) in
-        let e = rw h.left_is at (ends_for_room j figures h.limit left g others first n.0 less) in
+        let less : (run j h.limit figures).state.steps < h.limit + left = omega (arith, steps_are, left_is, steps_left some, h.steps) in
+        let e = rw left_is at (ends_for_room j figures h.limit left g others first n.0 less) in
         (sym e.1, h.atlas, rw e.0 n.1)

@@ -5,7 +5,7 @@ use mathlib.Core.List.{List, [], ◌∷◌, ◌++◌, map, append_assoc, append-
 use native.Mathlib.Omega.{arith}
 use lib.ListN.{length, get_or, set, length-map}
 use lib.Seq.{get_or-set_other}
-use Rattle.meaning.specs.Bytes.{Bytes, bytes, joined, those}
+use Rattle.meaning.specs.Bytes.{Bytes, joined, those}
 use Rattle.meaning.specs.Terms.{Query, Job}
 use Rattle.meaning.specs.State.{Room, State, Part, of, unit_at, goals_of, part_of}
 use Rattle.meaning.specs.Run.{run, Ended}

@@ -7,7 +7,8 @@ use native.Mathlib.Decide.{ℕ_discrete}
 use native.Mathlib.Numerals.{add-one}
 use native.Mathlib.Omega.{arith}
 use lib.ListN.{length, get_or, length-append}
-use Rattle.meaning.specs.Bytes.{Bytes}
+use Rattle.meaning.specs.Bytes.{Bytes, bytes}
+use Rattle.meaning.specs.Report.{verdict_bytes}
 use Rattle.meaning.specs.Terms.{Term}
 use Rattle.meaning.specs.State.{Room, value}
 use Rattle.term.specs.Layout.{waiters_region}
@@ -22,7 +23,7 @@ use Rattle.report_tallies.specs.Header.{run_line_of}
 use Rattle.report_sections.specs.Whole.{Numbers, Uncounted, SectionCounted}
 use Rattle.report.specs.All.{Made, Stands, bytes_of, order_of, Sections, sections_bytes, report_bytes, FactsOnly, AllCounted}
 use Rattle.report_pairs.proofs.Decimals.{decimal_few}
-use Rattle.report_tallies.proofs.FirstLines.{run_rest_size, run_budget_size, run_room_size}
+use Rattle.report_tallies.proofs.FirstLines.{run_line_size}
 use Rattle.report.proofs.FactsKept.{facts_none, facts_then, changed_facts, facts_apart, bytes_same, sections_same, readable_still, section_still}
 use Rattle.report_pairs.proofs.Laid.{puts_none, puts_behind, puts_as}
 use Rattle.report_pairs.proofs.Having.{has_front, has_behind, has_as, puts_agree}
@@ -31,9 +32,10 @@ use Rattle.report_leaves.proofs.Copying.{fits_front, fits_behind, fits_as}
 
 -- The first line is far below the ceiling.
 pub run_line_short : (v : Told) (steps : ℕ) → steps ≤ 1000000 → length (run_line_of v steps) ≤ 38
-run_line_short Rest steps h = omega (arith, run_rest_size steps, decimal_few steps (omega arith))
-run_line_short Budget steps h = omega (arith, run_budget_size steps, decimal_few steps (omega arith))
-run_line_short NoRoom steps h = omega (arith, run_room_size steps, decimal_few steps (omega arith))
+unfolding verdict_bytes bytes
+run_line_short Rest steps h = omega (arith, run_line_size Rest steps, decimal_few steps (omega arith))
+run_line_short Budget steps h = omega (arith, run_line_size Budget steps, decimal_few steps (omega arith))
+run_line_short NoRoom steps h = omega (arith, run_line_size NoRoom steps, decimal_few steps (omega arith))
 
 -- One section more; what is left is no longer than the whole.
 pub sections_more : (s : List ℕ) (figures : Room) (t : Standing) (made : ℕ → Made) (q : ℕ)

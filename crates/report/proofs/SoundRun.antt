@@ -1,7 +1,7 @@
 -- Every term of every state of a run of an accepted text is sound: a list cell has two arguments, a constant's name has a byte.
 -- The text's terms are; renaming and following keep it, and what a comparison assigns is a part of the goal or of the renamed head.
 use Prim.Native.Nat.{ℕ, zero, suc, ◌≤◌}
-use mathlib.Core.Path.{◌≡◌, refl, ap, sym, ◌∙◌}
+use mathlib.Core.Path.{◌≡◌, refl, ap, sym}
 use mathlib.Core.List.{List, [], ◌∷◌, ◌++◌, map}
 use mathlib.Core.Option.{Option, none, some}
 use lib.ListN.{length, set, replicate}
@@ -43,20 +43,7 @@ use Rattle.laws.proofs.Trial.Chosen.{reduces_agrees}
 use Rattle.laws.proofs.Runs.Invariant.{run_keeps}
 use Rattle.laws.proofs.Runs.AllGoals.{EachGoal, each_goal_at, each_goal_front, each_goal_after}
 use Rattle.laws.proofs.Reading.{accepted_keeps_the_figures}
-use Rattle.laws.proofs.Reading.Figures.{
-  Bounds,
-  SpellingFits,
-  SpellingsFit,
-  known_in,
-  ConstantFits,
-  FunctorFits,
-  TermFits,
-  TermsFit,
-  NamedFits,
-  ClauseFits,
-  QueryFits,
-  JobFits,
-}
+use Rattle.laws.proofs.Reading.Figures.{Bounds, SpellingFits, known_in, ConstantFits, FunctorFits, TermFits, TermsFit, NamedFits, ClauseFits, QueryFits}
 use Rattle.laws.proofs.Reading.ItemByItem.{names_of}
 use Rattle.report_pairs.specs.Sound.{SoundConstant, SoundFunctor, Sound, AllSound, SoundValues}
 

@@ -1,9 +1,9 @@
 -- All sections of a report: what stands in the scratch for each, that their pairs are apart, and the report's bytes.
-use Rattle.std.specs.Prelude.{ℕ, zero, suc, ◌+◌, ◌*◌, ◌≤◌, ◌<◌, ◌≡◌, List, [], ◌∷◌, ◌++◌, map, length, get_or}
+use Rattle.std.specs.Prelude.{ℕ, zero, suc, ◌+◌, ◌*◌, ◌≤◌, ◌<◌, ◌≡◌, List, [], ◌++◌, map, length, get_or}
 use Rattle.meaning.specs.Bytes.{Bytes, those}
 use Rattle.meaning.specs.Terms.{Query}
 use Rattle.meaning.specs.State.{Room, Goal, State, of}
-use Rattle.term.specs.Layout.{waiters_region, need_of, trial_region, pair_facts}
+use Rattle.term.specs.Layout.{waiters_region, trial_region, pair_facts}
 use Rattle.term.specs.Setting.{Setting}
 use Rattle.term.specs.States.{Atlas, setting_at}
 use Rattle.term.specs.declared.state.Standing.{Standing}
@@ -12,7 +12,7 @@ use Rattle.report_pairs.specs.Threaded.{lines_seen}
 use Rattle.report_pairs.specs.Laid.{capped}
 use Rattle.report_leaves.specs.Fits.{Stored}
 use Rattle.report_tallies.specs.Header.{run_line_of}
-use Rattle.report_sections.specs.Whole.{section_bytes, SectionStands, Numbers, Uncounted}
+use Rattle.report_sections.specs.Whole.{section_bytes, SectionStands, Numbers}
 
 -- What a section is made of: its query's unit, variables and goals.
 pub record Made : Type 0 where

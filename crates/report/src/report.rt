@@ -15,7 +15,6 @@ use report_pairs::ends::forget;
 use report_pairs::length::CEILING;
 use report_sections::sections::{count_section, write_section};
 use report_tallies::header::{run_length, run_line};
-use term::layout;
 use term::layout::{Room, TRIAL};
 use term::state::{Standing, Verdict};
 
@@ -36,10 +35,8 @@ fn count_report(s: &mut [u64], room: Room, queries: usize, verdict: Verdict, t: 
         → AllCounted s.old s.new text (figures room) verdict t made queries result }
 {
     let mut to = run_length(verdict, t.steps);
-    let mut q = 0;
-    while q < queries {
+    for q in 0..queries {
         to = count_section(s, room, to, q, t);
-        q += 1;
     }
     to
 }
@@ -67,10 +64,8 @@ fn write_report(
         → Puts buffer.old buffer.new 0 result (report_bytes s.now (figures room) verdict t made queries) }
 {
     let mut to = run_line(buffer, verdict, t.steps);
-    let mut q = 0;
-    while q < queries {
+    for q in 0..queries {
         to = write_section(text, s, room, buffer, to, q, t);
-        q += 1;
     }
     to
 }
@@ -92,7 +87,7 @@ pub fn report(
         → queries ≡ length j.queries → length text.now ≤ 16384
         → ReportIs s.old s.new buffer.old buffer.new (figures room) j limit result }
 {
-    forget(s, layout::waiters(room), t.pairs);
+    forget(s, room.waiters(), t.pairs);
     note_pairs(s, room.pairs);
     let n = count_report(s, room, queries, verdict, t);
     if n == CEILING {

@@ -19,7 +19,7 @@ use Rattle.report_pairs.specs.Facts.{Readable, Shows, Led, Changed, Counting, Pl
 use Rattle.report_count.specs.Counts.{Counts, Counted, CountedTerm, LeadsTo, LeafCounted, LengthKnown, KnownNow}
 use Rattle.report_pairs.specs.Pairs.{NoCompound}
 use Rattle.report_pairs.specs.Walk.{opening_bytes, StandsAt, after, rest, Position, Found}
-use Rattle.report_pairs.specs.declared.cells.Next.TheVariants.{Goes, Ends}
+use Rattle.std.specs.Prelude.{Some, None}
 use Rattle.report_pairs.proofs.Full.{full_compound, full_unassigned}
 use Rattle.report_pairs.proofs.Once.{seen_after_compound, seen_after_more, seen_after_all_keeps}
 use Rattle.report_pairs.proofs.Settled.{settled_in}
@@ -209,7 +209,7 @@ walk_turn s₀ s text x facts from order whole at p i to W s' r C = record {
 module _ (s₀ s : List ℕ) (text : Bytes) (x : Setting) (facts : ℕ) (from order : List ℕ) (whole : Bytes) (at p i to r : ℕ)
     (T : Turned s₀ s text x facts from order whole at p i to r) where
   -- The next byte reaches the ceiling: the rest does not matter.
-  pub walk_stops : (b q k : ℕ) → Found s x T.g T.j T.us (Goes b q k) → 16777216 ≤ r → Counted s₀ s text x facts at from whole order 16777217
+  pub walk_stops : (b q k : ℕ) → Found s x T.g T.j T.us (b, Some (q, k)) → 16777216 ≤ r → Counted s₀ s text x facts at from whole order 16777217
   walk_stops b q k (j', g', v, vs, position, bytes_are, seen_are, stands_are) d =
       let size = ap length (bytes_are order) ∙ length_more b (rest x.values order g' j' v vs) in record {
         changed = T.changed;
@@ -222,7 +222,7 @@ module _ (s₀ s : List ℕ) (text : Bytes) (x : Setting) (facts : ℕ) (from or
         placed = λ h. absurd (omega arith);
       }
 
-  pub walk_ends : (b r' : ℕ) → Found s x T.g T.j T.us (Ends b) → r' ≡ capped (r + 1) → Counted s₀ s text x facts at from whole order r'
+  pub walk_ends : (b r' : ℕ) → Found s x T.g T.j T.us (b, None) → r' ≡ capped (r + 1) → Counted s₀ s text x facts at from whole order r'
   walk_ends b r' F e = record {
     changed = T.changed;
     readable = T.counts.readable;
@@ -237,7 +237,7 @@ module _ (s₀ s : List ℕ) (text : Bytes) (x : Setting) (facts : ℕ) (from or
     placed = λ h. T.placed (omega arith);
   }
 
-  pub walk_on : (b q k : ℕ) → Found s x T.g T.j T.us (Goes b q k) → r < 16777216
+  pub walk_on : (b q k : ℕ) → Found s x T.g T.j T.us (b, Some (q, k)) → r < 16777216
       → Walked s₀ s text x facts from order whole at q k (r + 1)
   walk_on b q k (j', g', v, vs, position, bytes_are, seen_are, stands_are) low =
       let size = ap length (bytes_are order) ∙ length_more b (rest x.values order g' j' v vs) in record {
@@ -334,9 +334,9 @@ module _ (s s₁ : List ℕ) (text : Bytes) (x : Setting) (facts : ℕ) (seen : 
 -- A compound to which a term leads: its length is known, or it is counted by its arguments and kept.
 module _ (s : List ℕ) (text : Bytes) (x : Setting) (facts : ℕ) (seen : List ℕ) (t : Term) (at w q : ℕ) (C : Counts s text x facts seen at)
     (k : Shows s x t w) (D : LeadsTo s x t q) where
-  pub count_known : (n r : ℕ) → LengthKnown x seen t n → n ≢ 0 → r ≡ capped (at + n) → CountedTerm s s text x facts seen t at r
-  count_known n r K d e =
-      let known = K d in record {
+  pub count_known : (n r : ℕ) → LengthKnown x seen t (Some n) → r ≡ capped (at + n) → CountedTerm s s text x facts seen t at r
+  count_known n r known e =
+      record {
         changed = changed_none s x facts;
         readable = C.readable;
         after = seen;

@@ -1,6 +1,6 @@
 -- The length that is kept of a variable's value is the term's.
 use Prim.Native.Nat.{ℕ, ◌+◌, ◌-◌, ◌*◌, ◌<◌}
-use mathlib.Core.Path.{◌≡◌, refl, ◌∙◌, sym, ap}
+use mathlib.Core.Path.{◌≡◌, refl, ◌∙◌, ap}
 use mathlib.Core.Logic.{◌≢◌}
 use mathlib.Core.List.{List}
 use mathlib.Core.Option.{Option, none, some}
@@ -20,29 +20,35 @@ use Rattle.report_pairs.specs.Threaded.{full, seen_after, shown}
 use Rattle.report_pairs.specs.Pairs.{pair_seen}
 use Rattle.report_pairs.specs.Laid.{Has}
 use Rattle.report_pairs.specs.Facts.{fact_place, Readable, Shows, Changed, Counting, LengthAt, PlaceAt, Placed}
+use Rattle.std.specs.Prelude.{Option as Told, Some, None, SomeIff}
 use Rattle.report_count.specs.Counts.{LengthKnown, KnownNow}
 use Rattle.report_pairs.proofs.Full.{full_assigned}
 use Rattle.report_pairs.proofs.Told.{seen as look, pair_told}
 use Rattle.report_pairs.proofs.Chains.{variable_below, fact_inside}
 use Rattle.report_pairs.proofs.Keeping.{readable_kept, ends_kept, place_kept}
 
-pub length_known : (s : List ℕ) (text : Bytes) (x : Setting) (facts : ℕ) (seen : List ℕ) (t : Term) (w p e : ℕ) → Readable s text x facts
-    → Counting s x facts seen → Shows s x t w → p ≡ pair_seen (look w) → p ≢ 0 → e ≡ get_or s (facts + pair_facts * (p - 1) + 1) 0 → LengthKnown x seen t e
-length_known s text x facts seen t w p e r c k q d i = go (pair_told x.places t w p k.word q d)
+length_known : (s : List ℕ) (text : Bytes) (x : Setting) (facts : ℕ) (seen : List ℕ) (t : Term) (w p e : ℕ) → Readable s text x facts
+    → Counting s x facts seen → Shows s x t w → Some p ≡ pair_seen (look w) → e ≡ get_or s (facts + pair_facts * p + 1) 0 → e ≢ 0 → LengthKnown x seen t (Some e)
+length_known s text x facts seen t w p e r c k q i d = go (pair_told x.places t w p k.word q)
   where
     by : (h : Half) (n : ℕ) (v : Option Term) → value x.values n ≡ v → LengthAt s x facts seen n v → e ≡ get_or s (fact_place x facts n + 1) 0
-        → LengthKnown x seen (Term.variable h n) e
-    by h n none z l j = λ y. absurd (y (j ∙ l))
-    by h n (some u) z l j = λ y.
+        → LengthKnown x seen (Term.variable h n) (Some e)
+    by h n none z l j = absurd (d (j ∙ l))
+    by h n (some u) z l j =
         let same = full_assigned x.values r.no_circle h n u z in
-        let told = l (λ o. y (j ∙ o)) in
+        let told = l (λ o. d (j ∙ o)) in
         rw same (told.0, j ∙ told.1)
 
-    go : (h : Half) × (n : ℕ) × (t ≡ Term.variable h n) × (p - 1 ≡ x.places.pair n) → LengthKnown x seen t e
+    go : (h : Half) × (n : ℕ) × (t ≡ Term.variable h n) × (p ≡ x.places.pair n) → LengthKnown x seen t (Some e)
     go (h, n, v, g) =
         let b = variable_below s text x facts r h n w (rw v at k) in
-        let same : facts + pair_facts * (p - 1) + 1 ≡ fact_place x facts n + 1 = omega arith in
+        let same : facts + pair_facts * p + 1 ≡ fact_place x facts n + 1 = omega arith in
         rw v (by h n (value x.values n) refl (c.lengths n b) (i ∙ ap (λ (m : ℕ). get_or s m 0) same))
+
+pub length_told : (s : List ℕ) (text : Bytes) (x : Setting) (facts : ℕ) (seen : List ℕ) (t : Term) (w p n : ℕ) (e : Told ℕ) → Readable s text x facts
+    → Counting s x facts seen → Shows s x t w → Some p ≡ pair_seen (look w) → n ≡ get_or s (facts + pair_facts * p + 1) 0 → SomeIff e (n ≢ 0) n → LengthKnown x seen t e
+length_told s text x facts seen t w p n None r c k q i d = tt
+length_told s text x facts seen t w p n (Some m) r c k q i d = rw d.1 (length_known s text x facts seen t w p n r c k q i d.0)
 
 -- The length of an assigned variable's value is kept.
 module _ (s : List ℕ) (text : Bytes) (x : Setting) (facts : ℕ) (r : Readable s text x facts) (n v a : ℕ) (b : n < length x.values) where
@@ -115,19 +121,19 @@ Kept s s' text x facts seen t at = Changed s s' x facts × Readable s' text x fa
     × ((whole : Bytes) → Has whole at (shown seen alone (full x.values t)) → Placed s x facts seen whole → Placed s' x facts seen whole)
 
 abbrev kept : List ℕ → ℕ → ℕ → ℕ → ℕ → List ℕ
-kept s facts p at to = set (set s (facts + pair_facts * (p - 1) + 1) (to - at)) (facts + pair_facts * (p - 1) + 3) at
+kept s facts p at to = set (set s (facts + pair_facts * p + 1) (to - at)) (facts + pair_facts * p + 3) at
 
 pub keep_now : (s : List ℕ) (text : Bytes) (x : Setting) (facts : ℕ) (seen : List ℕ) (t : Term) (w p at to : ℕ) → Readable s text x facts
-    → Counting s x facts seen → Shows s x t w → KnownNow x facts seen t at to → p ≡ pair_seen (look w) → p ≢ 0 → to ≢ 16777217
+    → Counting s x facts seen → Shows s x t w → KnownNow x facts seen t at to → Some p ≡ pair_seen (look w) → to ≢ 16777217
     → Kept s (kept s facts p at to) text x facts seen t at
-keep_now s text x facts seen t w p at to r c k K q d o = go (pair_told x.places t w p k.word q d)
+keep_now s text x facts seen t w p at to r c k K q o = go (pair_told x.places t w p k.word q)
   where
-    go : (h : Half) × (n : ℕ) × (t ≡ Term.variable h n) × (p - 1 ≡ x.places.pair n) → Kept s (kept s facts p at to) text x facts seen t at
+    go : (h : Half) × (n : ℕ) × (t ≡ Term.variable h n) × (p ≡ x.places.pair n) → Kept s (kept s facts p at to) text x facts seen t at
     go (h, n, v, g) =
         let b = variable_below s text x facts r h n w (rw v at k) in
         let U = K.assigned h n v in
-        let first : facts + pair_facts * (p - 1) + 1 ≡ fact_place x facts n + 1 = omega arith in
-        let third : facts + pair_facts * (p - 1) + 3 ≡ fact_place x facts n + 3 = omega arith in
+        let first : facts + pair_facts * p + 1 ≡ fact_place x facts n + 1 = omega arith in
+        let third : facts + pair_facts * p + 3 ≡ fact_place x facts n + 3 = omega arith in
         let full_is : full x.values t ≡ full x.values U.0 = ap (full x.values) v ∙ full_assigned x.values r.no_circle h n U.0 U.1 in
         let all : seen_after seen (full x.values U.0) ≡ seen = rw full_is at (K.seen_all o) in
         let size : to ≡ at + length (shown seen alone (full x.values U.0)) = rw full_is at (K.size o) in

@@ -1,8 +1,8 @@
 -- Counting piece after piece: bytes alone, and a piece behind another; at the ceiling what comes behind does not matter.
-use Prim.Native.Nat.{ℕ, ◌+◌, ◌*◌, ◌≤◌, ◌<◌, min}
-use mathlib.Core.Path.{◌≡◌, refl, sym, ap, ap₂, ◌∙◌}
+use Prim.Native.Nat.{ℕ, ◌+◌, ◌*◌, ◌≤◌, ◌<◌}
+use mathlib.Core.Path.{◌≡◌, refl, sym, ap, ◌∙◌}
 use mathlib.Core.Logic.{◌≢◌}
-use mathlib.Core.List.{List, [], ◌∷◌, ◌++◌}
+use mathlib.Core.List.{List, [], ◌++◌}
 use native.Mathlib.Decide.{dec_lt}
 use native.Mathlib.Omega.{arith}
 use lib.ListN.{length, length-append, get_or}
@@ -10,15 +10,10 @@ use Rattle.meaning.specs.Bytes.{Bytes}
 use Rattle.term.specs.Setting.{Setting}
 use Rattle.term.specs.Layout.{trial_region, pair_facts}
 use Rattle.report_pairs.specs.Laid.{capped, Has}
-use Rattle.report_pairs.specs.Facts.{Readable, Counting, Placed, Changed, fact_place}
+use Rattle.report_pairs.specs.Facts.{Readable, Placed, Changed}
 use Rattle.report_pairs.proofs.Having.{has_front, has_behind, has_as}
+use Rattle.report_pairs.proofs.Keeping.{changed_none, changed_then}
 use Rattle.report_count.specs.Counts.{Counts, Counted}
-
-pub changed_none : (s : List ℕ) (x : Setting) (facts : ℕ) → Changed s s x facts
-changed_none s x facts = record { size = refl; others = λ k h n. refl }
-
-pub changed_then : (s t u : List ℕ) (x : Setting) (facts : ℕ) → Changed s t x facts → Changed t u x facts → Changed s u x facts
-changed_then s t u x facts c d = record { size = d.size ∙ c.size; others = λ k h n. d.others k h n ∙ c.others k h n }
 
 -- A word below the facts, but the numbers given, and one behind them is as it was.
 pub changed_below : (s s' : List ℕ) (text : Bytes) (x : Setting) (facts : ℕ) → Changed s s' x facts → (k : ℕ) → k < facts → k ≢ trial_region

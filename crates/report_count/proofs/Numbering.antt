@@ -1,8 +1,8 @@
 -- A pair is given the next number of the section.
-use Prim.Native.Nat.{ℕ, zero, suc, ◌+◌, ◌*◌, ◌≤◌, ◌<◌}
+use Prim.Native.Nat.{ℕ, suc, ◌+◌, ◌*◌, ◌≤◌, ◌<◌}
 use mathlib.Core.Path.{◌≡◌, refl, ◌∙◌, sym, ap}
 use mathlib.Core.Logic.{◌≢◌}
-use mathlib.Core.Bool.{Bool, true, false, ◌||◌}
+use mathlib.Core.Bool.{Bool, true, false}
 use mathlib.Core.List.{List, [], ◌∷◌, ◌++◌}
 use mathlib.Core.Option.{Option, none, some}
 use native.Mathlib.Omega.{arith}
@@ -16,7 +16,7 @@ use Rattle.meaning.specs.State.{value}
 use Rattle.meaning.specs.Report.{alone, number_in}
 use Rattle.term.specs.Setting.{Setting}
 use Rattle.term.specs.Layout.{trial_region, pair_facts}
-use Rattle.report_pairs.specs.Threaded.{full, seen_after, shown}
+use Rattle.report_pairs.specs.Threaded.{full, seen_after}
 use Rattle.report_pairs.specs.Facts.{fact_place, number_seen, Readable, Changed, Counting, LengthAt, PlaceAt, Placed}
 use Rattle.report_pairs.proofs.Once.{among_append, seen_after_known, seen_after_new, number_known, number_new, number_in_more, number_in_new}
 use Rattle.report_pairs.proofs.Again.{seen_still, shown_still}

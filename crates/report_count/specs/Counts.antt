@@ -1,5 +1,5 @@
 -- What counting a term asks and gives. A length counts up to the ceiling; below it every pair of the term has its number.
-use Rattle.std.specs.Prelude.{ℕ, ◌+◌, ◌*◌, ◌≤◌, ◌<◌, min, ◌≡◌, ◌≢◌, List, length, get_or}
+use Rattle.std.specs.Prelude.{ℕ, ◌+◌, ◌≤◌, ◌<◌, min, ◌≡◌, ◌≢◌, List, length, Option, Some, None}
 use Rattle.meaning.specs.Bytes.{Bytes}
 use Rattle.std.proofs.Math.Option.{some}
 use Rattle.meaning.specs.Terms.{Half, Functor, Term, Terms}
@@ -53,9 +53,9 @@ pub record LeafCounted (s s' : List ℕ) (text : Bytes) (x : Setting) (facts : �
   pub few : length (seen_after seen (full x.values t)) ≤ length seen + min r 1
 
 -- A length that is known is the term's, and all its pairs were seen.
-abbrev pub LengthKnown : Setting → List ℕ → Term → ℕ → Type 0
-LengthKnown x seen t r = r ≢ 0
-    → (seen_after seen (full x.values t) ≡ seen) × (r ≡ length (shown seen alone (full x.values t)))
+abbrev pub LengthKnown : Setting → List ℕ → Term → Option ℕ → Type 0
+LengthKnown x seen t None = Unit {0}
+LengthKnown x seen t (Some r) = (seen_after seen (full x.values t) ≡ seen) × (r ≡ length (shown seen alone (full x.values t)))
 
 -- A term that is no unassigned variable, counted from one place to another below the ceiling: all its pairs were seen.
 pub record KnownNow (x : Setting) (facts : ℕ) (seen : List ℕ) (t : Term) (at to : ℕ) : Type 0 where

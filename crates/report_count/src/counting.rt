@@ -16,12 +16,15 @@ ghost use Rattle.report_pairs.specs.Laid.{capped, Has};
 ghost use Rattle.report_pairs.specs.Walk.{opening_bytes, Opens, StandsAt};
 ghost use Rattle.report_pairs.specs.Pairs.{NoCompound};
 
-use report_pairs::cells::{Next, behind, functor};
-use report_pairs::ends::{fact, lead, pair, set_fact};
+use report_pairs::cells::{behind, functor};
+use report_pairs::ends::{LENGTH, NUMBER, PLACE, fact, lead, pair, set_fact};
 use report_pairs::length::{CEILING, digits, further};
 use term::layout::TRIAL;
 use term::scratch::word_at;
 use term::word::{View, index, look};
+
+// Stays two parameters, the scratch and where its facts begin: counting changes the scratch, so no struct can lend it for reading as `Source` of crate
+// `report_leaves` does for writing, and each reading call would build such a struct anew.
 
 // "In order of first appearance in the section": the pair's number, the next one if it has none.
 fn number(s: &mut [u64], facts: usize, p: usize) -> u64
@@ -33,13 +36,13 @@ fn number(s: &mut [u64], facts: usize, p: usize) -> u64
         × (result ≡ number_in n (seen_after seen (Term.variable h n)))
         × ((whole : Bytes) → Placed s.old x facts seen whole → Placed s.new x facts (seen_after seen (Term.variable h n)) whole) }
 {
-    let k = fact(s, facts, p, 2);
+    let k = fact(s, facts, p, NUMBER);
     if k != 0 {
         return k;
     }
     let n = s[TRIAL] + 1;
     s[TRIAL] = n;
-    set_fact(s, facts, p, 2, n);
+    set_fact(s, facts, p, NUMBER, n);
     n
 }
 
@@ -79,17 +82,15 @@ fn leaf(s: &mut [u64], facts: usize, w: u64) -> usize
     }
 }
 
-// The length of a variable's value, if it was counted; else 0.
-fn counted(s: &[u64], facts: usize, w: u64) -> usize
+// The length of a variable's value, if it was counted.
+fn counted(s: &[u64], facts: usize, w: u64) -> Option<usize>
     requires { (text : Bytes) × (x : Setting) × (t : Term) × Readable s.now text x facts × Shows s.now x t w }
     ensures { (text : Bytes) (x : Setting) (seen : List ℕ) (t : Term) → Readable s.now text x facts → Counting s.now x facts seen
         → Shows s.now x t w → LengthKnown x seen t result }
 {
-    let p = pair(w);
-    if p == 0 {
-        return 0;
-    }
-    index(fact(s, facts, p - 1, 1))
+    let p = pair(w)?;
+    let n = index(fact(s, facts, p, LENGTH));
+    (n != 0).then_some(n)
 }
 
 // The length of a variable's value and where it begins are kept, if it stays below the ceiling.
@@ -103,10 +104,9 @@ fn keep(s: &mut [u64], facts: usize, w: u64, at: usize, to: usize)
     if to == CEILING {
         return;
     }
-    let p = pair(w);
-    if p != 0 {
-        set_fact(s, facts, p - 1, 1, (to - at) as u64);
-        set_fact(s, facts, p - 1, 3, at as u64);
+    if let Some(p) = pair(w) {
+        set_fact(s, facts, p, LENGTH, (to - at) as u64);
+        set_fact(s, facts, p, PLACE, at as u64);
     }
 }
 
@@ -134,8 +134,7 @@ fn count_compound(s: &mut [u64], facts: usize, at: usize, w: u64, q: usize) -> u
     ensures { (text : Bytes) (x : Setting) (seen : List ℕ) (t : Term) → Counts s.old text x facts seen at → at < 16777217
         → Shows s.old x t w → LeadsTo s.old x t q → CountedTerm s.old s.new text x facts seen t at result }
 {
-    let n = counted(s, facts, w);
-    if n != 0 {
+    if let Some(n) = counted(s, facts, w) {
         return further(at, n);
     }
     let to = count_arguments(s, facts, at, q);
@@ -148,12 +147,10 @@ fn opening(s: &[u64], at: usize, p: usize) -> usize
     requires { (text : Bytes) × (f : Functor) × (at ≤ 16777217) × (p < length s.now) × Opens s.now text (rest_in (get_or s.now p 0)) f }
     ensures { (text : Bytes) (f : Functor) → Opens s.now text (rest_in (get_or s.now p 0)) f → result ≡ capped (at + length (opening_bytes f)) }
 {
-    let f = functor(s, p);
-    if f == 0 {
-        return further(at, 1);
+    match functor(s, p) {
+        None => further(at, 1),
+        Some(k) => further(further(at, name(s, k)), 1),
     }
-    let to = further(at, name(s, f - 1));
-    further(to, 1)
 }
 
 // A compound with its arguments; "lists as `[a,b]` or `[a|T]`": a list goes on with the cell that is its tail.
@@ -174,26 +171,19 @@ pub fn count_arguments(s: &mut [u64], facts: usize, at: usize, first: usize) -> 
     loop {
         let a = word_at(s, p, i);
         let e = lead(s, facts, a);
-        match look(e) {
-            View::Compound(q) => {
-                to = count_compound(s, facts, to, a, q);
-            }
-            _ => {
-                to = further(to, leaf(s, facts, e));
-            }
+        to = match look(e) {
+            View::Compound(q) => count_compound(s, facts, to, a, q),
+            _ => further(to, leaf(s, facts, e)),
+        };
+        let (_, next) = behind(s, facts, p, i);
+        let Some((q, j)) = next else {
+            return further(to, 1);
+        };
+        if CEILING - 1 <= to {
+            return CEILING;
         }
-        match behind(s, facts, p, i) {
-            Next::Goes(_, q, j) => {
-                if CEILING - 1 <= to {
-                    return CEILING;
-                }
-                to += 1;
-                p = q;
-                i = j;
-            }
-            Next::Ends(_) => {
-                return further(to, 1);
-            }
-        }
+        to += 1;
+        p = q;
+        i = j;
     }
 }

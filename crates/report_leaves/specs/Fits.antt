@@ -1,6 +1,6 @@
 -- What writing asks of the buffer: the bytes fit it, they stand in a whole with which it agrees so far, and the whole has each pair's value whose length is
 -- kept from its place on. So a value that stands before the place where it is to be written can be copied.
-use Rattle.std.specs.Prelude.{ℕ, ◌+◌, ◌≤◌, ◌<◌, ◌≡◌, ◌≢◌, List, length, get_or}
+use Rattle.std.specs.Prelude.{ℕ, ◌+◌, ◌≤◌, ◌<◌, ◌≡◌, ◌≢◌, List, length, get_or, Option as Told, Some, None}
 use Rattle.std.proofs.Math.Option.{Option, none, some}
 use Rattle.meaning.specs.Bytes.{Bytes}
 use Rattle.meaning.specs.Terms.{Term}
@@ -30,6 +30,6 @@ pub record Fits (s : List ℕ) (x : Setting) (facts : ℕ) (order : List ℕ) (a
   pub stored : Stored s x facts order whole
 
 -- They were copied, or nothing was put.
-pub record Copied (before after : List ℕ) (at to : ℕ) (bs : Bytes) : Type 0 where
-  pub none_put : to ≡ at → after ≡ before
-  pub all_put : to ≢ at → Puts before after at to bs
+abbrev pub Copied : List ℕ → List ℕ → ℕ → Told ℕ → Bytes → Type 0
+Copied before after at None bs = after ≡ before
+Copied before after at (Some to) bs = Puts before after at to bs

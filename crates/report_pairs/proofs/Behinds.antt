@@ -1,6 +1,6 @@
 -- What the code asks and tells behind an argument, by the kind of its compound.
-use Prim.Native.Nat.{ℕ, ◌+◌, ◌/◌, ◌<◌}
-use mathlib.Core.Path.{◌≡◌, refl}
+use Prim.Native.Nat.{ℕ, ◌+◌, ◌<◌}
+use mathlib.Core.Path.{◌≡◌}
 use mathlib.Core.Logic.{◌≢◌}
 use mathlib.Core.List.{List}
 use native.Mathlib.Omega.{arith}
@@ -11,9 +11,8 @@ use Rattle.term.specs.Setting.{Setting}
 use Rattle.term.specs.Words.{rest_in}
 use Rattle.report_pairs.specs.Facts.{Shows}
 use Rattle.report_pairs.specs.Walk.{Position, Found}
-use Rattle.report_pairs.specs.declared.cells.Next.{Next}
-use Rattle.report_pairs.specs.declared.cells.Next.TheVariants.{Ends}
-use Rattle.report_pairs.proofs.Walking.{position_inside, position_named, position_cell, position_element, position_tail, tail_shows}
+use Rattle.std.specs.Prelude.{Option, None}
+use Rattle.report_pairs.proofs.Walking.{position_named, position_cell, position_element, position_tail, tail_shows}
 
 module _ (s : List ℕ) (x : Setting) (p i j : ℕ) (f : Functor) (u : Term) (us : Terms) (a : Position s x p i j f u us) where
   pub named_asks : rest_in (get_or s p 0) ≢ 0
@@ -23,7 +22,7 @@ module _ (s : List ℕ) (x : Setting) (p i j : ℕ) (f : Functor) (u : Term) (us
       go : (g : Bytes) × (f ≡ named g) → (x : Setting) × (f : Bytes) × (j : ℕ) × (u : Term) × (us : Terms) × Position s x p i j (named f) u us
       go (g, e) = (x, g, j, u, us, rw e at a)
 
-  pub named_tells : rest_in (get_or s p 0) ≢ 0 → (r : Next)
+  pub named_tells : rest_in (get_or s p 0) ≢ 0 → (r : ℕ × Option (ℕ × ℕ))
       → ((x : Setting) (f : Bytes) (j : ℕ) (u : Term) (us : Terms) → Position s x p i j (named f) u us → Found s x (named f) j us r)
       → Found s x f j us r
   named_tells d r told = go (position_named s x p i j f u us a d)
@@ -36,7 +35,7 @@ module _ (s : List ℕ) (x : Setting) (p i j : ℕ) (f : Functor) (u : Term) (us
     pub position : Position s x p 1 0 cell u (more tail_term end)
     pub shows : Shows s x tail_term (get_or s (p + 2) 0)
     pub inside : p + 2 < length s
-    pub tells : (r : Next) → Found s x cell 0 (more tail_term end) r → Found s x f j us r
+    pub tells : (r : ℕ × Option (ℕ × ℕ)) → Found s x cell 0 (more tail_term end) r → Found s x f j us r
 
   pub tail_asks : rest_in (get_or s p 0) ≡ 0 → i ≡ 1 → Tail
   unfolding count
@@ -55,8 +54,8 @@ module _ (s : List ℕ) (x : Setting) (p i j : ℕ) (f : Functor) (u : Term) (us
       go : f ≡ cell → Tail
       go e = with_cell e (position_element s x p i j u us (rw e at a) one)
 
-  pub tail_tells : rest_in (get_or s p 0) ≡ 0 → i ≢ 1 → Found s x f j us (Ends 93)
+  pub tail_tells : rest_in (get_or s p 0) ≡ 0 → i ≢ 1 → Found s x f j us (93, None)
   tail_tells z d = go (position_cell s x p i j f u us a z)
     where
-      go : f ≡ cell → Found s x f j us (Ends 93)
+      go : f ≡ cell → Found s x f j us (93, None)
       go e = rw e (position_tail s x p i j u us (rw e at a) d)

@@ -1,5 +1,5 @@
 -- Following a term over the ends that are kept and the values: each link has the same values applied, and no more links are left than the definition has.
-use Prim.Native.Nat.{ℕ, ◌+◌, ◌-◌, ◌*◌, ◌≤◌, ◌<◌}
+use Prim.Native.Nat.{ℕ, ◌+◌, ◌-◌, ◌*◌, ◌<◌}
 use mathlib.Core.Path.{◌≡◌, refl, ◌∙◌, sym, ap}
 use mathlib.Core.Logic.{◌≢◌}
 use mathlib.Core.Bool.{Bool, true, false}
@@ -17,17 +17,17 @@ use Rattle.meaning.specs.Compare.{followed}
 use Rattle.term.specs.Cells.{term_word}
 use Rattle.term.specs.Chains.{value_of, Leads as LeadsOver}
 use Rattle.term.specs.Holds.{value_word}
-use Rattle.term.specs.Setting.{Setting, Within, UnitTerm}
+use Rattle.term.specs.Setting.{Setting, Within}
 use Rattle.term.proofs.Cells.{word_positive}
 use Rattle.term.proofs.Chains.{followed_none, chains_end, nearer}
 use Rattle.term.specs.Layout.{trial_region, pairs_told, pair_facts}
 use Rattle.report_pairs.specs.Threaded.{full}
-use Rattle.report_pairs.specs.Sound.{Sound}
 use Rattle.report_pairs.specs.Pairs.{pair_seen}
-use Rattle.report_pairs.specs.Facts.{fact_place, Led, EndAt, Readable, Shows, To, LeadsOn, Changed, Leads, Counting, LengthAt}
+use Rattle.std.specs.Prelude.{Option as Told, Some, None, SomeIff}
+use Rattle.report_pairs.specs.Facts.{fact_place, Led, EndAt, Readable, Shows, LeadsOn, Changed, Leads, Counting, LengthAt}
 use Rattle.report_pairs.proofs.Full.{full_constant, full_compound, full_unassigned, full_assigned}
 use Rattle.report_pairs.proofs.Told.{seen, pair_told, no_pair_told, no_variable_value}
-use Rattle.report_pairs.proofs.Keeping.{changed_none, readable_kept, ends_kept, led_kept, unit_kept, placed_kept}
+use Rattle.report_pairs.proofs.Keeping.{changed_none, readable_kept, ends_kept, led_kept, placed_kept}
 
 some_none : (u : Term) → ◌≡◌ {A = Option Term} (some u) none → ⊥
 some_none u e = let z : ◌≡◌ {A = ℕ} 0 1 = cc in omega arith
@@ -44,75 +44,68 @@ module _ (s : List ℕ) (text : Bytes) (x : Setting) (facts : ℕ) (r : Readable
   pub value_inside : (n : ℕ) → n < length x.values → facts + x.places.pair n < length s
   value_inside n h = omega (arith, r.inside, r.stands.held.place n h)
 
-  -- Where the pair of the term is not 0, it is a variable's, and its words lie in the scratch.
-  pub pair_inside : (t : Term) (w p : ℕ) → Shows s x t w → p ≡ pair_seen (seen w) → p ≢ 0 → facts + pair_facts * (p - 1) + 3 < length s
-  pair_inside t w p k e d = go (pair_told x.places t w p k.word e d)
+  -- The words of a variable's pair lie in the scratch.
+  pub pair_inside : (t : Term) (w p : ℕ) → Shows s x t w → Some p ≡ pair_seen (seen w) → facts + pair_facts * p + 3 < length s
+  pair_inside t w p k e = go (pair_told x.places t w p k.word e)
     where
-      go : (h : Half) × (n : ℕ) × (t ≡ Term.variable h n) × (p - 1 ≡ x.places.pair n) → facts + pair_facts * (p - 1) + 3 < length s
+      go : (h : Half) × (n : ℕ) × (t ≡ Term.variable h n) × (p ≡ x.places.pair n) → facts + pair_facts * p + 3 < length s
       go (h, n, v, q) = rw q (fact_inside n (variable_below h n w (rw v at k)))
 
   -- It stops at a term that is no variable.
-  pub next_other : (t : Term) (w p : ℕ) → Shows s x t w → p ≡ pair_seen (seen w) → p ≡ 0 → LeadsOn s x t 0
-  next_other t w p k e z = record {
-    stops = λ q. no_variable_value x.values t (no_pair_told x.places t w p k.word e z);
-    goes = λ d. absurd (d refl);
-  }
+  pub next_other : (t : Term) (w : ℕ) → Shows s x t w → None ≡ pair_seen (seen w) → LeadsOn s x t None
+  next_other t w k e = no_variable_value x.values t (no_pair_told x.places t w k.word e)
 
   -- It goes to the end that is kept.
   end_leads : (h : Half) (n e : ℕ) → n < length x.values → (v : Option Term) → value x.values n ≡ v → EndAt s x facts n v
-      → e ≡ get_or s (fact_place x facts n) 0 → e ≢ 0 → LeadsOn s x (Term.variable h n) e
+      → e ≡ get_or s (fact_place x facts n) 0 → e ≢ 0 → LeadsOn s x (Term.variable h n) (Some e)
   end_leads h n e b none q a i d = absurd (d (i ∙ a))
   end_leads h n e b (some u) q a i d =
       let l : Led s x u e = rw i (a (λ z. d (i ∙ z))) in record {
-        stops = λ z. absurd (d z);
-        goes = λ z. record {
-          next = l.last;
-          shows = record { term = l.term; sound = l.sound; word = l.word };
-          same = full_assigned x.values r.no_circle h n u q ∙ l.same;
-          nearer = λ links k. rw (followed_none x.values (links - 1) l.last l.ended) l.ended;
-          assigned = (u, q);
-        };
+        next = l.last;
+        shows = record { term = l.term; sound = l.sound; word = l.word };
+        same = full_assigned x.values r.no_circle h n u q ∙ l.same;
+        nearer = λ links k. rw (followed_none x.values (links - 1) l.last l.ended) l.ended;
+        assigned = (u, q);
       }
 
-  pub next_end : (t : Term) (w p e : ℕ) → Shows s x t w → p ≡ pair_seen (seen w) → p ≢ 0
-      → e ≡ get_or s (facts + pair_facts * (p - 1) + 0) 0 → e ≢ 0 → LeadsOn s x t e
-  next_end t w p e k q d i z = go (pair_told x.places t w p k.word q d)
+  pub next_end : (t : Term) (w p e : ℕ) → Shows s x t w → Some p ≡ pair_seen (seen w)
+      → e ≡ get_or s (facts + pair_facts * p + 0) 0 → e ≢ 0 → LeadsOn s x t (Some e)
+  next_end t w p e k q i z = go (pair_told x.places t w p k.word q)
     where
-      go : (h : Half) × (n : ℕ) × (t ≡ Term.variable h n) × (p - 1 ≡ x.places.pair n) → LeadsOn s x t e
+      go : (h : Half) × (n : ℕ) × (t ≡ Term.variable h n) × (p ≡ x.places.pair n) → LeadsOn s x t (Some e)
       go (h, n, v, g) =
           let b = variable_below h n w (rw v at k) in
-          let same : facts + pair_facts * (p - 1) + 0 ≡ fact_place x facts n = omega arith in
+          let same : facts + pair_facts * p + 0 ≡ fact_place x facts n = omega arith in
           rw v (end_leads h n e b (value x.values n) refl (r.ends n b) (i ∙ ap (λ (m : ℕ). get_or s m 0) same) z)
 
   -- It goes to the value.
-  value_leads : (h : Half) (n e : ℕ) → n < length x.values → (v : Option Term) → value x.values n ≡ v
-      → e ≡ value_word x.places v → LeadsOn s x (Term.variable h n) e
+  value_leads : (h : Half) (n : ℕ) → n < length x.values → (v : Option Term) → value x.values n ≡ v
+      → (e : Told ℕ) → SomeIff e (value_word x.places v ≢ 0) (value_word x.places v) → LeadsOn s x (Term.variable h n) e
   unfolding LeadsOver
-  value_leads h n e b none q i = record { stops = λ z. q; goes = λ d. absurd (d i) }
-  value_leads h n e b (some u) q i = record {
-    stops = λ z. absurd (omega (arith, word_positive x.places u));
-    goes = λ d. record {
-      next = u;
-      shows = record {
-        term = record { held = rw q at (r.stands.held.held n b); of = r.stands.of n u b q };
-        sound = r.sound n u q;
-        word = i;
-      };
-      same = full_assigned x.values r.no_circle h n u q;
-      nearer = λ links k. nearer x.values 1 links (Term.variable h n) u (omega arith) (u, q, refl) k;
-      assigned = (u, q);
+  value_leads h n b none q None i = q
+  value_leads h n b none q (Some e) i = absurd (i.0 refl)
+  value_leads h n b (some u) q None i = absurd (i (λ z. omega (arith, word_positive x.places u)))
+  value_leads h n b (some u) q (Some e) i = record {
+    next = u;
+    shows = record {
+      term = record { held = rw q at (r.stands.held.held n b); of = r.stands.of n u b q };
+      sound = r.sound n u q;
+      word = i.1;
     };
+    same = full_assigned x.values r.no_circle h n u q;
+    nearer = λ links k. nearer x.values 1 links (Term.variable h n) u (omega arith) (u, q, refl) k;
+    assigned = (u, q);
   }
 
-  pub next_value : (t : Term) (w p e : ℕ) → Shows s x t w → p ≡ pair_seen (seen w) → p ≢ 0
-      → e ≡ get_or s (facts - get_or s pairs_told 0 + (p - 1)) 0 → LeadsOn s x t e
-  next_value t w p e k q d i = go (pair_told x.places t w p k.word q d)
+  pub next_value : (t : Term) (w p : ℕ) (e : Told ℕ) → Shows s x t w → Some p ≡ pair_seen (seen w)
+      → SomeIff e (get_or s (facts - get_or s pairs_told 0 + p) 0 ≢ 0) (get_or s (facts - get_or s pairs_told 0 + p) 0) → LeadsOn s x t e
+  next_value t w p e k q i = go (pair_told x.places t w p k.word q)
     where
-      go : (h : Half) × (n : ℕ) × (t ≡ Term.variable h n) × (p - 1 ≡ x.places.pair n) → LeadsOn s x t e
+      go : (h : Half) × (n : ℕ) × (t ≡ Term.variable h n) × (p ≡ x.places.pair n) → LeadsOn s x t e
       go (h, n, v, g) =
           let b = variable_below h n w (rw v at k) in
-          let same : facts - get_or s pairs_told 0 + (p - 1) ≡ facts - x.pairs + x.places.pair n = rw (g, r.room) in
-          rw v (value_leads h n e b (value x.values n) refl (i ∙ ap (λ (m : ℕ). get_or s m 0) same ∙ r.stands.held.stands n b))
+          let same : facts - get_or s pairs_told 0 + p ≡ facts - x.pairs + x.places.pair n = rw (g, r.room) in
+          rw v (value_leads h n b (value x.values n) refl e (rw (same, r.stands.held.stands n b) at i))
 
   -- On the way: the term at hand, with so many links left.
   pub record Way (t : Term) (w left : ℕ) : Type 0 where
@@ -129,19 +122,18 @@ module _ (s : List ℕ) (text : Bytes) (x : Setting) (facts : ℕ) (r : Readable
     ends = chains_end x.values r.no_circle left (omega (arith, r.links, r.room)) t;
   }
 
-  pub way_stops : (t : Term) (w v left : ℕ) (a : Way t w left) → LeadsOn s x a.here v → v ≡ 0 → Led s x t w
-  way_stops t w v left a l z = record {
+  pub way_stops : (t : Term) (w left : ℕ) (a : Way t w left) → LeadsOn s x a.here None → Led s x t w
+  way_stops t w left a l = record {
     last = a.here;
     word = a.shows.word;
     term = a.shows.term;
     sound = a.shows.sound;
-    ended = l.stops z;
+    ended = l;
     same = a.same;
   }
 
-  pub way_goes : (t : Term) (w v left : ℕ) (a : Way t w left) → LeadsOn s x a.here v → v ≢ 0 → Way t v (left - 1)
-  way_goes t w v left a l d =
-      let g = l.goes d in record { here = g.next; shows = g.shows; same = a.same ∙ g.same; ends = g.nearer left a.ends }
+  pub way_goes : (t : Term) (w v left : ℕ) (a : Way t w left) → LeadsOn s x a.here (Some v) → Way t v (left - 1)
+  way_goes t w v left a g = record { here = g.next; shows = g.shows; same = a.same ∙ g.same; ends = g.nearer left a.ends }
 
   pub way_ends : (t : Term) (w left : ℕ) → Way t w left → left ≡ 0 → Led s x t w
   unfolding followed
@@ -221,16 +213,16 @@ module _ (s : List ℕ) (text : Bytes) (x : Setting) (facts : ℕ) (r : Readable
       length_kept m none q l = q ∙ l
       length_kept m (some u) q l = λ d. let k = l (λ z. d (q ∙ z)) in (k.0, q ∙ k.1)
 
-  pub lead_kept : (t : Term) (w p e : ℕ) → Shows s x t w → p ≡ pair_seen (seen w) → p ≢ 0 → e ≢ w → Led s x t e
-      → Leads s (set s (facts + pair_facts * (p - 1) + 0) e) text x facts t e
-  lead_kept t w p e k q d o l = go (pair_told x.places t w p k.word q d)
+  pub lead_kept : (t : Term) (w p e : ℕ) → Shows s x t w → Some p ≡ pair_seen (seen w) → e ≢ w → Led s x t e
+      → Leads s (set s (facts + pair_facts * p + 0) e) text x facts t e
+  lead_kept t w p e k q o l = go (pair_told x.places t w p k.word q)
     where
-      go : (h : Half) × (n : ℕ) × (t ≡ Term.variable h n) × (p - 1 ≡ x.places.pair n) → Leads s (set s (facts + pair_facts * (p - 1) + 0) e) text x facts t e
+      go : (h : Half) × (n : ℕ) × (t ≡ Term.variable h n) × (p ≡ x.places.pair n) → Leads s (set s (facts + pair_facts * p + 0) e) text x facts t e
       go (h, n, v, g) =
           let k' : Shows s x (Term.variable h n) w = rw v at k in
           let l' : Led s x (Term.variable h n) e = rw v at l in
           let b = variable_below s text x facts r h n w k' in
-          let same : facts + pair_facts * (p - 1) + 0 ≡ fact_place x facts n = omega arith in
+          let same : facts + pair_facts * p + 0 ≡ fact_place x facts n = omega arith in
           let c = now_changed n e b in
           let there : Led (now n e) x (Term.variable h n) e = led_kept s (now n e) text x facts r c (Term.variable h n) e l' in
           rw (same, v) (record {

@@ -1,18 +1,15 @@
 -- What counting changes leaves the unit's terms and values as they are.
 use Prim.Native.Nat.{ℕ, ◌+◌, ◌-◌, ◌≤◌, ◌<◌}
-use mathlib.Core.Path.{◌≡◌, refl, ◌∙◌, sym, ap}
-use mathlib.Core.Logic.{◌≢◌}
+use mathlib.Core.Path.{◌≡◌, refl, ◌∙◌}
 use mathlib.Core.List.{List}
 use mathlib.Core.Option.{Option, none, some}
 use native.Mathlib.Omega.{arith}
-use lib.ListN.{length, get_or, set, length-set}
-use lib.Seq.{get_or-set_same, get_or-set_other}
+use lib.ListN.{length, get_or}
 use Rattle.meaning.specs.Bytes.{Bytes}
-use Rattle.meaning.specs.Terms.{Term, end}
-use Rattle.meaning.specs.State.{Values, value}
-use Rattle.term.specs.Cells.{term_word}
-use Rattle.term.specs.Setting.{Setting, UnitTerm, UnitTerms, UnitStands}
-use Rattle.term.proofs.Holds.{holds_alike, holds_from_alike, holds_values_alike, EveryValue}
+use Rattle.meaning.specs.Terms.{Term}
+use Rattle.meaning.specs.State.{value}
+use Rattle.term.specs.Setting.{Setting, UnitTerm, UnitStands}
+use Rattle.term.proofs.Holds.{holds_alike, holds_values_alike, EveryValue}
 use Rattle.term.proofs.Spellings.{holds_spellings_kept}
 use Rattle.term.proofs.Units.{within_every}
 use Rattle.term.specs.Layout.{trial_region, pairs_told}

@@ -1,5 +1,5 @@
 -- Terms that are no compounds: where their bytes come from.
-use Prim.Native.Nat.{ℕ, zero, suc, ◌+◌, ◌-◌, ◌*◌, ◌/◌, ◌≤◌, ◌<◌}
+use Prim.Native.Nat.{ℕ, suc, ◌+◌, ◌-◌, ◌*◌, ◌≤◌, ◌<◌}
 use mathlib.Core.Path.{◌≡◌, refl, ◌∙◌, sym, ap}
 use mathlib.Core.Bool.{Bool, true, false, ◌||◌}
 use mathlib.Core.List.{List, [], ◌∷◌, ◌++◌}
@@ -7,14 +7,12 @@ use mathlib.Core.Option.{none}
 use native.Mathlib.Omega.{arith}
 use lib.ListN.{length, length-append, get_or}
 use lib.Seq.{slice}
-use mathlib.Core.Logic.{◌≢◌}
 use Rattle.meaning.specs.Bytes.{Bytes, bytes, decimal, same, any, when◌then◌else◌}
-use Rattle.meaning.specs.Terms.{Half, writer, reader, Integer, plus, minus, Constant, Functor, cell, named, Term, Terms}
+use Rattle.meaning.specs.Terms.{Half, writer, reader, Integer, plus, minus, Constant, Functor, cell, named, Term}
 use Rattle.meaning.specs.State.{value}
 use Rattle.meaning.specs.Report.{alone, written, variable_bytes, number_in, integer_bytes, constant_bytes, behind_bar, empty_bytes}
-use Rattle.laws.proofs.Terms.Standing.{Stands}
 use Rattle.term.specs.Words.{view_of}
-use Rattle.term.specs.Cells.{content, bits, number_of, functor_number, KnownName, Known}
+use Rattle.term.specs.Cells.{content, bits, number_of, KnownName, Known}
 use Rattle.term.specs.Setting.{Setting, Within, Ranged, RangedInteger}
 use Rattle.term.specs.Spellings.{SpelledAt}
 use Rattle.term.specs.declared.word.View.TheVariants.{Nothing, Writer, Reader, Integer as AnInteger, Name, Empty}
@@ -22,7 +20,7 @@ use Rattle.term.proofs.Numbers.{number_below, same_equal}
 use Rattle.term.proofs.Spellings.{holds_spelling_at}
 use Rattle.report_pairs.specs.Threaded.{full}
 use Rattle.report_pairs.specs.Walk.{Opens, opening_bytes}
-use Rattle.report_pairs.specs.Facts.{fact_place, Readable, Led}
+use Rattle.report_pairs.specs.Facts.{Readable, Led}
 use Rattle.report_pairs.proofs.Full.{full_constant, full_unassigned}
 use Rattle.report_pairs.proofs.Told.{seen, seen_term, writer_told, reader_told, integer_told, name_told, empty_told, nothing_told}
 
@@ -149,17 +147,13 @@ minus_length i n r e h = ap length (minus_bits i n r e h).0 ∙ length_more 45 (
 pub spelled_is : (text : Bytes) (from n a b : ℕ) (f : Bytes) → from ≡ a → n ≡ b → SpelledAt text a b f → slice from (from + n) text ≡ f
 spelled_is text from n a b f e g k = rw (e, g) k.spelled
 
--- What a compound begins with, by its functor's word.
-pub opens_cell : (s : List ℕ) (text : Bytes) (w r : ℕ) (f : Functor) → r ≡ w → Opens s text w f → r ≡ 0 → f ≡ cell
-opens_cell s text w r cell e o z = refl
-opens_cell s text w r (named g) e o z = absurd (omega (arith, o.1))
-
-pub opens_named : (s : List ℕ) (text : Bytes) (w r : ℕ) (f : Functor) → r ≡ w → Opens s text w f → r ≢ 0
-    → (g : Bytes) × (f ≡ named g) × (2 * (r - 1) + 1 < length s) × SpelledAt text (get_or s (2 * (r - 1)) 0) (get_or s (2 * (r - 1) + 1) 0) g
-opens_named s text w r cell e o d = absurd (d (e ∙ o))
-opens_named s text w r (named g) e o d =
-    let k : r - 1 ≡ o.0 = omega (arith, o.1) in
-    (g, refl, rw k o.2, rw k o.3)
+-- What a compound with a name begins with, by its functor's word.
+pub opens_named : (s : List ℕ) (text : Bytes) (w k : ℕ) (f : Functor) → w ≡ k + 1 → Opens s text w f
+    → (g : Bytes) × (f ≡ named g) × (2 * k + 1 < length s) × SpelledAt text (get_or s (2 * k) 0) (get_or s (2 * k + 1) 0) g
+opens_named s text w k cell e o = absurd (omega arith)
+opens_named s text w k (named g) e o =
+    let same : k ≡ o.0 = omega (arith, o.1) in
+    (g, refl, rw same o.2, rw same o.3)
 
 pub opening_length : (f : Functor) → 1 ≤ length (opening_bytes f)
 opening_length cell = omega arith

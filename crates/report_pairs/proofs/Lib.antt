@@ -2,7 +2,6 @@ pub mod Again
 pub mod Behinds
 pub mod Chains
 pub mod Decimals
-pub mod Forgetting
 pub mod Full
 pub mod Having
 pub mod Keeping

@@ -1,7 +1,7 @@
 -- How many terms a term with every assignment applied is made of: following does not change it, an argument has fewer than its compound,
 -- and no term is written in fewer bytes, if every name has at least one.
-use Prim.Native.Nat.{ℕ, zero, suc, ◌+◌, ◌≤◌, ◌<◌}
-use mathlib.Core.Path.{◌≡◌, refl, ap, ◌∙◌}
+use Prim.Native.Nat.{ℕ, zero, suc, ◌+◌, ◌≤◌}
+use mathlib.Core.Path.{◌≡◌, refl, ap}
 use mathlib.Core.Bool.{Bool, true, false}
 use mathlib.Core.List.{List, [], ◌∷◌, ◌++◌}
 use native.Mathlib.Omega.{arith}
@@ -51,7 +51,7 @@ use Rattle.meaning.specs.Report.{
   other_arguments,
 }
 use Rattle.report_pairs.specs.Threaded.{full, all_full, seen_after, shown, nodes, all_nodes}
-use Rattle.report_pairs.specs.Sound.{SoundConstant, SoundFunctor, Sound, AllSound}
+use Rattle.report_pairs.specs.Sound.{SoundConstant, Sound, AllSound}
 use Rattle.report_pairs.proofs.Full.{full_compound}
 
 pub nodes_positive : (t : Term) → 1 ≤ nodes t

@@ -1,18 +1,18 @@
 -- Pairs in order of first appearance, part by part: what was seen before counts as seen, in whatever order.
 -- So a section's numbers grow from left to right, and a number once given stays.
-use Prim.Native.Nat.{ℕ, zero, suc, ◌+◌, ◌≤◌}
+use Prim.Native.Nat.{ℕ, suc, ◌+◌, ◌≤◌}
 use mathlib.Core.Path.{◌≡◌, refl, sym, ap, ◌∙◌}
-use mathlib.Core.Logic.{◌⊎◌, inl, inr, ⊎_elim}
+use mathlib.Core.Logic.{inl, inr, ⊎_elim}
 use mathlib.Core.Bool.{Bool, true, false, ◌||◌}
 use mathlib.Core.List.{List, [], ◌∷◌, ◌++◌, append_assoc, append-nil}
 use native.Mathlib.Omega.{arith}
 use lib.Dec.{eqb}
 use lib.ListN.{length, length-append}
-use borrow.Author.Tests.{eqb-true, eq-eqb}
+use borrow.Author.Tests.{eq-eqb}
 use Rattle.meaning.specs.Bytes.{among, each_once}
 use Rattle.meaning.specs.Terms.{Half, Constant, Functor, Term, Terms, variable, constant, compound, end, more, pairs_of, pairs_of_all}
 use Rattle.meaning.specs.Report.{number_in, Line, pairs_shown, unassigned_pairs}
-use Rattle.laws.proofs.Lists.Among.{In, here, there, in_append_left, in_append_right, in_among, each_once_covers}
+use Rattle.laws.proofs.Lists.Among.{In, here, in_append_left, in_append_right, each_once_covers}
 use Rattle.laws.proofs.Terms.Standing.{Stands, StandsIn}
 use Rattle.report_pairs.specs.Threaded.{seen_after, seen_after_all, seen_after_lines}
 

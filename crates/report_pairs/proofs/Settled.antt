@@ -3,7 +3,7 @@
 use Prim.Native.Nat.{ℕ}
 use mathlib.Core.Path.{◌≡◌, refl, sym, ap, ap₂, ◌∙◌}
 use mathlib.Core.Logic.{inl, inr}
-use mathlib.Core.List.{List, [], ◌∷◌, ◌++◌, append_assoc, append-nil}
+use mathlib.Core.List.{List, [], ◌++◌, append_assoc, append-nil}
 use Rattle.meaning.specs.Bytes.{Bytes, bytes, decimal}
 use Rattle.meaning.specs.Terms.{
   Half,
@@ -35,17 +35,10 @@ use Rattle.meaning.specs.Report.{
   first_argument,
   other_arguments,
 }
-use Rattle.laws.proofs.Lists.Among.{In, in_among}
+use Rattle.laws.proofs.Lists.Among.{in_among}
 use Rattle.laws.proofs.Terms.Standing.{Stands, StandsIn}
 use Rattle.report_pairs.specs.Threaded.{seen_after, seen_after_all, shown, shown_others, shown_arguments}
-use Rattle.report_pairs.proofs.Once.{
-  seen_after_compound,
-  seen_after_more,
-  seen_after_keeps,
-  seen_after_all_keeps,
-  in_seen_after,
-  number_in_more,
-}
+use Rattle.report_pairs.proofs.Once.{seen_after_compound, seen_after_more, seen_after_all_keeps, in_seen_after, number_in_more}
 
 variable_alike : (l m : List ℕ) (h : Half) (p : ℕ) → number_in p l ≡ number_in p m → variable_bytes l h p ≡ variable_bytes m h p
 unfolding variable_bytes

@@ -1,23 +1,19 @@
 -- A word looked at: what is seen is what the term is.
-use Prim.Native.Nat.{ℕ, zero, suc, ◌+◌, ◌-◌, ◌*◌, ◌/◌, ◌%◌, ◌<◌}
-use mathlib.Core.Path.{◌≡◌, refl, ◌∙◌, sym}
-use mathlib.Core.Logic.{◌≢◌}
-use mathlib.Core.List.{[], ◌∷◌}
+use Prim.Native.Nat.{ℕ}
+use mathlib.Core.Path.{◌≡◌, refl, ◌∙◌}
 use mathlib.Core.Option.{none}
-use denote.Enum.Declared.{tag_of}
-use types.Run.{OneOf, miss}
-use Rattle.term.specs.contracts.word.View.{the_type}
 use native.Mathlib.Omega.{arith}
 use Rattle.meaning.specs.Bytes.{Bytes}
 use Rattle.meaning.specs.Terms.{Half, writer, reader, Integer, Constant, Functor, Term, Terms}
 use Rattle.meaning.specs.State.{Values}
-use Rattle.term.specs.Words.{Content, view, view_of, tag_in, rest_in}
+use Rattle.term.specs.Words.{view, view_of, tag_in, rest_in}
 use Rattle.term.specs.Cells.{Places, bits, number_of, content, term_word}
 use Rattle.term.specs.Chains.{value_of}
 use Rattle.term.specs.declared.word.View.{View}
 use Rattle.term.specs.declared.word.View.TheVariants.{Nothing, Writer, Reader, Integer as AnInteger, Name, Empty, Compound}
 use Rattle.term.proofs.Words.{view_word}
 use Rattle.report_pairs.specs.Pairs.{pair_seen, NoCompound}
+use Rattle.std.specs.Prelude.{Some, None}
 
 -- What a look at a word says.
 abbrev pub seen : ℕ → View
@@ -100,72 +96,43 @@ module _ (places : Places) where
   nothing_told (Term.compound n f ts) e = absurd (omega (arith, tags _ _ e))
 
   -- The pair of a variable, or none.
-  pub pair_told : (t : Term) (w p : ℕ) → w ≡ term_word places t → p ≡ pair_seen (seen w) → p ≢ 0
-      → (h : Half) × (n : ℕ) × (t ≡ Term.variable h n) × (p - 1 ≡ places.pair n)
-  pair_told t w p e k d = go t (k ∙ ap_seen)
+  pub pair_told : (t : Term) (w p : ℕ) → w ≡ term_word places t → Some p ≡ pair_seen (seen w)
+      → (h : Half) × (n : ℕ) × (t ≡ Term.variable h n) × (p ≡ places.pair n)
+  pair_told t w p e k = go t (k ∙ ap_seen)
     where
       ap_seen : pair_seen (seen w) ≡ pair_seen (view_of (content places t))
       ap_seen = rw (seen_term places t w e)
 
-      go : (t : Term) → p ≡ pair_seen (view_of (content places t)) → (h : Half) × (n : ℕ) × (t ≡ Term.variable h n) × (p - 1 ≡ places.pair n)
-      go (Term.variable writer n) k = (writer, n, refl, omega arith)
-      go (Term.variable reader n) k = (reader, n, refl, omega arith)
-      go (Term.constant (Constant.integer i)) k = absurd (d k)
-      go (Term.constant (Constant.name f)) k = absurd (d k)
-      go (Term.constant Constant.empty) k = absurd (d k)
-      go (Term.compound n f ts) k = absurd (d k)
+      go : (t : Term) → Some p ≡ pair_seen (view_of (content places t)) → (h : Half) × (n : ℕ) × (t ≡ Term.variable h n) × (p ≡ places.pair n)
+      go (Term.variable writer n) k = (writer, n, refl, cc)
+      go (Term.variable reader n) k = (reader, n, refl, cc)
+      go (Term.constant (Constant.integer i)) k = absurd cc
+      go (Term.constant (Constant.name f)) k = absurd cc
+      go (Term.constant Constant.empty) k = absurd cc
+      go (Term.compound n f ts) k = absurd cc
 
-  pub no_pair_told : (t : Term) (w p : ℕ) → w ≡ term_word places t → p ≡ pair_seen (seen w) → p ≡ 0 → (h : Half) (n : ℕ) → t ≡ Term.variable h n → ⊥
-  no_pair_told t w p e k z h n v = go h (sym z ∙ k ∙ ap_seen)
+  pub no_pair_told : (t : Term) (w : ℕ) → w ≡ term_word places t → None ≡ pair_seen (seen w) → (h : Half) (n : ℕ) → t ≡ Term.variable h n → ⊥
+  no_pair_told t w e k h n v = go h (k ∙ ap_seen)
     where
       ap_seen : pair_seen (seen w) ≡ pair_seen (view_of (content places (Term.variable h n)))
       ap_seen = rw (seen_term places t w e, v)
 
-      go : (h : Half) → 0 ≡ pair_seen (view_of (content places (Term.variable h n))) → ⊥
-      go writer z = omega arith
-      go reader z = omega arith
+      go : (h : Half) → None ≡ pair_seen (view_of (content places (Term.variable h n))) → ⊥
+      go writer z = cc
+      go reader z = cc
 
 pub no_variable_value : (values : Values) (t : Term) → ((h : Half) (n : ℕ) → t ≡ Term.variable h n → ⊥) → value_of values t ≡ none
 no_variable_value values (Term.variable h n) d = absurd (d h n refl)
 no_variable_value values (Term.constant k) d = refl
 no_variable_value values (Term.compound n f ts) d = refl
 
--- What is seen as a variable has the word's upper part.
-payload : (v : View) (tag rest p : ℕ) → view tag rest ≡ v → (v ≡ Writer p → p ≡ rest) × (v ≡ Reader p → p ≡ rest)
-unfolding view
-payload v zero rest p e = (λ q. absurd (omega (arith, tags _ _ (e ∙ q))), λ q. absurd (omega (arith, tags _ _ (e ∙ q))))
-payload v (suc zero) rest p e = (λ q. let z : Writer rest ≡ Writer p = e ∙ q in cc, λ q. absurd (omega (arith, tags _ _ (e ∙ q))))
-payload v (suc (suc zero)) rest p e = (λ q. absurd (omega (arith, tags _ _ (e ∙ q))), λ q. let z : Reader rest ≡ Reader p = e ∙ q in cc)
-payload v (suc (suc (suc zero))) rest p e = (λ q. absurd (omega (arith, tags _ _ (e ∙ q))), λ q. absurd (omega (arith, tags _ _ (e ∙ q))))
-payload v (suc (suc (suc (suc zero)))) rest p e = (λ q. absurd (omega (arith, tags _ _ (e ∙ q))), λ q. absurd (omega (arith, tags _ _ (e ∙ q))))
-payload v (suc (suc (suc (suc (suc zero))))) rest p e = (λ q. absurd (omega (arith, tags _ _ (e ∙ q))), λ q. absurd (omega (arith, tags _ _ (e ∙ q))))
-payload v (suc (suc (suc (suc (suc (suc tag)))))) rest p e = (λ q. absurd (omega (arith, tags _ _ (e ∙ q))), λ q. absurd (omega (arith, tags _ _ (e ∙ q))))
-
-pub writer_payload : (w p : ℕ) → seen w ≡ Writer p → p ≡ rest_in w
-writer_payload w p e = (payload (seen w) (tag_in w) (rest_in w) p refl).0 e
-
-pub reader_payload : (w p : ℕ) → seen w ≡ Reader p → p ≡ rest_in w
-reader_payload w p e = (payload (seen w) (tag_in w) (rest_in w) p refl).1 e
-
--- Any other view has no pair.
-pub no_pair_seen : (v : View) → OneOf (0 ∷ 3 ∷ 4 ∷ 5 ∷ 6 ∷ []) (tag_of the_type v) → 0 ≡ pair_seen v
-no_pair_seen Nothing k = refl
-no_pair_seen (Writer p) k = absurd (miss (0 ∷ 3 ∷ 4 ∷ 5 ∷ 6 ∷ []) 1 tt k)
-no_pair_seen (Reader p) k = absurd (miss (0 ∷ 3 ∷ 4 ∷ 5 ∷ 6 ∷ []) 2 tt k)
-no_pair_seen (AnInteger n) k = refl
-no_pair_seen (Name n) k = refl
-no_pair_seen Empty k = refl
-no_pair_seen (Compound q) k = refl
-
-pub no_compound_seen : (v : View) → OneOf (0 ∷ 1 ∷ 2 ∷ 3 ∷ 4 ∷ 5 ∷ []) (tag_of the_type v) → NoCompound v
-no_compound_seen v k q e = miss (0 ∷ 1 ∷ 2 ∷ 3 ∷ 4 ∷ 5 ∷ []) 6 tt (rw e at k)
-
--- Neither nothing nor a compound: then it is one of the others.
-pub other_leaf : (v : View) → OneOf (0 ∷ 6 ∷ []) (tag_of the_type v) → (v ≡ Nothing → ⊥) → NoCompound v → ⊥
-other_leaf Nothing k n d = n refl
-other_leaf (Writer p) k n d = miss (0 ∷ 6 ∷ []) 1 tt k
-other_leaf (Reader p) k n d = miss (0 ∷ 6 ∷ []) 2 tt k
-other_leaf (AnInteger m) k n d = miss (0 ∷ 6 ∷ []) 3 tt k
-other_leaf (Name m) k n d = miss (0 ∷ 6 ∷ []) 4 tt k
-other_leaf Empty k n d = miss (0 ∷ 6 ∷ []) 5 tt k
-other_leaf (Compound q) k n d = d q refl
+-- None of the others, neither nothing nor a compound: that is no view.
+pub other_leaf : (v : View) → ((p : ℕ) → v ≡ Writer p → ⊥) → ((p : ℕ) → v ≡ Reader p → ⊥) → ((n : ℕ) → v ≡ AnInteger n → ⊥)
+    → ((k : ℕ) → v ≡ Name k → ⊥) → (v ≡ Empty → ⊥) → (v ≡ Nothing → ⊥) → NoCompound v → ⊥
+other_leaf Nothing w r i k e n d = n refl
+other_leaf (Writer p) w r i k e n d = w p refl
+other_leaf (Reader p) w r i k e n d = r p refl
+other_leaf (AnInteger m) w r i k e n d = i m refl
+other_leaf (Name m) w r i k e n d = k m refl
+other_leaf Empty w r i k e n d = e refl
+other_leaf (Compound q) w r i k e n d = d q refl

@@ -1,33 +1,27 @@
 -- The walk over arguments and tails: what stands behind an argument, by the definitions of the written term.
-use Prim.Native.Nat.{ℕ, zero, suc, ◌+◌, ◌-◌, ◌*◌, ◌/◌, ◌%◌, ◌≤◌, ◌<◌}
+use Prim.Native.Nat.{ℕ, zero, suc, ◌+◌, ◌≤◌, ◌<◌}
 use mathlib.Core.Path.{◌≡◌, refl, ◌∙◌, sym, ap}
-use mathlib.Core.Logic.{◌≢◌, inl, inr}
+use mathlib.Core.Logic.{◌≢◌, inl}
 use Rattle.laws.proofs.Terms.Standing.{Stands, StandsIn}
 use mathlib.Core.Option.{none}
-use mathlib.Core.List.{List, [], ◌∷◌, ◌++◌, append_assoc, append-nil}
+use mathlib.Core.List.{List, [], ◌∷◌, ◌++◌, append_assoc}
 use native.Mathlib.Omega.{arith}
 use lib.ListN.{length, get_or}
 use Rattle.meaning.specs.Bytes.{Bytes, bytes}
-use Rattle.meaning.specs.Terms.{Half, Integer, Constant, Functor, cell, named, Term, Terms, end, more, count}
+use Rattle.meaning.specs.Terms.{Half, Constant, Functor, cell, named, Term, Terms, end, more, count}
 use Rattle.meaning.specs.State.{Values}
-use Rattle.meaning.specs.Report.{alone, tail, written, tail_bytes, element_and_tail, first_argument, other_arguments, behind_bar, empty_bytes, before_element, constant_bytes}
+use Rattle.meaning.specs.Report.{alone, tail, written, tail_bytes, element_and_tail, other_arguments, behind_bar, empty_bytes, before_element, constant_bytes}
 use Rattle.term.specs.Words.{view_of, packed, tag_in, rest_in}
-use Rattle.term.specs.Cells.{Places, content, term_word, number_of, functor_number, functor_word, KnownName, KnownFunctor, Known, AllKnown}
+use Rattle.term.specs.Cells.{Places, content, functor_number, Known, AllKnown}
 use Rattle.term.specs.Holds.{CellAt, Holds, HoldsFrom}
-use Rattle.term.specs.Setting.{Setting, Within, AllWithin, Ranged, AllRanged, UnitTerm, UnitTerms}
-use Rattle.term.specs.Spellings.{SpelledAt}
-use denote.Enum.Declared.{tag_of}
-use types.Run.{OneOf, miss}
-use Rattle.term.specs.contracts.word.View.{the_type}
-use Rattle.term.specs.declared.word.View.{View}
+use Rattle.term.specs.Setting.{Setting, Within, AllWithin, Ranged, AllRanged}
 use Rattle.term.specs.declared.word.View.TheVariants.{Empty, Compound}
 use Rattle.report_pairs.specs.Threaded.{full, all_full, seen_after, seen_after_all}
-use Rattle.report_pairs.specs.Sound.{Sound, AllSound, SoundFunctor}
+use Rattle.report_pairs.specs.Sound.{Sound, AllSound}
 use Rattle.term.specs.Chains.{value_of}
-use Rattle.report_pairs.specs.Facts.{Led, Readable, Shows}
-use Rattle.report_pairs.specs.Walk.{opening_bytes, Opens, StandsAt, after, rest, Position, Found}
-use Rattle.report_pairs.specs.declared.cells.Next.{Next}
-use Rattle.report_pairs.specs.declared.cells.Next.TheVariants.{Goes, Ends}
+use Rattle.report_pairs.specs.Facts.{Led, Shows}
+use Rattle.report_pairs.specs.Walk.{StandsAt, Position, Found}
+use Rattle.std.specs.Prelude.{Option as Told, Some, None}
 use Rattle.report_pairs.proofs.Full.{full_constant, full_compound, full_unassigned}
 use Rattle.report_pairs.proofs.Once.{seen_after_constant, seen_after_compound, seen_after_end, seen_after_more}
 use Rattle.report_pairs.proofs.Told.{seen, seen_term, empty_told, compound_told}
@@ -124,7 +118,7 @@ others_one order values v vs =
     ap (λ (l : Bytes). 44 ∷ l) (append_assoc (written order alone (full values v)) (other_arguments order (all_full values vs)) (41 ∷ []))
 
 pub behind_argument_goes : (s : List ℕ) (x : Setting) (p i j : ℕ) (f : Bytes) (u : Term) (us : Terms) → Position s x p i j (named f) u us
-    → i < tag_in (get_or s p 0) → Found s x (named f) j us (Goes 44 p (i + 1))
+    → i < tag_in (get_or s p 0) → Found s x (named f) j us (44, Some (p, (i + 1)))
 unfolding count
 behind_argument_goes s x p i j f u end a h = absurd (omega (arith, position_arity s x p i j (named f) u end a, a.index))
 behind_argument_goes s x p i j f u (more v vs) a h = (
@@ -139,7 +133,7 @@ behind_argument_goes s x p i j f u (more v vs) a h = (
 )
 
 pub behind_argument_ends : (s : List ℕ) (x : Setting) (p i j : ℕ) (f : Bytes) (u : Term) (us : Terms) → Position s x p i j (named f) u us
-    → tag_in (get_or s p 0) ≤ i → Found s x (named f) j us (Ends 41)
+    → tag_in (get_or s p 0) ≤ i → Found s x (named f) j us (41, None)
 unfolding count other_arguments all_full
 behind_argument_ends s x p i j f u end a h = (λ order. refl, λ seen. seen_after_end seen)
 behind_argument_ends s x p i j f u (more v vs) a h = absurd (omega (arith, position_arity s x p i j (named f) u (more v vs) a, a.index))
@@ -175,11 +169,11 @@ barred_last s x v w l d e = rw l.same (by l.last l.ended d e)
 
 -- Behind an element of a list.
 module _ (s : List ℕ) (x : Setting) (p w : ℕ) (u v : Term) (a : Position s x p 1 0 cell u (more v end)) (l : Led s x v w) where
-  bar : Barred (full x.values v) → Found s x cell 0 (more v end) (Goes 124 p 2)
+  bar : Barred (full x.values v) → Found s x cell 0 (more v end) (124, Some (p, 2))
   unfolding tail_bytes all_full
   bar b = (1, cell, v, end, position_next s x p 1 0 cell u v end a, λ order. b order, λ seen. refl, λ m k. k)
 
-  pub element_empty : seen w ≡ Empty → Found s x cell 0 (more v end) (Ends 93)
+  pub element_empty : seen w ≡ Empty → Found s x cell 0 (more v end) (93, None)
   unfolding tail_bytes all_full written constant_bytes empty_bytes bytes
   element_empty e =
       let last : l.last ≡ Term.constant Constant.empty = empty_told x.places l.last (sym (seen_term x.places l.last w l.word) ∙ e) in
@@ -189,7 +183,7 @@ module _ (s : List ℕ) (x : Setting) (p w : ℕ) (u v : Term) (a : Position s x
             ∙ seen_after_more seen (Term.constant Constant.empty) end ∙ seen_after_end (seen_after seen (Term.constant Constant.empty)) ∙ seen_after_constant seen Constant.empty,
       )
 
-  pub element_bar_compound : (q : ℕ) → seen w ≡ Compound q → rest_in (get_or s q 0) ≢ 0 → Found s x cell 0 (more v end) (Goes 124 p 2)
+  pub element_bar_compound : (q : ℕ) → seen w ≡ Compound q → rest_in (get_or s q 0) ≢ 0 → Found s x cell 0 (more v end) (124, Some (p, 2))
   unfolding Holds
   element_bar_compound q e d =
       bar (barred_last s x v w l (λ z. go_empty z) (λ n ts z. go_cell n ts z))
@@ -208,7 +202,7 @@ module _ (s : List ℕ) (x : Setting) (p w : ℕ) (u v : Term) (a : Position s x
           let held : Holds s x.places (Term.compound n cell ts) = rw z at l.term.held in
           d (rw (sym place) (functor_parts s x.places n cell (count ts) held.0).0)
 
-  pub element_bar_other : (seen w ≡ Empty → ⊥) → ((q : ℕ) → seen w ≡ Compound q → ⊥) → Found s x cell 0 (more v end) (Goes 124 p 2)
+  pub element_bar_other : (seen w ≡ Empty → ⊥) → ((q : ℕ) → seen w ≡ Compound q → ⊥) → Found s x cell 0 (more v end) (124, Some (p, 2))
   element_bar_other d e = bar (barred_last s x v w l go_empty go_cell)
     where
       told : seen w ≡ view_of (content x.places l.last)
@@ -222,7 +216,7 @@ module _ (s : List ℕ) (x : Setting) (p w : ℕ) (u v : Term) (a : Position s x
 
   -- The tail is a list again.
   tail_cell : (n : ℕ) (ts : Terms) (q : ℕ) → l.last ≡ Term.compound n cell ts → StandsAt s x n cell ts q → count ts ≡ 2
-      → Found s x cell 0 (more v end) (Goes 44 q 1)
+      → Found s x cell 0 (more v end) (44, Some (q, 1))
   unfolding count tail_bytes all_full written before_element element_and_tail bytes Stands StandsIn
   tail_cell n end q z b two = absurd (omega arith)
   tail_cell n (more c end) q z b two = absurd (omega arith)
@@ -243,11 +237,11 @@ module _ (s : List ℕ) (x : Setting) (p w : ℕ) (u v : Term) (a : Position s x
         λ m k. rw same (inl k),
       )
 
-  pub element_cell : (q : ℕ) → seen w ≡ Compound q → rest_in (get_or s q 0) ≡ 0 → Found s x cell 0 (more v end) (Goes 44 q 1)
+  pub element_cell : (q : ℕ) → seen w ≡ Compound q → rest_in (get_or s q 0) ≡ 0 → Found s x cell 0 (more v end) (44, Some (q, 1))
   unfolding Holds Sound
   element_cell q e zero_functor = go (compound_told x.places l.last q (sym (seen_term x.places l.last w l.word) ∙ e))
     where
-      go : (n : ℕ) × (f : Functor) × (ts : Terms) × (l.last ≡ Term.compound n f ts) × (q ≡ x.places.compound n) → Found s x cell 0 (more v end) (Goes 44 q 1)
+      go : (n : ℕ) × (f : Functor) × (ts : Terms) × (l.last ≡ Term.compound n f ts) × (q ≡ x.places.compound n) → Found s x cell 0 (more v end) (44, Some (q, 1))
       go (n, cell, ts, z, b) =
           let sound : Sound (Term.compound n cell ts) = rw z at l.sound in
           tail_cell n ts q z (record { term = rw z at l.term; sound = sound; place = b }) sound.0
@@ -277,7 +271,7 @@ position_element s x p i j u (more v end) a e = (v, refl, omega (arith, a.index)
 position_element s x p i j u (more v (more w ws)) a e = absurd (omega (arith, a.index, a.sound_functor))
 
 pub position_tail : (s : List ℕ) (x : Setting) (p i j : ℕ) (u : Term) (us : Terms) → Position s x p i j cell u us → i ≢ 1
-    → Found s x cell j us (Ends 93)
+    → Found s x cell j us (93, None)
 unfolding count all_full
 position_tail s x p i zero u us a d = absurd (d a.index)
 position_tail s x p i (suc j) u end a d = (λ order. refl, λ seen. seen_after_end seen)
@@ -291,13 +285,11 @@ led_inside s x v w q l e = go (compound_told x.places l.last q (sym (seen_term x
     go : (n : ℕ) × (f : Functor) × (ts : Terms) × (l.last ≡ Term.compound n f ts) × (q ≡ x.places.compound n) → q + 8 ≤ length s
     go (n, f, ts, z, b) = let held : Holds s x.places (Term.compound n f ts) = rw z at l.term.held in rw b held.0.inside
 
--- Neither `[]` nor a compound is seen.
-pub other_empty : (v : View) → OneOf (0 ∷ 1 ∷ 2 ∷ 3 ∷ 4 ∷ []) (tag_of the_type v) → v ≡ Empty → ⊥
-other_empty v k e = miss (0 ∷ 1 ∷ 2 ∷ 3 ∷ 4 ∷ []) 5 tt (rw e at k)
-
-pub other_compound : (v : View) → OneOf (0 ∷ 1 ∷ 2 ∷ 3 ∷ 4 ∷ []) (tag_of the_type v) → (q : ℕ) → v ≡ Compound q → ⊥
-other_compound v k q e = miss (0 ∷ 1 ∷ 2 ∷ 3 ∷ 4 ∷ []) 6 tt (rw e at k)
-
 -- The word of a list's tail.
 pub tail_shows : (s : List ℕ) (x : Setting) (p : ℕ) (u v : Term) → Position s x p 1 0 cell u (more v end) → Shows s x v (get_or s (p + 2) 0)
 tail_shows s x p u v a = position_shows s x p 2 1 cell v end (position_next s x p 1 0 cell u v end a)
+
+-- What was found, by its parts.
+pub found_as : (s : List ℕ) (x : Setting) (f : Functor) (j : ℕ) (us : Terms) (r : ℕ × Told (ℕ × ℕ)) (o : Told (ℕ × ℕ)) → r.1 ≡ o
+    → Found s x f j us r → Found s x f j us (r.0, o)
+found_as s x f j us (b, n) o e F = rw e at F

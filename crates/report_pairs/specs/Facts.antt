@@ -1,11 +1,11 @@
 -- What the report keeps of each pair, four words a pair from a place on: the word of the end of its chain, or 0; the length of its value where it was
 -- counted in the section, or 0; its number in the section, or 0; where its value begins in the report, if its length is kept. The trial's first word
 -- has how many numbers were given.
-use Rattle.std.specs.Prelude.{ℕ, ◌+◌, ◌-◌, ◌*◌, ◌≤◌, ◌<◌, ◌≡◌, false, ◌≢◌, List, length, get_or}
+use Rattle.std.specs.Prelude.{ℕ, ◌+◌, ◌-◌, ◌*◌, ◌≤◌, ◌<◌, ◌≡◌, false, ◌≢◌, List, length, get_or, Option as Told, Some, None}
 use Rattle.std.proofs.Math.Option.{Option, none, some}
 use Rattle.meaning.specs.Bytes.{Bytes, among, when◌then◌else◌}
 use Rattle.meaning.specs.Terms.{Term}
-use Rattle.meaning.specs.State.{Values, value}
+use Rattle.meaning.specs.State.{value}
 use Rattle.meaning.specs.Circle.{circle}
 use Rattle.meaning.specs.Compare.{followed}
 use Rattle.meaning.specs.Report.{alone, number_in}
@@ -60,7 +60,7 @@ pub record Shows (s : List ℕ) (x : Setting) (t : Term) (w : ℕ) : Type 0 wher
   pub sound : Sound t
   pub word : w ≡ term_word x.places t
 
--- A term leads on to the word r: the value of a variable, or the end of its chain; 0 if it is no assigned variable.
+-- A term leads on to the word r: the value of a variable, or the end of its chain.
 pub record To (s : List ℕ) (x : Setting) (t : Term) (r : ℕ) : Type 0 where
   pub next : Term
   pub shows : Shows s x next r
@@ -68,9 +68,10 @@ pub record To (s : List ℕ) (x : Setting) (t : Term) (r : ℕ) : Type 0 where
   pub nearer : (links : ℕ) → value_of x.values (followed links x.values t) ≡ none → value_of x.values (followed (links - 1) x.values next) ≡ none
   pub assigned : (u : Term) × (value_of x.values t ≡ some u)
 
-pub record LeadsOn (s : List ℕ) (x : Setting) (t : Term) (r : ℕ) : Type 0 where
-  pub stops : r ≡ 0 → value_of x.values t ≡ none
-  pub goes : r ≢ 0 → To s x t r
+-- It does, or it is no assigned variable.
+abbrev pub LeadsOn : List ℕ → Setting → Term → Told ℕ → Type 0
+LeadsOn s x t None = value_of x.values t ≡ none
+LeadsOn s x t (Some r) = To s x t r
 
 -- The length that is kept of a pair with this value: 0, or its length, and all its pairs were seen.
 abbrev pub LengthAt : List ℕ → Setting → ℕ → List ℕ → ℕ → Option Term → Type 0

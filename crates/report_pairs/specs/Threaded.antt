@@ -1,5 +1,5 @@
 -- The report as it is written from left to right: of a section only the pairs that were seen so far have numbers, and each term adds its own.
-use Rattle.std.specs.Prelude.{ℕ, zero, suc, ◌+◌, List, [], ◌∷◌, ◌++◌, map, length}
+use Rattle.std.specs.Prelude.{ℕ, suc, ◌+◌, List, [], ◌∷◌, ◌++◌, map, length}
 use Rattle.meaning.specs.Bytes.{Bytes, bytes, each_once}
 use Rattle.meaning.specs.Terms.{writer, Term, Terms, variable, constant, compound, end, more, pairs_of, pairs_of_all, as_term, Query}
 use Rattle.meaning.specs.State.{Values, Goal, Part}

@@ -1,18 +1,16 @@
 -- A walk over the arguments of a compound, and on over the tails of a list: where it stands, what is still to be written there, and what stands behind
 -- an argument.
-use Rattle.std.specs.Prelude.{ℕ, zero, suc, ◌+◌, ◌*◌, ◌≤◌, ◌<◌, ◌≡◌, List, [], ◌∷◌, ◌++◌, length, get_or}
-use Rattle.meaning.specs.Bytes.{Bytes, bytes}
-use Rattle.meaning.specs.Terms.{Functor, cell, named, Term, Terms, end, more, count}
+use Rattle.std.specs.Prelude.{ℕ, zero, suc, ◌+◌, ◌*◌, ◌<◌, ◌≡◌, List, [], ◌∷◌, ◌++◌, length, get_or, Option, Some, None}
+use Rattle.meaning.specs.Bytes.{Bytes}
+use Rattle.meaning.specs.Terms.{Functor, cell, named, Term, Terms, more, count}
 use Rattle.meaning.specs.State.{Values}
-use Rattle.meaning.specs.Report.{alone, tail, written, tail_bytes, element_and_tail, first_argument, other_arguments}
+use Rattle.meaning.specs.Report.{alone, written, tail_bytes, other_arguments}
 use Rattle.laws.proofs.Terms.Standing.{StandsIn}
 use Rattle.term.specs.Holds.{CellAt}
 use Rattle.term.specs.Setting.{Setting, UnitTerm, UnitTerms}
 use Rattle.term.specs.Spellings.{SpelledAt}
 use Rattle.report_pairs.specs.Threaded.{full, all_full, seen_after_all}
 use Rattle.report_pairs.specs.Sound.{Sound, SoundFunctor, AllSound}
-use Rattle.report_pairs.specs.declared.cells.Next.{Next}
-use Rattle.report_pairs.specs.declared.cells.Next.TheVariants.{Goes, Ends}
 
 -- What stands before the first argument.
 abbrev pub opening_bytes : Functor → Bytes
@@ -52,9 +50,9 @@ pub record Position (s : List ℕ) (x : Setting) (p i j : ℕ) (f : Functor) (u 
   pub sound : AllSound (more u us)
 
 -- What was found behind an argument is what stands there.
-abbrev pub Found : List ℕ → Setting → Functor → ℕ → Terms → Next → Type 0
-Found s x f j us (Ends b) = ((order : List ℕ) → after x.values order f j us ≡ b ∷ []) × ((seen : List ℕ) → seen_after_all seen (all_full x.values us) ≡ seen)
-Found s x f j us (Goes b q i) = (k : ℕ) × (g : Functor) × (v : Term) × (vs : Terms) × Position s x q i k g v vs
+abbrev pub Found : List ℕ → Setting → Functor → ℕ → Terms → ℕ × Option (ℕ × ℕ) → Type 0
+Found s x f j us (b, None) = ((order : List ℕ) → after x.values order f j us ≡ b ∷ []) × ((seen : List ℕ) → seen_after_all seen (all_full x.values us) ≡ seen)
+Found s x f j us (b, Some (q, i)) = (k : ℕ) × (g : Functor) × (v : Term) × (vs : Terms) × Position s x q i k g v vs
     × ((order : List ℕ) → after x.values order f j us ≡ b ∷ rest x.values order g k v vs)
     × ((seen : List ℕ) → seen_after_all seen (all_full x.values us) ≡ seen_after_all seen (all_full x.values (more v vs)))
     × ((m : ℕ) → StandsIn m (all_full x.values (more v vs)) → StandsIn m (all_full x.values us))

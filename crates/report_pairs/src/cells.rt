@@ -1,5 +1,5 @@
 // A term in the scratch as the report reads it: the end of its chain, its compound's functor, and what stands behind an argument.
-ghost use Rattle.std.specs.Prelude.{◌≡◌, ℕ, ◌/◌, ◌<◌, length, get_or};
+ghost use Rattle.std.specs.Prelude.{◌≡◌, ℕ, ◌+◌, ◌<◌, length, get_or, MatchOption};
 ghost use Rattle.meaning.specs.Bytes.{Bytes};
 ghost use Rattle.meaning.specs.Terms.{Functor, cell, named, Term, Terms, more};
 ghost use Rattle.term.specs.Setting.{Setting};
@@ -11,20 +11,16 @@ use crate::ends::end;
 use term::scratch::{count, word_at};
 use term::word::{TAGS, View, index, look};
 
-// The number of the name of a compound's functor plus one, 0 for a list cell.
-pub fn functor(s: &[u64], p: usize) -> usize
+// The number of the name of a compound's functor; none for a list cell.
+pub fn functor(s: &[u64], p: usize) -> Option<usize>
     requires { p < length s.now }
-    ensures { result ≡ rest_in (get_or s.now p 0) }
+    ensures { MatchOption result (rest_in (get_or s.now p 0) ≡ 0) (λ k. rest_in (get_or s.now p 0) ≡ k + 1) }
 {
-    index(s[p] / TAGS)
+    index(s[p] / TAGS).checked_sub(1)
 }
 
-// What stands behind an argument of a compound: a byte, and then an argument of a compound; or a last byte.
-#[derive(Clone, Copy)]
-pub enum Next {
-    Goes(u8, usize, usize),
-    Ends(u8),
-}
+// What stands behind an argument of a compound: a byte, and then an argument, by its compound's place and its number, if the byte is not the last.
+pub type Next = (u8, Option<(usize, usize)>);
 
 // Behind the i-th of the arguments in parentheses.
 fn behind_argument(s: &[u64], p: usize, i: usize) -> Next
@@ -33,9 +29,9 @@ fn behind_argument(s: &[u64], p: usize, i: usize) -> Next
         → Found s.now x (named f) j us result }
 {
     if i < count(s, p) {
-        return Next::Goes(b',', p, i + 1);
+        return (b',', Some((p, i + 1)));
     }
-    Next::Ends(b')')
+    (b')', None)
 }
 
 // Behind the element of a list whose tail is this term: "tails followed".
@@ -45,14 +41,12 @@ fn behind_element(s: &[u64], p: usize, t: u64) -> Next
         → Found s.now x cell 0 (more v Terms.end) result }
 {
     match look(t) {
-        View::Empty => Next::Ends(b']'),
-        View::Compound(q) => {
-            if functor(s, q) == 0 {
-                return Next::Goes(b',', q, 1);
-            }
-            Next::Goes(b'|', p, 2)
-        }
-        _ => Next::Goes(b'|', p, 2),
+        View::Empty => (b']', None),
+        View::Compound(q) => match functor(s, q) {
+            None => (b',', Some((q, 1))),
+            Some(_) => (b'|', Some((p, 2))),
+        },
+        _ => (b'|', Some((p, 2))),
     }
 }
 
@@ -64,11 +58,9 @@ pub fn behind(s: &[u64], facts: usize, p: usize, i: usize) -> Next
         → Readable s.now text x facts → Position s.now x p i j f u us
         → Found s.now x f j us result }
 {
-    if functor(s, p) != 0 {
-        return behind_argument(s, p, i);
+    match functor(s, p) {
+        Some(_) => behind_argument(s, p, i),
+        None if i == 1 => behind_element(s, p, end(s, facts, word_at(s, p, 2))),
+        None => (b']', None),
     }
-    if i == 1 {
-        return behind_element(s, p, end(s, facts, word_at(s, p, 2)));
-    }
-    Next::Ends(b']')
 }

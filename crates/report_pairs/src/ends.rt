@@ -1,6 +1,6 @@
 // What the report keeps of each pair of the run, in four words a pair behind the values: the end of the chain of values that begins with it, the
 // length of its value where it was counted in the section, its number in the section, and where its value begins in the report, if its length is kept.
-ghost use Rattle.std.specs.Prelude.{◌≡◌, List, ℕ, ◌+◌, ◌-◌, ◌*◌, ◌/◌, ◌%◌, ◌≤◌, ◌<◌, length, get_or, set};
+ghost use Rattle.std.specs.Prelude.{◌≡◌, List, ℕ, ◌+◌, ◌-◌, ◌*◌, ◌/◌, ◌%◌, ◌≤◌, ◌<◌, length, get_or, set, ◌≢◌, SomeIff};
 ghost use Rattle.meaning.specs.Bytes.{Bytes};
 ghost use Rattle.meaning.specs.Terms.{Term};
 ghost use Rattle.term.specs.Words.{view, tag_in, rest_in};
@@ -11,6 +11,16 @@ ghost use Rattle.report_pairs.specs.Pairs.{pair_seen};
 
 use term::layout::{PAIR_FACTS, TRIAL};
 use term::word::{View, look};
+
+// The four words of a pair: its chain's end, its value's length, its number, and its value's place.
+// Stays numbers in the lent scratch, which is all the memory that there is: in each word 0 says that nothing is kept.
+pub const END: usize = 0;
+
+pub const LENGTH: usize = 1;
+
+pub const NUMBER: usize = 2;
+
+pub const PLACE: usize = 3;
 
 // A word of a pair's four, and setting it.
 pub fn fact(s: &[u64], facts: usize, p: usize, i: usize) -> u64
@@ -27,16 +37,12 @@ pub fn set_fact(s: &mut [u64], facts: usize, p: usize, i: usize, w: u64)
     s[facts + PAIR_FACTS * p + i] = w;
 }
 
-// No pair has an end, a length, a number or a place. All four words are set, which the compiler does as one block.
+// No pair has an end, a length, a number or a place.
 pub fn forget(s: &mut [u64], facts: usize, pairs: usize)
     requires { facts + pair_facts * pairs ≤ length s.old }
     ensures { Cleared s.old s.new facts pairs }
 {
-    let mut i = 0;
-    while i < PAIR_FACTS * pairs {
-        s[facts + i] = 0;
-        i += 1;
-    }
+    s[facts..facts + PAIR_FACTS * pairs].fill(0);
 }
 
 // How many pairs the room has, as it is kept for the report.
@@ -47,40 +53,37 @@ fn pairs(s: &[u64]) -> usize
     s[TRIAL + 1] as usize
 }
 
-// The pair of a variable plus one; 0 for any other term.
-pub fn pair(w: u64) -> usize
+// The pair of a variable; none for any other term.
+pub fn pair(w: u64) -> Option<usize>
     ensures { result ≡ pair_seen (view (tag_in w) (rest_in w)) }
 {
     match look(w) {
-        View::Writer(p) => p + 1,
-        View::Reader(p) => p + 1,
-        _ => 0,
+        View::Writer(p) | View::Reader(p) => Some(p),
+        _ => None,
     }
 }
 
-// The value of a pair.
-fn value(s: &[u64], facts: usize, p: usize) -> u64
+// The word of a pair's value, if it has one.
+fn value(s: &[u64], facts: usize, p: usize) -> Option<u64>
     requires { (pairs_told < length s.now) × (get_or s.now pairs_told 0 ≤ facts) × (facts + p < length s.now) }
-    ensures { result ≡ get_or s.now (facts - get_or s.now pairs_told 0 + p) 0 }
+    ensures { SomeIff result (get_or s.now (facts - get_or s.now pairs_told 0 + p) 0 ≢ 0) (get_or s.now (facts - get_or s.now pairs_told 0 + p) 0) }
 {
-    s[facts - pairs(s) + p]
+    let v = s[facts - pairs(s) + p];
+    (v != 0).then_some(v)
 }
 
-// What a variable leads to: the end that is kept of its pair, or its value; 0 for an unassigned one and for any other term.
-fn next(s: &[u64], facts: usize, w: u64) -> u64
+// What a variable leads to: the end that is kept of its pair, or its value; none for an unassigned one and for any other term.
+fn next(s: &[u64], facts: usize, w: u64) -> Option<u64>
     requires { (text : Bytes) × (x : Setting) × (t : Term) × Readable s.now text x facts × Shows s.now x t w }
     ensures { (text : Bytes) (x : Setting) (t : Term) → Readable s.now text x facts → Shows s.now x t w
         → LeadsOn s.now x t result }
 {
-    let p = pair(w);
-    if p == 0 {
-        return 0;
-    }
-    let e = fact(s, facts, p - 1, 0);
+    let p = pair(w)?;
+    let e = fact(s, facts, p, END);
     if e != 0 {
-        return e;
+        return Some(e);
     }
-    value(s, facts, p - 1)
+    value(s, facts, p)
 }
 
 // The end of the chain that begins with a term: over no more links than there are pairs.
@@ -90,14 +93,11 @@ pub fn end(s: &[u64], facts: usize, w: u64) -> u64
         → Led s.now x t result }
 {
     let mut t = w;
-    let mut left = pairs(s);
-    while 0 < left {
-        let v = next(s, facts, t);
-        if v == 0 {
+    for _ in 0..pairs(s) {
+        let Some(v) = next(s, facts, t) else {
             return t;
-        }
+        };
         t = v;
-        left -= 1;
     }
     t
 }
@@ -112,10 +112,9 @@ pub fn lead(s: &mut [u64], facts: usize, w: u64) -> u64
     if e == w {
         return e;
     }
-    let p = pair(w);
-    if p == 0 {
+    let Some(p) = pair(w) else {
         return e;
-    }
-    set_fact(s, facts, p - 1, 0, e);
+    };
+    set_fact(s, facts, p, END, e);
     e
 }

@@ -11,10 +11,7 @@ pub fn further(at: usize, n: usize) -> usize
     requires { at ≤ 16777217 }
     ensures { result ≡ capped (at + n) }
 {
-    if n <= CEILING - at {
-        return at + n;
-    }
-    CEILING
+    at.saturating_add(n).min(CEILING)
 }
 
 // How many decimal digits a number has.

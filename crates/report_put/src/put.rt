@@ -21,10 +21,8 @@ pub fn words(buffer: &mut [u8], at: usize, bytes: &[u8]) -> usize
     ensures { Puts buffer.old buffer.new at result bytes.now }
 {
     let mut to = at;
-    let mut i = 0;
-    while i < bytes.len() {
-        to = put(buffer, to, bytes[i]);
-        i += 1;
+    for b in bytes {
+        to = put(buffer, to, *b);
     }
     to
 }
@@ -34,10 +32,8 @@ pub fn again(buffer: &mut [u8], at: usize, from: usize, n: usize) -> usize
     requires { (at + n ≤ length buffer.old) × (from + n ≤ at) }
     ensures { (bs : Bytes) → n ≡ length bs → Has buffer.old from bs → Puts buffer.old buffer.new at result bs }
 {
-    let mut i = 0;
-    while i < n {
+    for i in 0..n {
         buffer[at + i] = buffer[from + i];
-        i += 1;
     }
     at + n
 }
@@ -47,18 +43,18 @@ pub fn spelling(text: &[u8], buffer: &mut [u8], at: usize, from: usize, n: usize
     requires { (at + n ≤ length buffer.old) × (from + n ≤ length text.now) }
     ensures { Puts buffer.old buffer.new at result (slice from (from + n) text.now) }
 {
-    let to = from + n;
-    words(buffer, at, &text[from..to])
+    words(buffer, at, &text[from..from + n])
 }
 
 // A digit's byte.
 fn digit(n: u64) -> u8
     ensures { result ≡ 48 + n % 10 }
 {
-    48 + (n % 10) as u8
+    b'0' + (n % 10) as u8
 }
 
 // A number in decimal, from its last digit on.
+// Stays by hand: `Display` writes to a formatter of text, and its output names no place of a buffer of bytes, as `Puts` does.
 pub fn decimal(buffer: &mut [u8], at: usize, n: u64) -> usize
     requires { at + length (in_decimal n) ≤ length buffer.old }
     ensures { Puts buffer.old buffer.new at result (in_decimal n) }

@@ -1,17 +1,15 @@
 -- The goals' lines, one more behind so many: those of a query in one of the lists.
-use Prim.Native.Nat.{ℕ, suc, ◌+◌, ◌*◌, ◌-◌, ◌/◌, ◌≤◌, ◌<◌}
+use Prim.Native.Nat.{ℕ, ◌+◌, ◌*◌, ◌-◌, ◌≤◌, ◌<◌}
 use mathlib.Core.Path.{◌≡◌, refl, sym, ap, ap₂, ◌∙◌}
 use mathlib.Core.Bool.{Bool, true, false}
 use mathlib.Core.List.{List, [], ◌∷◌, ◌++◌, map, append_assoc, append-nil}
 use native.Mathlib.Omega.{arith}
-use lib.ListN.{length, get_or, length-append}
+use lib.ListN.{length}
 use Rattle.meaning.specs.Bytes.{Bytes, bytes}
 use Rattle.meaning.specs.Terms.{writer, Term, as_term}
 use Rattle.meaning.specs.State.{Values, Goal}
 use Rattle.meaning.specs.Report.{alone, origin_bytes}
 use Rattle.laws.proofs.Lists.EachOf.{Each, each_split}
-use Rattle.term.specs.States.{round}
-use Rattle.term.specs.Holds.{Holds, HoldsFrom, CellAt}
 use Rattle.term.specs.Setting.{Setting, Within, UnitTerm}
 use Rattle.term.proofs.Holds.{holds_alike}
 use Rattle.term.proofs.Units.{within_every}
@@ -19,7 +17,6 @@ use Rattle.term.specs.Layout.{pair_facts}
 use Rattle.term.specs.Words.{compound_word}
 use Rattle.term.specs.Goals.{origin_word, packed_goal, place_in, OriginFits}
 use Rattle.term.proofs.Goals.{goal_place, goal_clause, goal_tries}
-use Rattle.meaning.specs.Terms.{more}
 use Rattle.laws.proofs.Lists.Tests.{false_not_true}
 use Rattle.report_pairs.specs.Threaded.{full, seen_after, shown, shown_goals, seen_after_goals}
 use Rattle.report_pairs.specs.Sound.{Sound}
@@ -234,14 +231,14 @@ goal_asks s₀ s text x facts at seen g q gs word to i h c l p = go (own q (goal
     go false e = (Term.variable writer 0, ready, inside, λ f. absurd (false_not_true _ e f))
 
 -- What it tells.
-pub goal_told : (s₀ s s' : List ℕ) (text : Bytes) (x : Setting) (facts at : ℕ) (seen : List ℕ) (g : Group) (q : ℕ) (gs : List Goal) (word : Bytes) (label to i r : ℕ) → i < g.count
-    → Counts s₀ text x facts seen at → Listed s₀ x facts g q gs → label ≡ length word → Progress s₀ s text x facts at seen g q gs word to i
+pub goal_told : (s₀ s s' : List ℕ) (text : Bytes) (x : Setting) (facts at : ℕ) (seen : List ℕ) (g : Group) (q : ℕ) (gs : List Goal) (word : Bytes) (to i r : ℕ) → i < g.count
+    → Counts s₀ text x facts seen at → Listed s₀ x facts g q gs → Progress s₀ s text x facts at seen g q gs word to i
     → (own q (goal_in s g i) ≡ false → (r ≡ to) × (s' ≡ s))
-    → ((seen' : List ℕ) (t : Term) (word : Bytes) → own q (goal_in s g i) ≡ true → Counts s text x facts seen' to → Shows s x t (compound_word (place_in (goal_in s g i)))
-    → label ≡ length word → Counted s s' text x facts to seen' (word ++ (shown seen' alone (full x.values t) ++ (origin_of (goal_in s g i) ++ bytes "\n")))
+    → ((seen' : List ℕ) (t : Term) → own q (goal_in s g i) ≡ true → Counts s text x facts seen' to → Shows s x t (compound_word (place_in (goal_in s g i)))
+    → Counted s s' text x facts to seen' (word ++ (shown seen' alone (full x.values t) ++ (origin_of (goal_in s g i) ++ bytes "\n")))
     (seen_after seen' (full x.values t)) r)
     → Progress s₀ s' text x facts at seen g q gs word r (i + 1)
-goal_told s₀ s s' text x facts at seen g q gs word label to i r h c l e p out into = go (own q (goal_in s g i)) refl
+goal_told s₀ s s' text x facts at seen g q gs word to i r h c l p out into = go (own q (goal_in s g i)) refl
   where
     same : goal_in s g i ≡ goal_in s₀ g i
     same = goal_kept s₀ s text x facts g i c.readable p.counted.changed l.behind
@@ -249,7 +246,7 @@ goal_told s₀ s s' text x facts at seen g q gs word label to i r h c l e p out 
     go : (b : Bool) → own q (goal_in s g i) ≡ b → Progress s₀ s' text x facts at seen g q gs word r (i + 1)
     go true f =
         let n = progress_next s₀ s text x facts at seen g q gs word to i (goal_in s g i) h c.readable l same (ap (own q) (sym same) ∙ f) p in
-        let d = into n.counted.after (as_term n.goal_is.goal) word f (counts_on s₀ s text x facts at seen _ _ to n.counted) n.shows e in
+        let d = into n.counted.after (as_term n.goal_is.goal) f (counts_on s₀ s text x facts at seen _ _ to n.counted) n.shows in
         progress_taken s₀ s s' text x facts at seen g q gs word to i (goal_in s g i) r n (rw n.origin at d)
     go false f =
         let (a, b) = out f in

@@ -1,11 +1,11 @@
 -- A section's lines one behind the other, each written with what was seen before it; the section by its groups of lines.
-use Prim.Native.Nat.{ℕ, zero, suc, ◌+◌}
+use Prim.Native.Nat.{ℕ, suc, ◌+◌}
 use mathlib.Core.Path.{◌≡◌, refl, sym, ap, ap₂, ◌∙◌}
 use mathlib.Core.List.{List, [], ◌∷◌, ◌++◌, map, append_assoc, append-nil}
 use native.Mathlib.Omega.{arith}
 use lib.ListN.{length}
 use Rattle.meaning.specs.Bytes.{Bytes, bytes, joined}
-use Rattle.meaning.specs.Terms.{writer, Term, variable, Query, as_term}
+use Rattle.meaning.specs.Terms.{writer, variable, Query, as_term}
 use Rattle.meaning.specs.State.{Values, Goal, Part}
 use Rattle.meaning.specs.Report.{
   applied,

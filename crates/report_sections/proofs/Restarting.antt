@@ -1,6 +1,6 @@
 -- A section is counted from no number given on: the counter is 0, and nothing is kept of its pairs' lengths and numbers.
 use Prim.Native.Nat.{ℕ, ◌+◌, ◌≤◌}
-use mathlib.Core.Path.{◌≡◌, refl, sym, ap, subst, ◌∙◌}
+use mathlib.Core.Path.{◌≡◌, sym, ap, subst, ◌∙◌}
 use mathlib.Core.List.{List, [], ◌++◌}
 use mathlib.Core.Option.{Option, none, some}
 use native.Mathlib.Omega.{arith}
@@ -13,7 +13,7 @@ use Rattle.meaning.specs.Report.{alone, written}
 use Rattle.term.specs.Layout.{waiters_region, trial_region, compounds_region, query_tries_word}
 use Rattle.term.specs.Setting.{Setting}
 use Rattle.term.specs.declared.state.Standing.{Standing}
-use Rattle.report_pairs.specs.Threaded.{full, seen_after, shown, lines_seen}
+use Rattle.report_pairs.specs.Threaded.{full, shown, lines_seen}
 use Rattle.report_pairs.specs.Laid.{capped}
 use Rattle.report_pairs.specs.Facts.{fact_place, LengthAt, Readable, Counting, PlaceAt, Placed, Changed}
 use Rattle.report_leaves.specs.Fits.{StoredAt, Stored}

@@ -1,14 +1,12 @@
 -- A section counted: its header, its values, its goals in the three lists, one behind the other.
-use Prim.Native.Nat.{ℕ, zero, suc, ◌+◌, ◌*◌, ◌-◌, ◌≤◌, ◌<◌}
-use mathlib.Core.Path.{◌≡◌, refl, sym, ap, ap₂, ◌∙◌}
+use Prim.Native.Nat.{ℕ, zero, suc, ◌+◌}
+use mathlib.Core.Path.{◌≡◌, refl, ap₂, ◌∙◌}
 use mathlib.Core.List.{List, [], ◌∷◌, ◌++◌, append_assoc}
-use native.Mathlib.Omega.{arith}
-use lib.ListN.{length, get_or}
+use lib.ListN.{length}
 use Rattle.meaning.specs.Bytes.{Bytes, bytes, when◌then◌else◌}
 use Rattle.meaning.specs.Terms.{as_term}
-use Rattle.meaning.specs.State.{Room, Values, Goal}
+use Rattle.meaning.specs.State.{Goal}
 use Rattle.term.specs.Setting.{Setting}
-use Rattle.term.specs.declared.state.Standing.{Standing}
 use Rattle.report_pairs.specs.Threaded.{shown_values, seen_after_values, shown_goals, seen_after_goals, lines_seen}
 use Rattle.report_pairs.specs.Laid.{capped}
 use Rattle.report_pairs.specs.Facts.{Readable, Changed}
@@ -17,7 +15,7 @@ use Rattle.report_tallies.specs.Groups.{goal_in, own, own_from}
 use Rattle.report_tallies.specs.declared.groups.Group.{Group}
 use Rattle.report_sections.specs.Sections.{GoalsHeld, Listed}
 use Rattle.report_sections.specs.Whole.{lines_shown}
-use Rattle.report_count.proofs.Lengths.{counts_on, counted_bytes, counted_then, counted_as}
+use Rattle.report_count.proofs.Lengths.{counted_bytes, counted_then, counted_as}
 use Rattle.report_sections.proofs.GoalLines.{term_kept, goal_kept, inside_kept}
 
 -- A list of goals stays when facts change.

@@ -1,20 +1,20 @@
 -- A section written in its whole order has the bytes that were counted: every line's pairs are among the order, which begins with what was seen after it.
 use Prim.Native.Nat.{ℕ, zero, suc, ◌+◌, ◌≤◌, ◌<◌}
 use mathlib.Core.Path.{◌≡◌, refl, sym, ap, ap₂, ◌∙◌}
-use mathlib.Core.Bool.{Bool, true, false}
+use mathlib.Core.Bool.{true}
 use mathlib.Core.List.{List, [], ◌∷◌, ◌++◌, append_assoc, append-nil}
 use native.Mathlib.Omega.{arith}
 use lib.ListN.{length}
 use Rattle.meaning.specs.Bytes.{Bytes, bytes, among}
 use Rattle.meaning.specs.Terms.{writer, Term, variable, as_term}
 use Rattle.meaning.specs.State.{Room, Values, Goal}
-use Rattle.meaning.specs.Report.{alone, written, origin_bytes, value_lines, goal_lines, lines_applied}
-use Rattle.laws.proofs.Lists.Among.{In, in_among, in_append_left}
+use Rattle.meaning.specs.Report.{alone, origin_bytes, value_lines, goal_lines, lines_applied}
+use Rattle.laws.proofs.Lists.Among.{in_among, in_append_left}
 use Rattle.laws.proofs.Terms.Standing.{Stands}
 use Rattle.term.specs.Layout.{waiters_region}
 use Rattle.term.specs.Setting.{Setting}
 use Rattle.term.specs.declared.state.Standing.{Standing}
-use Rattle.report_pairs.specs.Threaded.{full, seen_after, shown, shown_values, seen_after_values, shown_goals, seen_after_goals, lines_seen, written_values, written_goals}
+use Rattle.report_pairs.specs.Threaded.{full, seen_after, shown_values, seen_after_values, shown_goals, seen_after_goals, lines_seen, written_values, written_goals}
 use Rattle.report_pairs.specs.Laid.{Puts}
 use Rattle.report_tallies.specs.Header.{header_of, tallies_of}
 use Rattle.report_pairs.specs.Facts.{Readable}
@@ -25,7 +25,7 @@ use Rattle.report_tallies.specs.declared.groups.Group.{Group}
 use Rattle.report_sections.specs.Sections.{Listed}
 use Rattle.report_sections.specs.Whole.{AllIn, Numbers, SectionStands, lines_shown, section_bytes}
 use Rattle.report_pairs.proofs.Laid.{puts_behind, puts_as}
-use Rattle.report_pairs.proofs.Once.{seen_after_keeps, seen_after_lines_keeps, in_seen_after}
+use Rattle.report_pairs.proofs.Once.{seen_after_lines_keeps, in_seen_after}
 use Rattle.report_pairs.proofs.Settled.{settled_in}
 use Rattle.report_sections.proofs.Lines.{values_seen, goals_seen}
 use Rattle.report_sections.proofs.WrittenGoals.{numbered_in}

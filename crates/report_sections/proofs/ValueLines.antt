@@ -1,5 +1,5 @@
 -- The `NAME = value` lines, one more behind so many.
-use Prim.Native.Nat.{ℕ, suc, ◌+◌, ◌*◌, ◌≤◌, ◌<◌}
+use Prim.Native.Nat.{ℕ, ◌+◌, ◌*◌, ◌<◌}
 use mathlib.Core.Path.{◌≡◌, refl, sym, ap, ap₂, ◌∙◌}
 use mathlib.Core.List.{List, [], ◌∷◌, ◌++◌, append-nil}
 use native.Mathlib.Numerals.{add-one}
@@ -13,7 +13,7 @@ use Rattle.meaning.specs.Report.{alone}
 use Rattle.term.specs.Cells.{Known}
 use Rattle.term.specs.Holds.{Holds}
 use Rattle.term.specs.Setting.{Setting, Within, Ranged}
-use Rattle.term.specs.Spellings.{HoldsSpellings, SpelledAt}
+use Rattle.term.specs.Spellings.{SpelledAt}
 use Rattle.term.proofs.Spellings.{holds_spellings_kept, holds_spelling_at}
 use Rattle.term.specs.Layout.{items_region, query_pairs_word, query_first_pair_word, query_variables_from}
 use Rattle.term.specs.Words.{writer_word}
@@ -26,7 +26,7 @@ use Rattle.report_leaves.specs.Writes.{Writes}
 use Rattle.report_sections.specs.Sections.{Variables}
 use Rattle.report_pairs.proofs.Laid.{puts_as}
 use Rattle.report_sections.proofs.Lines.{shown_values_append, seen_after_values_append}
-use Rattle.report_count.proofs.Lengths.{changed_below, counted_none, counted_then, counted_as, counts_on}
+use Rattle.report_count.proofs.Lengths.{changed_below, counted_none, counted_then, counted_as}
 
 -- The variables' words stay when facts change.
 pub variables_kept : (s s' : List ℕ) (text : Bytes) (x : Setting) (facts q : ℕ) (xs : List Bytes) → Readable s text x facts → Changed s s' x facts
@@ -57,10 +57,8 @@ shows_variable s text x q xs v w vs h e =
 
 -- How long its name is.
 pub name_size : (s : List ℕ) (text : Bytes) (x : Setting) (q : ℕ) (xs : List Bytes) (v : ℕ) → Variables s text x q xs → v < length xs
-    → SpelledAt text (get_or s (query_variables_from q + 2 * v + 0) 0) (get_or s (query_variables_from q + 2 * v + 1) 0) (get_or xs v [])
-name_size s text x q xs v vs h =
-    let none : query_variables_from q + 2 * v + 0 ≡ query_variables_from q + 2 * v = omega arith in
-    rw none (holds_spelling_at s text (query_variables_from q) v xs h vs.spelled)
+    → SpelledAt text (get_or s (query_variables_from q + 2 * v) 0) (get_or s (query_variables_from q + 2 * v + 1) 0) (get_or xs v [])
+name_size s text x q xs v vs h = holds_spelling_at s text (query_variables_from q) v xs h vs.spelled
 
 -- The bytes and the pairs of one line more.
 module _ (values : Values) (seen : List ℕ) (xs : List Bytes) (v : ℕ) (h : v < length xs) where

@@ -1,11 +1,11 @@
 -- The `NAME = value` lines in the section's whole order, one more behind so many.
-use Prim.Native.Nat.{ℕ, suc, ◌+◌, ◌≤◌, ◌<◌}
+use Prim.Native.Nat.{ℕ, suc, ◌+◌, ◌<◌}
 use mathlib.Core.Path.{◌≡◌, refl, sym, ap, ◌∙◌}
 use mathlib.Core.List.{List, [], ◌∷◌, ◌++◌, append_assoc, append-nil}
 use native.Mathlib.Numerals.{add-one}
 use native.Mathlib.Omega.{arith}
 use lib.ListN.{length, get_or, take, drop, length-take, length-append, take-append-drop}
-use lib.Seq.{take-suc, take_all}
+use lib.Seq.{take-suc}
 use Rattle.meaning.specs.Bytes.{Bytes, bytes}
 use Rattle.meaning.specs.Terms.{writer, Term}
 use Rattle.meaning.specs.State.{Values}
@@ -15,7 +15,6 @@ use Rattle.report_pairs.specs.Laid.{Puts}
 use Rattle.term.specs.Setting.{Setting}
 use Rattle.report_leaves.specs.Fits.{Fits}
 use Rattle.report_leaves.proofs.Copying.{fits_front, fits_behind, fits_as}
-use Rattle.report_pairs.proofs.Laid.{puts_behind, puts_as}
 
 pub written_values_append : (values : Values) (order : List ℕ) (xs ys : List Bytes) (p : ℕ)
     → written_values values order p (xs ++ ys) ≡ written_values values order p xs ++ written_values values order (p + length xs) ys

@@ -24,20 +24,27 @@ ghost use Rattle.term.specs.Goals.{place_in};
 ghost use Rattle.report_tallies.specs.Origins.{origin_of};
 
 use report_count::counting::count_term;
+use report_leaves::source::Source;
 use report_pairs::length::further;
 use report_put::put::{put, spelling, words};
-use report_tallies::groups::{Group, active, failed, goal_at, own, waiting};
-use report_tallies::header::{header, header_length, tally};
+use report_tallies::groups::{Group, own};
+use report_tallies::header::Tallies;
 use report_tallies::origin::{origin, origin_length};
 use report_write::terms::write_term;
 use term::goal::place_of;
-use term::layout;
 use term::layout::{
     QUERIES, QUERY_FIRST_PAIR, QUERY_PAIRS, QUERY_STRIDE, QUERY_VARIABLES, Room, TRIAL,
 };
 use term::scratch::word_at;
 use term::state::Standing;
 use term::word::{COMPOUND, TAGS, WRITER, index};
+
+// What the lines of the three lists' goals begin with.
+const ACTIVE: &[u8] = b"active ";
+
+const WAITING: &[u8] = b"waiting ";
+
+const FAILED: &[u8] = b"failed ";
 
 // A line: so many bytes, a term and so many bytes.
 fn count_line(s: &mut [u64], facts: usize, at: usize, before: usize, w: u64, behind: usize) -> usize
@@ -53,14 +60,17 @@ fn count_line(s: &mut [u64], facts: usize, at: usize, before: usize, w: u64, beh
 }
 
 // A term and an LF.
-fn write_line(text: &[u8], s: &[u64], facts: usize, buffer: &mut [u8], at: usize, w: u64) -> usize
-    requires { (x : Setting) × (order : List ℕ) × (t : Term) × Writes s.now text.now x facts order t at (length buffer.old) × Shows s.now x t w
-        × Fits s.now x facts order at buffer.old (written order alone (full x.values t) ++ bytes "\n") }
-    ensures { (x : Setting) (order : List ℕ) (t : Term) → Writes s.now text.now x facts order t at (length buffer.old)
-        → Shows s.now x t w → Fits s.now x facts order at buffer.old (written order alone (full x.values t) ++ bytes "\n")
+fn write_line(source: &Source, buffer: &mut [u8], at: usize, w: u64) -> usize
+    requires { (x : Setting) × (order : List ℕ) × (t : Term)
+        × Writes source.now.s.now source.now.text.now x source.now.facts order t at (length buffer.old) × Shows source.now.s.now x t w
+        × Fits source.now.s.now x source.now.facts order at buffer.old (written order alone (full x.values t) ++ bytes "\n") }
+    ensures { (x : Setting) (order : List ℕ) (t : Term)
+        → Writes source.now.s.now source.now.text.now x source.now.facts order t at (length buffer.old)
+        → Shows source.now.s.now x t w
+        → Fits source.now.s.now x source.now.facts order at buffer.old (written order alone (full x.values t) ++ bytes "\n")
         → Puts buffer.old buffer.new at result (written order alone (full x.values t) ++ bytes "\n") }
 {
-    let to = write_term(text, s, facts, buffer, at, w);
+    let to = write_term(source, buffer, at, w);
     put(buffer, to, b'\n')
 }
 
@@ -81,11 +91,12 @@ fn variables(s: &[u64], q: usize) -> usize
 }
 
 // Where the spelling of the query's v-th variable begins, and how long it is.
-fn spelled(s: &[u64], q: usize, v: usize, i: usize) -> usize
-    requires { (q < 8) × (v < 16) × (i < 2) × (items_region ≤ length s.now) }
-    ensures { result ≡ get_or s.now (query_variables_from q + 2 * v + i) 0 }
+fn spelled(s: &[u64], q: usize, v: usize) -> (usize, usize)
+    requires { (q < 8) × (v < 16) × (items_region ≤ length s.now) }
+    ensures { (result.0 ≡ get_or s.now (query_variables_from q + 2 * v) 0) × (result.1 ≡ get_or s.now (query_variables_from q + 2 * v + 1) 0) }
 {
-    index(word_at(s, QUERIES + QUERY_STRIDE * q + QUERY_VARIABLES + 2 * v, i))
+    let at = QUERIES + QUERY_STRIDE * q + QUERY_VARIABLES + 2 * v;
+    (index(word_at(s, at, 0)), index(word_at(s, at, 1)))
 }
 
 // "`NAME = value` for each pair of the query in order of first occurrence"
@@ -98,22 +109,20 @@ fn count_value(s: &mut [u64], facts: usize, at: usize, q: usize, v: usize) -> us
         ((get_or xs v [] ++ bytes " = ") ++ (shown seen alone (full x.values (Term.variable writer v)) ++ bytes "\n"))
         (seen_after seen (full x.values (Term.variable writer v))) result }
 {
-    let n = spelled(s, q, v, 1);
+    let (_, n) = spelled(s, q, v);
     let w = variable(s, q, v);
     count_line(s, facts, at, n + 3, w, 1)
 }
 
 fn count_values(s: &mut [u64], facts: usize, at: usize, q: usize) -> usize
-    requires { (text : Bytes) × (x : Setting) × (seen : List ℕ) × (xs : List Bytes) × Counts s.old text x facts seen at × Variables s.old text x q xs }
+    requires { (text : Bytes) × (x : Setting) × (seen : List ℕ) × (xs : List Bytes) × Counts s.old text x facts seen at
+        × Variables s.old text x q xs }
     ensures { (text : Bytes) (x : Setting) (seen : List ℕ) (xs : List Bytes) → Counts s.old text x facts seen at → Variables s.old text x q xs
         → Counted s.old s.new text x facts at seen (shown_values x.values seen 0 xs) (seen_after_values x.values seen 0 xs) result }
 {
-    let k = variables(s, q);
     let mut to = at;
-    let mut v = 0;
-    while v < k {
+    for v in 0..variables(s, q) {
         to = count_value(s, facts, to, q, v);
-        v += 1;
     }
     to
 }
@@ -130,7 +139,7 @@ fn count_goal(
     s: &mut [u64],
     facts: usize,
     at: usize,
-    label: usize,
+    label: &[u8],
     g: Group,
     q: usize,
     i: usize,
@@ -138,165 +147,135 @@ fn count_goal(
     requires { (text : Bytes) × (x : Setting) × (seen : List ℕ) × (t : Term) × Counts s.old text x facts seen at × GroupInside s.old g × (i < g.count)
         × (own_word q (goal_in s.old g i) ≡ true → Shows s.old x t (compound_word (place_in (goal_in s.old g i)))) }
     ensures { (own_word q (goal_in s.old g i) ≡ false → (result ≡ at) × (s.new ≡ s.old))
-        × ((text : Bytes) (x : Setting) (seen : List ℕ) (t : Term) (word : Bytes) → own_word q (goal_in s.old g i) ≡ true
-        → Counts s.old text x facts seen at → Shows s.old x t (compound_word (place_in (goal_in s.old g i))) → label ≡ length word
+        × ((text : Bytes) (x : Setting) (seen : List ℕ) (t : Term) → own_word q (goal_in s.old g i) ≡ true
+        → Counts s.old text x facts seen at → Shows s.old x t (compound_word (place_in (goal_in s.old g i)))
         → Counted s.old s.new text x facts at seen
-        (word ++ (shown seen alone (full x.values t) ++ (origin_of (goal_in s.old g i) ++ bytes "\n")))
+        (label.now ++ (shown seen alone (full x.values t) ++ (origin_of (goal_in s.old g i) ++ bytes "\n")))
         (seen_after seen (full x.values t)) result) }
 {
-    let goal = goal_at(s, g, i);
+    let goal = g.goal_at(s, i);
     if own(goal, q) {
         let w = goal_term(goal);
         let behind = origin_length(goal) + 1;
-        return count_line(s, facts, at, label, w, behind);
+        return count_line(s, facts, at, label.len(), w, behind);
     }
     at
 }
 
 // "`active GOAL`, `waiting GOAL` and `failed GOAL` lines, each group in the machine's order"
-fn count_goals(s: &mut [u64], facts: usize, at: usize, label: usize, g: Group, q: usize) -> usize
-    requires { (text : Bytes) × (x : Setting) × (seen : List ℕ) × (gs : List Goal) × (word : Bytes) × Counts s.old text x facts seen at
-        × Listed s.old x facts g q gs × (label ≡ length word) }
-    ensures { (text : Bytes) (x : Setting) (seen : List ℕ) (gs : List Goal) (word : Bytes) → Counts s.old text x facts seen at
-        → Listed s.old x facts g q gs → label ≡ length word
-        → Counted s.old s.new text x facts at seen (shown_goals x.values seen word gs) (seen_after_goals x.values seen gs) result }
+fn count_goals(s: &mut [u64], facts: usize, at: usize, label: &[u8], g: Group, q: usize) -> usize
+    requires { (text : Bytes) × (x : Setting) × (seen : List ℕ) × (gs : List Goal) × Counts s.old text x facts seen at × Listed s.old x facts g q gs }
+    ensures { (text : Bytes) (x : Setting) (seen : List ℕ) (gs : List Goal) → Counts s.old text x facts seen at → Listed s.old x facts g q gs
+        → Counted s.old s.new text x facts at seen (shown_goals x.values seen label.now gs) (seen_after_goals x.values seen gs) result }
 {
     let mut to = at;
-    let mut i = 0;
-    while i < g.count {
+    for i in 0..g.count {
         to = count_goal(s, facts, to, label, g, q, i);
-        i += 1;
     }
     to
 }
 
 // A variable's name, ` = `, its value and an LF.
-fn write_value(
-    text: &[u8],
-    s: &[u64],
-    facts: usize,
-    buffer: &mut [u8],
-    at: usize,
-    q: usize,
-    v: usize,
-) -> usize
-    requires { (x : Setting) × (order : List ℕ) × (xs : List Bytes) × Variables s.now text.now x q xs × (v < length xs)
-        × Writes s.now text.now x facts order (Term.variable writer v) (at + length (get_or xs v []) + 3) (length buffer.old)
-        × Fits s.now x facts order at buffer.old
+fn write_value(source: &Source, buffer: &mut [u8], at: usize, q: usize, v: usize) -> usize
+    requires { (x : Setting) × (order : List ℕ) × (xs : List Bytes) × Variables source.now.s.now source.now.text.now x q xs × (v < length xs)
+        × Writes source.now.s.now source.now.text.now x source.now.facts order (Term.variable writer v) (at + length (get_or xs v []) + 3) (length buffer.old)
+        × Fits source.now.s.now x source.now.facts order at buffer.old
         ((get_or xs v [] ++ bytes " = ") ++ (written order alone (full x.values (Term.variable writer v)) ++ bytes "\n")) }
-    ensures { (x : Setting) (order : List ℕ) (xs : List Bytes) → Variables s.now text.now x q xs → v < length xs
-        → Writes s.now text.now x facts order (Term.variable writer v) (at + length (get_or xs v []) + 3) (length buffer.old)
-        → Fits s.now x facts order at buffer.old
+    ensures { (x : Setting) (order : List ℕ) (xs : List Bytes) → Variables source.now.s.now source.now.text.now x q xs → v < length xs
+        → Writes source.now.s.now source.now.text.now x source.now.facts order (Term.variable writer v) (at + length (get_or xs v []) + 3) (length buffer.old)
+        → Fits source.now.s.now x source.now.facts order at buffer.old
         ((get_or xs v [] ++ bytes " = ") ++ (written order alone (full x.values (Term.variable writer v)) ++ bytes "\n"))
         → Puts buffer.old buffer.new at result
         ((get_or xs v [] ++ bytes " = ") ++ (written order alone (full x.values (Term.variable writer v)) ++ bytes "\n")) }
 {
-    let from = spelled(s, q, v, 0);
-    let n = spelled(s, q, v, 1);
-    let mut to = spelling(text, buffer, at, from, n);
+    let (from, n) = spelled(source.s, q, v);
+    let mut to = spelling(source.text, buffer, at, from, n);
     to = words(buffer, to, b" = ");
-    let w = variable(s, q, v);
-    write_line(text, s, facts, buffer, to, w)
+    let w = variable(source.s, q, v);
+    write_line(source, buffer, to, w)
 }
 
-fn write_values(
-    text: &[u8],
-    s: &[u64],
-    facts: usize,
-    buffer: &mut [u8],
-    at: usize,
-    q: usize,
-) -> usize
-    requires { (x : Setting) × (order : List ℕ) × (xs : List Bytes) × Readable s.now text.now x facts × Variables s.now text.now x q xs
-        × ((n : ℕ) → n < length xs → Numbered s.now x facts order (full x.values (Term.variable writer n)))
-        × Fits s.now x facts order at buffer.old (written_values x.values order 0 xs) }
-    ensures { (x : Setting) (order : List ℕ) (xs : List Bytes) → Readable s.now text.now x facts → Variables s.now text.now x q xs
-        → ((n : ℕ) → n < length xs → Numbered s.now x facts order (full x.values (Term.variable writer n)))
-        → Fits s.now x facts order at buffer.old (written_values x.values order 0 xs)
+fn write_values(source: &Source, buffer: &mut [u8], at: usize, q: usize) -> usize
+    requires { (x : Setting) × (order : List ℕ) × (xs : List Bytes) × Readable source.now.s.now source.now.text.now x source.now.facts
+        × Variables source.now.s.now source.now.text.now x q xs
+        × ((n : ℕ) → n < length xs → Numbered source.now.s.now x source.now.facts order (full x.values (Term.variable writer n)))
+        × Fits source.now.s.now x source.now.facts order at buffer.old (written_values x.values order 0 xs) }
+    ensures { (x : Setting) (order : List ℕ) (xs : List Bytes) → Readable source.now.s.now source.now.text.now x source.now.facts
+        → Variables source.now.s.now source.now.text.now x q xs
+        → ((n : ℕ) → n < length xs → Numbered source.now.s.now x source.now.facts order (full x.values (Term.variable writer n)))
+        → Fits source.now.s.now x source.now.facts order at buffer.old (written_values x.values order 0 xs)
         → Puts buffer.old buffer.new at result (written_values x.values order 0 xs) }
 {
-    let k = variables(s, q);
     let mut to = at;
-    let mut v = 0;
-    while v < k {
-        to = write_value(text, s, facts, buffer, to, q, v);
-        v += 1;
+    for v in 0..variables(source.s, q) {
+        to = write_value(source, buffer, to, q, v);
     }
     to
 }
 
 // The line of a goal, with its origin behind it.
-fn write_goal(
-    text: &[u8],
-    s: &[u64],
-    facts: usize,
-    buffer: &mut [u8],
-    at: usize,
-    label: &[u8],
-    goal: u64,
-) -> usize
-    requires { (x : Setting) × (order : List ℕ) × (t : Term) × Writes s.now text.now x facts order t (at + length label.now) (length buffer.old)
-        × Shows s.now x t (compound_word (place_in goal))
-        × Fits s.now x facts order at buffer.old (label.now ++ (written order alone (full x.values t) ++ (origin_of goal ++ bytes "\n"))) }
+fn write_goal(source: &Source, buffer: &mut [u8], at: usize, label: &[u8], goal: u64) -> usize
+    requires { (x : Setting) × (order : List ℕ) × (t : Term)
+        × Writes source.now.s.now source.now.text.now x source.now.facts order t (at + length label.now) (length buffer.old)
+        × Shows source.now.s.now x t (compound_word (place_in goal))
+        × Fits source.now.s.now x source.now.facts order at buffer.old (label.now ++ (written order alone (full x.values t) ++ (origin_of goal ++ bytes "\n"))) }
     ensures { (x : Setting) (order : List ℕ) (t : Term)
-        → Writes s.now text.now x facts order t (at + length label.now) (length buffer.old)
-        → Shows s.now x t (compound_word (place_in goal))
-        → Fits s.now x facts order at buffer.old
+        → Writes source.now.s.now source.now.text.now x source.now.facts order t (at + length label.now) (length buffer.old)
+        → Shows source.now.s.now x t (compound_word (place_in goal))
+        → Fits source.now.s.now x source.now.facts order at buffer.old
         (label.now ++ (written order alone (full x.values t) ++ (origin_of goal ++ bytes "\n")))
         → Puts buffer.old buffer.new at result
         (label.now ++ (written order alone (full x.values t) ++ (origin_of goal ++ bytes "\n"))) }
 {
     let mut to = words(buffer, at, label);
     let w = goal_term(goal);
-    to = write_term(text, s, facts, buffer, to, w);
+    to = write_term(source, buffer, to, w);
     to = origin(buffer, to, goal);
     put(buffer, to, b'\n')
 }
 
 // The length of the section behind so many bytes; every pair that it shows has its number.
 fn count_lines(s: &mut [u64], room: Room, facts: usize, at: usize, q: usize, t: Standing) -> usize
-    requires { (text : Bytes) × (x : Setting) × (xs : List Bytes) × (actives : List Goal) × (ws : List Goal) × (fs : List Goal) × Counts s.old text x facts [] at
+    requires { (text : Bytes) × (x : Setting) × (xs : List Bytes) × (actives : List Goal) × (ws : List Goal) × (fs : List Goal)
+        × Counts s.old text x facts [] at
         × SectionAt s.old text x facts (figures room) t q xs actives ws fs }
     ensures { (text : Bytes) (x : Setting) (xs : List Bytes) (actives ws fs : List Goal) → Counts s.old text x facts [] at
         → SectionAt s.old text x facts (figures room) t q xs actives ws fs
         → Counted s.old s.new text x facts at [] (section_bytes s.old (figures room) t x.values q xs actives ws fs)
         (lines_seen x.values xs actives ws fs) result }
 {
-    let c = tally(s, room, q, t);
-    let mut to = further(at, header_length(q, c));
+    let c = Tallies::of(s, room, q, t);
+    let mut to = further(at, c.header_length(q));
     to = count_values(s, facts, to, q);
-    to = count_goals(s, facts, to, 7, active(room, t), q);
-    to = count_goals(s, facts, to, 8, waiting(room, t), q);
-    count_goals(s, facts, to, 7, failed(room, t), q)
+    to = count_goals(s, facts, to, ACTIVE, Group::active(room, t), q);
+    to = count_goals(s, facts, to, WAITING, Group::waiting(room, t), q);
+    count_goals(s, facts, to, FAILED, Group::failed(room, t), q)
 }
 
 // The lines of a list's goals that are the query's.
 fn write_goals(
-    text: &[u8],
-    s: &[u64],
-    facts: usize,
+    source: &Source,
     buffer: &mut [u8],
     at: usize,
     label: &[u8],
     g: Group,
     q: usize,
 ) -> usize
-    requires { (x : Setting) × (order : List ℕ) × (gs : List Goal) × Readable s.now text.now x facts × Listed s.now x facts g q gs
-        × Numbers s.now x facts order × AllIn x.values order gs
-        × Fits s.now x facts order at buffer.old (written_goals x.values order label.now gs) }
-    ensures { (x : Setting) (order : List ℕ) (gs : List Goal) → Readable s.now text.now x facts
-        → Listed s.now x facts g q gs → Numbers s.now x facts order → AllIn x.values order gs
-        → Fits s.now x facts order at buffer.old (written_goals x.values order label.now gs)
+    requires { (x : Setting) × (order : List ℕ) × (gs : List Goal) × Readable source.now.s.now source.now.text.now x source.now.facts
+        × Listed source.now.s.now x source.now.facts g q gs
+        × Numbers source.now.s.now x source.now.facts order × AllIn x.values order gs
+        × Fits source.now.s.now x source.now.facts order at buffer.old (written_goals x.values order label.now gs) }
+    ensures { (x : Setting) (order : List ℕ) (gs : List Goal) → Readable source.now.s.now source.now.text.now x source.now.facts
+        → Listed source.now.s.now x source.now.facts g q gs → Numbers source.now.s.now x source.now.facts order → AllIn x.values order gs
+        → Fits source.now.s.now x source.now.facts order at buffer.old (written_goals x.values order label.now gs)
         → Puts buffer.old buffer.new at result (written_goals x.values order label.now gs) }
 {
     let mut to = at;
-    let mut i = 0;
-    while i < g.count {
-        let goal = goal_at(s, g, i);
+    for i in 0..g.count {
+        let goal = g.goal_at(source.s, i);
         if own(goal, q) {
-            to = write_goal(text, s, facts, buffer, to, label, goal);
+            to = write_goal(source, buffer, to, label, goal);
         }
-        i += 1;
     }
     to
 }
@@ -318,7 +297,7 @@ pub fn count_section(s: &mut [u64], room: Room, at: usize, q: usize, t: Standing
         → SectionCounted s.old s.new text x (figures room) t q xs actives ws fs at result }
 {
     restart(s);
-    count_lines(s, room, layout::waiters(room), at, q, t)
+    count_lines(s, room, room.waiters(), at, q, t)
 }
 
 // A section written: its pairs have their numbers, and it fits.
@@ -343,10 +322,11 @@ pub fn write_section(
         (section_bytes s.now (figures room) t x.values q xs actives ws fs)
         → Puts buffer.old buffer.new at result (section_bytes s.now (figures room) t x.values q xs actives ws fs) }
 {
-    let facts = layout::waiters(room);
-    let mut to = header(buffer, at, q, tally(s, room, q, t));
-    to = write_values(text, s, facts, buffer, to, q);
-    to = write_goals(text, s, facts, buffer, to, b"active ", active(room, t), q);
-    to = write_goals(text, s, facts, buffer, to, b"waiting ", waiting(room, t), q);
-    write_goals(text, s, facts, buffer, to, b"failed ", failed(room, t), q)
+    let facts = room.waiters();
+    let source = Source { text, s, facts };
+    let mut to = Tallies::of(s, room, q, t).header(buffer, at, q);
+    to = write_values(&source, buffer, to, q);
+    to = write_goals(&source, buffer, to, ACTIVE, Group::active(room, t), q);
+    to = write_goals(&source, buffer, to, WAITING, Group::waiting(room, t), q);
+    write_goals(&source, buffer, to, FAILED, Group::failed(room, t), q)
 }

@@ -1,14 +1,13 @@
 -- The first lines by their pieces: how long they are, and put piece by piece.
-use Prim.Native.Nat.{ℕ, ◌+◌, ◌≤◌}
-use mathlib.Core.Path.{◌≡◌, refl, sym, ap, ◌∙◌}
-use mathlib.Core.List.{List, [], ◌∷◌, ◌++◌, append_assoc}
+use Prim.Native.Nat.{ℕ, ◌+◌}
+use mathlib.Core.Path.{◌≡◌}
+use mathlib.Core.List.{List, ◌++◌, append_assoc}
 use native.Mathlib.Omega.{arith}
 use lib.ListN.{length, length-append}
-use Rattle.meaning.specs.Bytes.{Bytes, bytes, decimal}
+use Rattle.meaning.specs.Bytes.{bytes, decimal}
 use Rattle.meaning.specs.Report.{verdict_bytes}
 use Rattle.term.specs.States.{verdict_of}
 use Rattle.term.specs.declared.state.Verdict.{Verdict as Told}
-use Rattle.term.specs.declared.state.Verdict.TheVariants.{Rest, Budget, Room as NoRoom}
 use Rattle.report_pairs.specs.Laid.{Puts}
 use Rattle.report_tallies.specs.Header.{header_of, run_words_of, run_line_of}
 use Rattle.report_tallies.specs.declared.header.Tallies.{Tallies}
@@ -38,23 +37,17 @@ puts_header q c b₀ b₁ b₂ b₃ b₄ b₅ b₆ at₀ at₁ at₂ at₃ at₄
     (puts_behind _ _ b₀ b₂ b₃ at₀ at₂ at₃ (puts_behind _ _ b₀ b₁ b₂ at₀ at₁ at₂ p₁ p₂) p₃) p₄) p₅) p₆)
 
 -- The run's line.
-pub run_line_size : (v : Told) (steps : ℕ) → length (run_line_of v steps) ≡ length (run_words_of v) + length (decimal steps) + 1
-unfolding run_line_of bytes
-run_line_size v steps = simp length-append
+pub run_line_size : (v : Told) (steps : ℕ) → length (run_line_of v steps) ≡ 12 + length (verdict_bytes (verdict_of v)) + length (decimal steps)
+unfolding run_line_of run_words_of bytes
+run_line_size v steps = simp length-append (omega arith)
 
-pub run_rest_size : (steps : ℕ) → length (run_line_of Rest steps) ≡ 16 + length (decimal steps)
-unfolding run_words_of verdict_bytes bytes
-run_rest_size steps = run_line_size Rest steps ∙ (omega arith)
+run_pieces : (v : Told) (steps : ℕ) → bytes "run " ++ verdict_bytes (verdict_of v) ++ (bytes " steps " ++ decimal steps) ++ bytes "\n" ≡ run_line_of v steps
+unfolding run_line_of run_words_of
+run_pieces v steps = simp append_assoc
 
-pub run_budget_size : (steps : ℕ) → length (run_line_of Budget steps) ≡ 18 + length (decimal steps)
-unfolding run_words_of verdict_bytes bytes
-run_budget_size steps = run_line_size Budget steps ∙ (omega arith)
-
-pub run_room_size : (steps : ℕ) → length (run_line_of NoRoom steps) ≡ 16 + length (decimal steps)
-unfolding run_words_of verdict_bytes bytes
-run_room_size steps = run_line_size NoRoom steps ∙ (omega arith)
-
-pub puts_run : (v : Told) (steps : ℕ) (b₀ b₁ b₂ b₃ : List ℕ) (at₁ at₂ at₃ : ℕ)
-    → Puts b₀ b₁ 0 at₁ (run_words_of v) → Puts b₁ b₂ at₁ at₂ (decimal steps) → Puts b₂ b₃ at₂ at₃ (bytes "\n") → Puts b₀ b₃ 0 at₃ (run_line_of v steps)
-unfolding run_line_of
-puts_run v steps b₀ b₁ b₂ b₃ at₁ at₂ at₃ p₁ p₂ p₃ = puts_behind _ _ b₀ b₂ b₃ 0 at₂ at₃ (puts_behind _ _ b₀ b₁ b₂ 0 at₁ at₂ p₁ p₂) p₃
+pub puts_run : (v : Told) (steps : ℕ) (b₀ b₁ b₂ b₃ b₄ : List ℕ) (at₁ at₂ at₃ at₄ : ℕ)
+    → Puts b₀ b₁ 0 at₁ (bytes "run ") → Puts b₁ b₂ at₁ at₂ (verdict_bytes (verdict_of v)) → Puts b₂ b₃ at₂ at₃ (bytes " steps " ++ decimal steps)
+    → Puts b₃ b₄ at₃ at₄ (bytes "\n") → Puts b₀ b₄ 0 at₄ (run_line_of v steps)
+puts_run v steps b₀ b₁ b₂ b₃ b₄ at₁ at₂ at₃ at₄ p₁ p₂ p₃ p₄ =
+    puts_as _ (run_line_of v steps) b₀ b₄ 0 at₄ (run_pieces v steps)
+    (puts_behind _ _ b₀ b₃ b₄ 0 at₃ at₄ (puts_behind _ _ b₀ b₂ b₃ 0 at₂ at₃ (puts_behind _ _ b₀ b₁ b₂ 0 at₁ at₂ p₁ p₂) p₃) p₄)

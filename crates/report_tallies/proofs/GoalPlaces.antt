@@ -1,16 +1,16 @@
 -- The places of a list of goals, and the goals found there.
-use Prim.Native.Nat.{ℕ, zero, suc, ◌+◌, ◌*◌, ◌-◌, ◌%◌, ◌≤◌, ◌<◌}
+use Prim.Native.Nat.{ℕ, suc, ◌+◌, ◌*◌, ◌-◌, ◌≤◌, ◌<◌}
 use mathlib.Core.Path.{◌≡◌, refl, sym, ap, ◌∙◌}
 use mathlib.Core.Bool.{Bool, true, false}
-use mathlib.Core.List.{List, [], ◌∷◌, ◌++◌, append_assoc, append-nil}
+use mathlib.Core.List.{List, [], ◌∷◌}
 use native.Mathlib.Omega.{arith}
 use lib.Dec.{eqb, ltb}
 use lib.ListN.{length, get_or}
 use borrow.Author.Tests.{le-leb, leb-true, eq-eqb, ne_eqb}
 use Rattle.meaning.specs.Bytes.{when◌then◌else◌}
-use Rattle.term.specs.States.{round, standing}
+use Rattle.term.specs.States.{round}
 use Rattle.term.specs.Words.{tag_in}
-use Rattle.report_tallies.specs.Groups.{goal_place, goal_in, GroupInside, own, own_from}
+use Rattle.report_tallies.specs.Groups.{goal_in, GroupInside, own, own_from}
 use Rattle.report_tallies.specs.declared.groups.Group.{Group}
 
 pub round_below : (size at : ℕ) → at < size → round size at ≡ at

@@ -4,8 +4,7 @@ use mathlib.Core.Path.{◌≡◌, sym, ap₂, ◌∙◌}
 use mathlib.Core.List.{List, ◌++◌, append_assoc}
 use native.Mathlib.Omega.{arith}
 use lib.ListN.{length, length-append}
-use Rattle.meaning.specs.Bytes.{Bytes, bytes, decimal}
-use Rattle.meaning.specs.State.{Origin}
+use Rattle.meaning.specs.Bytes.{bytes, decimal}
 use Rattle.meaning.specs.Report.{origin_bytes}
 use Rattle.term.specs.Goals.{clause_in, tries_in}
 use Rattle.report_pairs.specs.Laid.{Puts}

@@ -1,21 +1,20 @@
 -- The goals of a query, as the scratch has them in each of the three lists: the words of those of its goals, in order.
-use Prim.Native.Nat.{ℕ, zero, suc, ◌+◌, ◌*◌, ◌-◌, ◌/◌, ◌%◌, ◌≤◌, ◌<◌}
-use mathlib.Core.Path.{◌≡◌, refl, sym, ap, ap₂, subst, ◌∙◌}
+use Prim.Native.Nat.{ℕ, zero, suc, ◌+◌, ◌*◌, ◌≤◌, ◌<◌}
+use mathlib.Core.Path.{◌≡◌, refl, sym, ap, ap₂, ◌∙◌}
 use mathlib.Core.Bool.{Bool, true, false}
 use mathlib.Core.List.{List, [], ◌∷◌, ◌++◌, map, append_assoc, append-nil}
 use native.Mathlib.Decide.{dec_lt}
 use native.Mathlib.Omega.{arith}
-use lib.Dec.{eqb, ltb}
+use lib.Dec.{eqb}
 use lib.ListN.{length, get_or}
-use borrow.Author.Tests.{le-leb, leb-true, eq-eqb, ne_eqb}
+use borrow.Author.Tests.{ne_eqb}
 use Rattle.meaning.specs.Bytes.{Bytes, when◌then◌else◌, those}
 use Rattle.meaning.specs.Terms.{Query, as_term}
-use Rattle.meaning.specs.State.{Room, QueryUnit, Goal, Waiting, State, unit_at, number_of, of}
-use Rattle.laws.proofs.Lists.EachOf.{Each, each_append, each_split, each_map}
-use Rattle.laws.proofs.Lists.Filters.{those_append, those_map}
-use Rattle.term.specs.Cells.{Places}
-use Rattle.term.specs.Setting.{Within, AllWithin}
-use Rattle.term.specs.Layout.{queue_region, waiting_region, failed_region, need_of, InRange}
+use Rattle.meaning.specs.State.{Room, QueryUnit, Goal, Waiting, State, number_of, of}
+use Rattle.laws.proofs.Lists.EachOf.{Each, each_split}
+use Rattle.laws.proofs.Lists.Filters.{those_append}
+use Rattle.term.specs.Setting.{Within}
+use Rattle.term.specs.Layout.{queue_region, need_of, InRange}
 use Rattle.term.specs.States.{
   Atlas,
   goal_word,
@@ -32,7 +31,7 @@ use Rattle.term.specs.States.{
 use Rattle.term.specs.declared.state.Standing.{Standing}
 use Rattle.term.specs.Goals.{origin_word}
 use Rattle.term.specs.Words.{packed, tag_in}
-use Rattle.report_tallies.specs.Groups.{goal_place, goal_in, GroupInside, own, goals_from, own_from, active_group, waiting_group, failed_group}
+use Rattle.report_tallies.specs.Groups.{goal_in, GroupInside, own, goals_from, own_from, active_group, waiting_group, failed_group}
 use Rattle.report_tallies.specs.declared.groups.Group.{Group}
 use Rattle.report_tallies.proofs.GoalPlaces.{round_below, round_beyond}
 

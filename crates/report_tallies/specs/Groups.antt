@@ -1,5 +1,5 @@
 -- The goals of one of the three lists, as words of the scratch: one by one, and those of a query.
-use Rattle.std.specs.Prelude.{ℕ, zero, suc, ◌+◌, ◌*◌, ◌%◌, ◌≤◌, ◌<◌, Bool, true, false, List, [], ◌∷◌, ◌++◌, eqb, length, get_or}
+use Rattle.std.specs.Prelude.{ℕ, zero, suc, ◌+◌, ◌*◌, ◌≤◌, ◌<◌, Bool, false, List, [], ◌∷◌, ◌++◌, eqb, length, get_or}
 use Rattle.meaning.specs.Bytes.{when◌then◌else◌}
 use Rattle.meaning.specs.State.{Room}
 use Rattle.term.specs.States.{round, standing}

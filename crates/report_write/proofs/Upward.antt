@@ -2,16 +2,15 @@
 use Prim.Native.Nat.{ℕ, zero, suc, ◌+◌, ◌-◌, ◌/◌, ◌%◌, ◌≤◌, ◌<◌}
 use mathlib.Core.Path.{◌≡◌, refl, ◌∙◌, sym, ap}
 use mathlib.Core.Logic.{◌≢◌}
-use mathlib.Core.List.{List, [], ◌∷◌, ◌++◌, append_assoc, append-nil}
+use mathlib.Core.List.{List, [], ◌∷◌, ◌++◌, append_assoc}
 use native.Mathlib.Omega.{arith}
 use lib.ListN.{length, length-append, get_or}
 use Rattle.meaning.specs.Bytes.{Bytes}
 use Rattle.term.specs.Setting.{Setting}
 use Rattle.report_pairs.specs.Laid.{Puts}
 use Rattle.report_pairs.specs.Walk.{after, rest, Found}
-use Rattle.report_pairs.specs.declared.cells.Next.TheVariants.{Goes, Ends}
+use Rattle.std.specs.Prelude.{Option, Some, None}
 use Rattle.report_write.specs.Frames.{Behind, Frames, Rose}
-use Rattle.report_write.specs.declared.rising.Risen.TheVariants.{Goes as Onward, Ends as Done}
 use Rattle.report_pairs.proofs.Leaves.{length_more}
 use Rattle.report_pairs.proofs.Laid.{puts_none}
 use Rattle.report_put.proofs.Putting.{puts_two, puts_is, puts_length}
@@ -49,8 +48,9 @@ module _ (frames s : List ℕ) (x : Setting) (facts : ℕ) (order b₀ b : List 
   abbrev here : Bytes
   here = after x.values order B.f B.j B.us
 
-  pub rising_room : (byte : ℕ) (further : Bytes) → here ≡ byte ∷ further → at + length bs ≤ length b₀ → to < length b
-  rising_room byte further e fit =
+  -- There is room for the byte that was found.
+  room : (byte : ℕ) (further : Bytes) → here ≡ byte ∷ further → at + length bs ≤ length b₀ → to < length b
+  room byte further e fit =
       omega (
         arith,
         fit,
@@ -64,6 +64,10 @@ module _ (frames s : List ℕ) (x : Setting) (facts : ℕ) (order b₀ b : List 
         puts_length R.puts,
       )
 
+  pub rising_room : (found : ℕ × Option (ℕ × ℕ)) → Found s x B.f B.j B.us found → at + length bs ≤ length b₀ → to < length b
+  rising_room (byte, None) F = room byte [] (F.0 order)
+  rising_room (byte, Some (q, k)) F = room byte _ (F.5 order)
+
   module _ (b₁ : List ℕ) (to₁ byte : ℕ) (P : Puts b b₁ to to₁ (byte ∷ [])) where
     further_on : (left : Bytes) → byte ∷ left ≡ R.left → (R.done ++ (byte ∷ [])) ++ left ≡ bs
     further_on left e = append_assoc R.done (byte ∷ []) left ∙ ap (λ (l : Bytes). R.done ++ l) e ∙ R.whole
@@ -71,8 +75,8 @@ module _ (frames s : List ℕ) (x : Setting) (facts : ℕ) (order b₀ b : List 
     last_byte : here ≡ byte ∷ [] → byte ∷ B.outer ≡ R.left
     last_byte e = ap (λ (l : Bytes). l ++ B.outer) (sym e) ∙ B.is
 
-    pub rising_goes : (q k : ℕ) → Found s x B.f B.j B.us (Goes byte q k)
-        → Rose frames s x facts order b₀ b₁ at deep bs (Onward to₁ q k d)
+    pub rising_goes : (q k : ℕ) → Found s x B.f B.j B.us (byte, Some (q, k))
+        → Rose frames s x facts order b₀ b₁ at deep bs (to₁, Some (q, k, d))
     rising_goes q k (j, g, v, vs, position, bytes_are, seen_are, stands_are) = (
       R.done ++ (byte ∷ []),
       rest x.values order g j v vs ++ B.outer,
@@ -93,13 +97,13 @@ module _ (frames s : List ℕ) (x : Setting) (facts : ℕ) (order b₀ b : List 
       R.low,
     )
 
-    pub rising_ends : Found s x B.f B.j B.us (Ends byte) → d ≡ 0 → Puts b₀ b₁ at to₁ bs
+    pub rising_ends : Found s x B.f B.j B.us (byte, None) → d ≡ 0 → Puts b₀ b₁ at to₁ bs
     rising_ends F e =
         let none = outermost frames s x facts order d B.outer e B.outside in
         let one : byte ∷ [] ≡ R.left = ap (λ (l : Bytes). byte ∷ l) (sym none) ∙ last_byte (F.0 order) in
         puts_is (ap (λ (l : Bytes). R.done ++ l) one ∙ R.whole) (puts_two R.puts P)
 
-    pub rising_on : Found s x B.f B.j B.us (Ends byte) → d ≢ 0
+    pub rising_on : Found s x B.f B.j B.us (byte, None) → d ≢ 0
         → Rising frames s x facts order b₀ b₁ at to₁ (get_or frames (d - 1) 0 / 8) (get_or frames (d - 1) 0 % 8) (d - 1) deep bs
     rising_on F e = record {
       done = R.done ++ (byte ∷ []);

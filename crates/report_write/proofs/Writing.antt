@@ -1,7 +1,7 @@
 -- Writing a term: a compound's opening, and the walk over its arguments.
 use Prim.Native.Nat.{ℕ, zero, suc, ◌+◌, ◌*◌, ◌/◌, ◌%◌, ◌≤◌, ◌<◌}
 use mathlib.Core.Path.{◌≡◌, refl, ◌∙◌, sym, ap}
-use mathlib.Core.Logic.{◌≢◌, inl, inr}
+use mathlib.Core.Logic.{inl, inr}
 use mathlib.Core.List.{List, [], ◌++◌, append_assoc, append-nil}
 use native.Mathlib.Omega.{arith}
 use native.Mathlib.Numerals.{add-one}
@@ -17,11 +17,11 @@ use Rattle.report_pairs.specs.Threaded.{full, all_full}
 use Rattle.report_pairs.specs.Laid.{Puts}
 use Rattle.report_pairs.specs.Facts.{Readable, Shows, Led}
 use Rattle.report_pairs.specs.Walk.{opening_bytes, Opens, StandsAt, after, rest}
-use Rattle.report_leaves.specs.Fits.{Fits, Copied}
+use Rattle.report_leaves.specs.Fits.{Fits}
 use Rattle.report_leaves.specs.Writes.{Numbered, Writes}
 use Rattle.report_leaves.proofs.Copying.{fits_front, fits_behind, fits_as}
 use Rattle.report_write.specs.Frames.{Behind, Before, Nothing, Frames, Rose}
-use Rattle.report_write.specs.declared.rising.Risen.TheVariants.{Goes as Onward, Ends as Done}
+use Rattle.std.specs.Prelude.{Option as Told, Some, None}
 use Rattle.report_pairs.proofs.Full.{full_compound}
 use Rattle.report_pairs.proofs.Told.{seen, seen_term, compound_told}
 use Rattle.report_pairs.proofs.Wholes.{whole_is, some_argument, stands_opens}
@@ -249,10 +249,10 @@ module _ {frames s : List ℕ} {text : Bytes} {x : Setting} {facts : ℕ} {order
     pub going_fits : to₁ + length later_bytes ≤ length b₁
     going_fits = omega (arith, sizes, F.room, G.puts.place, P.place, puts_length G.puts, puts_length P)
 
-    pub going_ends : {b₂ : List ℕ} {to₂ : ℕ} → Rose frames s x facts order b₁ b₂ to₁ d later_bytes (Done to₂) → Puts b₀ b₂ at to₂ whole
+    pub going_ends : {b₂ : List ℕ} {to₂ : ℕ} → Rose frames s x facts order b₁ b₂ to₁ d later_bytes (to₂, None) → Puts b₀ b₂ at to₂ whole
     going_ends R = puts_is whole_here (puts_two (puts_two G.puts P) R)
 
-    pub going_on : {b₂ : List ℕ} {to₂ p₂ i₂ d₂ : ℕ} → Rose frames s x facts order b₁ b₂ to₁ d later_bytes (Onward to₂ p₂ i₂ d₂)
+    pub going_on : {b₂ : List ℕ} {to₂ p₂ i₂ d₂ : ℕ} → Rose frames s x facts order b₁ b₂ to₁ d later_bytes (to₂, Some (p₂, i₂, d₂))
         → Going frames s x facts order whole b₀ b₂ at p₂ i₂ d₂ to₂
     going_on (done₂, left₂, P₂, is₂, before₂, rises, low) = record {
       done = (G.done ++ here) ++ done₂;
@@ -286,27 +286,26 @@ module _ {frames s : List ℕ} {text : Bytes} {x : Setting} {facts : ℕ} {order
           size = length-set frames d (8 * p + i) ∙ G.size;
         }
 
+-- What was put on the way up, by its parts.
+pub rose_as : (frames s : List ℕ) (x : Setting) (facts : ℕ) (order b b' : List ℕ) (at deep : ℕ) (bs : Bytes) (r : ℕ × Told (ℕ × ℕ × ℕ)) (o : Told (ℕ × ℕ × ℕ)) → r.1 ≡ o
+    → Rose frames s x facts order b b' at deep bs r → Rose frames s x facts order b b' at deep bs (r.0, o)
+rose_as frames s x facts order b b' at deep bs (to, n) o e R = rw e at R
+
 pub puts_moved : {xs : Bytes} {b c c' : List ℕ} {at to to' : ℕ} → c' ≡ c → to' ≡ to → Puts b c at to xs → Puts b c' at to' xs
 puts_moved e f p = rw (e, f) p
 
 -- Nothing was copied: the walk stands as it did.
-pub puts_yet : {xs ys : Bytes} {b₀ b c : List ℕ} {at m to : ℕ} → Copied b c to m xs → m ≡ to → Puts b₀ b at to ys → Puts b₀ c at to ys
-puts_yet k e P = rw (k.none_put e) P
+unfoldable pub going_still : {frames s : List ℕ} {x : Setting} {facts : ℕ} {order : List ℕ} {whole : Bytes} {b₀ b c : List ℕ} {at p i d to : ℕ} → c ≡ b
+    → Going frames s x facts order whole b₀ b at p i d to → Going frames s x facts order whole b₀ c at p i d to
+going_still e G = record { done = G.done; left = G.left; puts = rw e G.puts; is = G.is; before = G.before; few = G.few; size = G.size }
 
-unfoldable pub going_still : {frames s : List ℕ} {x : Setting} {facts : ℕ} {order : List ℕ} {whole xs : Bytes} {b₀ b c : List ℕ} {at p i d to m : ℕ} → Copied b c to m xs
-    → m ≡ to → Going frames s x facts order whole b₀ b at p i d to → Going frames s x facts order whole b₀ c at p i d to
-going_still k e G = record { done = G.done; left = G.left; puts = puts_yet k e G.puts; is = G.is; before = G.before; few = G.few; size = G.size }
-
-pub fits_still : {s : List ℕ} {x : Setting} {facts : ℕ} {order : List ℕ} {xs ys : Bytes} {b c : List ℕ} {at m : ℕ} → Copied b c at m xs → m ≡ at
+pub fits_still : {s : List ℕ} {x : Setting} {facts : ℕ} {order : List ℕ} {ys : Bytes} {b c : List ℕ} {at : ℕ} → c ≡ b
     → Fits s x facts order at b ys → Fits s x facts order at c ys
-fits_still k e F = rw (k.none_put e) F
+fits_still e F = rw e F
 
-pub puts_still : {xs ys : Bytes} {b c d : List ℕ} {at m to : ℕ} → Copied b c at m xs → m ≡ at → Puts c d at to ys → Puts b d at to ys
-puts_still k e P = rw (k.none_put e) at P
+pub puts_still : {ys : Bytes} {b c d : List ℕ} {at to : ℕ} → c ≡ b → Puts c d at to ys → Puts b d at to ys
+puts_still e P = rw e at P
 
-pub writes_still : {s : List ℕ} {text : Bytes} {x : Setting} {facts : ℕ} {order : List ℕ} {t : Term} {xs : Bytes} {b c : List ℕ} {at m : ℕ} → Copied b c at m xs
-    → m ≡ at → Writes s text x facts order t at (length b) → Writes s text x facts order t at (length c)
-writes_still k e W = rw (k.none_put e) W
-
-pub still_length : {xs : Bytes} {b c : List ℕ} {at m : ℕ} → Copied b c at m xs → m ≡ at → length c ≡ length b
-still_length k e = rw (k.none_put e)
+pub writes_still : {s : List ℕ} {text : Bytes} {x : Setting} {facts : ℕ} {order : List ℕ} {t : Term} {b c : List ℕ} {at : ℕ} → c ≡ b
+    → Writes s text x facts order t at (length b) → Writes s text x facts order t at (length c)
+writes_still e W = rw e W

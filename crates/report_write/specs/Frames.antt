@@ -1,5 +1,5 @@
 -- Where a walk stands among compounds that are not yet written to their end, and what is still to be written there.
-use Rattle.std.specs.Prelude.{ℕ, zero, suc, ◌+◌, ◌/◌, ◌%◌, ◌≤◌, ◌<◌, ◌≡◌, List, [], ◌++◌, length, get_or}
+use Rattle.std.specs.Prelude.{ℕ, zero, suc, ◌+◌, ◌/◌, ◌%◌, ◌≤◌, ◌<◌, ◌≡◌, List, [], ◌++◌, length, get_or, Option, Some, None}
 use Rattle.meaning.specs.Bytes.{Bytes}
 use Rattle.meaning.specs.Terms.{Functor, Term, Terms, more}
 use Rattle.meaning.specs.Report.{number_in}
@@ -9,8 +9,6 @@ use Rattle.report_pairs.specs.Threaded.{all_full}
 use Rattle.report_pairs.specs.Laid.{Puts}
 use Rattle.report_pairs.specs.Facts.{fact_place}
 use Rattle.report_pairs.specs.Walk.{Position, after, rest}
-use Rattle.report_write.specs.declared.rising.Risen.{Risen}
-use Rattle.report_write.specs.declared.rising.Risen.TheVariants.{Goes, Ends}
 
 -- Each pair of these arguments has its number.
 abbrev pub NumberedIn : List ℕ → Setting → ℕ → List ℕ → Terms → Type 0
@@ -50,7 +48,7 @@ Frames frames s x facts order zero bs = Nothing bs
 Frames frames s x facts order (suc d) bs = Behind (Frames frames s x facts order d) s x facts order (get_or frames d 0 / 8) (get_or frames d 0 % 8) bs
 
 -- Some of these bytes were put, and the walk stands before an argument; or all of them were.
-abbrev pub Rose : List ℕ → List ℕ → Setting → ℕ → List ℕ → List ℕ → List ℕ → ℕ → ℕ → Bytes → Risen → Type 0
-Rose frames s x facts order b b' at deep bs (Ends to) = Puts b b' at to bs
-Rose frames s x facts order b b' at deep bs (Goes to p i d) = (done : Bytes) × (left : Bytes) × Puts b b' at to done × (done ++ left ≡ bs)
+abbrev pub Rose : List ℕ → List ℕ → Setting → ℕ → List ℕ → List ℕ → List ℕ → ℕ → ℕ → Bytes → ℕ × Option (ℕ × ℕ × ℕ) → Type 0
+Rose frames s x facts order b b' at deep bs (to, None) = Puts b b' at to bs
+Rose frames s x facts order b b' at deep bs (to, Some (p, i, d)) = (done : Bytes) × (left : Bytes) × Puts b b' at to done × (done ++ left ≡ bs)
     × Before (Frames frames s x facts order d) s x facts order p i left × (at < to) × (d ≤ deep)

@@ -5,20 +5,16 @@ ghost use Rattle.term.specs.Setting.{Setting};
 ghost use Rattle.report_pairs.specs.Facts.{Readable};
 ghost use Rattle.report_write.specs.Frames.{Behind, Frames, Rose};
 
-use report_pairs::cells::{Next, behind};
+use report_leaves::source::Source;
+use report_pairs::cells::behind;
 use report_put::put::put;
 
-// The place in the buffer, the next argument by its compound and its number, and how many compounds are still around it; or the place behind them all.
-#[derive(Clone, Copy)]
-pub enum Risen {
-    Goes(usize, usize, usize, usize),
-    Ends(usize),
-}
+// The place in the buffer, and the next argument by its compound and its number, with how many compounds are still around it; none behind them all.
+pub type Risen = (usize, Option<(usize, usize, usize)>);
 
 // From behind the argument up to the next one. Of each compound around it 8 times its place and the number of its argument stand in the frames.
 pub fn rise(
-    s: &[u64],
-    facts: usize,
+    source: &Source,
     buffer: &mut [u8],
     frames: &[usize; 16],
     at: usize,
@@ -26,32 +22,29 @@ pub fn rise(
     number: usize,
     deep: usize,
 ) -> Risen
-    requires { (text : Bytes) × (x : Setting) × (order : List ℕ) × (bs : Bytes) × Readable s.now text x facts
-        × Behind (Frames frames.now s.now x facts order deep) s.now x facts order place number bs × (at + length bs ≤ length buffer.old) × (deep ≤ 16) }
-    ensures { (text : Bytes) (x : Setting) (order : List ℕ) (bs : Bytes) → Readable s.now text x facts
-        → Behind (Frames frames.now s.now x facts order deep) s.now x facts order place number bs
-        → Rose frames.now s.now x facts order buffer.old buffer.new at deep bs result }
+    requires { (text : Bytes) × (x : Setting) × (order : List ℕ) × (bs : Bytes) × Readable source.now.s.now text x source.now.facts
+        × Behind (Frames frames.now source.now.s.now x source.now.facts order deep) source.now.s.now x source.now.facts order place number bs
+        × (at + length bs ≤ length buffer.old) × (deep ≤ 16) }
+    ensures { (text : Bytes) (x : Setting) (order : List ℕ) (bs : Bytes) → Readable source.now.s.now text x source.now.facts
+        → Behind (Frames frames.now source.now.s.now x source.now.facts order deep) source.now.s.now x source.now.facts order place number bs
+        → Rose frames.now source.now.s.now x source.now.facts order buffer.old buffer.new at deep bs result }
 {
     let mut to = at;
     let mut p = place;
     let mut i = number;
     let mut depth = deep;
     loop {
-        match behind(s, facts, p, i) {
-            Next::Goes(b, q, j) => {
-                to = put(buffer, to, b);
-                return Risen::Goes(to, q, j, depth);
-            }
-            Next::Ends(b) => {
-                to = put(buffer, to, b);
-                if depth == 0 {
-                    return Risen::Ends(to);
-                }
-                depth -= 1;
-                let frame = frames[depth];
-                p = frame / 8;
-                i = frame % 8;
-            }
+        let (b, next) = behind(source.s, source.facts, p, i);
+        to = put(buffer, to, b);
+        if let Some((q, j)) = next {
+            return (to, Some((q, j, depth)));
         }
+        if depth == 0 {
+            return (to, None);
+        }
+        depth -= 1;
+        let frame = frames[depth];
+        p = frame / 8;
+        i = frame % 8;
     }
 }

@@ -12,9 +12,8 @@ ghost use Rattle.report_leaves.specs.Fits.{Fits};
 ghost use Rattle.report_leaves.specs.Writes.{Writes};
 ghost use Rattle.report_write.specs.Frames.{Before, Nothing};
 
-use crate::rising::{Risen, rise};
-use report_leaves::copy::copied;
-use report_leaves::leaf::{leaf, opening};
+use crate::rising::rise;
+use report_leaves::source::Source;
 use report_pairs::ends::end;
 use term::scratch::word_at;
 use term::word::{View, look};
@@ -23,89 +22,69 @@ use term::word::{View, look};
 // alternate: `write_term` calls this function, and this function calls `write_term`, each time with fewer bytes of the buffer left. The places of up to 16
 // compounds, one in the other, are kept in the frames, so only a compound deeper in is such a call. A value that stands in the buffer already is copied.
 #[cycle(write_arguments_write_term)]
-fn write_arguments(
-    text: &[u8],
-    s: &[u64],
-    facts: usize,
-    buffer: &mut [u8],
-    at: usize,
-    first: usize,
-) -> usize
-    requires { (x : Setting) × (order : List ℕ) × (bs : Bytes) × Readable s.now text.now x facts
-        × Before Nothing s.now x facts order first 1 bs × Fits s.now x facts order at buffer.old bs }
-    ensures { (x : Setting) (order : List ℕ) (bs : Bytes) → Readable s.now text.now x facts
-        → Before Nothing s.now x facts order first 1 bs → Fits s.now x facts order at buffer.old bs
+fn write_arguments(source: &Source, buffer: &mut [u8], at: usize, first: usize) -> usize
+    requires { (x : Setting) × (order : List ℕ) × (bs : Bytes) × Readable source.now.s.now source.now.text.now x source.now.facts
+        × Before Nothing source.now.s.now x source.now.facts order first 1 bs × Fits source.now.s.now x source.now.facts order at buffer.old bs }
+    ensures { (x : Setting) (order : List ℕ) (bs : Bytes) → Readable source.now.s.now source.now.text.now x source.now.facts
+        → Before Nothing source.now.s.now x source.now.facts order first 1 bs → Fits source.now.s.now x source.now.facts order at buffer.old bs
         → Puts buffer.old buffer.new at result bs }
 {
+    // Stays packed, eight times a place and an argument's number in one word: pairs would take 128 bytes of stack more of each call, and the deepest value is
+    // written by thousands of calls, one in the other.
     let mut frames = [0usize; 16];
     let mut depth = 0;
     let mut to = at;
     let mut p = first;
     let mut i = 1;
     loop {
-        let a = word_at(s, p, i);
-        let e = end(s, facts, a);
-        match look(e) {
-            View::Compound(q) => {
-                if depth < 16 {
-                    let behind = copied(s, facts, buffer, to, a);
-                    if behind == to {
-                        to = opening(text, s, buffer, to, q);
-                        frames[depth] = 8 * p + i;
-                        depth += 1;
-                        p = q;
-                        i = 1;
-                        continue;
-                    }
-                    to = behind;
-                } else {
-                    to = write_term(text, s, facts, buffer, to, a);
+        let a = word_at(source.s, p, i);
+        let e = end(source.s, source.facts, a);
+        to = match look(e) {
+            View::Compound(q) if depth < 16 => match source.copied(buffer, to, a) {
+                Some(t) => t,
+                None => {
+                    to = source.opening(buffer, to, q);
+                    frames[depth] = 8 * p + i;
+                    depth += 1;
+                    p = q;
+                    i = 1;
+                    continue;
                 }
-            }
-            _ => {
-                to = leaf(text, s, facts, buffer, to, e);
-            }
-        }
-        match rise(s, facts, buffer, &frames, to, p, i, depth) {
-            Risen::Goes(t, q, j, d) => {
-                to = t;
-                p = q;
-                i = j;
-                depth = d;
-            }
-            Risen::Ends(t) => {
-                return t;
-            }
-        }
+            },
+            View::Compound(_) => write_term(source, buffer, to, a),
+            _ => source.leaf(buffer, to, e),
+        };
+        let (t, next) = rise(source, buffer, &frames, to, p, i, depth);
+        let Some((q, j, d)) = next else {
+            return t;
+        };
+        to = t;
+        p = q;
+        i = j;
+        depth = d;
     }
 }
 
 // A term, standing alone.
 #[cycle(write_arguments_write_term)]
-pub fn write_term(
-    text: &[u8],
-    s: &[u64],
-    facts: usize,
-    buffer: &mut [u8],
-    at: usize,
-    w: u64,
-) -> usize
-    requires { (x : Setting) × (order : List ℕ) × (t : Term) × Writes s.now text.now x facts order t at (length buffer.old) × Shows s.now x t w
-        × Fits s.now x facts order at buffer.old (written order alone (full x.values t)) }
-    ensures { (x : Setting) (order : List ℕ) (t : Term) → Writes s.now text.now x facts order t at (length buffer.old)
-        → Shows s.now x t w → Fits s.now x facts order at buffer.old (written order alone (full x.values t))
+pub fn write_term(source: &Source, buffer: &mut [u8], at: usize, w: u64) -> usize
+    requires { (x : Setting) × (order : List ℕ) × (t : Term)
+        × Writes source.now.s.now source.now.text.now x source.now.facts order t at (length buffer.old) × Shows source.now.s.now x t w
+        × Fits source.now.s.now x source.now.facts order at buffer.old (written order alone (full x.values t)) }
+    ensures { (x : Setting) (order : List ℕ) (t : Term)
+        → Writes source.now.s.now source.now.text.now x source.now.facts order t at (length buffer.old)
+        → Shows source.now.s.now x t w → Fits source.now.s.now x source.now.facts order at buffer.old (written order alone (full x.values t))
         → Puts buffer.old buffer.new at result (written order alone (full x.values t)) }
 {
-    let e = end(s, facts, w);
+    let e = end(source.s, source.facts, w);
     match look(e) {
         View::Compound(q) => {
-            let behind = copied(s, facts, buffer, at, w);
-            if behind != at {
-                return behind;
+            if let Some(to) = source.copied(buffer, at, w) {
+                return to;
             }
-            let to = opening(text, s, buffer, at, q);
-            write_arguments(text, s, facts, buffer, to, q)
+            let to = source.opening(buffer, at, q);
+            write_arguments(source, buffer, to, q)
         }
-        _ => leaf(text, s, facts, buffer, at, e),
+        _ => source.leaf(buffer, at, e),
     }
 }

@@ -1,13 +1,13 @@
 -- The body's goals, renamed apart, stand as goals of the enlarged unit.
-use Prim.Native.Nat.{ℕ, ◌+◌, ◌*◌, ◌≤◌, ◌<◌}
+use Prim.Native.Nat.{ℕ, ◌+◌}
 use mathlib.Core.Path.{◌≡◌, refl, sym, ap, ◌∙◌}
 use mathlib.Core.List.{List, [], ◌∷◌, map}
 use native.Mathlib.Omega.{arith}
 use lib.ListN.{length}
 use Rattle.meaning.specs.Bytes.{Bytes}
-use Rattle.meaning.specs.Terms.{Integer, plus, minus, Constant, Functor, Term, Terms, variable, constant, compound, end, more, Named, Clause, Job, renamed, renamed_goal, as_term}
+use Rattle.meaning.specs.Terms.{plus, minus, Constant, Term, Terms, variable, constant, compound, end, more, Named, Clause, Job, renamed, renamed_goal, as_term}
 use Rattle.meaning.specs.Items.{job, reading}
-use Rattle.meaning.specs.State.{Room, QueryUnit, Goal, unit_at, goals_at, Origin}
+use Rattle.meaning.specs.State.{Room, QueryUnit, unit_at, goals_at, Origin}
 use Rattle.meaning.specs.Compare.{Assignment}
 use Rattle.meaning.specs.Trial.{next_pair}
 use Rattle.meaning.specs.Step.{body_goals, made_by}
@@ -15,12 +15,12 @@ use Rattle.laws.proofs.Lists.Among.{In}
 use Rattle.laws.proofs.Lists.EachOf.{Each, each_in}
 use Rattle.laws.proofs.Trial.Values.{length_values_after}
 use Rattle.laws.proofs.Reading.{accepted_keeps_the_figures}
-use Rattle.laws.proofs.Reading.Figures.{Bounds, IntegerFits, ConstantFits, FunctorFits, TermFits, TermsFit, NamedFits, ClauseFits, as_term_fits}
+use Rattle.laws.proofs.Reading.Figures.{Bounds, IntegerFits, ConstantFits, TermFits, TermsFit, NamedFits, as_term_fits}
 use Rattle.term.specs.Cells.{Places, Known}
 use Rattle.term.specs.Holds.{Holds}
 use Rattle.term.specs.Jobs.{GoalsKnown}
-use Rattle.term.specs.Setting.{Setting, Within, AllWithin, Ranged, AllRanged, UnitTerm}
-use Rattle.term.specs.States.{Atlas, setting, setting_at, goal_word, GoalStands, AllStand}
+use Rattle.term.specs.Setting.{Within, AllWithin, Ranged, AllRanged}
+use Rattle.term.specs.States.{Atlas, goal_word, GoalStands, AllStand}
 use Rattle.term.specs.Words.{packed}
 use Rattle.term.specs.Goals.{origin_word, packed_goal, goal_mark, OriginFits}
 use Rattle.term.proofs.Goals.{goal_marked}
@@ -28,7 +28,7 @@ use Rattle.run_between.specs.Extended.{replaced_at}
 use Rattle.run_effects.specs.Build.{Copies}
 use Rattle.run_effects.specs.Reducing.{GoalsHeld, GoalsWithin}
 use Rattle.run_between.proofs.Enlarging.{replaced_there}
-use Rattle.run_between.proofs.NextUnit.{after_unit, enlarged}
+use Rattle.run_between.proofs.NextUnit.{enlarged}
 use Rattle.run_between.proofs.NextUnits.{atlas_after, units_after, Enlarges, as_many, setting_here}
 use Rattle.run_between.proofs.Renaming.{renamed_within, renamed_known, renamed_ranged}
 

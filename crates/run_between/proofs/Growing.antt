@@ -1,16 +1,15 @@
 -- A unit that grows: its older pairs and compounds lie where they lay, so its terms keep their words and stay held, and so do its values.
-use Prim.Native.Nat.{ℕ, ◌+◌, ◌*◌, ◌≤◌, ◌<◌}
+use Prim.Native.Nat.{ℕ, ◌+◌, ◌≤◌, ◌<◌}
 use mathlib.Core.Path.{◌≡◌, refl, ap, sym, ◌∙◌}
 use mathlib.Core.List.{List}
 use mathlib.Core.Option.{Option, none, some}
 use native.Mathlib.Omega.{arith}
 use lib.ListN.{length, get_or}
-use Rattle.meaning.specs.Bytes.{Bytes}
-use Rattle.meaning.specs.Terms.{Half, writer, reader, Constant, Functor, cell, named, Term, Terms, variable, constant, compound, end, more, count}
-use Rattle.meaning.specs.State.{Values, value}
-use Rattle.term.specs.Cells.{Places, term_word, functor_word, number_of, Known, AllKnown}
-use Rattle.term.specs.Holds.{Holds, HoldsFrom, HoldsValue, HoldsValues, value_word}
-use Rattle.term.specs.Setting.{Setting, Within, AllWithin, Ranged, OfUnit, UnitTerm, UnitStands}
+use Rattle.meaning.specs.Terms.{writer, reader, Constant, Functor, cell, named, Term, Terms, variable, constant, compound, end, more, count}
+use Rattle.meaning.specs.State.{value}
+use Rattle.term.specs.Cells.{Places, term_word, functor_word, number_of}
+use Rattle.term.specs.Holds.{Holds, HoldsFrom, HoldsValue, value_word}
+use Rattle.term.specs.Setting.{Setting, Within, AllWithin, OfUnit, UnitTerm, UnitStands}
 use Rattle.term.proofs.Holds.{holds_alike}
 use Rattle.term.proofs.Units.{within_every}
 use Rattle.term.specs.Words.{writer_word, reader_word, name_word, compound_word, packed}

@@ -1,12 +1,12 @@
 -- A unit has at least its query's own pairs, in every state of a run.
 use Prim.Native.Nat.{ℕ, zero, suc, ◌+◌, ◌≤◌, ◌<◌}
-use mathlib.Core.Path.{◌≡◌, refl, sym, ap, ◌∙◌}
+use mathlib.Core.Path.{◌≡◌, ap}
 use mathlib.Core.List.{List, [], ◌∷◌, map}
 use mathlib.Core.Option.{Option, none}
 use native.Mathlib.Omega.{arith}
 use lib.ListN.{length, get_or, set, length-replicate}
 use Rattle.meaning.specs.Terms.{Term, Query, Job}
-use Rattle.meaning.specs.State.{Room, QueryUnit, State, unit_at, first_unit, start}
+use Rattle.meaning.specs.State.{Room, QueryUnit, unit_at, first_unit, start}
 use Rattle.meaning.specs.Step.{step, unit_after}
 use Rattle.meaning.specs.Run.{choice_for, run}
 use Rattle.laws.proofs.Runs.{run_keeps}

@@ -1,28 +1,25 @@
 -- In every state of a run each waiting goal waits on pairs of its own unit; so a unit that grows leaves the waiting goals' slots as they are.
-use Prim.Native.Nat.{ℕ, ◌+◌, ◌*◌, ◌≤◌, ◌<◌}
-use mathlib.Core.Path.{◌≡◌, refl, sym, ap, ◌∙◌}
-use mathlib.Core.Bool.{Bool, true, false}
+use Prim.Native.Nat.{ℕ, ◌<◌}
+use mathlib.Core.Path.{◌≡◌, refl, ap}
 use mathlib.Core.List.{List, [], ◌∷◌, map}
-use native.Mathlib.Omega.{arith}
 use lib.ListN.{length}
 use borrow.Author.Tests.{eq-eqb}
-use Rattle.meaning.specs.Bytes.{Bytes, those, when◌then◌else◌}
+use Rattle.meaning.specs.Bytes.{Bytes}
 use Rattle.meaning.specs.Terms.{Clause, Job}
 use Rattle.meaning.specs.Items.{job, reading}
-use Rattle.meaning.specs.State.{Room, QueryUnit, Goal, Waiting, State, unit_at, of, goals_of, part_of}
+use Rattle.meaning.specs.State.{Room, QueryUnit, Waiting, unit_at, of, goals_of, part_of}
 use Rattle.meaning.specs.Compare.{Assignment}
 use Rattle.meaning.specs.Run.{run}
-use Rattle.laws.proofs.Lists.Among.{In, in_those}
+use Rattle.laws.proofs.Lists.Among.{in_those}
 use Rattle.laws.proofs.Lists.EachOf.{Each, each_in, each_member}
 use Rattle.laws.proofs.Runs.{run_placed}
 use Rattle.laws.proofs.Reading.{accepted_keeps_the_occurrence_rules}
 use Rattle.laws.proofs.Single.{single_occurrence}
-use Rattle.term.specs.States.{Atlas, goal_word, AllStand}
+use Rattle.term.specs.States.{Atlas, AllStand}
 use Rattle.run_effects.specs.Build.{Copies}
-use Rattle.run_queues.specs.Log.{Slot, waits, gathered}
+use Rattle.run_queues.specs.Log.{gathered}
 use Rattle.run_between.specs.Running.{slot_of}
-use Rattle.run_between.proofs.Growing.{Grown}
-use Rattle.run_between.proofs.NextUnits.{atlas_after, units_after, Enlarges, grown, goal_word_same}
+use Rattle.run_between.proofs.NextUnits.{atlas_after, Enlarges, grown, goal_word_same}
 
 abbrev pub OwnReaders : List QueryUnit → Waiting → Type 0
 OwnReaders units w = Each (λ p. p < length (unit_at w.goal.query units).values) w.readers

@@ -1,6 +1,6 @@
 -- The scratch between two steps of a run: it holds the state and the index of the clauses, the waiting goals' sets are chains through their pairs, later
 -- stamps are unused, and the ends that are kept are right.
-use Rattle.std.specs.Prelude.{ℕ, ◌+◌, ◌*◌, ◌≤◌, ◌<◌, ◌≡◌, true, false, ◌≢◌, List, [], ◌∷◌, map, length, get_or}
+use Rattle.std.specs.Prelude.{ℕ, ◌+◌, ◌*◌, ◌≤◌, ◌<◌, ◌≡◌, true, false, ◌≢◌, List, [], map, length, get_or, Option as Perhaps, Some, None}
 use Rattle.std.proofs.Math.Option.{Option}
 use Rattle.meaning.specs.Bytes.{Bytes}
 use Rattle.meaning.specs.Terms.{Job}
@@ -9,7 +9,7 @@ use Rattle.meaning.specs.State.{Room, QueryUnit, Goal, Waiting, unit_at}
 use Rattle.meaning.specs.Step.{without_front}
 use Rattle.meaning.specs.Run.{fits, choice_for, queries_fit, run}
 use Rattle.term.specs.Jobs.{HoldsJob}
-use Rattle.term.specs.Layout.{values_region, waiters_region, sets_region, marks_region, ends_region, waiting_region, need_of, InRange, queries_region, items_region, trial_region, query_record, query_stride, tries_at}
+use Rattle.term.specs.Layout.{waiters_region, sets_region, marks_region, ends_region, waiting_region, need_of, InRange, queries_region, items_region, trial_region, query_record, query_stride, tries_at}
 use Rattle.term.specs.Chains.{EndOf}
 use Rattle.term.specs.States.{Atlas, setting_at, goal_word, HoldsState}
 use Rattle.term.specs.declared.state.Standing.{Standing}
@@ -17,8 +17,6 @@ use Rattle.run_circle.specs.Ground.{Tells, IsSo}
 use Rattle.run_index.specs.Index.{Indexed}
 use Rattle.run_trial.specs.Choosing.{MarksBelow}
 use Rattle.run_queues.specs.Log.{Slot, waits, gathered, present, LogOk}
-use Rattle.run_between.specs.declared.stepped.Stepped.{Stepped}
-use Rattle.run_between.specs.declared.stepped.Stepped.TheVariants.{Next, NoRoom}
 
 -- A waiting goal as the log has it: its word, and the places of its pairs.
 abbrev pub slot_of : Atlas → Waiting → Slot
@@ -70,19 +68,19 @@ pub record Running (s : List ℕ) (text : Bytes) (names : List Bytes) (j : Job) 
   pub grounds : GroundMarks s figures atlas (run j limit figures).state.units
 
 -- After a step: the next state of the run; or the reduction does not fit, and the state is as it was.
-abbrev pub SteppedIs : List ℕ → Bytes → List Bytes → Job → Room → ℕ → Atlas → Goal → List Goal → Standing → Stepped → Type 0
-SteppedIs s' text names j figures limit atlas g others t (Next u) =
+abbrev pub SteppedIs : List ℕ → Bytes → List Bytes → Job → Room → ℕ → Atlas → Goal → List Goal → Standing → Perhaps Standing → Type 0
+SteppedIs s' text names j figures limit atlas g others t (Some u) =
     (fits figures (choice_for j.clauses (run j limit figures).state g) (run j limit figures).state
     (without_front others (run j limit figures).state.goals) ≡ true)
     × (atlas' : Atlas) × (slots' : List Slot) × (u.steps ≡ t.steps + 1)
     × Running s' text names j figures (limit + 1) atlas' slots' u (u.steps * 32768 + 2)
-SteppedIs s' text names j figures limit atlas g others t NoRoom =
+SteppedIs s' text names j figures limit atlas g others t None =
     (fits figures (choice_for j.clauses (run j limit figures).state g) (run j limit figures).state
     (without_front others (run j limit figures).state.goals) ≡ false)
     × HoldsState s' names figures j.queries atlas (run j limit figures).state t
 
 -- A step's contract: the goal in front is taken.
 pub record StepIs (s s' : List ℕ) (text : Bytes) (names : List Bytes) (j : Job) (figures : Room) (limit : ℕ) (atlas : Atlas) (g : Goal) (others : List Goal)
-    (t : Standing) (r : Stepped) : Type 0 where
+    (t : Standing) (r : Perhaps Standing) : Type 0 where
   pub only : RunOnly figures s s'
   pub told : SteppedIs s' text names j figures limit atlas g others t r

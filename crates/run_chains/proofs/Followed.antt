@@ -1,6 +1,6 @@
 -- A goal's arguments, followed, go on standing where the words for them and the unit's compounds stay as they were; and following them, argument
 -- by argument: what stands behind the whole, if what is left is followed too.
-use Prim.Native.Nat.{ℕ, ◌+◌, ◌%◌, ◌≤◌, ◌<◌}
+use Prim.Native.Nat.{ℕ, ◌+◌, ◌≤◌, ◌<◌}
 use mathlib.Core.Path.{◌≡◌, refl, ap, ◌∙◌}
 use mathlib.Core.List.{List}
 use native.Mathlib.Omega.{arith}

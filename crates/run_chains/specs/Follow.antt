@@ -1,6 +1,6 @@
 -- What following a goal's term asks and gives: the word of a term of the unit, and that of the term followed. What following all arguments of a
 -- goal, and keeping their ends, asks and gives.
-use Rattle.std.specs.Prelude.{ℕ, ◌+◌, ◌≤◌, ◌<◌, ◌≡◌, ◌≢◌, List, length, get_or}
+use Rattle.std.specs.Prelude.{ℕ, ◌+◌, ◌≤◌, ◌<◌, ◌≡◌, ◌≢◌, List, length, get_or, Option, Some, None}
 use Rattle.std.proofs.Math.Option.{none}
 use Rattle.meaning.specs.Terms.{Functor, Term, Terms, end, more}
 use Rattle.meaning.specs.Compare.{followed}
@@ -46,7 +46,7 @@ pub record ArgumentsFollowed (s s' : List ℕ) (x : Setting) (links : ℕ) (ts :
   pub only : Only followed_from followed_end s s'
   pub stand : FollowedAt s' x links 0 ts
 
--- A term leads on to the word r: that of its value, or of a term further on; 0 if it is no assigned variable.
+-- A term leads on to the word r: that of its value, or of a term further on; to none if it is no assigned variable.
 pub record Onward (s : List ℕ) (x : Setting) (from links : ℕ) (t : Term) (r : ℕ) : Type 0 where
   pub next : Term
   pub over : ℕ
@@ -54,9 +54,9 @@ pub record Onward (s : List ℕ) (x : Setting) (from links : ℕ) (t : Term) (r 
   pub leads : Leads x.values over t next
   pub reads : Reads s x from links next r
 
-pub record Ahead (s : List ℕ) (x : Setting) (from links : ℕ) (t : Term) (r : ℕ) : Type 0 where
-  pub stops : r ≡ 0 → value_of x.values t ≡ none
-  pub goes : r ≢ 0 → Onward s x from links t r
+abbrev pub Ahead : List ℕ → Setting → ℕ → ℕ → Term → Option ℕ → Type 0
+Ahead s x from links t None = value_of x.values t ≡ none
+Ahead s x from links t (Some r) = Onward s x from links t r
 
 -- The pair n at its place.
 pub record PairAt (s : List ℕ) (x : Setting) (from links n p : ℕ) : Type 0 where

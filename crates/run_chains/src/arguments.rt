@@ -14,12 +14,9 @@ pub fn follow_arguments(s: &mut [u64], values: usize, links: usize, goal: usize)
     ensures { (x : Setting) (l : ℕ) (f : Functor) (ts : Terms) → Follows s.old x values links l f ts goal
         → ArgumentsFollowed s.old s.new x links ts }
 {
-    let k = count(s, goal);
-    let mut i = 1;
-    while i <= k {
+    for i in 1..=count(s, goal) {
         let a = argument(s, goal, i);
         let w = follow(s, values, links, a);
         set_at(s, FOLLOWED, i, w);
-        i += 1;
     }
 }

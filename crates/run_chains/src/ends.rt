@@ -32,8 +32,7 @@ fn keep_end(s: &mut [u64], values: usize, links: usize, w: u64)
     ensures { (x : Setting) (t : Term) → KeepsOf s.old x values links t w → EndsKept s.old s.new x values links }
 {
     match look(w) {
-        View::Writer(p) => keep(s, values, links, w, p),
-        View::Reader(p) => keep(s, values, links, w, p),
+        View::Writer(p) | View::Reader(p) => keep(s, values, links, w, p),
         _ => {}
     }
 }
@@ -44,11 +43,8 @@ pub fn keep_ends(s: &mut [u64], values: usize, links: usize, goal: usize)
     ensures { (x : Setting) (l : ℕ) (f : Functor) (ts : Terms) → Keeps s.old x values links l f ts goal
         → EndsKept s.old s.new x values links }
 {
-    let k = count(s, goal);
-    let mut i = 1;
-    while i <= k {
+    for i in 1..=count(s, goal) {
         let w = argument(s, goal, i);
         keep_end(s, values, links, w);
-        i += 1;
     }
 }

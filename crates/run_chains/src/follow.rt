@@ -14,43 +14,39 @@ pub fn follow(s: &[u64], values: usize, links: usize, w: u64) -> u64
     ensures { (x : Setting) (t : Term) → Reads s.now x values links t w → FollowedTo s.now x values links t result }
 {
     let mut t = w;
-    let mut left = links;
-    while 0 < left {
-        let v = ahead(s, values, links, t);
-        if v == 0 {
+    for _ in 0..links {
+        let Some(v) = ahead(s, values, links, t) else {
             return t;
-        }
+        };
         t = v;
-        left -= 1;
     }
     t
 }
 
-// What a variable leads to: its value, or a term further on; 0 for an unassigned one and for any other term.
-fn ahead(s: &[u64], values: usize, links: usize, w: u64) -> u64
+// What an assigned variable leads to: its value, or a term further on. No other term leads on.
+fn ahead(s: &[u64], values: usize, links: usize, w: u64) -> Option<u64>
     requires { (x : Setting) × (t : Term) × Reads s.now x values links t w }
     ensures { (x : Setting) (t : Term) → Reads s.now x values links t w → Ahead s.now x values links t result }
 {
     match look(w) {
-        View::Writer(p) => led(s, values, links, p),
-        View::Reader(p) => led(s, values, links, p),
-        _ => 0,
+        View::Writer(p) | View::Reader(p) => led(s, values, links, p),
+        _ => None,
     }
 }
 
 // The same of a pair. The end that is kept is asked for only where the value is a reader.
-fn led(s: &[u64], values: usize, links: usize, p: usize) -> u64
+fn led(s: &[u64], values: usize, links: usize, p: usize) -> Option<u64>
     requires { (x : Setting) × (n : ℕ) × PairAt s.now x values links n p }
     ensures { (x : Setting) (n : ℕ) → PairAt s.now x values links n p
         → (h : Half) → Ahead s.now x values links (variable h n) result }
 {
     let v = word_at(s, values, p);
+    if v == 0 {
+        return None;
+    }
     if v % TAGS != READER {
-        return v;
+        return Some(v);
     }
     let e = word_at(s, values + ENDS_AFTER * links, p);
-    if e == 0 {
-        return v;
-    }
-    e
+    Some(if e == 0 { v } else { e })
 }

@@ -1,6 +1,6 @@
 -- The search from a term, turn by turn, in the form in which the code asks and tells: each turn goes on from one term to another, so that an answer
 -- to the one is an answer to the other, and the weight falls.
-use Prim.Native.Nat.{ℕ, ◌+◌, ◌*◌, ◌/◌, ◌%◌, ◌≤◌, ◌<◌}
+use Prim.Native.Nat.{ℕ, ◌+◌, ◌%◌, ◌≤◌, ◌<◌}
 use mathlib.Core.Path.{◌≡◌, refl, sym, ap, subst, ◌∙◌}
 use mathlib.Core.Logic.{inl, ⊎_elim}
 use mathlib.Core.Bool.{Bool, true, false, true≢false}

@@ -1,6 +1,6 @@
 -- How deep compounds stand in each other, as a term tells it and as the words of the scratch tell it.
 -- On the way down no place is met twice, since terms at one place have one depth; so a term held is no deeper than the scratch is long.
-use Prim.Native.Nat.{ℕ, zero, suc, ◌+◌, ◌*◌, ◌/◌, ◌%◌, ◌≤◌, ◌<◌, max}
+use Prim.Native.Nat.{ℕ, zero, suc, ◌+◌, ◌≤◌, ◌<◌, max}
 use mathlib.Core.Path.{◌≡◌, refl, sym, ap, ◌∙◌}
 use mathlib.Core.Logic.{⊎_elim}
 use mathlib.Core.Bool.{Bool, true, false}

@@ -1,9 +1,7 @@
 pub mod Calls
 pub mod Depth
-pub mod Entries
 pub mod Grounds
 pub mod Keeping
-pub mod Lasts
 pub mod Measure
 pub mod Parts
 pub mod Scenes

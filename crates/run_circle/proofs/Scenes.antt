@@ -1,6 +1,6 @@
 -- The scene that the search meets while a trial is tested: the unit's pairs with their values' words or their entries' numbers, and the clause's
 -- pairs with what they are given. The terms of the head stand renamed apart, at the item's places raised.
-use Prim.Native.Nat.{ℕ, ◌+◌, ◌-◌, ◌*◌, ◌≤◌, ◌<◌}
+use Prim.Native.Nat.{ℕ, ◌+◌, ◌-◌, ◌≤◌, ◌<◌}
 use mathlib.Core.Path.{◌≡◌, refl, sym, ap, subst, ◌∙◌}
 use mathlib.Core.Logic.{◌⊎◌, inl, inr}
 use mathlib.Core.Bool.{true, false}

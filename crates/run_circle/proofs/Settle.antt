@@ -1,5 +1,5 @@
 -- Marks of visited pairs are turned into those of ground pairs: what a search has told stays true.
-use Prim.Native.Nat.{ℕ, ◌+◌, ◌*◌, ◌/◌, ◌%◌, ◌<◌}
+use Prim.Native.Nat.{ℕ, ◌+◌, ◌*◌, ◌<◌}
 use mathlib.Core.Path.{◌≡◌, refl, sym, ap, ◌∙◌}
 use mathlib.Core.Bool.{Bool, true, false, true≢false}
 use mathlib.Core.List.{List}
@@ -16,7 +16,7 @@ use Rattle.meaning.specs.State.{value}
 use Rattle.laws.proofs.Terms.Standing.{Stands}
 use Rattle.term.specs.Holds.{Holds}
 use Rattle.term.specs.Words.{tag_in, rest_in}
-use Rattle.run_circle.specs.Ground.{Ground, a_ground, GroundAt, stamp_in, Tells, IsSo}
+use Rattle.run_circle.specs.Ground.{Ground, GroundAt, stamp_in, Tells, IsSo}
 use Rattle.run_circle.specs.Search.{Scene, Told, StandsAt, LeadsIs, LastLeads, Searching, visited, Searched, Settled}
 use Rattle.run_circle.proofs.Grounds.{ground_value, ground_leans}
 use Rattle.run_circle.proofs.Measure.{term_weight, falls_to_pair, falls_to_value, falls_to_argument}

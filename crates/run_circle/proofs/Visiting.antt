@@ -1,6 +1,6 @@
 -- A pair is visited: its mark gets the search's stamp and keeps what it tells, and the search goes on from the pair through which all ways go, if the
 -- mark tells one, or from its value. And the first pair visited since may get a mark that tells the pair at hand.
-use Prim.Native.Nat.{ℕ, ◌+◌, ◌*◌, ◌-◌, ◌/◌, ◌%◌, ◌<◌}
+use Prim.Native.Nat.{ℕ, ◌+◌, ◌*◌, ◌-◌, ◌/◌, ◌<◌}
 use mathlib.Core.Path.{◌≡◌, sym, ap, subst, ◌∙◌}
 use mathlib.Core.Logic.{◌⊎◌, inl, inr}
 use mathlib.Core.List.{List}

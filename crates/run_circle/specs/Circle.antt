@@ -1,5 +1,5 @@
 -- What the circle test asks of a trial that has agreed, and what it tells: the answer, and that only marks are changed afterwards.
-use Rattle.std.specs.Prelude.{ℕ, ◌+◌, ◌*◌, ◌%◌, ◌≤◌, ◌<◌, ◌≡◌, Bool, true, false, List, length, get_or}
+use Rattle.std.specs.Prelude.{ℕ, ◌+◌, ◌≤◌, ◌<◌, ◌≡◌, Bool, true, false, List, length, get_or}
 use Rattle.std.proofs.Math.Option.{none, some}
 use Rattle.meaning.specs.Terms.{Term, renamed}
 use Rattle.meaning.specs.State.{Values, value}

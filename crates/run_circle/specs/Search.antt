@@ -1,6 +1,6 @@
 -- The search of the circle test: the pairs after a trial as the scratch has them, and what a search from a term finds and leaves marked.
 -- Two sides: the unit's pairs, numbered below `old`, and the clause's, from there on; the false side and the true side.
-use Rattle.std.specs.Prelude.{ℕ, ◌+◌, ◌*◌, ◌-◌, ◌/◌, ◌%◌, ◌≤◌, ◌<◌, ◌≡◌, ◌⊎◌, Bool, true, false, List, ◌++◌, eqb, ltb, length, get_or, take, replicate}
+use Rattle.std.specs.Prelude.{ℕ, ◌+◌, ◌*◌, ◌-◌, ◌/◌, ◌%◌, ◌≤◌, ◌<◌, ◌≡◌, ◌⊎◌, Bool, true, false, List, ◌++◌, eqb, ltb, length, get_or, take, replicate, Option as Perhaps, Some, None}
 use Rattle.std.proofs.Math.Option.{Option, none, some}
 use Rattle.meaning.specs.Bytes.{when◌then◌else◌}
 use Rattle.meaning.specs.Terms.{Term}
@@ -27,6 +27,11 @@ LeadsIs w false = (tag_in w ≡ 6 → ⊥) × ((tag_in w ≡ 0) ⊎ (2 < tag_in 
 pub record LastLeads (s : List ℕ) (q k : ℕ) : Type 0 where
   pub among : k ≤ tag_in (get_or s q 0)
   pub idle : (i : ℕ) → k < i → i ≤ tag_in (get_or s q 0) → LeadsIs (get_or s (q + i) 0) false
+
+-- That argument itself, or none.
+abbrev pub LastIs : List ℕ → ℕ → Perhaps ℕ → Type 0
+LastIs s q (Some k) = (0 < k) × LastLeads s q k
+LastIs s q None = LastLeads s q 0
 
 -- The values before and after a trial, how many pairs the unit had before, how many pairs the scratch has room for, and each side's places.
 -- `front` is the part of the scratch before the marks, which a search leaves as it is; `size` is how many words the scratch has.

@@ -11,7 +11,7 @@ ghost use Rattle.run_circle.specs.Search.{
   Told,
   Searching,
   LeadsIs,
-  LastLeads,
+  LastIs,
   Settled,
   Names,
   Leading,
@@ -36,8 +36,8 @@ const GROUND: u64 = 1;
 // ones go through one pair, one more than the place of that pair.
 const STAMPS: u64 = 1099511627776;
 
-// What a search finds: the pair is reached; it is not, but an unassigned pair may be; it is not, and all that was reached is ground. A number and no enum:
-// an enum is handed over by a pointer, and the deepest search would pass 8 MiB of stack.
+// What a search finds: the pair is reached; it is not, but an unassigned pair may be; it is not, and all that was reached is ground.
+// Stays a number: an enum is handed over by a pointer, and the deepest search would pass 8 MiB of stack.
 const REACHED: u64 = 2;
 
 const OPEN: u64 = 1;
@@ -46,6 +46,7 @@ const FIRM: u64 = 0;
 
 // The state of a search that goes on, as one number: MET_OPEN if it has met a pair that may not be ground, else ALL_GROUND; and, if it has visited a pair
 // since, twice one more than the place of the first.
+// Stays a number: a struct takes more of each level's stack, and the deepest search would pass 8 MiB.
 const ALL_GROUND: usize = 0;
 
 const MET_OPEN: usize = 1;
@@ -109,42 +110,25 @@ fn given_term(s: &[u64], i: usize) -> u64
 fn leads(w: u64) -> bool
     ensures { LeadsIs w result }
 {
-    let tag = w % TAGS;
-    if tag == COMPOUND {
-        return true;
-    }
-    if tag == 0 {
-        return false;
-    }
-    if tag > READER {
-        return false;
-    }
-    true
+    matches!(w % TAGS, WRITER | READER | COMPOUND)
 }
 
 // Whether a pair with this word had no value before the trial.
 fn unassigned(w: u64) -> bool {
-    let tag = w % TAGS;
-    if tag == 0 {
-        return true;
-    }
-    tag == PROBE
+    matches!(w % TAGS, 0 | PROBE)
 }
 
-// The last argument of the compound at a place from which a pair may be reached; 0 if there is none.
-fn last(s: &[u64], q: usize) -> usize
+// The last argument of the compound at a place from which a pair may be reached.
+fn last(s: &[u64], q: usize) -> Option<usize>
     requires { q + 7 < length s.now }
-    ensures { LastLeads s.now q result }
+    ensures { LastIs s.now q result }
 {
-    let mut k = count(s, q);
-    while 0 < k {
-        let a = argument(s, q, k);
-        if leads(a) {
-            return k;
+    for k in (1..=count(s, q)).rev() {
+        if leads(argument(s, q, k)) {
+            return Some(k);
         }
-        k -= 1;
     }
-    0
+    None
 }
 
 // Marks a ground pair as such, and those to which the last arguments of its value lead, as far as they have the search's stamp.
@@ -157,10 +141,9 @@ fn settle(s: &mut [u64], values: usize, marks: usize, stamp: u64, pair: usize)
     while leads(t) {
         let q = index(t / TAGS);
         if t % TAGS == COMPOUND {
-            let k = last(s, q);
-            if k == 0 {
+            let Some(k) = last(s, q) else {
                 return;
-            }
+            };
             t = argument(s, q, k);
             continue;
         }
@@ -230,6 +213,7 @@ fn visit(
 // Whether pair z is reached from a term: the head's, whose variables stand for what they are given, or the goal's. A pair with this search's stamp was
 // visited. The search goes on to a compound's last argument that leads on and to a pair's value in its loop, and descends into the other arguments:
 // `later` is the last one so far that leads on, or 0, and is searched when the next one is met.
+// Stays with its places one by one: a struct of them is handed over by a pointer, and the deepest search would pass 8 MiB of stack.
 fn from_term(
     s: &mut [u64],
     values: usize,
@@ -251,9 +235,9 @@ fn from_term(
         let p = index(t / TAGS);
         if tag == COMPOUND {
             let k = count(s, p);
+            // Stays a word, 0 for none: an Option takes more of each level's stack.
             let mut later = 0;
-            let mut i = 1;
-            while i <= k {
+            for i in 1..k + 1 {
                 let a = argument(s, p, i);
                 if leads(a) {
                     if later != 0 {
@@ -265,7 +249,6 @@ fn from_term(
                     }
                     later = a;
                 }
-                i += 1;
             }
             if later == 0 {
                 return ended(s, values, marks, stamp, state);
@@ -327,12 +310,9 @@ fn hold(s: &mut [u64], values: usize, n: usize, testing: bool)
     requires { Entries s.old values n }
     ensures { Held s.old s.new values n testing }
 {
-    let mut i = 0;
-    while i < n {
+    for i in 0..n {
         let z = entry_pair(s, i);
-        let v = held(testing, i);
-        set_at(s, values, z, v);
-        i += 1;
+        set_at(s, values, z, held(testing, i));
     }
 }
 
@@ -342,15 +322,12 @@ fn from_entries(s: &mut [u64], values: usize, marks: usize, n: usize, stamp: u64
     ensures { (y : Trial) (s₀ : List ℕ) → Tried s₀ y values marks n stamp → Held s₀ s.old values n true
         → Answered s₀ s.old s.new y marks n stamp result }
 {
-    let mut i = 0;
-    while i < n {
+    for i in 0..n {
         let z = entry_pair(s, i);
         let h = given_term(s, i);
-        let r = from_term(s, values, marks, z, stamp + word(i), true, h);
-        if r == REACHED {
+        if from_term(s, values, marks, z, stamp + word(i), true, h) == REACHED {
             return true;
         }
-        i += 1;
     }
     false
 }

@@ -1,20 +1,20 @@
 -- Argument by argument: what was noted so far, and what is left of both lists; the outcome of the whole is that of what was noted, and then of what is
 -- left.
 -- How the goal's arguments stand in the scratch is left open: G says it of those that are left.
-use Prim.Native.Nat.{ℕ, ◌+◌, ◌*◌, ◌%◌, ◌≤◌, ◌<◌}
+use Rattle.std.specs.Prelude.{Some, None}
+use Prim.Native.Nat.{ℕ, ◌+◌, ◌*◌, ◌≤◌, ◌<◌}
 use mathlib.Core.Path.{◌≡◌, refl, sym, subst, ap, ◌∙◌}
 use mathlib.Core.List.{List, [], ◌++◌}
 use native.Mathlib.Omega.{arith}
 use lib.ListN.{length, get_or}
 use Rattle.meaning.specs.Terms.{Functor, Term, Terms, end, more, count, all_renamed}
 use Rattle.laws.proofs.Trial.Places.{and_then_nothing_before, and_then_nothing_behind, and_then_associative}
-use Rattle.meaning.specs.Compare.{Result, succeeds, fails, followed, and_then, place, places}
+use Rattle.meaning.specs.Compare.{Result, succeeds, followed, and_then, places}
 use Rattle.term.specs.Cells.{term_word, AllKnown, AllNumbered}
 use Rattle.term.specs.Holds.{HoldsFrom}
 use Rattle.term.specs.Frames.{Only}
 use Rattle.term.proofs.Cells.{numbered_order, all_numbered_order}
 use Rattle.term.proofs.Frames.{only_same, only_then}
-use Rattle.run_compare.specs.declared.compare.CompareResult.TheVariants.{Noted, Fails}
 use Rattle.term.specs.Setting.{Setting, AllWithin, AllRanged}
 use Rattle.term.specs.Layout.{trial_region, woken_part, item_place, clause_base}
 use Rattle.term.specs.Words.{tag_in}
@@ -203,7 +203,7 @@ module _ (links : ℕ) {s₀ : List ℕ} {x : Setting} {y : Template} {from m : 
       goals_few = omega (arith, counted_heads, counted_goals, P.counts, P.left)
 
       -- One argument more does not fail.
-      module _ {s' : List ℕ} {m' : ℕ} (r : Answers s s' x y given P.low F.mid 1 one (Noted m')) (goals_on : G s' (P.j + 1) F.ts) where
+      module _ {s' : List ℕ} {m' : ℕ} (r : Answers s s' x y given P.low F.mid 1 one (Some m')) (goals_on : G s' (P.j + 1) F.ts) where
         pub one_more : Partly G s₀ s' x y from links m us lo hi ts n k m' (i + 1)
         one_more = record {
           whole = P.whole;
@@ -258,8 +258,8 @@ module _ (links : ℕ) {s₀ : List ℕ} {x : Setting} {y : Template} {from m : 
                 ∙ ap (λ e. and_then e rest) (outcome_append b c P.notes more_notes)
 
       -- It fails at the first argument that does.
-      pub fails_here : {s' : List ℕ} → Answers s s' x y given P.low F.mid 1 one Fails
-          → Answers s₀ s' x y n lo hi (count us) (places_outcome x links us ts) Fails
+      pub fails_here : {s' : List ℕ} → Answers s s' x y given P.low F.mid 1 one None
+          → Answers s₀ s' x y n lo hi (count us) (places_outcome x links us ts) None
       unfolding and_then
       fails_here {s'} r = record {
         only = only_then trial_region woken_part s₀ s s' P.only r.only;
@@ -268,7 +268,7 @@ module _ (links : ℕ) {s₀ : List ℕ} {x : Setting} {y : Template} {from m : 
 
     -- What is left agrees and gives nothing.
     pub rest_agrees : places_outcome x links P.heads P.goals ≡ succeeds []
-        → Answers s₀ s x y n lo hi (count us) (places_outcome x links us ts) (Noted given)
+        → Answers s₀ s x y n lo hi (count us) (places_outcome x links us ts) (Some given)
     rest_agrees rest = record {
       only = P.only;
       told = (
@@ -290,5 +290,5 @@ module _ (links : ℕ) {s₀ : List ℕ} {x : Setting} {y : Template} {from m : 
     none_left end (more u ts') e z = absurd (omega arith)
     none_left (more t us') goals e z = absurd (omega arith)
 
-    pub all_agree : k < i → Answers s₀ s x y n lo hi (count us) (places_outcome x links us ts) (Noted given)
+    pub all_agree : k < i → Answers s₀ s x y n lo hi (count us) (places_outcome x links us ts) (Some given)
     all_agree h = rest_agrees (none_left P.heads P.goals P.counts (omega (arith, P.at, P.left, P.whole)))

@@ -1,4 +1,5 @@
 -- Two compounds: their first words decide whether they differ; if not, their arguments are compared, deeper in the head.
+use Rattle.std.specs.Prelude.{Option, Some, None}
 use Prim.Native.Nat.{ℕ, suc, ◌+◌, ◌*◌, ◌≤◌}
 use mathlib.Core.Path.{◌≡◌, refl, ap}
 use mathlib.Core.Bool.{Bool, true, false, ◌&&◌, not}
@@ -13,8 +14,6 @@ use Rattle.meaning.specs.Compare.{Result, fails, place}
 use Rattle.laws.proofs.Lists.Tests.{and_right}
 use Rattle.term.specs.Cells.{Known, Numbered}
 use Rattle.term.specs.Holds.{Holds}
-use Rattle.run_compare.specs.declared.compare.CompareResult.{CompareResult}
-use Rattle.run_compare.specs.declared.compare.CompareResult.TheVariants.{Noted, Fails}
 use Rattle.term.specs.Setting.{Setting, Within, Ranged}
 use Rattle.term.specs.Layout.{item_place, clause_base}
 use Rattle.run_compare.specs.Compare.{Template, item, Against, AllAgainst, Answers, place_outcome, places_outcome}
@@ -27,10 +26,10 @@ count_renamed p c end = refl
 count_renamed p c (more t ts) = ap suc (count_renamed p c ts)
 
 -- The answer to an outcome is the answer to an equal one from a lower number on, where the bound on the entries allows it.
-pub answers_as : (s s' : List ℕ) (x : Setting) (y : Template) (n lo hi k lo' k' : ℕ) (o o' : Result) (r : CompareResult)
+pub answers_as : (s s' : List ℕ) (x : Setting) (y : Template) (n lo hi k lo' k' : ℕ) (o o' : Result) (r : Option ℕ)
     → o' ≡ o → lo' ≤ lo → k + 6 * lo' ≤ k' + 6 * lo
     → Answers s s' x y n lo hi k o r → Answers s s' x y n lo' hi k' o' r
-answers_as s s' x y n lo hi k lo' k' o o' (Noted m) e low f a =
+answers_as s s' x y n lo hi k lo' k' o o' (Some m) e low f a =
     let told = a.told.1 in
     rw e (
     record {
@@ -47,7 +46,7 @@ answers_as s s' x y n lo hi k lo' k' o o' (Noted m) e low f a =
       );
     }
     )
-answers_as s s' x y n lo hi k lo' k' o o' Fails e low f a = rw e (record { only = a.only; told = a.told })
+answers_as s s' x y n lo hi k lo' k' o o' None e low f a = rw e (record { only = a.only; told = a.told })
 
 module _ (s : List ℕ) (x : Setting) (y : Template) (from lo hi h w n links m : ℕ) (g : Functor) (us : Terms) (l : ℕ) (f : Functor) (ts : Terms)
     (k : Against s x y from links lo hi (Term.compound m g us) (Term.compound l f ts) h w n) where
@@ -124,7 +123,7 @@ module _ (s : List ℕ) (x : Setting) (y : Template) (from lo hi h w n links m :
   }
 
   pub deeper_answers : (b : Bool) → b ≡ not (eqb (get_or s (item_place (clause_base y.number) m) 0) (get_or s (x.places.compound l) 0)) → b ≡ false
-      → (s' : List ℕ) (r : CompareResult) → Answers s s' x y n (lo + 1) hi (count us) (places_outcome x links us ts) r
+      → (s' : List ℕ) (r : Option ℕ) → Answers s s' x y n (lo + 1) hi (count us) (places_outcome x links us ts) r
       → Answers s s' x y n lo hi 1 (place_outcome x links (Term.compound m g us) (Term.compound l f ts)) r
   unfolding Holds when◌then◌else◌
   deeper_answers b e c s' r a =

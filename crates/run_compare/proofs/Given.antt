@@ -1,6 +1,6 @@
 -- Reading the trial's region: the entries stand in order, and the word of a head's writer is what it is assigned; the values after the trial are
 -- those of the entries assigned over those that the head's writers were given.
-use Prim.Native.Nat.{ℕ, ◌+◌, ◌*◌, ◌≤◌, ◌<◌}
+use Prim.Native.Nat.{ℕ, ◌+◌, ◌≤◌, ◌<◌}
 use mathlib.Core.Path.{◌≡◌, refl, sym, ap, ◌∙◌}
 use mathlib.Core.Bool.{Bool, true, false, ◌||◌}
 use mathlib.Core.List.{List, [], ◌∷◌}
@@ -11,9 +11,8 @@ use lib.ListN.{length, get_or, set, replicate, length-set, length-append, length
 use lib.Seq.{get_or-set_same, get_or-set_other, get_or-append-add}
 use borrow.Author.Tests.{eqb-true, eqb-false}
 use Rattle.meaning.specs.Bytes.{any, when◌then◌else◌}
-use Rattle.meaning.specs.Terms.{Functor, Term, Terms, Named, Clause, count, renamed}
+use Rattle.meaning.specs.Terms.{Term, Named, Clause, renamed}
 use Rattle.meaning.specs.State.{Values, value, QueryUnit}
-use Rattle.meaning.specs.Compare.{Assignment, Result, succeeds}
 use Rattle.meaning.specs.Trial.{with_pairs, assigned, next_pair, compared}
 use Rattle.laws.proofs.Lists.Tests.{eqb_raised}
 use Rattle.term.specs.Cells.{Places, term_word}

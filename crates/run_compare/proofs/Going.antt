@@ -1,6 +1,7 @@
 -- The loop of `places`: it stands in two compounds, whose arguments are compared in turn, and whatever answers these answers the whole call too,
 -- since each compound that it left had no argument to compare behind the one that it went on to.
-use Prim.Native.Nat.{ℕ, ◌+◌, ◌*◌, ◌%◌, ◌≤◌, ◌<◌}
+use Rattle.std.specs.Prelude.{Option, Some, None}
+use Prim.Native.Nat.{ℕ, ◌+◌, ◌≤◌, ◌<◌}
 use mathlib.Core.Path.{◌≡◌, sym, ap, ◌∙◌}
 use mathlib.Core.Bool.{Bool, true, false, not}
 use mathlib.Core.List.{List}
@@ -18,8 +19,6 @@ use Rattle.term.proofs.Cells.{all_numbered_order}
 use Rattle.term.specs.Layout.{trial_region, item_place, clause_base}
 use Rattle.term.specs.Words.{tag_in}
 use Rattle.run_chains.specs.Follow.{Reads}
-use Rattle.run_compare.specs.declared.compare.CompareResult.{CompareResult}
-use Rattle.run_compare.specs.declared.compare.CompareResult.TheVariants.{Noted, Fails}
 use Rattle.run_compare.specs.Compare.{Template, Against, AllAgainst, Answers, place_outcome, places_outcome}
 use Rattle.run_compare.specs.Same.{SameConstant, SameBehind}
 use Rattle.run_compare.proofs.Kept.{words_kept}
@@ -69,7 +68,7 @@ pub record Going (s₀ s : List ℕ) (x : Setting) (y : Template) (from links fi
   pub behind : SameBehind begun p q (count us) k
   pub long : length begun ≡ length s₀
   pub later : first ≤ p
-  pub back : (s' : List ℕ) (r : CompareResult) → Answers begun s' x y made low high (count us) (places_outcome x links us ts) r
+  pub back : (s' : List ℕ) (r : Option ℕ) → Answers begun s' x y made low high (count us) (places_outcome x links us ts) r
       → Answers s₀ s' x y n lo hi size o r
 
 module _ (links : ℕ) {s : List ℕ} {x : Setting} {y : Template} {from m : ℕ} {g : Functor} {us : Terms} {lo hi l : ℕ} {f : Functor} {ts : Terms} {p q n : ℕ}
@@ -80,7 +79,7 @@ module _ (links : ℕ) {s : List ℕ} {x : Setting} {y : Template} {from m : ℕ
 
   -- It begins with two compounds.
   pub begins : {k : ℕ} → SameBehind s p q (tag_in (get_or s p 0)) k → {s₀ : List ℕ} {first n₀ lo₀ hi₀ size : ℕ} {o : Result} → length s ≡ length s₀ → first ≤ p
-      → ((s' : List ℕ) (r : CompareResult) → Answers s s' x y n lo hi (count us) (places_outcome x links us ts) r → Answers s₀ s' x y n₀ lo₀ hi₀ size o r)
+      → ((s' : List ℕ) (r : Option ℕ) → Answers s s' x y n lo hi (count us) (places_outcome x links us ts) r → Answers s₀ s' x y n₀ lo₀ hi₀ size o r)
       → Going s₀ s x y from links first n₀ lo₀ hi₀ size o p q k n 1
   begins b long later back = record {
     begun = s;
@@ -142,10 +141,10 @@ module _ (links : ℕ) {s₀ s : List ℕ} {x : Setting} {y : Template} {from fi
       in
       rw (head_kept, goal_kept) (G.behind.same (j + 1) (omega (arith, P.at)) up_to)
 
-  pub ends : k < i → Answers s₀ s x y n lo hi size o (Noted given)
+  pub ends : k < i → Answers s₀ s x y n lo hi size o (Some given)
   ends h =
       let P = G.partly in
-      G.back s (Noted given)
+      G.back s (Some given)
       (rest_agrees links G.against.head P
       (ends_agree x y links s G.m G.l P.j P.heads P.goals P.head.held P.goal.held P.head.known P.goal.known
       P.head.ranged P.goal.ranged P.counts (rest_same h)))
@@ -154,10 +153,10 @@ module _ (links : ℕ) {s₀ s : List ℕ} {x : Setting} {y : Template} {from fi
     abbrev one : Result
     one = place_outcome x links F.t (followed links x.values F.u)
 
-    fails_one : {s' : List ℕ} → Answers s s' x y given G.partly.low F.mid 1 one Fails → Answers s₀ s' x y n lo hi size o Fails
-    fails_one {s'} r = G.back s' Fails (fails_here links G.against.head G.partly F r)
+    fails_one : {s' : List ℕ} → Answers s s' x y given G.partly.low F.mid 1 one None → Answers s₀ s' x y n lo hi size o None
+    fails_one {s'} r = G.back s' None (fails_here links G.against.head G.partly F r)
 
-    noted_one : {s' : List ℕ} {m' : ℕ} → Answers s s' x y given G.partly.low F.mid 1 one (Noted m')
+    noted_one : {s' : List ℕ} {m' : ℕ} → Answers s s' x y given G.partly.low F.mid 1 one (Some m')
         → Going s₀ s' x y from links first n lo hi size o p q k m' (i + 1)
     noted_one r = record {
       begun = G.begun;
@@ -182,11 +181,11 @@ module _ (links : ℕ) {s₀ s : List ℕ} {x : Setting} {y : Template} {from fi
 last_one : (links : ℕ) {s₀ s : List ℕ} {x : Setting} {y : Template} {from first n lo hi size : ℕ} {o : Result} {p q k given i : ℕ}
     (G : Going s₀ s x y from links first n lo hi size o p q k given i)
     (F : Facing s x y G.m G.partly.j G.partly.low G.high G.partly.heads G.partly.goals)
-    → i ≡ k → (s' : List ℕ) (r : CompareResult)
+    → i ≡ k → (s' : List ℕ) (r : Option ℕ)
     → Answers s s' x y given G.partly.low F.mid 1 (place_outcome x links F.t (followed links x.values F.u)) r
     → Answers s₀ s' x y n lo hi size o r
-last_one links G F e s' (Noted m) r = ends links (noted_one links G F r) (omega arith)
-last_one links G F e s' Fails r = fails_one links G F r
+last_one links G F e s' (Some m) r = ends links (noted_one links G F r) (omega arith)
+last_one links G F e s' None r = fails_one links G F r
 
 -- One turn: the words of the next argument of both, the goal's followed.
 module _ (links : ℕ) {s₀ s : List ℕ} {x : Setting} {y : Template} {from first n lo hi size : ℕ} {o : Result} {p q k given i : ℕ}
@@ -207,7 +206,7 @@ module _ (links : ℕ) {s₀ s : List ℕ} {x : Setting} {y : Template} {from fi
       pub turn_noted : {m : ℕ} → answer ≡ met.Noted m → Going s₀ s' x y from links first n lo hi size o p q k m (i + 1)
       turn_noted e = noted_one links G facing (place_noted links turn_against done e)
 
-      pub turn_fails : answer ≡ met.Fails → Answers s₀ s' x y n lo hi size o Fails
+      pub turn_fails : answer ≡ met.Fails → Answers s₀ s' x y n lo hi size o None
       turn_fails e = fails_one links G facing (place_fails links turn_against done e)
 
       module _ {b c : ℕ} (e : answer ≡ met.Below b c) where
@@ -226,19 +225,19 @@ module _ (links : ℕ) {s₀ s : List ℕ} {x : Setting} {y : Template} {from fi
         pub turn_compounds : Compounds s s' x y from links G.partly.low facing.mid given facing.t (followed links x.values facing.u) b c
         turn_compounds = place_compounds links turn_against done e
 
-        module _ {s₂ : List ℕ} {r : CompareResult}
+        module _ {s₂ : List ℕ} {r : Option ℕ}
             (answers : Answers s' s₂ x y given G.partly.low facing.mid 1
             (place_outcome x links (Term.compound turn_compounds.m turn_compounds.g turn_compounds.us)
             (Term.compound turn_compounds.l turn_compounds.f turn_compounds.ts)) r) where
-          pub both_noted : {m : ℕ} → r ≡ Noted m → Going s₀ s₂ x y from links first n lo hi size o p q k m (i + 1)
+          pub both_noted : {m : ℕ} → r ≡ Some m → Going s₀ s₂ x y from links first n lo hi size o p q k m (i + 1)
           both_noted v = noted_one links G facing (rw v at (turn_compounds.back s₂ r answers))
 
-          pub both_fail : r ≡ Fails → Answers s₀ s₂ x y n lo hi size o Fails
+          pub both_fail : r ≡ None → Answers s₀ s₂ x y n lo hi size o None
           both_fail v = fails_one links G facing (rw v at (turn_compounds.back s₂ r answers))
 
         -- It goes on to two compounds that stand last.
         module _ {differ : Bool} (told : differ ≡ not (eqb (get_or s' b 0) (get_or s' c 0))) where
-          pub turn_differs : differ ≡ true → Answers s₀ s' x y n lo hi size o Fails
+          pub turn_differs : differ ≡ true → Answers s₀ s' x y n lo hi size o None
           turn_differs v = fails_one links G facing (place_differs links turn_against done e differ told v)
 
           turn_deeper : differ ≡ false

@@ -1,7 +1,7 @@
 -- Notes, one list behind the other: what they come to, how many they are and what the region has of them compose. "The comparison shall go through all
 -- places": `and_then` of two outcomes is the outcome of the notes of both.
 use Prim.Native.Nat.{ℕ, ◌+◌, ◌≤◌}
-use mathlib.Core.Path.{◌≡◌, refl, sym, ap, ◌∙◌}
+use mathlib.Core.Path.{◌≡◌, refl, sym, ap}
 use mathlib.Core.List.{List, [], ◌∷◌, ◌++◌, append-nil}
 use mathlib.Core.Logic.{◌≢◌}
 use native.Mathlib.Omega.{arith}

@@ -1,5 +1,6 @@
 -- One place, in the form in which the code asks and tells it: the table's answer, and behind two compounds that agree their arguments.
-use Prim.Native.Nat.{ℕ, ◌+◌, ◌*◌, ◌<◌}
+use Rattle.std.specs.Prelude.{Option, Some, None}
+use Prim.Native.Nat.{ℕ, ◌+◌, ◌<◌}
 use mathlib.Core.Path.{◌≡◌, refl, ap}
 use mathlib.Core.Bool.{Bool, true, false, not}
 use mathlib.Core.List.{List}
@@ -14,8 +15,6 @@ use Rattle.term.proofs.Cells.{numbered_order, all_numbered_order}
 use Rattle.term.proofs.Frames.{only_same}
 use Rattle.run_table.specs.declared.table.PlaceResult.{PlaceResult}
 use Rattle.run_table.specs.declared.table.PlaceResult.TheVariants as met
-use Rattle.run_compare.specs.declared.compare.CompareResult.{CompareResult}
-use Rattle.run_compare.specs.declared.compare.CompareResult.TheVariants.{Noted, Fails}
 use Rattle.term.specs.Setting.{Setting}
 use Rattle.term.specs.Layout.{trial_region, woken_part, item_place, clause_base}
 use Rattle.term.specs.Words.{compound_word}
@@ -34,7 +33,7 @@ pub record Deeper (s s' : List ℕ) (x : Setting) (y : Template) (from links lo 
   pub f : Functor
   pub ts : Terms
   pub against : AllAgainst s' x y from links m g us (lo + 1) hi l f ts p q n
-  pub back : (s₂ : List ℕ) (r : CompareResult) → Answers s' s₂ x y n (lo + 1) hi (count us) (places_outcome x links us ts) r
+  pub back : (s₂ : List ℕ) (r : Option ℕ) → Answers s' s₂ x y n (lo + 1) hi (count us) (places_outcome x links us ts) r
       → Answers s s₂ x y n lo hi 1 (place_outcome x links t u) r
 
 -- Two compounds, not yet compared: their answer is the place's.
@@ -46,7 +45,7 @@ pub record Compounds (s s' : List ℕ) (x : Setting) (y : Template) (from links 
   pub f : Functor
   pub ts : Terms
   pub against : Against s' x y from links lo hi (Term.compound m g us) (Term.compound l f ts) (compound_word p) (compound_word q) n
-  pub back : (s₂ : List ℕ) (r : CompareResult) → Answers s' s₂ x y n lo hi 1 (place_outcome x links (Term.compound m g us) (Term.compound l f ts)) r
+  pub back : (s₂ : List ℕ) (r : Option ℕ) → Answers s' s₂ x y n lo hi 1 (place_outcome x links (Term.compound m g us) (Term.compound l f ts)) r
       → Answers s s₂ x y n lo hi 1 (place_outcome x links t u) r
 
 -- The two compounds known.
@@ -121,12 +120,12 @@ module _ (links : ℕ) {s s' : List ℕ} {x : Setting} {y : Template} {from lo h
   pub place_only : Only trial_region woken_part s s'
   place_only = found.0
 
-  pub place_noted : {m : ℕ} → a ≡ met.Noted m → Answers s s' x y n lo hi 1 (place_outcome x links t u) (Noted m)
+  pub place_noted : {m : ℕ} → a ≡ met.Noted m → Answers s s' x y n lo hi 1 (place_outcome x links t u) (Some m)
   place_noted {m} e =
       let it = rw e at found in
       record { only = it.0; told = (omega (arith, it.1.0, numbered_order lo hi t k.head.numbered), it.1.1) }
 
-  pub place_fails : a ≡ met.Fails → Answers s s' x y n lo hi 1 (place_outcome x links t u) Fails
+  pub place_fails : a ≡ met.Fails → Answers s s' x y n lo hi 1 (place_outcome x links t u) None
   place_fails e =
       let it = rw e at found in
       record { only = it.0; told = it.1 }
@@ -145,7 +144,7 @@ module _ (links : ℕ) {s s' : List ℕ} {x : Setting} {y : Template} {from lo h
     place_compounds = two_compounds s s' x y from links lo hi n h w t u p q k two.0 two.1
 
     module _ (b : Bool) (c : b ≡ not (eqb (get_or s' p 0) (get_or s' q 0))) where
-      pub place_differs : b ≡ true → Answers s s' x y n lo hi 1 (place_outcome x links t u) Fails
+      pub place_differs : b ≡ true → Answers s s' x y n lo hi 1 (place_outcome x links t u) None
       place_differs v =
           record { only = found.0; told = two_differ s s' x y from links lo hi n h w t u p q k two.0 two.1 b c v }
 
@@ -173,7 +172,7 @@ module _ (links : ℕ) {s : List ℕ} {x : Setting} {y : Template} {from lo hi m
   compounds_cells = two_cells s s x y from links lo hi n (compound_word p) (compound_word q) _ _ p q k itself refl
 
   module _ (b : Bool) (c : b ≡ not (eqb (get_or s p 0) (get_or s q 0))) where
-    pub compounds_differ : b ≡ true → Answers s s x y n lo hi 1 (place_outcome x links (Term.compound m g us) (Term.compound l f ts)) Fails
+    pub compounds_differ : b ≡ true → Answers s s x y n lo hi 1 (place_outcome x links (Term.compound m g us) (Term.compound l f ts)) None
     compounds_differ v =
         record { only = only_same trial_region woken_part s; told = two_differ s s x y from links lo hi n (compound_word p) (compound_word q) _ _ p q k itself refl b c v }
 

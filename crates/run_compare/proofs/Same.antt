@@ -1,16 +1,14 @@
 -- Arguments at the end of two compounds that are the same constants: their terms are the same, so they agree and give nothing.
-use Prim.Native.Nat.{ℕ, zero, suc, ◌+◌, ◌*◌, ◌-◌, ◌≤◌, ◌<◌}
+use Prim.Native.Nat.{ℕ, zero, suc, ◌+◌, ◌-◌, ◌≤◌, ◌<◌}
 use mathlib.Core.Path.{◌≡◌, refl, sym, subst, ◌∙◌}
 use mathlib.Core.Bool.{true, false}
-use mathlib.Core.Logic.{⊎_elim}
-use mathlib.Core.List.{List, [], ◌∷◌}
+use mathlib.Core.Logic.{◌⊎◌, inl, inr, ⊎_elim}
+use mathlib.Core.List.{List, []}
 use native.Mathlib.Nat.{eq-or-lt_of_le}
 use native.Mathlib.Omega.{arith}
 use lib.Dec.{eqb}
 use lib.ListN.{get_or}
 use borrow.Author.Tests.{eqb-true, eq-eqb, ne_eqb}
-use denote.Enum.Declared.{tag_of}
-use types.Run.{OneOf, miss}
 use Rattle.meaning.specs.Bytes.{when◌then◌else◌}
 use Rattle.meaning.specs.Terms.{writer, reader, Constant, Term, Terms, end, more, count, renamed, all_renamed, same_constant}
 use Rattle.meaning.specs.State.{Values}
@@ -18,7 +16,6 @@ use Rattle.meaning.specs.Compare.{succeeds, followed, with_assignments, and_then
 use Rattle.laws.proofs.Lists.Tests.{and_left, and_right}
 use Rattle.term.specs.declared.word.View.{View}
 use Rattle.term.specs.declared.word.View.TheVariants.{Nothing, Writer, Reader, Integer, Name, Empty, Compound}
-use Rattle.term.specs.contracts.word.View.{the_type}
 use Rattle.term.specs.Cells.{Places, term_word, Known, AllKnown}
 use Rattle.term.specs.Holds.{HoldsFrom}
 use Rattle.term.specs.Setting.{Setting, Ranged, AllRanged}
@@ -45,18 +42,21 @@ unfolding same_word
 same_equal h a e = rw (eq-eqb h a e)
 
 -- What is none of the three.
-abbrev pub NoConstant : View → Type 0
-NoConstant v = OneOf (0 ∷ 1 ∷ 2 ∷ 6 ∷ []) (tag_of the_type v)
-
-pub no_constant : (v : View) → NoConstant v → is_constant v ≡ false
+pub no_constant : (v : View) → ((n : ℕ) → v ≡ Integer n → ⊥) → ((n : ℕ) → v ≡ Name n → ⊥) → (v ≡ Empty → ⊥) → is_constant v ≡ false
 unfolding is_constant
-no_constant Nothing k = refl
-no_constant (Writer z) k = refl
-no_constant (Reader z) k = refl
-no_constant (Integer n) k = absurd (miss (0 ∷ 1 ∷ 2 ∷ 6 ∷ []) 3 tt k)
-no_constant (Name n) k = absurd (miss (0 ∷ 1 ∷ 2 ∷ 6 ∷ []) 4 tt k)
-no_constant Empty k = absurd (miss (0 ∷ 1 ∷ 2 ∷ 6 ∷ []) 5 tt k)
-no_constant (Compound q) k = refl
+no_constant Nothing i n e = refl
+no_constant (Writer z) i n e = refl
+no_constant (Reader z) i n e = refl
+no_constant (Integer k) i n e = absurd (i k refl)
+no_constant (Name k) i n e = absurd (n k refl)
+no_constant Empty i n e = absurd (e refl)
+no_constant (Compound q) i n e = refl
+
+pub a_constant : (v : View) → ((n : ℕ) × (v ≡ Integer n)) ⊎ (((n : ℕ) × (v ≡ Name n)) ⊎ (v ≡ Empty)) → is_constant v ≡ true
+unfolding is_constant
+a_constant v (inl (n, e)) = rw e
+a_constant v (inr (inl (n, e))) = rw e
+a_constant v (inr (inr e)) = rw e
 
 -- Behind the last argument there is none.
 pub none_behind : (s : List ℕ) (p q n k : ℕ) → k ≡ n → SameBehind s p q n k

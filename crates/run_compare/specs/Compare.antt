@@ -1,6 +1,6 @@
 -- What comparing a clause's head with a goal asks and gives: the head's terms as the clause has them, the goal's terms of the unit, and the
 -- outcome of document 01's table with what the trial's region records of it.
-use Rattle.std.specs.Prelude.{ℕ, ◌+◌, ◌*◌, ◌≤◌, ◌<◌, ◌≡◌, ◌⊎◌, List, [], ◌∷◌, eqb, length, get_or}
+use Rattle.std.specs.Prelude.{ℕ, ◌+◌, ◌*◌, ◌≤◌, ◌<◌, ◌≡◌, ◌⊎◌, List, [], ◌∷◌, eqb, length, get_or, Option, Some, None}
 use Rattle.meaning.specs.Bytes.{Bytes, any}
 use Rattle.meaning.specs.Terms.{Functor, Term, Terms, count, renamed, all_renamed}
 use Rattle.meaning.specs.State.{value}
@@ -9,8 +9,6 @@ use Rattle.meaning.specs.Compare.{Assignment, Result, fails, followed, place, pl
 use Rattle.term.specs.Cells.{Places, Known, AllKnown, Numbered, AllNumbered, term_word}
 use Rattle.term.specs.Holds.{CellAt, Holds, HoldsFrom, value_word}
 use Rattle.term.specs.Frames.{Only}
-use Rattle.run_compare.specs.declared.compare.CompareResult.{CompareResult}
-use Rattle.run_compare.specs.declared.compare.CompareResult.TheVariants.{Noted, Fails}
 use Rattle.run_compare.specs.Gifts.{Gift, to_head, to_goal, assignments, Entry, entries_of, EntriesAt, renamed_entries}
 use Rattle.run_compare.specs.Notes.{Note, given, asked, outcome_of, noted, written}
 use Rattle.term.specs.Setting.{Setting, Within, AllWithin, Ranged, AllRanged, UnitTerm, UnitTerms}
@@ -123,12 +121,12 @@ pub record Notes (s s' : List ℕ) (x : Setting) (y : Template) (n lo hi : ℕ) 
   pub counted : m ≡ n + noted notes
   pub held : AllNoted s x y lo hi notes
 
-abbrev pub Told : List ℕ → List ℕ → Setting → Template → ℕ → ℕ → ℕ → ℕ → Result → CompareResult → Type 0
-Told s s' x y n lo hi k o (Noted m) = (m + 6 * lo ≤ n + 6 * hi + k) × Notes s s' x y n lo hi o m
-Told s s' x y n lo hi k o Fails = o ≡ fails
+abbrev pub Told : List ℕ → List ℕ → Setting → Template → ℕ → ℕ → ℕ → ℕ → Result → Option ℕ → Type 0
+Told s s' x y n lo hi k o (Some m) = (m + 6 * lo ≤ n + 6 * hi + k) × Notes s s' x y n lo hi o m
+Told s s' x y n lo hi k o None = o ≡ fails
 
 -- The answer r to the outcome o of k terms of the head, their compounds numbered from lo up to hi: only the trial's region has changed.
-pub record Answers (s s' : List ℕ) (x : Setting) (y : Template) (n lo hi k : ℕ) (o : Result) (r : CompareResult) : Type 0 where
+pub record Answers (s s' : List ℕ) (x : Setting) (y : Template) (n lo hi k : ℕ) (o : Result) (r : Option ℕ) : Type 0 where
   pub only : Only trial_region woken_part s s'
   pub told : Told s s' x y n lo hi k o r
 

@@ -1,6 +1,6 @@
 -- What a trial gives, in order, and how the trial's region records it: 16 words for what the head's writers are given; then, two words each,
 -- the goal's pairs that are given a term of the head, by the pair's place and the head term's own word, not yet renamed.
-use Rattle.std.specs.Prelude.{ℕ, ◌+◌, ◌*◌, ◌≡◌, List, [], ◌∷◌, eqb, get_or}
+use Rattle.std.specs.Prelude.{ℕ, ◌+◌, ◌≡◌, List, [], ◌∷◌, eqb, get_or}
 use Rattle.std.proofs.Math.Option.{Option, some}
 use Rattle.meaning.specs.Bytes.{when◌then◌else◌}
 use Rattle.meaning.specs.Terms.{Term, renamed}

@@ -11,13 +11,8 @@ use run_table::table::{PlaceResult, differ, table};
 use term::scratch::{argument, count};
 use term::word::{View, look};
 
-// How many of the goal's pairs are noted so far, where no place fails: those that are given a term, and those whose readers are waited on; or a place
+// Comparing tells how many of the goal's pairs are noted so far: those that are given a term, and those whose readers are waited on; None where a place
 // fails.
-#[derive(Clone, Copy)]
-pub enum CompareResult {
-    Noted(usize),
-    Fails,
-}
 
 // Two compounds: their functors and numbers of arguments, and then their arguments.
 #[cycle(compounds_places)]
@@ -28,7 +23,7 @@ fn compounds(
     p: usize,
     q: usize,
     n: usize,
-) -> CompareResult
+) -> Option<usize>
     requires { (x : Setting) × (y : Template) × (lo : ℕ) × (hi : ℕ) × (m : ℕ) × (g : Functor) × (us : Terms) × (l : ℕ) × (f : Functor) × (ts : Terms)
         × Against s.old x y values links lo hi (compound m g us) (compound l f ts) (compound_word p) (compound_word q) n }
     ensures { (x : Setting) (y : Template) (lo hi m : ℕ) (g : Functor) (us : Terms) (l : ℕ) (f : Functor) (ts : Terms)
@@ -36,7 +31,7 @@ fn compounds(
         → Answers s.old s.new x y n lo hi 1 (place_outcome x links (compound m g us) (compound l f ts)) result }
 {
     if differ(s, p, q) {
-        return CompareResult::Fails;
+        return None;
     }
     places(s, values, links, p, q, n)
 }
@@ -45,15 +40,7 @@ fn compounds(
 fn same(h: u64, a: u64) -> bool
     ensures { result ≡ same_word h a }
 {
-    if h != a {
-        return false;
-    }
-    match look(h) {
-        View::Integer(_) => true,
-        View::Name(_) => true,
-        View::Empty => true,
-        _ => false,
-    }
+    h == a && matches!(look(h), View::Integer(_) | View::Name(_) | View::Empty)
 }
 
 // How many arguments of two compounds are to be compared: those at the end that are the same constants agree and give nothing.
@@ -61,14 +48,10 @@ fn open(s: &[u64], p: usize, q: usize) -> usize
     requires { (p + 8 ≤ length s.now) × (q + 8 ≤ length s.now) }
     ensures { LastOpen s.now p q (tag_in (get_or s.now p 0)) result }
 {
-    let mut k = count(s, p);
-    while 0 < k {
-        let h = argument(s, p, k);
-        let a = argument(s, q, k);
-        if !same(h, a) {
+    for k in (1..=count(s, p)).rev() {
+        if !same(argument(s, p, k), argument(s, q, k)) {
             return k;
         }
-        k -= 1;
     }
     0
 }
@@ -82,7 +65,7 @@ pub fn places(
     first: usize,
     second: usize,
     n: usize,
-) -> CompareResult
+) -> Option<usize>
     requires { (x : Setting) × (y : Template) × (m : ℕ) × (g : Functor) × (us : Terms) × (lo : ℕ) × (hi : ℕ) × (l : ℕ) × (f : Functor) × (ts : Terms)
         × AllAgainst s.old x y values links m g us lo hi l f ts first second n }
     ensures { (x : Setting) (y : Template) (m : ℕ) (g : Functor) (us : Terms) (lo hi l : ℕ) (f : Functor) (ts : Terms)
@@ -94,42 +77,28 @@ pub fn places(
     let mut k = open(s, p, q);
     let mut noted = n;
     let mut i = 1;
-    'places: loop {
-        if i > k {
-            break 'places;
-        }
+    'arguments: while i <= k {
         let h = argument(s, p, i);
         let a = argument(s, q, i);
         let w = follow(s, values, links, a);
         match table(s, h, w, noted) {
-            PlaceResult::Noted(m) => {
-                noted = m;
-            }
-            PlaceResult::Fails => {
-                return CompareResult::Fails;
-            }
+            PlaceResult::Noted(m) => noted = m,
+            PlaceResult::Fails => return None,
             PlaceResult::Below(b, c) => {
                 if i == k {
                     if differ(s, b, c) {
-                        return CompareResult::Fails;
+                        return None;
                     }
                     p = b;
                     q = c;
                     k = open(s, p, q);
                     i = 1;
-                    continue 'places;
+                    continue 'arguments;
                 }
-                match compounds(s, values, links, b, c, noted) {
-                    CompareResult::Noted(m) => {
-                        noted = m;
-                    }
-                    CompareResult::Fails => {
-                        return CompareResult::Fails;
-                    }
-                }
+                noted = compounds(s, values, links, b, c, noted)?;
             }
         }
         i += 1;
     }
-    CompareResult::Noted(noted)
+    Some(noted)
 }

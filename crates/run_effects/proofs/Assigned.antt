@@ -1,6 +1,6 @@
 -- The values that a reduction assigns: the words that the head's writers were given, and the copies of the terms that the goal's pairs were given.
 -- No pair is given a term twice, and each copy lies behind those before it, so what was assigned stays; the entries lie before all that is written.
-use Prim.Native.Nat.{ℕ, ◌+◌, ◌*◌, ◌≤◌, ◌<◌}
+use Prim.Native.Nat.{ℕ, ◌+◌, ◌≤◌, ◌<◌}
 use mathlib.Core.Path.{◌≡◌, refl, sym, ◌∙◌}
 use mathlib.Core.Bool.{Bool, true, false}
 use mathlib.Core.Logic.{inl, inr}

@@ -1,5 +1,5 @@
 -- The goals that wait on the trial's pairs, entry by entry: those found wait on nothing any more, and their places stand in a rising list.
-use Prim.Native.Nat.{ℕ, ◌+◌, ◌*◌, ◌-◌, ◌≤◌, ◌<◌}
+use Prim.Native.Nat.{ℕ, ◌+◌, ◌≤◌, ◌<◌}
 use mathlib.Core.Path.{◌≡◌, refl, ap, sym, ◌∙◌}
 use mathlib.Core.Bool.{Bool, true, false, true≢false}
 use mathlib.Core.Logic.{inl, inr, ⊎_elim}
@@ -60,9 +60,6 @@ module _ (s₀ : List ℕ) (log waiters sets pairs : ℕ) (slots : List Slot) (n
     (s : List ℕ) (i woken : ℕ) (a : Awake s₀ s log waiters sets pairs slots i woken) (less : i < n) where
   abbrev pub zs : List ℕ
   zs = entry_places s₀ i
-
-  pub entry_inside : gift_pair i < length s
-  entry_inside = omega (arith, w.few, w.behind, a.ok.waiters_first, a.ok.sets_next, a.ok.inside)
 
   low_kept : (k : ℕ) → k < woken_part → get_or s k 0 ≡ get_or s₀ k 0
   low_kept k h =
@@ -193,6 +190,3 @@ pub awake_ends : (s₀ s : List ℕ) (log waiters sets pairs : ℕ) (slots : Lis
 awake_ends s₀ s log waiters sets pairs slots n i woken w a e =
     let b : Awake s₀ s log waiters sets pairs slots n woken = rw e at a in
     record { ok = b.ok; number = b.number; places = b.places; few = omega (arith, b.few, w.few); kept = b.kept }
-
-pub place_before : (w x : ℕ) → x ≡ w → (x ≡ 0 → ⊥) → w ≡ x - 1 + 1
-place_before w x e h = omega arith

@@ -1,6 +1,6 @@
 -- The copy of a variable or a constant is a word of its own; that of a compound is its first word and then argument by argument: the argument's word
 -- and, behind all that has been copied, its compounds. So what is copied stays; the depth of the term falls from a compound to its arguments.
-use Prim.Native.Nat.{ℕ, ◌+◌, ◌*◌, ◌/◌, ◌%◌, ◌≤◌, ◌<◌}
+use Prim.Native.Nat.{ℕ, ◌+◌, ◌*◌, ◌≤◌, ◌<◌}
 use mathlib.Core.Path.{◌≡◌, refl, ap, sym, ◌∙◌}
 use mathlib.Core.Logic.{inl, inr}
 use mathlib.Core.List.{List, [], ◌∷◌}

@@ -1,5 +1,5 @@
 -- A term of an item copied for a unit: its pairs come from a pair on, and its compounds stand one behind the other from a word on.
-use Rattle.std.specs.Prelude.{ℕ, ◌+◌, ◌*◌, ◌≤◌, ◌<◌, ◌≡◌, ◌⊎◌, ◌≢◌, List, [], ◌∷◌, length, get_or}
+use Rattle.std.specs.Prelude.{ℕ, ◌+◌, ◌≤◌, ◌<◌, ◌≡◌, ◌⊎◌, ◌≢◌, List, [], ◌∷◌, length, get_or}
 use Rattle.meaning.specs.Terms.{Term, Terms, variable, constant, compound, end, more, count, renamed}
 use Rattle.term.specs.declared.word.View.{View}
 use Rattle.term.specs.declared.word.View.TheVariants.{Nothing, Writer, Reader, Integer, Name, Empty, Compound}

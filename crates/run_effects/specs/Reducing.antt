@@ -1,5 +1,5 @@
 -- What the parts of a reduction ask and give: values assigned, goals copied into the queue, waiting goals woken.
-use Rattle.std.specs.Prelude.{ℕ, zero, suc, ◌+◌, ◌*◌, ◌≤◌, ◌<◌, ◌≡◌, Bool, true, false, ◌⊎◌, List, [], ◌∷◌, ◌++◌, map, ltb, length, get_or}
+use Rattle.std.specs.Prelude.{ℕ, zero, suc, ◌+◌, ◌*◌, ◌≤◌, ◌<◌, ◌≡◌, Bool, ◌⊎◌, List, [], ◌∷◌, ◌++◌, map, ltb, length, get_or}
 use Rattle.meaning.specs.Bytes.{among, any, when◌then◌else◌}
 use Rattle.meaning.specs.Terms.{Term, Named, renamed, as_term}
 use Rattle.term.specs.Cells.{Places, term_word}

@@ -1,35 +1,18 @@
 // A clause's terms renamed apart: its pairs come next, and its compounds are copied one behind the other.
-ghost use Rattle.std.specs.Prelude.{◌≡◌, ℕ, ◌+◌, ◌*◌, ◌/◌, ◌%◌, ◌≤◌, ◌<◌, length, get_or, set};
+ghost use Rattle.std.specs.Prelude.{◌≡◌, ℕ, ◌+◌, ◌*◌, ◌/◌, ◌%◌, ◌≤◌, ◌<◌, length};
 ghost use Rattle.meaning.specs.Terms.{Term, compound, Functor, Terms};
 ghost use Rattle.term.specs.Words.{view, compound_word, packed, tag_in, rest_in};
 ghost use Rattle.run_effects.specs.Build.{PairFits, moved_word, Item, Original, Aside, Laid, Copied};
 
 use term::scratch::{argument, count};
-use term::word::{COMPOUND, READER, TAGS, View, WRITER, look};
+use term::word::{COMPOUND, READER, TAGS, View, WRITER, look, word};
 
 // The word of one half of a pair, or of a compound, by its tag and place.
 fn placed(tag: u64, place: usize) -> u64
     requires { (tag < 8) × (place ≤ 1152921504606846976) }
     ensures { result ≡ packed tag place }
 {
-    tag + TAGS * (place as u64)
-}
-
-// The first word of the compound at a place, copied.
-fn copy_functor(s: &mut [u64], to: usize, p: usize)
-    requires { (p < length s.old) × (to < length s.old) }
-    ensures { s.new ≡ set s.old to (get_or s.old p 0) }
-{
-    let f = s[p];
-    s[to] = f;
-}
-
-// A word stored.
-fn put(s: &mut [u64], at: usize, w: u64)
-    requires { at < length s.old }
-    ensures { s.new ≡ set s.old at w }
-{
-    s[at] = w;
+    tag + TAGS * word(place)
 }
 
 // The word of the copy of a term that is no compound.
@@ -53,7 +36,7 @@ pub fn copy(s: &mut [u64], pair: usize, at: usize, to: usize, h: u64) -> usize
     match look(h) {
         View::Compound(p) => copy_compound(s, pair, at, to, p),
         _ => {
-            put(s, at, moved(pair, h));
+            s[at] = moved(pair, h);
             to
         }
     }
@@ -67,7 +50,7 @@ fn copy_compound(s: &mut [u64], pair: usize, at: usize, to: usize, p: usize) -> 
     ensures { (x : Item) (n : ℕ) (f : Functor) (ts : Terms) → Original s.old x pair to (compound_word p) (compound n f ts)
         → Aside s.old at to (compound n f ts) → Copied s.old s.new x pair at to (compound n f ts) result }
 {
-    put(s, at, placed(COMPOUND, to));
+    s[at] = placed(COMPOUND, to);
     copy_arguments(s, pair, to, p)
 }
 
@@ -79,18 +62,18 @@ pub fn copy_arguments(s: &mut [u64], pair: usize, to: usize, p: usize) -> usize
         → Laid s.old s.new x pair to (compound n f ts) result }
 {
     let k = count(s, p);
-    copy_functor(s, to, p);
+    s[to] = s[p];
     let mut free = to + 1 + k;
-    let mut i = 1;
-    while i <= k {
+    for i in 1..=k {
         let a = argument(s, p, i);
         match look(a) {
             View::Compound(q) => {
                 free = copy_compound(s, pair, to + i, free, q);
             }
-            _ => put(s, to + i, moved(pair, a)),
+            _ => {
+                s[to + i] = moved(pair, a);
+            }
         }
-        i += 1;
     }
     free
 }

@@ -10,21 +10,19 @@ ghost use Rattle.run_queues.specs.Log.{Slot};
 ghost use Rattle.run_effects.specs.Reducing.{HeadAssigned, Assigning, GoalAssigned, Adding, Added, Wakes, Waked, AddsWoken, WokenAdded, Inserts, Inserted};
 
 use crate::build::{copy, copy_arguments};
-use run_queues::goals::{leave, push, take};
+use run_queues::goals::{Log, Ring};
 use term::layout::{GIFTS, TRIAL, WOKEN};
 use term::scratch::{set_at, word_at};
-use term::word::{TAGS, index, word};
+use term::word::{TAGS, index, linked, word};
 
 // X := what the head's writers were given, the clause's pairs lying from a pair on.
 pub fn assign_head(s: &mut [u64], values: usize, pair: usize, pairs: usize)
     requires { (pairs ≤ 16) × (compounds_region ≤ values) × (values + pair + pairs ≤ length s.old) }
     ensures { HeadAssigned s.old s.new values pair pairs }
 {
-    let mut x = 0;
-    while x < pairs {
+    for x in 0..pairs {
         let w = word_at(s, TRIAL, x);
         set_at(s, values + pair, x, w);
-        x += 1;
     }
 }
 
@@ -35,17 +33,16 @@ pub fn assign_goal(s: &mut [u64], values: usize, pair: usize, to: usize, n: usiz
         → GoalAssigned s.old s.new x unit values bound pair to list result }
 {
     let mut free = to;
-    let mut i = 0;
-    while i < n {
+    for i in 0..n {
         let z = index(word_at(s, GIFTS, 2 * i));
         let h = word_at(s, GIFTS + 1, 2 * i);
         free = copy(s, pair, values + z, free, h);
-        i += 1;
     }
     free
 }
 
 // A place of the log joins the list of so many, in which places rise.
+// Stays a walk from the end: the list lies in fixed memory, and a place that is found later mostly stands further back.
 fn insert(s: &mut [u64], place: usize, woken: usize)
     requires { Inserts s.old place woken }
     ensures { Inserted s.old s.new place woken }
@@ -63,22 +60,19 @@ fn insert(s: &mut [u64], place: usize, woken: usize)
 }
 
 // The goal that waits on one of the trial's pairs, for each: its place in the log is listed, in the order in which they began to wait. How many.
-pub fn wake(s: &mut [u64], log: usize, waiters: usize, sets: usize, n: usize) -> usize
-    requires { (pairs : ℕ) × (slots : List Slot) × Wakes s.old log waiters sets pairs slots n }
-    ensures { (pairs : ℕ) (slots : List Slot) → Wakes s.old log waiters sets pairs slots n
-        → Waked s.old s.new log waiters sets pairs slots n result }
+pub fn wake(s: &mut [u64], log: Log, n: usize) -> usize
+    requires { (pairs : ℕ) × (slots : List Slot) × Wakes s.old log.places log.waiters log.sets pairs slots n }
+    ensures { (pairs : ℕ) (slots : List Slot) → Wakes s.old log.places log.waiters log.sets pairs slots n
+        → Waked s.old s.new log.places log.waiters log.sets pairs slots n result }
 {
     let mut woken = 0;
-    let mut i = 0;
-    while i < n {
+    for i in 0..n {
         let z = index(word_at(s, GIFTS, 2 * i));
-        let waiter = index(word_at(s, waiters, z));
-        if waiter != 0 {
-            leave(s, log, waiters, sets, waiter - 1);
-            insert(s, waiter - 1, woken);
+        if let Some(place) = linked(word_at(s, log.waiters, z)) {
+            log.leave(s, place);
+            insert(s, place, woken);
             woken += 1;
         }
-        i += 1;
     }
     woken
 }
@@ -99,47 +93,40 @@ pub fn add_goals(
     pair: usize,
     to: usize,
     mark: u64,
-    queue: usize,
-    size: usize,
-    front: usize,
-    active: usize,
+    queue: Ring,
 ) -> usize
-    requires { (x : Item) × (goals : List Named) × Adding s.old x from n pair to mark queue size front active goals }
-    ensures { (x : Item) (goals : List Named) → Adding s.old x from n pair to mark queue size front active goals
-        → Added s.old s.new x n pair to mark queue size front active goals result }
+    requires { (x : Item) × (goals : List Named)
+        × Adding s.old x from n pair to mark queue.start queue.size queue.front queue.active goals }
+    ensures { (x : Item) (goals : List Named) → Adding s.old x from n pair to mark queue.start queue.size queue.front queue.active goals
+        → Added s.old s.new x n pair to mark queue.start queue.size queue.front queue.active goals result }
 {
     let mut free = to;
-    let mut i = 0;
-    while i < n {
+    for i in 0..n {
         let h = word_at(s, from, i);
-        push(s, queue, size, front, active + i, goal_of(free, mark));
+        let behind = Ring {
+            active: queue.active + i,
+            ..queue
+        };
+        behind.push(s, goal_of(free, mark));
         free = copy_arguments(s, pair, free, index(h / TAGS));
-        i += 1;
     }
     free
 }
 
 // The woken goals join the queue, in the order in which they began to wait.
-pub fn add_woken(
-    s: &mut [u64],
-    log: usize,
-    n: usize,
-    queue: usize,
-    size: usize,
-    front: usize,
-    active: usize,
-)
+pub fn add_woken(s: &mut [u64], log: Log, n: usize, queue: Ring)
     requires { (waiters : ℕ) × (sets : ℕ) × (pairs : ℕ) × (slots : List Slot) × (zs : List ℕ)
-        × AddsWoken s.old log waiters sets pairs slots zs n queue size front active }
+        × AddsWoken s.old log.places waiters sets pairs slots zs n queue.start queue.size queue.front queue.active }
     ensures { (waiters sets pairs : ℕ) (slots : List Slot) (zs : List ℕ)
-        → AddsWoken s.old log waiters sets pairs slots zs n queue size front active
-        → WokenAdded s.old s.new log waiters sets pairs slots zs n queue size front active }
+        → AddsWoken s.old log.places waiters sets pairs slots zs n queue.start queue.size queue.front queue.active
+        → WokenAdded s.old s.new log.places waiters sets pairs slots zs n queue.start queue.size queue.front queue.active }
 {
-    let mut i = 0;
-    while i < n {
-        let place = index(word_at(s, WOKEN, i));
-        let goal = take(s, log, place);
-        push(s, queue, size, front, active + i, goal);
-        i += 1;
+    for i in 0..n {
+        let goal = log.take(s, index(word_at(s, WOKEN, i)));
+        let behind = Ring {
+            active: queue.active + i,
+            ..queue
+        };
+        behind.push(s, goal);
     }
 }

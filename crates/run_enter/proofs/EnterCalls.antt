@@ -1,5 +1,5 @@
 -- What entering a query asks of the parts that it calls, and what it comes to; and the queries entered one by one, beginning with none.
-use Prim.Native.Nat.{ℕ, suc, ◌+◌, ◌*◌, ◌≤◌, ◌<◌}
+use Prim.Native.Nat.{ℕ, suc, ◌+◌, ◌≤◌, ◌<◌}
 use mathlib.Core.Path.{◌≡◌, refl, sym, ap, ◌∙◌}
 use mathlib.Core.Bool.{true}
 use mathlib.Core.Logic.{inr}
@@ -16,7 +16,7 @@ use Rattle.laws.proofs.Lists.EachOf.{Each}
 use Rattle.laws.proofs.Reading.{accepted_keeps_the_figures}
 use Rattle.laws.proofs.Reading.Figures.{QueryFits}
 use Rattle.term.specs.Jobs.{EachFrom}
-use Rattle.term.specs.Layout.{queue_region, queries_region, compounds_region, query_record, query_pairs_word, query_compounds_word, query_first_pair_word, query_goals_from}
+use Rattle.term.specs.Layout.{queue_region, compounds_region, query_record, query_pairs_word, query_compounds_word, query_first_pair_word, query_goals_from}
 use Rattle.term.specs.States.{Atlas, ring, logged, listed, Ready}
 use Rattle.term.specs.declared.state.Standing.{Standing}
 use Rattle.run_effects.specs.Build.{Item}
@@ -120,6 +120,12 @@ pub adds : (s : List ℕ) (figures : Room) (q : ℕ) (t : Standing) {n pairs com
     × Adding s y (query_goals_from q) n t.pairs t.cells q queue figures.goals 0 t.active goals
 adds s figures q t {n} {pairs} {compounds} queue (text, names, j, done, x, rest, atlas, e, is, at) numbers queue_is =
     adds_here s text names j figures done x rest atlas t e is q n pairs compounds at numbers queue queue_is
+
+-- No goal waits or has failed, and no step is taken.
+pub nothing_yet : {s : List ℕ} {text : Bytes} {names : List Bytes} {j : Job} {figures : Room} {done : List Query} {atlas : Atlas} {t : Standing}
+    → Entered s text names j figures done atlas t → (t.waiting ≡ 0) × (t.failed ≡ 0) × (t.steps ≡ 0)
+unfolding start
+nothing_yet e = (omega (arith, e.state.waiting.number), omega (arith, e.state.failed.number), omega (arith, e.state.steps))
 
 -- One change after another.
 pub enter_same : (figures : Room) (s : List ℕ) → EnterOnly figures s s

@@ -1,5 +1,5 @@
 -- A query is entered: its goals are copied into the queue, and its unit stands.
-use Prim.Native.Nat.{ℕ, zero, ◌+◌, ◌*◌, ◌≤◌, ◌<◌}
+use Prim.Native.Nat.{ℕ, ◌+◌, ◌≤◌, ◌<◌}
 use mathlib.Core.Path.{◌≡◌, refl, sym, ap, ◌∙◌}
 use mathlib.Core.Logic.{◌≢◌, inl, inr}
 use mathlib.Core.List.{List, [], ◌∷◌, ◌++◌, map}
@@ -15,7 +15,7 @@ use Rattle.laws.proofs.Reading.Figures.{QueryFits}
 use Rattle.term.specs.Cells.{Places}
 use Rattle.term.specs.Holds.{Holds}
 use Rattle.term.specs.Jobs.{places_from, HoldsQuery, JobKept}
-use Rattle.term.specs.Layout.{values_region, queue_region, queries_region, query_record, query_base, query_first_pair_word, query_goals_from, query_stride, first_pair_at}
+use Rattle.term.specs.Layout.{values_region, queue_region, query_record, query_base, query_first_pair_word, query_goals_from, query_stride, first_pair_at}
 use Rattle.term.specs.Setting.{Ranged}
 use Rattle.term.specs.States.{Atlas, goal_word, ring, listed, logged, AllStand, QueueStands, WaitingStand, FailedStand, HoldsState}
 use Rattle.term.specs.declared.state.Standing.{Standing}

@@ -1,12 +1,12 @@
 -- The queries entered one by one: what the scratch holds when some of them are.
-use Rattle.std.specs.Prelude.{ℕ, zero, suc, ◌+◌, ◌≤◌, ◌<◌, ◌≡◌, true, ◌≢◌, List, [], ◌∷◌, ◌++◌, length, get_or}
+use Rattle.std.specs.Prelude.{ℕ, zero, suc, ◌+◌, ◌≤◌, ◌<◌, ◌≡◌, true, ◌≢◌, List, length, get_or}
 use Rattle.meaning.specs.Bytes.{Bytes}
 use Rattle.meaning.specs.Terms.{Query, Job}
 use Rattle.meaning.specs.Items.{job, reading}
 use Rattle.meaning.specs.State.{Room, start}
 use Rattle.meaning.specs.Run.{queries_fit}
 use Rattle.term.specs.Jobs.{HoldsJob}
-use Rattle.term.specs.Layout.{values_region, waiters_region, marks_region, queue_region, need_of, InRange, queries_region, items_region, compounds_region, query_record, query_tries_word, query_stride, first_pair_at}
+use Rattle.term.specs.Layout.{values_region, queue_region, need_of, InRange, queries_region, items_region, compounds_region, query_record, query_tries_word, query_stride, first_pair_at}
 use Rattle.term.specs.States.{Atlas, HoldsState, PairsZero}
 use Rattle.term.specs.declared.state.Standing.{Standing}
 

@@ -9,7 +9,7 @@ ghost use Rattle.term.specs.Jobs.{HoldsJob};
 ghost use Rattle.run_enter.specs.Entering.{record_sum, EnterOnly, Entered};
 
 use run_effects::reduce::add_goals;
-use term::layout;
+use run_queues::goals::Ring;
 use term::layout::{
     COMPOUNDS, QUERIES, QUERY_BODY, QUERY_COMPOUNDS, QUERY_FIRST_PAIR, QUERY_GOALS, QUERY_PAIRS,
     QUERY_STRIDE, Room,
@@ -24,10 +24,8 @@ fn sum(s: &[u64], queries: usize, at: usize) -> usize
     ensures { result ≡ record_sum s.now at queries }
 {
     let mut all = 0;
-    let mut q = 0;
-    while q < queries {
+    for q in 0..queries {
         all += index(word_at(s, QUERIES + QUERY_STRIDE * q, at));
-        q += 1;
     }
     all
 }
@@ -59,17 +57,20 @@ fn enter(s: &mut [u64], room: Room, q: usize, t: Standing) -> Standing
     let goals = index(word_at(s, QUERIES + QUERY_STRIDE * q, QUERY_GOALS));
     let pairs = index(word_at(s, QUERIES + QUERY_STRIDE * q, QUERY_PAIRS));
     let compounds = index(word_at(s, QUERIES + QUERY_STRIDE * q, QUERY_COMPOUNDS));
+    let queue = Ring {
+        start: room.queue(),
+        size: room.goals,
+        front: 0,
+        active: t.active,
+    };
     let cells = add_goals(
         s,
         QUERIES + QUERY_STRIDE * q + QUERY_BODY,
         goals,
         t.pairs,
         t.cells,
-        q as u64,
-        layout::queue(room),
-        room.goals,
-        0,
-        t.active,
+        word(q),
+        queue,
     );
     set_at(
         s,
@@ -81,12 +82,8 @@ fn enter(s: &mut [u64], room: Room, q: usize, t: Standing) -> Standing
         pairs: t.pairs + pairs,
         compounds: t.compounds + compounds,
         cells,
-        front: 0,
         active: t.active + goals,
-        log: 0,
-        waiting: 0,
-        failed: 0,
-        steps: 0,
+        ..t
     }
 }
 
@@ -110,10 +107,8 @@ pub fn enter_all(s: &mut [u64], room: Room, queries: usize) -> Standing
         failed: 0,
         steps: 0,
     };
-    let mut q = 0;
-    while q < queries {
+    for q in 0..queries {
         t = enter(s, room, q, t);
-        q += 1;
     }
     t
 }

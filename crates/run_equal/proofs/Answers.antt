@@ -2,11 +2,13 @@
 -- whether they are equal.
 use Prim.Native.Nat.{ℕ, ◌+◌, ◌-◌, ◌*◌, ◌^◌, ◌≤◌, ◌<◌}
 use mathlib.Core.Path.{◌≡◌, refl, sym, ap, subst, ◌∙◌}
-use mathlib.Core.Bool.{Bool, true, false}
+use mathlib.Core.Bool.{Bool, true, false, not}
 use mathlib.Core.List.{List, []}
 use native.Mathlib.Nat.{mul-le-mul_right}
 use native.Mathlib.Omega.{arith}
+use lib.Dec.{eqb}
 use lib.ListN.{length, get_or}
+use borrow.Author.Tests.{eqb-true, eqb-false}
 use Rattle.meaning.specs.Terms.{writer, reader, Term, Terms, variable, constant, compound, end, more, all_replaced}
 use Rattle.meaning.specs.Compare.{Assignment, Result, succeeds, waits, fails, waits_on}
 use Rattle.meaning.specs.Guards.{first_of, unassigned, variables, all_variables, written_out, same_term, two_equal}
@@ -164,13 +166,13 @@ module _ (s : List ℕ) (x : Setting) (y : Template) (given : List Assignment) (
             subst (λ j. get_or s' j 0 ≡ get_or s j 0) at (c.stands.firsts (k - (marks + links)) (omega arith))
 
     -- They are equal, since all links are true.
-    pub says_equal : (r ≡ 65537 → ⊥) → Equated s s' x given marks links met t u true
+    says_equal : (r ≡ 65537 → ⊥) → Equated s s' x given marks links met t u true
     unfolding written_out all_replaced two_equal
     says_equal d =
         leaves true (sym (agree_same (filled scene t) (filled scene u) bare_first bare_second (λ m. (c.found d m (none_linked m)).0)))
 
     -- They are not: the comparison would have found them equal.
-    pub says_unequal : r ≡ 65537 → Equated s s' x given marks links met t u false
+    says_unequal : r ≡ 65537 → Equated s s' x given marks links met t u false
     unfolding written_out all_replaced two_equal
     says_unequal d =
         leaves false (sym (not_true_is_false (same_term (filled scene t) (filled scene u)) (λ e.
@@ -179,3 +181,7 @@ module _ (s : List ℕ) (x : Setting) (y : Template) (given : List Assignment) (
           equal = same_agree (filled scene t) (filled scene u) e;
           low = filled_depth scene values links a.asking t first_term;
         }))))
+
+    pub says : (b : Bool) → eqb r 65537 ≡ b → Equated s s' x given marks links met t u (not b)
+    says true e = says_unequal (eqb-true r 65537 e)
+    says false e = says_equal (eqb-false r 65537 e)

@@ -1,6 +1,6 @@
 -- The comparison, turn by turn: what is found of the terms at hand is found of those at first; if those at first are equal and all links true, so are
 -- these. And within a turn, argument by argument.
-use Prim.Native.Nat.{ℕ, ◌+◌, ◌-◌, ◌≤◌, ◌<◌}
+use Prim.Native.Nat.{ℕ, ◌+◌, ◌≤◌, ◌<◌}
 use mathlib.Core.Path.{◌≡◌, refl, sym, ap, ◌∙◌}
 use mathlib.Core.List.{List}
 use native.Mathlib.Omega.{arith}

@@ -1,4 +1,5 @@
 -- Links in the scratch: what a pair is linked to means the same, as far as the links agree; following a variable's value; a link that is made.
+use Rattle.std.specs.Prelude.{Some}
 use Prim.Native.Nat.{ℕ, zero, suc, ◌+◌, ◌*◌, ◌≤◌, ◌<◌}
 use mathlib.Core.Path.{◌≡◌, refl, sym, ap, subst, ◌∙◌}
 use mathlib.Core.Bool.{true, false}
@@ -76,23 +77,19 @@ module _ (s : List ℕ) (x : Scene) (values lists links taken : ℕ) (W : Workin
   alike_then v w r a b = record { meaning = b.meaning; means = b.means; same = λ n h. a.same n h ∙ b.same n h }
 
   -- What it is linked to.
-  pub link_alike : (c : ℕ) (v : Term) (r : ℕ) → Means x c v → VariableIs c true → LinkIs s lists taken (rest_in c) r → (r ≡ 0 → ⊥)
+  pub link_alike : (c : ℕ) (v : Term) (r : ℕ) → Means x c v → VariableIs c true → LinkIs s lists taken (rest_in c) (Some r)
       → Alike s x lists taken v r
-  link_alike c v r m is l d = go (l.at d)
+  link_alike c v r m is (d, i, below, pair, word) = by (dec_lt i x.met)
     where
-      go : (i : ℕ) × (i < taken) × (linked_pair (get_or s (lists + i) 0) ≡ rest_in c) × (linked_word (get_or s (lists + i) 0) ≡ r)
-          → Alike s x lists taken v r
-      go (i, below, pair, word) = by (dec_lt i x.met)
-        where
-          by : Dec (i < x.met) → Alike s x lists taken v r
-          by (yes first) = absurd (d (omega (arith, word, W.readers.small i first, W.few)))
-          by (no behind) =
-              let low : x.met ≤ i = omega arith in
-              let k = W.linked i low below in record {
-                meaning = k.right;
-                means = subst (λ q. Means x q k.right) word k.word;
-                same = λ n h. h i low below v k.right (subst (λ q. Means x (reader_word q) v) (sym pair) (means_reader c v m is)) k.word;
-              }
+      by : Dec (i < x.met) → Alike s x lists taken v r
+      by (yes first) = absurd (d (omega (arith, word, W.readers.small i first, W.few)))
+      by (no behind) =
+          let low : x.met ≤ i = omega arith in
+          let k = W.linked i low below in record {
+            meaning = k.right;
+            means = subst (λ q. Means x q k.right) word k.word;
+            same = λ n h. h i low below v k.right (subst (λ q. Means x (reader_word q) v) (sym pair) (means_reader c v m is)) k.word;
+          }
 
   -- Following.
   module _ (k : ℕ) where

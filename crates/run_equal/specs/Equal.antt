@@ -1,6 +1,6 @@
 -- Two terms compared when written out, over links between pairs that are taken to be equal. What a link says is taken level by level: terms are equal if
 -- they are so cut off any number of levels down; so links may be made before what they say is seen to be true.
-use Rattle.std.specs.Prelude.{ℕ, zero, suc, ◌+◌, ◌*◌, ◌/◌, ◌%◌, ◌≤◌, ◌<◌, ◌≡◌, Bool, true, false, ◌⊎◌, List, [], length, get_or}
+use Rattle.std.specs.Prelude.{ℕ, zero, suc, ◌+◌, ◌*◌, ◌/◌, ◌%◌, ◌≤◌, ◌<◌, ◌≡◌, ◌≢◌, Bool, true, false, ◌⊎◌, List, [], length, get_or, Option, Some, None}
 use Rattle.meaning.specs.Terms.{Half, Constant, Functor, Term, Terms, variable, constant, compound, end, more, replaced}
 use Rattle.meaning.specs.State.{applied}
 use Rattle.meaning.specs.Compare.{Assignment, succeeds}
@@ -127,9 +127,11 @@ pub record Working (s : List ℕ) (x : Scene) (values lists links taken : ℕ) :
   pub high : taken ≤ links
   pub linked : (i : ℕ) → x.met ≤ i → i < taken → Link x (get_or s (lists + i) 0)
 
--- The word that a pair is linked to; 0 if it is not.
-pub record LinkIs (s : List ℕ) (lists taken p r : ℕ) : Type 0 where
-  pub at : (r ≡ 0 → ⊥) → (i : ℕ) × (i < taken) × (linked_pair (get_or s (lists + i) 0) ≡ p) × (linked_word (get_or s (lists + i) 0) ≡ r)
+-- The word that a pair is linked to, if it is.
+abbrev pub LinkIs : List ℕ → ℕ → ℕ → ℕ → Option ℕ → Type 0
+LinkIs s lists taken p None = Unit {0}
+LinkIs s lists taken p (Some r) =
+    (r ≢ 0) × (i : ℕ) × (i < taken) × (linked_pair (get_or s (lists + i) 0) ≡ p) × (linked_word (get_or s (lists + i) 0) ≡ r)
 
 -- A link from p to w fits, and the list may have room.
 pub record Puts (links taken met p w : ℕ) : Type 0 where

@@ -14,27 +14,20 @@ use run_chains::follow::follow;
 use run_table::table::differ;
 use term::layout::TRIAL;
 use term::scratch::{count, set_at, word_at};
-use term::word::{COMPOUND, READER, TAGS, index, word};
+use term::word::{COMPOUND, READER, TAGS, WRITER, index, word};
 
 // More than the place of any pair.
 const PLACES: u64 = 65536;
 
-// The answer of a comparison that found a difference: a number and no enum, which would be handed over by a pointer. Any other is the number of
-// places taken in the list.
+// The answer of a comparison that found a difference. Any other is the number of places taken in the list.
+// Stays a number: an enum is handed over by a pointer, and the deepest comparison would take more stack.
 const UNEQUAL: usize = 65537;
 
 // Whether a word is that of a variable.
 fn is_variable(w: u64) -> bool
     ensures { VariableIs w result }
 {
-    let tag = w % TAGS;
-    if tag == 0 {
-        return false;
-    }
-    if tag > READER {
-        return false;
-    }
-    true
+    matches!(w % TAGS, WRITER | READER)
 }
 
 // The word at a place of a clause's compound: a variable stands for what the head gave it.
@@ -60,20 +53,23 @@ fn part(s: &[u64], at: usize) -> u64
     s[at]
 }
 
-// The word that a pair is linked to; 0 if it is not.
-fn link(s: &[u64], lists: usize, links: usize, taken: usize, p: usize) -> u64
+// The word that a pair is linked to.
+fn link(s: &[u64], lists: usize, links: usize, taken: usize, p: usize) -> Option<u64>
     requires { (lists + 2 * links ≤ length s.now) × (p < links) × (taken ≤ links) }
     ensures { LinkIs s.now lists taken p result }
 {
     let rank = index(word_at(s, lists + links, p));
     if rank >= taken {
-        return 0;
+        return None;
     }
     let e = word_at(s, lists, rank);
     if index(e % PLACES) != p {
-        return 0;
+        return None;
     }
-    e / PLACES
+    match e / PLACES {
+        0 => None,
+        w => Some(w),
+    }
 }
 
 // Links a pair to a word: where it has a link, this is the link now. A reader that the step has met keeps its rank, and a list that is full its links.
@@ -108,23 +104,25 @@ fn root(s: &[u64], lists: usize, links: usize, taken: usize, w: u64) -> u64
         → Alike s.now x lists taken v result }
 {
     let mut t = w;
-    let mut left = taken;
-    while 0 < left {
+    for _ in 0..taken {
         if !is_variable(t) {
             return t;
         }
-        let v = link(s, lists, links, taken, index(t / TAGS));
+        let Some(v) = link(s, lists, links, taken, index(t / TAGS)) else {
+            return t;
+        };
         if !is_variable(v) {
             return t;
         }
         t = v;
-        left -= 1;
     }
     t
 }
 
 // What a root is looked into as: of a variable, the compound that it is linked to, where the other one is no variable; else its value, followed. That
 // compound was met last, so its parts are the likeliest to be linked to the other's: in a doubling whose levels are cut at different places, they are.
+// In line, so that the comparison keeps 144 bytes of stack a level.
+#[inline(always)]
 fn opened(s: &[u64], values: usize, lists: usize, links: usize, taken: usize, c: u64, d: u64) -> u64
     requires { (x : Scene) × (v : Term) × Working s.now x values lists links taken × Means x c v }
     ensures { (x : Scene) (v : Term) → Working s.now x values lists links taken → Means x c v
@@ -134,9 +132,10 @@ fn opened(s: &[u64], values: usize, lists: usize, links: usize, taken: usize, c:
         return c;
     }
     if !is_variable(d) {
-        let v = link(s, lists, links, taken, index(c / TAGS));
-        if v % TAGS == COMPOUND {
-            return v;
+        if let Some(v) = link(s, lists, links, taken, index(c / TAGS)) {
+            if v % TAGS == COMPOUND {
+                return v;
+            }
         }
     }
     follow(s, values, links, c)
@@ -151,10 +150,8 @@ fn point(s: &mut [u64], lists: usize, links: usize, taken: usize, c: u64, d: u64
     if !is_variable(c) {
         return taken;
     }
-    if !is_variable(d) {
-        if d % TAGS != COMPOUND {
-            return taken;
-        }
+    if !is_variable(d) && d % TAGS != COMPOUND {
+        return taken;
     }
     put(s, lists, links, taken, index(c / TAGS), d)
 }
@@ -168,10 +165,8 @@ fn join(s: &mut [u64], lists: usize, links: usize, taken: usize, c: u64, d: u64)
     if !is_variable(c) {
         return point(s, lists, links, taken, d, c);
     }
-    if is_variable(d) {
-        if c / TAGS < d / TAGS {
-            return point(s, lists, links, taken, d, c);
-        }
+    if is_variable(d) && c / TAGS < d / TAGS {
+        return point(s, lists, links, taken, d, c);
     }
     point(s, lists, links, taken, c, d)
 }
@@ -180,19 +175,7 @@ fn join(s: &mut [u64], lists: usize, links: usize, taken: usize, c: u64, d: u64)
 fn alike(c: u64, d: u64) -> bool
     ensures { SameRoot c d result }
 {
-    if c == d {
-        return true;
-    }
-    if !is_variable(c) {
-        return false;
-    }
-    if !is_variable(d) {
-        return false;
-    }
-    if c / TAGS == d / TAGS {
-        return true;
-    }
-    false
+    c == d || is_variable(c) && is_variable(d) && c / TAGS == d / TAGS
 }
 
 // Two terms of which neither is a variable: whether both are compounds of the same functor and number of arguments.
@@ -200,20 +183,12 @@ fn matches(s: &[u64], e: u64, f: u64) -> bool
     requires { (tag_in e ≡ 6 → rest_in e < length s.now) × (tag_in f ≡ 6 → rest_in f < length s.now) }
     ensures { MatchIs s.now e f result }
 {
-    if e % TAGS != COMPOUND {
-        return false;
-    }
-    if f % TAGS != COMPOUND {
-        return false;
-    }
-    if differ(s, index(e / TAGS), index(f / TAGS)) {
-        return false;
-    }
-    true
+    e % TAGS == COMPOUND && f % TAGS == COMPOUND && !differ(s, index(e / TAGS), index(f / TAGS))
 }
 
 // Compares two terms, no deeper than `depth`: neither is deeper, and only links that are not true could lead on further. It goes on to the last arguments
 // of two compounds in its loop, and descends into the others.
+// Stays with its places one by one: a struct of them is handed over by a pointer, and the deepest comparison would take more stack.
 fn same(
     s: &mut [u64],
     values: usize,
@@ -231,9 +206,7 @@ fn same(
     let mut taken = first;
     let mut a = left;
     let mut b = right;
-    let mut deep = depth;
-    while 0 < deep {
-        deep -= 1;
+    for deep in (0..depth).rev() {
         let c = root(s, lists, links, taken, a);
         let d = root(s, lists, links, taken, b);
         if alike(c, d) {
@@ -254,6 +227,7 @@ fn same(
         if k == 0 {
             return taken;
         }
+        // Stays a loop over places: an index beside both is one number more that each level keeps on the stack.
         while 1 < k {
             p += 1;
             q += 1;
@@ -290,9 +264,5 @@ pub fn equal(
     let depth = (links + 2) * (values + 8) + 1;
     let t = given(s, place + 1);
     let u = given(s, place + 2);
-    let r = same(s, values, marks + links, links, met, depth, t, u);
-    if r == UNEQUAL {
-        return false;
-    }
-    true
+    same(s, values, marks + links, links, met, depth, t, u) != UNEQUAL
 }

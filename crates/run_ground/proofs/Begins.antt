@@ -1,9 +1,10 @@
 -- The walk of `seek` begins where a guard is asked, and its end answers.
 use Prim.Native.Nat.{ℕ, ◌+◌, ◌*◌, ◌/◌, ◌%◌, ◌<◌}
 use mathlib.Core.Path.{◌≡◌, refl, sym, ap, ◌∙◌}
-use mathlib.Core.Logic.{◌⊎◌, ⊎_elim}
+use mathlib.Core.Logic.{⊎_elim}
 use mathlib.Core.Bool.{Bool, true, false, true≢false}
 use mathlib.Core.List.{List, [], ◌∷◌}
+use Rattle.std.specs.Prelude.{Ok, Err}
 use native.Mathlib.Omega.{arith}
 use Rattle.meaning.specs.Terms.{Terms, end, more}
 use Rattle.meaning.specs.Compare.{Assignment, waits}
@@ -12,7 +13,7 @@ use Rattle.term.specs.Setting.{Setting, AllWithin}
 use Rattle.term.proofs.Frames.{only_same}
 use Rattle.run_compare.specs.Compare.{Template}
 use Rattle.run_asked.specs.Asking.{EachTemplate}
-use Rattle.run_ground.specs.declared.seek.Sought.TheVariants.{Ground, Waits, Fails}
+use Rattle.run_asked.specs.declared.asking.Hindered.TheVariants.{Waits, Fails}
 use Rattle.run_ground.specs.Seeking.{Seeks, Sees}
 use Rattle.run_ground.specs.Looking.{Scene, Clause, of_readers, or_some, kept_as, args_result, Found, Goes, Args}
 use Rattle.run_ground.proofs.Found.{state_even}
@@ -113,7 +114,7 @@ module _ (s : List ℕ) (values marks links met : ℕ) (first : Bool) (place k s
           ⊎_elim (λ (e, three). absurd (d three)) (λ g. rw g.state (state_large first f.size (or_some false g.readers))) f.answer
 
       pub sees_fails : r ≡ 3 → (x : Setting) (y : Template) (given : List Assignment) (n : ℕ) (ts : Terms)
-          → Seeks s x y given n ts values marks links met place k stamp → Sees s s' x given ts marks links met first stamp Fails
+          → Seeks s x y given n ts values marks links met place k stamp → Sees s s' x given ts marks links met first stamp (Err Fails)
       unfolding written_out
       sees_fails three x y given n ts b =
           let f = found x y given n ts b in
@@ -135,7 +136,7 @@ module _ (s : List ℕ) (values marks links met : ℕ) (first : Bool) (place k s
         goes x y given n ts b = ⊎_elim (λ (e, three). absurd (d three)) (λ g. g) (found x y given n ts b).answer
 
         pub sees_waits : r % 2 ≡ 1 → (m : ℕ) → r / 4 ≡ m + 1 → (x : Setting) (y : Template) (given : List Assignment) (n : ℕ) (ts : Terms)
-            → Seeks s x y given n ts values marks links met place k stamp → Sees s s' x given ts marks links met first stamp (Waits m)
+            → Seeks s x y given n ts values marks links met place k stamp → Sees s s' x given ts marks links met first stamp (Err (Waits m))
         unfolding written_out
         sees_waits odd m counted x y given n ts b =
             let f = found x y given n ts b in
@@ -150,7 +151,7 @@ module _ (s : List ℕ) (values marks links met : ℕ) (first : Bool) (place k s
             }
 
         pub sees_ground : r % 2 ≡ 0 → (x : Setting) (y : Template) (given : List Assignment) (n : ℕ) (ts : Terms)
-            → Seeks s x y given n ts values marks links met place k stamp → Sees s s' x given ts marks links met first stamp Ground
+            → Seeks s x y given n ts values marks links met place k stamp → Sees s s' x given ts marks links met first stamp (Ok tt)
         unfolding written_out
         sees_ground even x y given n ts b =
             let f = found x y given n ts b in

@@ -11,7 +11,7 @@ use lib.Dec.{eqb}
 use lib.ListN.{length, get_or, set, length-set}
 use lib.Seq.{get_or-set_same, get_or-set_other}
 use borrow.Author.Tests.{ne_eqb}
-use Rattle.meaning.specs.Terms.{Term, Terms, compound, end, more, count}
+use Rattle.meaning.specs.Terms.{Term, Terms, end, more, count}
 use Rattle.meaning.specs.State.{Values, value}
 use Rattle.laws.proofs.Terms.Standing.{Stands, StandsIn}
 use Rattle.term.specs.Setting.{UnitTerms}

@@ -1,5 +1,5 @@
 -- What looking through a guard's arguments asks and tells: the definition's result over them written out, and the readers in the step's set.
-use Rattle.std.specs.Prelude.{ℕ, ◌+◌, ◌*◌, ◌≤◌, ◌<◌, ◌≡◌, ◌≢◌, ◌⊎◌, Bool, true, false, List, [], map, length, get_or}
+use Rattle.std.specs.Prelude.{ℕ, ◌+◌, ◌*◌, ◌≤◌, ◌<◌, ◌≡◌, ◌≢◌, ◌⊎◌, Bool, true, false, List, [], map, length, get_or, Result as Outcome, Ok, Err}
 use Rattle.std.proofs.Math.Option.{Option}
 use Rattle.meaning.specs.Terms.{Terms, count}
 use Rattle.meaning.specs.State.{Values}
@@ -13,8 +13,8 @@ use Rattle.run_compare.specs.Compare.{Template}
 use Rattle.run_circle.specs.Ground.{Tells, IsSo}
 use Rattle.run_readers.specs.Readers.{Readers}
 use Rattle.run_asked.specs.Asking.{Asking, Arguments, out, StampsFrom, Joined}
-use Rattle.run_ground.specs.declared.seek.Sought.{Sought}
-use Rattle.run_ground.specs.declared.seek.Sought.TheVariants.{Ground, Waits, Fails}
+use Rattle.run_asked.specs.declared.asking.Hindered.{Hindered}
+use Rattle.run_asked.specs.declared.asking.Hindered.TheVariants.{Waits, Fails}
 
 -- How the results of arguments are taken together: the first unassigned variable decides, or all do.
 abbrev pub together : Bool → Result → Result → Result
@@ -40,15 +40,15 @@ pub record Seeks (s : List ℕ) (x : Setting) (y : Template) (given : List Assig
   pub fits : stamp + 1 < 1099511627776
 
 -- The answer to a result: the readers that it waits on have joined the set, which has m pairs then; else the set is as it was.
-abbrev pub Answered : List ℕ → List ℕ → Setting → ℕ → ℕ → ℕ → Result → Sought → Type 0
-Answered s s' x at links met o Ground = (o ≡ succeeds []) × Joined s s' at links met [] met
-Answered s s' x at links met o (Waits m) =
+abbrev pub Answered : List ℕ → List ℕ → Setting → ℕ → ℕ → ℕ → Result → Outcome Unit Hindered → Type 0
+Answered s s' x at links met o (Ok none) = (o ≡ succeeds []) × Joined s s' at links met [] met
+Answered s s' x at links met o (Err (Waits m)) =
     (readers : List ℕ) × (o ≡ waits readers) × (readers ≢ []) × ((p : ℕ) → In p readers → p < length x.values)
     × Joined s s' at links met (map (λ p. x.places.pair p) readers) m
-Answered s s' x at links met o Fails = (o ≡ fails) × Joined s s' at links met [] met
+Answered s s' x at links met o (Err Fails) = (o ≡ fails) × Joined s s' at links met [] met
 
 -- Afterwards: only marks and the set have changed; the stamp is used, and later ones are not.
-pub record Sees (s s' : List ℕ) (x : Setting) (given : List Assignment) (ts : Terms) (marks links met : ℕ) (first : Bool) (stamp : ℕ) (r : Sought)
+pub record Sees (s s' : List ℕ) (x : Setting) (given : List Assignment) (ts : Terms) (marks links met : ℕ) (first : Bool) (stamp : ℕ) (r : Outcome Unit Hindered)
     : Type 0 where
   pub only : Only marks (marks + 3 * x.pairs) s s'
   pub stamps : StampsFrom s' marks x.pairs (stamp + 1)

@@ -27,24 +27,18 @@ ghost use Rattle.run_ground.specs.Looking.{
   args_result,
 };
 
+use run_asked::asking::Hindered;
 use run_readers::readers::meet;
 use term::layout::TRIAL;
 use term::scratch::{argument, count, set_at, word_at};
 use term::word::{COMPOUND, READER, TAGS, WRITER, index};
 
-// What the walk finds: no unassigned variable; readers to wait on, and how many pairs the set has with them; or that the guard fails.
-#[derive(Clone, Copy)]
-pub enum Sought {
-    Ground,
-    Waits(usize),
-    Fails,
-}
-
 // The mark of a pair from which no unassigned pair is reached. Stamps are greater.
 const GROUND: u64 = 1;
 
-// What a walk has found so far, as one number, since an enum is handed over by a pointer and the deepest walk would pass 8 MiB of stack: four times one
-// more than how many pairs the set of readers has, 2 if the first unassigned variable decides, and PENDING if an unassigned reader was met; or FAILED.
+// What a walk has found so far, as one number: four times one more than how many pairs the set of readers has, 2 if the first unassigned variable decides,
+// and PENDING if an unassigned reader was met; or FAILED.
+// Stays a number: an enum is handed over by a pointer, and the deepest walk would pass 8 MiB of stack.
 const PENDING: usize = 1;
 
 const FAILED: usize = 3;
@@ -147,10 +141,7 @@ fn enters(s: &mut [u64], marks: usize, stamp: u64, p: usize) -> bool
     ensures { Entered s.old s.new marks stamp p result }
 {
     let m = word_at(s, marks, p);
-    if m == GROUND {
-        return false;
-    }
-    if m == stamp {
+    if m == GROUND || m == stamp {
         return false;
     }
     set_at(s, marks, p, stamp);
@@ -158,6 +149,7 @@ fn enters(s: &mut [u64], marks: usize, stamp: u64, p: usize) -> bool
 }
 
 // Through a term of the unit. The walk goes on to a compound's last argument and to a pair's value in its loop, and descends into the other arguments.
+// Stays with its places one by one: a struct of them is handed over by a pointer, and the deepest walk would pass 8 MiB of stack.
 fn from_unit(
     s: &mut [u64],
     values: usize,
@@ -178,20 +170,18 @@ fn from_unit(
         let p = index(t / TAGS);
         if tag == COMPOUND {
             let k = count(s, p);
-            let mut i = 1;
-            while i < k {
+            if k == 0 {
+                return found;
+            }
+            for i in 1..k {
                 let a = argument(s, p, i);
                 found = from_unit(s, values, marks, links, stamp, a, found);
                 settle(s, values, marks, stamp, a, found);
                 if ended(found) {
                     return found;
                 }
-                i += 1;
             }
-            if k < i {
-                return found;
-            }
-            t = argument(s, p, i);
+            t = argument(s, p, k);
             continue;
         }
         if tag > READER {
@@ -251,8 +241,7 @@ fn through(
         → Found s.old s.new x marks links stamp m o (args_result x y ts) result }
 {
     let mut found = state;
-    let mut i = 1;
-    while i <= k {
+    for i in 1..=k {
         let a = argument(s, q, i);
         if a % TAGS == COMPOUND {
             let p = index(a / TAGS);
@@ -264,12 +253,12 @@ fn through(
         if ended(found) {
             return found;
         }
-        i += 1;
     }
     found
 }
 
-// Looks through the arguments of a guard, whose compound stands at a place. Stamps from this one on are unused.
+// Looks through the arguments of a guard, whose compound stands at a place: whether no unassigned variable is found. Else there are readers to wait on, or
+// the guard fails. Stamps from this one on are unused.
 pub fn seek(
     s: &mut [u64],
     values: usize,
@@ -280,28 +269,20 @@ pub fn seek(
     place: usize,
     count: usize,
     stamp: u64,
-) -> Sought
+) -> Result<(), Hindered>
     requires { (x : Setting) × (y : Template) × (given : List Assignment) × (n : ℕ) × (ts : Terms)
         × Seeks s.old x y given n ts values marks links met place count stamp }
     ensures { (x : Setting) (y : Template) (given : List Assignment) (n : ℕ) (ts : Terms)
         → Seeks s.old x y given n ts values marks links met place count stamp
         → Sees s.old s.new x given ts marks links met first stamp result }
 {
-    let r = through(
-        s,
-        values,
-        marks,
-        links,
-        stamp,
-        place,
-        count,
-        begun(first, met),
-    );
-    if r == FAILED {
-        return Sought::Fails;
+    let state = begun(first, met);
+    let found = through(s, values, marks, links, stamp, place, count, state);
+    if found == FAILED {
+        return Err(Hindered::Fails);
     }
-    if pending(r) {
-        return Sought::Waits(met_in(r));
+    if pending(found) {
+        return Err(Hindered::Waits(met_in(found)));
     }
-    Sought::Ground
+    Ok(())
 }

@@ -3,14 +3,14 @@ use Prim.Native.Nat.{ℕ, ◌+◌, ◌*◌, ◌≤◌, ◌<◌}
 use mathlib.Core.Path.{◌≡◌, refl, sym, ap, ◌∙◌}
 use mathlib.Core.Bool.{Bool, true, false}
 use mathlib.Core.List.{List, [], ◌∷◌, map}
+use Rattle.std.specs.Prelude.{None, Result as Outcome, Ok, Err}
 use native.Mathlib.Omega.{arith}
 use lib.ListN.{length, get_or}
-use Rattle.meaning.specs.Terms.{Term, Terms, end, more, Test, an_integer, a_constant, a_compound, a_ground, known, equal, otherwise, Guard, count, all_replaced}
-use Rattle.meaning.specs.Compare.{Assignment, Result, succeeds, waits, fails}
+use Rattle.meaning.specs.Terms.{Term, Terms, end, more, Test, equal, otherwise, Guard, count, all_replaced}
+use Rattle.meaning.specs.Compare.{Assignment, Result, succeeds, waits}
 use Rattle.meaning.specs.Guards.{written_out, first_of, succeeds_if, all_variables, argument_is, two_equal, after, answer}
 use Rattle.laws.proofs.Lists.Among.{In, here, there}
 use Rattle.term.specs.Frames.{Only}
-use Rattle.term.specs.Guards.{test_number}
 use Rattle.term.specs.Holds.{HoldsFrom}
 use Rattle.term.specs.Setting.{Setting}
 use Rattle.term.specs.Words.{tag_in, rest_in}
@@ -19,20 +19,20 @@ use Rattle.run_compare.specs.Compare.{Template}
 use Rattle.run_readers.specs.Readers.{Met}
 use Rattle.run_asked.specs.Asking.{EachTemplate, Joined, AllBelow, out}
 use Rattle.run_ground.specs.Seeking.{together, Seeks, Sees}
-use Rattle.run_ground.specs.declared.seek.Sought.{Sought}
-use Rattle.run_ground.specs.declared.seek.Sought.TheVariants.{Ground, Waits as SeeksWaits, Fails as SeeksFails}
 use Rattle.run_equal.specs.Equal.{Equating, Equated}
 use Rattle.run_guards.specs.Guarding.{GuardsTold}
-use Rattle.run_guards.specs.Single.{GuardAt, GuardIs, Argument, written, constant_tag, Shows, of_kind}
-use Rattle.run_guards.specs.declared.guards.GuardResult.{GuardResult}
-use Rattle.run_guards.specs.declared.guards.GuardResult.TheVariants.{Succeeds, Waits, Fails}
+use Rattle.run_guards.specs.Single.{GuardAt, GuardIs, Argument, written, constant_tag, Shows, IsRead, of_kind}
+use Rattle.run_guards.specs.declared.guards.Kind.{Kind}
+use Rattle.run_asked.specs.declared.asking.Hindered.{Hindered}
+use Rattle.run_asked.specs.declared.asking.Hindered.TheVariants.{Waits, Fails}
 use Rattle.run_guards.proofs.Kept.{grounds_same, grounds_then, joined_none, joined_then, nothing_changed, asking_kept, arguments_kept}
 use Rattle.run_guards.proofs.Rows.{
   arguments_of,
   equal_two,
   some_argument,
   two_arguments,
-  by_row,
+  by_kind,
+  read_fails,
   shown_fails,
   shown_waits,
   shown_kind,
@@ -44,36 +44,8 @@ all_below : (n : ℕ) (rs : List ℕ) → ((p : ℕ) → In p rs → p < n) → 
 all_below n [] h = tt
 all_below n (r ∷ rs) h = (h r (here refl), all_below n rs (λ p m. h p (there m)))
 
--- The tests by their numbers.
-pub three_is_ground : (test : Test) → test_number test ≡ 3 → test ≡ a_ground
-three_is_ground an_integer e = absurd (omega arith)
-three_is_ground a_constant e = absurd (omega arith)
-three_is_ground a_compound e = absurd (omega arith)
-three_is_ground a_ground e = refl
-three_is_ground known e = absurd (omega arith)
-three_is_ground equal e = absurd (omega arith)
-three_is_ground otherwise e = absurd (omega arith)
-
-pub five_is_equal : (test : Test) → test_number test ≡ 5 → test ≡ equal
-five_is_equal an_integer e = absurd (omega arith)
-five_is_equal a_constant e = absurd (omega arith)
-five_is_equal a_compound e = absurd (omega arith)
-five_is_equal a_ground e = absurd (omega arith)
-five_is_equal known e = absurd (omega arith)
-five_is_equal equal e = refl
-five_is_equal otherwise e = absurd (omega arith)
-
-pub six_is_otherwise : (test : Test) → test_number test ≡ 6 → test ≡ otherwise
-six_is_otherwise an_integer e = absurd (omega arith)
-six_is_otherwise a_constant e = absurd (omega arith)
-six_is_otherwise a_compound e = absurd (omega arith)
-six_is_otherwise a_ground e = absurd (omega arith)
-six_is_otherwise known e = absurd (omega arith)
-six_is_otherwise equal e = absurd (omega arith)
-six_is_otherwise otherwise e = refl
-
 -- The same guard, answer or stamp said in another way.
-module _ {s s' : List ℕ} {x : Setting} {marks links met : ℕ} {r : GuardResult} where
+module _ {s s' : List ℕ} {x : Setting} {marks links met : ℕ} {r : Outcome Unit Hindered} where
   pub as_test : {stamp : ℕ} {test test' : Test} (earlier : List ℕ) (ts : Terms) → test' ≡ test
       → GuardIs s s' x marks links met stamp (answer test earlier ts) r → GuardIs s s' x marks links met stamp (answer test' earlier ts) r
   as_test earlier ts e h = rw e h
@@ -108,16 +80,16 @@ module _ {s : List ℕ} {x : Setting} {y : Template} {given : List Assignment} {
   pairs_are = at.asking.chained.links_are
 
   -- "Otherwise succeeds exactly if every earlier clause of the procedure failed, and else waits with the earlier ones."
-  pub otherwise_succeeds : (earlier : List ℕ) (ts : Terms) → earlier ≡ [] → GuardIs s s x marks links met stamp (answer otherwise earlier ts) Succeeds
+  pub otherwise_succeeds : (earlier : List ℕ) (ts : Terms) → earlier ≡ [] → GuardIs s s x marks links met stamp (answer otherwise earlier ts) (Ok tt)
   unfolding answer
   otherwise_succeeds earlier ts e =
-      nothing_changed s x marks links met stamp (after earlier) Succeeds at.stamps
+      nothing_changed s x marks links met stamp (after earlier) (Ok tt) at.stamps
       (after_none earlier e, joined_none s (marks + links) links met at.readers)
 
-  pub otherwise_waits : (earlier : List ℕ) (ts : Terms) → (earlier ≡ [] → ⊥) → GuardIs s s x marks links met stamp (answer otherwise earlier ts) (Waits met)
+  pub otherwise_waits : (earlier : List ℕ) (ts : Terms) → (earlier ≡ [] → ⊥) → GuardIs s s x marks links met stamp (answer otherwise earlier ts) (Err (Waits met))
   unfolding answer
   otherwise_waits earlier ts h =
-      nothing_changed s x marks links met stamp (after earlier) (Waits met) at.stamps
+      nothing_changed s x marks links met stamp (after earlier) (Err (Waits met)) at.stamps
       ([], after_some earlier h, tt, joined_none s (marks + links) links met at.readers)
 
   -- Looking at the first argument itself.
@@ -135,49 +107,55 @@ module _ {s : List ℕ} {x : Setting} {y : Template} {given : List Assignment} {
         record { asking = at.asking; word = e ∙ rw (first, at.arguments.place) held.0; within = terms.0.2.within },
       )
 
-  module _ (row w : ℕ) (t : Term) (us : Terms) (is : g.arguments ≡ more t us) (shows : Shows x (written x given t) w) where
+  module _ (kind : Kind) (t : Term) (us : Terms) (is : g.arguments ≡ more t us) where
     abbrev answered : Result
-    answered = argument_is (λ k. of_kind row (constant_tag k)) (of_kind row 6) (out x given g.arguments)
+    answered = argument_is (λ k. of_kind kind (constant_tag k)) (of_kind kind 6) (out x given g.arguments)
 
-    looked : answered ≡ by_row x w row (out x given us) (written x given t)
+    looked : (w : ℕ) → answered ≡ by_kind x w kind (out x given us) (written x given t)
     unfolding written_out all_replaced
-    looked = rw is refl
+    looked w = rw is refl
 
-    pub look_fails : tag_in w < 2 → GuardIs s s x marks links met stamp answered Fails
-    look_fails h =
-        nothing_changed s x marks links met stamp answered Fails at.stamps
-        (looked ∙ shown_fails x w row (out x given us) (written x given t) shows h, joined_none s (marks + links) links met at.readers)
+    pub look_nothing : IsRead x (written x given t) None → GuardIs s s x marks links met stamp answered (Err Fails)
+    look_nothing r =
+        nothing_changed s x marks links met stamp answered (Err Fails) at.stamps
+        (looked 0 ∙ read_fails x 0 kind (out x given us) (written x given t) r, joined_none s (marks + links) links met at.readers)
 
-    pub look_pair : tag_in w ≡ 2 → rest_in w < links
-    look_pair h =
-        let (p, e, low, same) = shown_waits x w row (out x given us) (written x given t) shows h in
-        omega (arith, at.asking.chained.stands.held.place p low, pairs_are, same)
+    module _ (w : ℕ) (shows : Shows x (written x given t) w) where
+      pub look_fails : tag_in w < 2 → GuardIs s s x marks links met stamp answered (Err Fails)
+      look_fails h =
+          nothing_changed s x marks links met stamp answered (Err Fails) at.stamps
+          (looked w ∙ shown_fails x w kind (out x given us) (written x given t) shows h, joined_none s (marks + links) links met at.readers)
 
-    pub look_waits : tag_in w ≡ 2 → (s' : List ℕ) (m : ℕ) → Met s s' (marks + links) links met (rest_in w ∷ []) m
-        → GuardIs s s' x marks links met stamp answered (Waits m)
-    look_waits h s' m joins =
-        let (p, e, low, same) = shown_waits x w row (out x given us) (written x given t) shows h in
-        let marks_same : (k : ℕ) → k < marks + links → get_or s' k 0 ≡ get_or s k 0 = λ k l. joins.only.below k l in
-        let wide : marks + links + 2 * links ≤ marks + 3 * links = omega arith in
-        record {
-          only = only_wider (marks + links) (marks + links + 2 * links) marks (marks + 3 * links) s s' (omega arith) wide joins.only;
-          stamps = λ k l u. rw (marks_same k (omega (arith, pairs_are))) (omega (arith, at.stamps k l u));
-          grounds = grounds_same x.places x.values marks x.pairs s s' (λ k l u. marks_same k (omega (arith, pairs_are)));
-          told = (p ∷ [], looked ∙ e, (low, tt), record { ok = joins.ok; list = rw same at joins.list });
-        }
+      pub look_pair : tag_in w ≡ 2 → rest_in w < links
+      look_pair h =
+          let (p, e, low, same) = shown_waits x w kind (out x given us) (written x given t) shows h in
+          omega (arith, at.asking.chained.stands.held.place p low, pairs_are, same)
 
-    pub look_kind : 2 < tag_in w → (b : Bool) → b ≡ of_kind row (tag_in w) → answered ≡ succeeds_if b
-    look_kind h b e = looked ∙ shown_kind x w row (out x given us) (written x given t) shows h ∙ ap succeeds_if (sym e)
+      pub look_waits : tag_in w ≡ 2 → (s' : List ℕ) (m : ℕ) → Met s s' (marks + links) links met (rest_in w ∷ []) m
+          → GuardIs s s' x marks links met stamp answered (Err (Waits m))
+      look_waits h s' m joins =
+          let (p, e, low, same) = shown_waits x w kind (out x given us) (written x given t) shows h in
+          let marks_same : (k : ℕ) → k < marks + links → get_or s' k 0 ≡ get_or s k 0 = λ k l. joins.only.below k l in
+          let wide : marks + links + 2 * links ≤ marks + 3 * links = omega arith in
+          record {
+            only = only_wider (marks + links) (marks + links + 2 * links) marks (marks + 3 * links) s s' (omega arith) wide joins.only;
+            stamps = λ k l u. rw (marks_same k (omega (arith, pairs_are))) (omega (arith, at.stamps k l u));
+            grounds = grounds_same x.places x.values marks x.pairs s s' (λ k l u. marks_same k (omega (arith, pairs_are)));
+            told = (p ∷ [], looked w ∙ e, (low, tt), record { ok = joins.ok; list = rw same at joins.list });
+          }
 
-    pub look_succeeds : 2 < tag_in w → (b : Bool) → b ≡ of_kind row (tag_in w) → b ≡ true → GuardIs s s x marks links met stamp answered Succeeds
-    look_succeeds h b e f =
-        nothing_changed s x marks links met stamp answered Succeeds at.stamps
-        (look_kind h b e ∙ succeeds_true b f, joined_none s (marks + links) links met at.readers)
+      pub look_kind : 2 < tag_in w → (b : Bool) → b ≡ of_kind kind (tag_in w) → answered ≡ succeeds_if b
+      look_kind h b e = looked w ∙ shown_kind x w kind (out x given us) (written x given t) shows h ∙ ap succeeds_if (sym e)
 
-    pub look_other : 2 < tag_in w → (b : Bool) → b ≡ of_kind row (tag_in w) → b ≡ false → GuardIs s s x marks links met stamp answered Fails
-    look_other h b e f =
-        nothing_changed s x marks links met stamp answered Fails at.stamps
-        (look_kind h b e ∙ fails_false b f, joined_none s (marks + links) links met at.readers)
+      pub look_succeeds : 2 < tag_in w → (b : Bool) → b ≡ of_kind kind (tag_in w) → b ≡ true → GuardIs s s x marks links met stamp answered (Ok tt)
+      look_succeeds h b e f =
+          nothing_changed s x marks links met stamp answered (Ok tt) at.stamps
+          (look_kind h b e ∙ succeeds_true b f, joined_none s (marks + links) links met at.readers)
+
+      pub look_other : 2 < tag_in w → (b : Bool) → b ≡ of_kind kind (tag_in w) → b ≡ false → GuardIs s s x marks links met stamp answered (Err Fails)
+      look_other h b e f =
+          nothing_changed s x marks links met stamp answered (Err Fails) at.stamps
+          (look_kind h b e ∙ fails_false b f, joined_none s (marks + links) links met at.readers)
 
   -- Looking through all arguments.
   pub seeks : (test : Test) → g.row.test ≡ test → 0 < arguments_of test → arguments_of test ≤ 6 → (k : ℕ) → k ≡ arguments_of test
@@ -196,48 +174,42 @@ module _ {s : List ℕ} {x : Setting} {y : Template} {given : List Assignment} {
         fits = at.below;
       }
 
-  module _ {s' : List ℕ} {first : Bool} {r : Sought} (sees : Sees s s' x given g.arguments marks links met first stamp r) where
+  module _ {s' : List ℕ} {first : Bool} {r : Outcome Unit Hindered} (sees : Sees s s' x given g.arguments marks links met first stamp r) where
     abbrev pub found : Result
     found = all_variables (together first) (out x given g.arguments)
 
     pub seen_only : Only marks (marks + 3 * links) s s'
     seen_only = rw pairs_are sees.only
 
-    told_so : (o : Result) (q : GuardResult) → GuardsTold s s' x [] (marks + links) links met o q → GuardIs s s' x marks links met stamp o q
+    told_so : (o : Result) (q : Outcome Unit Hindered) → GuardsTold s s' x [] (marks + links) links met o q → GuardIs s s' x marks links met stamp o q
     told_so o q told = record { only = seen_only; stamps = sees.stamps; grounds = sees.grounds; told = told }
 
-    pub seen_ground : r ≡ Ground → (found ≡ succeeds []) × Joined s s' (marks + links) links met [] met
+    pub seen_ground : r ≡ Ok tt → (found ≡ succeeds []) × Joined s s' (marks + links) links met [] met
     seen_ground e = rw e at sees.answer
 
-    pub sought_ground : r ≡ Ground → GuardIs s s' x marks links met stamp found Succeeds
-    sought_ground e = told_so found Succeeds (seen_ground e)
-
-    waiting : (m : ℕ) → r ≡ SeeksWaits m
+    waiting : (m : ℕ) → r ≡ Err (Waits m)
         → (readers : List ℕ) × (found ≡ waits readers) × AllBelow (length x.values) readers
         × Joined s s' (marks + links) links met (map (λ p. x.places.pair p) readers) m
     waiting m e = let (readers, is, some_here, low, joins) = rw e at sees.answer in (readers, is, all_below (length x.values) readers low, joins)
 
-    pub sought_waits : (m : ℕ) → r ≡ SeeksWaits m → GuardIs s s' x marks links met stamp found (Waits m)
-    sought_waits m e = told_so found (Waits m) (waiting m e)
-
-    pub sought_fails : r ≡ SeeksFails → GuardIs s s' x marks links met stamp found Fails
-    sought_fails e = told_so found Fails (rw e at sees.answer)
+    -- Whatever it found.
+    pub sought : (q : Outcome Unit Hindered) → r ≡ q → GuardIs s s' x marks links met stamp found q
+    sought (Ok none) e = told_so found (Ok tt) (seen_ground e)
+    sought (Err (Waits m)) e = told_so found (Err (Waits m)) (waiting m e)
+    sought (Err Fails) e = told_so found (Err Fails) (rw e at sees.answer)
 
     -- Where the first unassigned variable decides, what comes behind it does not matter.
-    pub first_waits : (other : Result) (m : ℕ) → r ≡ SeeksWaits m → GuardIs s s' x marks links met stamp (first_of found other) (Waits m)
+    pub first_hindered : (other : Result) (h : Hindered) → r ≡ Err h → GuardIs s s' x marks links met stamp (first_of found other) (Err h)
     unfolding first_of
-    first_waits other m e =
+    first_hindered other (Waits m) e =
         let (readers, is, low, joins) = waiting m e in
-        told_so (first_of found other) (Waits m) (readers, ap (λ (o : Result). first_of o other) is, low, joins)
-
-    pub first_fails : (other : Result) → r ≡ SeeksFails → GuardIs s s' x marks links met stamp (first_of found other) Fails
-    unfolding first_of
-    first_fails other e =
+        told_so (first_of found other) (Err (Waits m)) (readers, ap (λ (o : Result). first_of o other) is, low, joins)
+    first_hindered other Fails e =
         let (is, joins) = rw e at sees.answer in
-        told_so (first_of found other) Fails (ap (λ (o : Result). first_of o other) is, joins)
+        told_so (first_of found other) (Err Fails) (ap (λ (o : Result). first_of o other) is, joins)
 
   -- Both arguments are ground and are compared.
-  module _ {s₁ : List ℕ} {r : Sought} (same_test : g.row.test ≡ equal) (sees : Sees s s₁ x given g.arguments marks links met true stamp r) (none_left : r ≡ Ground) where
+  module _ {s₁ : List ℕ} {r : Outcome Unit Hindered} (same_test : g.row.test ≡ equal) (sees : Sees s s₁ x given g.arguments marks links met true stamp r) (none_left : r ≡ Ok tt) where
     pub two : (t : Term) × (u : Term) × (g.arguments ≡ more t (more u end))
     two = two_arguments g.arguments (at.counted ∙ ap arguments_of same_test ∙ equal_two)
 
@@ -269,7 +241,7 @@ module _ {s : List ℕ} {x : Setting} {y : Template} {given : List Assignment} {
           ap (λ (o : Result). first_of o (succeeds_if (two_equal (out x given g.arguments)))) ended.0
           ∙ ap succeeds_if (rw two.2 (sym equated.answer))
 
-      is_compared : (o : Result) (q : GuardResult) → GuardsTold s s₂ x [] (marks + links) links met o q → GuardIs s s₂ x marks links met stamp o q
+      is_compared : (o : Result) (q : Outcome Unit Hindered) → GuardsTold s s₂ x [] (marks + links) links met o q → GuardIs s s₂ x marks links met stamp o q
       is_compared o q told =
           let marks_same : (k : ℕ) → k < marks + links → get_or s₂ k 0 ≡ get_or s₁ k 0 = λ k l. equated.only.below k l in
           record {
@@ -284,8 +256,8 @@ module _ {s : List ℕ} {x : Setting} {y : Template} {given : List Assignment} {
       joins : Joined s s₂ (marks + links) links met [] met
       joins = joined_then s s₁ s₂ (marks + links) links met [] met (seen_ground sees none_left).1 equated.joined
 
-      pub equal_succeeds : (earlier : List ℕ) → b ≡ true → GuardIs s s₂ x marks links met stamp (answer equal earlier (out x given g.arguments)) Succeeds
-      equal_succeeds earlier e = is_compared (answer equal earlier (out x given g.arguments)) Succeeds (compared earlier ∙ succeeds_true b e, joins)
+      pub equal_succeeds : (earlier : List ℕ) → b ≡ true → GuardIs s s₂ x marks links met stamp (answer equal earlier (out x given g.arguments)) (Ok tt)
+      equal_succeeds earlier e = is_compared (answer equal earlier (out x given g.arguments)) (Ok tt) (compared earlier ∙ succeeds_true b e, joins)
 
-      pub equal_fails : (earlier : List ℕ) → b ≡ false → GuardIs s s₂ x marks links met stamp (answer equal earlier (out x given g.arguments)) Fails
-      equal_fails earlier e = is_compared (answer equal earlier (out x given g.arguments)) Fails (compared earlier ∙ fails_false b e, joins)
+      pub equal_fails : (earlier : List ℕ) → b ≡ false → GuardIs s s₂ x marks links met stamp (answer equal earlier (out x given g.arguments)) (Err Fails)
+      equal_fails earlier e = is_compared (answer equal earlier (out x given g.arguments)) (Err Fails) (compared earlier ∙ fails_false b e, joins)

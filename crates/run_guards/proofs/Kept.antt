@@ -1,31 +1,31 @@
 -- What a guard is asked in stays where only marks, readers and ranks change, and who is newly marked as ground is so.
 use Prim.Native.Nat.{ℕ, ◌+◌, ◌*◌, ◌≤◌, ◌<◌}
 use mathlib.Core.Path.{◌≡◌, refl, sym, ◌∙◌, subst}
-use mathlib.Core.Logic.{◌⊎◌, inl, inr, ⊎_elim}
+use mathlib.Core.Logic.{inl, inr, ⊎_elim}
 use mathlib.Core.List.{List, []}
+use Rattle.std.specs.Prelude.{Result as Outcome}
 use native.Mathlib.Omega.{arith}
 use lib.ListN.{length, get_or}
-use Rattle.meaning.specs.Terms.{Term, Terms, end, more, count}
+use Rattle.meaning.specs.Terms.{Terms, end, more, count}
 use Rattle.meaning.specs.State.{Values}
 use Rattle.meaning.specs.Compare.{Assignment, Result}
 use Rattle.term.specs.Cells.{Places}
 use Rattle.term.specs.Chains.{end_place}
-use Rattle.term.specs.Every.{Every, EveryOf}
+use Rattle.term.specs.Every.{EveryOf}
 use Rattle.term.specs.Frames.{Only}
 use Rattle.term.specs.Layout.{trial_region}
 use Rattle.term.specs.Setting.{Setting}
-use Rattle.term.specs.States.{listed}
 use Rattle.term.proofs.Frames.{only_same}
 use Rattle.term.proofs.Holds.{holds_alike, holds_from_alike}
 use Rattle.term.proofs.Units.{within_every, unit_term_alike, unit_stands_alike, ends_stand_alike}
-use Rattle.run_compare.specs.Compare.{Template, HeadTerm, item}
+use Rattle.run_compare.specs.Compare.{Template, item}
 use Rattle.run_circle.specs.Ground.{Tells}
 use Rattle.run_readers.specs.Readers.{Readers, all_met}
 use Rattle.run_asked.specs.Asking.{GaveAt, Asking, EachTemplate, Arguments, StampsFrom, Joined}
+use Rattle.run_asked.specs.declared.asking.Hindered.{Hindered}
 use Rattle.run_ground.specs.Seeking.{GroundsAdded}
 use Rattle.run_guards.specs.Guarding.{GuardsTold}
 use Rattle.run_guards.specs.Single.{GuardIs}
-use Rattle.run_guards.specs.declared.guards.GuardResult.{GuardResult}
 
 -- Marks of ground pairs: where no mark changed, and after two changes.
 module _ (places : Places) (values : Values) (marks pairs : ℕ) where
@@ -46,7 +46,7 @@ unfolding all_met
 joined_then s t u at pairs n ps m a b = record { ok = b.ok; list = rw a.list at b.list }
 
 -- A guard that changes nothing.
-pub nothing_changed : (s : List ℕ) (x : Setting) (marks links met stamp : ℕ) (o : Result) (r : GuardResult) → StampsFrom s marks x.pairs stamp
+pub nothing_changed : (s : List ℕ) (x : Setting) (marks links met stamp : ℕ) (o : Result) (r : Outcome Unit Hindered) → StampsFrom s marks x.pairs stamp
     → GuardsTold s s x [] (marks + links) links met o r → GuardIs s s x marks links met stamp o r
 nothing_changed s x marks links met stamp o r stamps told = record {
   only = only_same marks (marks + 3 * links) s;

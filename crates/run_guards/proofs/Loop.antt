@@ -1,17 +1,17 @@
 -- The guards of a clause one after the other: what is known when so many have succeeded, at the next one, behind it, and at the end.
 use Prim.Native.Nat.{ℕ, zero, suc, ◌+◌, ◌*◌, ◌≤◌, ◌<◌}
-use mathlib.Core.Path.{◌≡◌, refl, sym, ap, ◌∙◌}
+use mathlib.Core.Path.{◌≡◌, refl, ap, ◌∙◌}
 use mathlib.Core.List.{List, [], ◌∷◌, map}
 use native.Mathlib.Omega.{arith}
 use lib.ListN.{length, get_or}
-use Rattle.meaning.specs.Terms.{Term, Terms, end, more, Test, an_integer, a_constant, a_compound, a_ground, known, equal, otherwise, Guard, Clause, count}
-use Rattle.meaning.specs.Compare.{Assignment, Result, succeeds, waits, fails}
+use Rattle.meaning.specs.Terms.{Terms, end, more, Test, an_integer, a_constant, a_compound, a_ground, known, equal, otherwise, Guard, Clause}
+use Rattle.meaning.specs.Compare.{Assignment, Result, succeeds}
 use Rattle.meaning.specs.Guards.{first_of, answer, in_order}
-use Rattle.term.specs.Cells.{Numbered, AllNumbered, AllKnown}
+use Rattle.term.specs.Cells.{AllNumbered, AllKnown}
 use Rattle.term.specs.Frames.{Only}
 use Rattle.term.specs.Guards.{test_number, guard_word, TestNumbered, GuardsNumbered, GuardsKnown, HoldsGuards}
 use Rattle.term.specs.Holds.{HoldsFrom}
-use Rattle.term.specs.Layout.{clause_base, clause_record, clause_guards_word, clause_tests_from, item_place}
+use Rattle.term.specs.Layout.{clause_base, clause_record, clause_guards_word, clause_tests_from}
 use Rattle.term.specs.Setting.{Setting, AllWithin, AllRanged}
 use Rattle.term.specs.Words.{tag_in, rest_in}
 use Rattle.term.proofs.Cells.{numbered_order, all_numbered_order}
@@ -23,10 +23,11 @@ use Rattle.run_asked.specs.Asking.{Asking, EachTemplate, out, StampsFrom, Joined
 use Rattle.run_ground.specs.Seeking.{GroundsAdded}
 use Rattle.run_guards.specs.Guarding.{GuardsFit, Guarded, Earlier, GuardsAre}
 use Rattle.run_guards.specs.Single.{GuardAt, GuardIs}
-use Rattle.run_guards.specs.declared.guards.GuardResult.{GuardResult}
-use Rattle.run_guards.specs.declared.guards.GuardResult.TheVariants.{Succeeds, Waits, Fails}
+use Rattle.run_asked.specs.declared.asking.Hindered.{Hindered}
+use Rattle.run_asked.specs.declared.asking.Hindered.TheVariants.{Waits, Fails}
 use Rattle.run_guards.proofs.Kept.{grounds_same, grounds_then, joined_none, joined_then, asking_kept}
-use Rattle.run_guards.proofs.Rows.{table_counts}
+use Rattle.run_guards.proofs.Rows.{test_small, table_counts}
+use Rattle.std.specs.Prelude.{Result as Outcome, Ok, Err}
 
 -- Some readers that the earlier clauses may have given.
 pub some_earlier : (met : ℕ) → (earlier : List ℕ) × Earlier earlier met
@@ -87,15 +88,6 @@ module _ (s : List ℕ) (x : Setting) (y : Template) where
   test_template otherwise lo hi n end high h w k r b = tt
   test_template otherwise lo hi n (more t ts) high h w k r b = absurd b
 
-test_small : (test : Test) → test_number test < 8
-test_small an_integer = omega arith
-test_small a_constant = omega arith
-test_small a_compound = omega arith
-test_small a_ground = omega arith
-test_small known = omega arith
-test_small equal = omega arith
-test_small otherwise = omega arith
-
 -- The first i of n guards have succeeded; these are left.
 pub record Going (s₀ s : List ℕ) (x : Setting) (y : Template) (c : Clause) (given : List Assignment) (earlier : List ℕ)
     (values marks links met stamp n i : ℕ) : Type 0 where
@@ -153,7 +145,7 @@ module _ (s₀ : List ℕ) (x : Setting) (y : Template) (c : Clause) (given : Li
     pub row : tag_in w ≡ test_number guard.row.test
     pub first : in_order earlier given x.values (length x.values) c.guards
         ≡ first_of (answer guard.row.test earlier (out x given guard.arguments)) (in_order earlier given x.values (length x.values) others)
-    pub on : (s' : List ℕ) → GuardIs s s' x marks links met (stamp + i) (succeeds []) Succeeds
+    pub on : (s' : List ℕ) → GuardIs s s' x marks links met (stamp + i) (succeeds []) (Ok tt)
         → in_order earlier given x.values (length x.values) c.guards ≡ in_order earlier given x.values (length x.values) others
         → Going s₀ s' x y c given earlier values marks links met stamp n (i + 1)
 
@@ -228,7 +220,7 @@ module _ (s₀ : List ℕ) (x : Setting) (y : Template) (c : Clause) (given : Li
     all_done [] e h = go.same ∙ ap (in_order earlier given x.values (length x.values)) e
     all_done (g₁ ∷ gs) e h = absurd (omega (arith, go.number, ap length e))
 
-    pub all_succeed : n ≤ i → i ≤ n → GuardsAre s₀ s x c earlier given marks links met stamp Succeeds
+    pub all_succeed : n ≤ i → i ≤ n → GuardsAre s₀ s x c earlier given marks links met stamp (Ok tt)
     all_succeed h l = record {
       only = go.only;
       stamps = λ k a b. omega (arith, go.stamps k a b, few_guards);
@@ -240,11 +232,11 @@ module _ (s₀ : List ℕ) (x : Setting) (y : Template) (c : Clause) (given : Li
       abbrev asked : Result
       asked = answer next.guard.row.test earlier (out x given next.guard.arguments)
 
-      module _ (r : GuardResult) (is_so : GuardIs s s' x marks links met (stamp + i) asked r) where
-        pub succeeded : r ≡ Succeeds → Going s₀ s' x y c given earlier values marks links met stamp n (i + 1)
+      module _ (r : Outcome Unit Hindered) (is_so : GuardIs s s' x marks links met (stamp + i) asked r) where
+        pub succeeded : r ≡ Ok tt → Going s₀ s' x y c given earlier values marks links met stamp n (i + 1)
         unfolding first_of
         succeeded e =
-            let so : GuardIs s s' x marks links met (stamp + i) asked Succeeds = rw e at is_so in
+            let so : GuardIs s s' x marks links met (stamp + i) asked (Ok tt) = rw e at is_so in
             let is : asked ≡ succeeds [] = so.told.0 in
             next.on s' (rw is at so) (rw is at next.first)
 
@@ -257,10 +249,11 @@ module _ (s₀ : List ℕ) (x : Setting) (y : Template) (c : Clause) (given : Li
         new : GroundsAdded x.places x.values marks x.pairs s₀ s'
         new = grounds_then x.places x.values marks x.pairs s₀ s s' go.grounds is_so.grounds
 
-        pub one_waits : (m : ℕ) → r ≡ Waits m → GuardsAre s₀ s' x c earlier given marks links met stamp (Waits m)
+        -- The next one does not succeed.
+        pub hindered : (h : Hindered) → r ≡ Err h → GuardsAre s₀ s' x c earlier given marks links met stamp (Err h)
         unfolding first_of
-        one_waits m e =
-            let so : GuardIs s s' x marks links met (stamp + i) asked (Waits m) = rw e at is_so in
+        hindered (Waits m) e =
+            let so : GuardIs s s' x marks links met (stamp + i) asked (Err (Waits m)) = rw e at is_so in
             let readers = so.told.0 in
             record {
               only = frame;
@@ -273,11 +266,8 @@ module _ (s₀ : List ℕ) (x : Setting) (y : Template) (c : Clause) (given : Li
                 joined_then s₀ s s' (marks + links) links met (map (λ p. x.places.pair p) readers) m go.joined so.told.3,
               );
             }
-
-        pub one_fails : r ≡ Fails → GuardsAre s₀ s' x c earlier given marks links met stamp Fails
-        unfolding first_of
-        one_fails e =
-            let so : GuardIs s s' x marks links met (stamp + i) asked Fails = rw e at is_so in
+        hindered Fails e =
+            let so : GuardIs s s' x marks links met (stamp + i) asked (Err Fails) = rw e at is_so in
             record {
               only = frame;
               stamps = later;

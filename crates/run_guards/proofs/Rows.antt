@@ -1,9 +1,10 @@
--- The kinds by rows and tags; the table's rows by their numbers; what each guard's arguments are.
-use Prim.Native.Nat.{ℕ, zero, suc, ◌+◌, ◌≤◌, ◌<◌}
-use mathlib.Core.Path.{◌≡◌, refl, ap, ◌∙◌}
+-- The kinds and their tests; the table's rows by their numbers; what each guard's arguments are.
+use Prim.Native.Nat.{ℕ, zero, suc, ◌≤◌, ◌<◌}
+use mathlib.Core.Path.{◌≡◌, refl, sym, ap, ◌∙◌}
 use mathlib.Core.Bool.{Bool, true, false, not}
 use mathlib.Core.List.{List, [], ◌∷◌}
 use native.Mathlib.Omega.{arith}
+use Rattle.std.specs.Prelude.{None}
 use lib.Dec.{eqb}
 use lib.ListN.{length}
 use Rattle.meaning.specs.Bytes.{when◌then◌else◌}
@@ -33,29 +34,29 @@ use Rattle.meaning.specs.Compare.{Result, succeeds, waits, fails, waits_on}
 use Rattle.meaning.specs.Table.{row, rows_before, rows_between, rows_alone, guard_table}
 use Rattle.meaning.specs.Guards.{unassigned, succeeds_if, argument_is, is_integer, answer}
 use Rattle.laws.proofs.Lists.Among.{In}
-use Rattle.laws.proofs.Lists.EachOf.{Each, each_in}
+use Rattle.laws.proofs.Lists.EachOf.{each_in}
 use Rattle.term.specs.Guards.{test_number, row_at}
 use Rattle.term.specs.Setting.{Setting}
 use Rattle.term.specs.Words.{tag_in, rest_in}
-use Rattle.run_guards.specs.Single.{constant_tag, Shows, of_kind}
-
-pub kind_any : (row tag : ℕ) → 2 < row → of_kind row tag ≡ true
-kind_any zero tag h = absurd (omega arith)
-kind_any (suc zero) tag h = absurd (omega arith)
-kind_any (suc (suc zero)) tag h = absurd (omega arith)
-kind_any (suc (suc (suc row))) tag h = refl
+use Rattle.run_guards.specs.Single.{constant_tag, Shows, IsRead, of_kind}
+use Rattle.run_guards.specs.declared.guards.Kind.{Kind}
+use Rattle.run_guards.specs.declared.guards.Kind.TheVariants as kinds
 
 -- An argument by what a word shows of it.
-module _ (x : Setting) (w row : ℕ) (us : Terms) where
-  abbrev pub by_row : Term → Result
-  by_row u = argument_is (λ k. of_kind row (constant_tag k)) (of_kind row 6) (more u us)
+module _ (x : Setting) (w : ℕ) (kind : Kind) (us : Terms) where
+  abbrev pub by_kind : Term → Result
+  by_kind u = argument_is (λ k. of_kind kind (constant_tag k)) (of_kind kind 6) (more u us)
 
   tag_over : (k : Constant) → 2 < constant_tag k
   tag_over (Constant.integer i) = omega arith
   tag_over (Constant.name f) = omega arith
   tag_over Constant.empty = omega arith
 
-  pub shown_fails : (u : Term) → Shows x u w → tag_in w < 2 → by_row u ≡ fails
+  pub read_fails : (u : Term) → IsRead x u None → by_kind u ≡ fails
+  unfolding argument_is unassigned
+  read_fails u r = rw r.1
+
+  pub shown_fails : (u : Term) → Shows x u w → tag_in w < 2 → by_kind u ≡ fails
   unfolding argument_is unassigned
   shown_fails (variable writer p) s h = refl
   shown_fails (variable reader p) s h = absurd (omega (arith, s.0))
@@ -63,14 +64,14 @@ module _ (x : Setting) (w row : ℕ) (us : Terms) where
   shown_fails (compound n f ts) s h = absurd (omega arith)
 
   pub shown_waits : (u : Term) → Shows x u w → tag_in w ≡ 2
-      → (p : ℕ) × (by_row u ≡ waits (p ∷ [])) × (p < length x.values) × (rest_in w ≡ x.places.pair p)
+      → (p : ℕ) × (by_kind u ≡ waits (p ∷ [])) × (p < length x.values) × (rest_in w ≡ x.places.pair p)
   unfolding argument_is unassigned waits_on
   shown_waits (variable writer p) s h = absurd (omega arith)
   shown_waits (variable reader p) s h = (p, refl, s.2, s.1)
   shown_waits (constant k) s h = absurd (omega (arith, tag_over k))
   shown_waits (compound n f ts) s h = absurd (omega arith)
 
-  pub shown_kind : (u : Term) → Shows x u w → 2 < tag_in w → by_row u ≡ succeeds_if (of_kind row (tag_in w))
+  pub shown_kind : (u : Term) → Shows x u w → 2 < tag_in w → by_kind u ≡ succeeds_if (of_kind kind (tag_in w))
   unfolding argument_is
   shown_kind (variable writer p) s h = absurd (omega arith)
   shown_kind (variable reader p) s h = absurd (omega (arith, s.0))
@@ -109,34 +110,63 @@ no_compounds (Constant.integer i) = refl
 no_compounds (Constant.name f) = refl
 no_compounds Constant.empty = refl
 
--- The four tests that look at the argument itself.
-abbrev pub Looks : Test → Type 0
-Looks test = (test_number test ≡ 3 → ⊥) × (test_number test ≡ 5 → ⊥) × (test_number test ≡ 6 → ⊥)
+-- The tests that look at the argument itself.
+abbrev pub test_of : Kind → Test
+test_of kinds.Integer = an_integer
+test_of kinds.Constant = a_constant
+test_of kinds.Compound = a_compound
+test_of kinds.Any = known
 
-pub looks_answer : (test : Test) (n : ℕ) → n ≡ test_number test → Looks test → (earlier : List ℕ) (ts : Terms)
-    → argument_is (λ k. of_kind n (constant_tag k)) (of_kind n 6) ts ≡ answer test earlier ts
+pub looks_answer : (kind : Kind) (earlier : List ℕ) (ts : Terms)
+    → argument_is (λ k. of_kind kind (constant_tag k)) (of_kind kind 6) ts ≡ answer (test_of kind) earlier ts
 unfolding answer
-looks_answer an_integer n e l earlier ts = rw e (argument_alike _ _ _ _ ts integers refl)
-looks_answer a_constant n e l earlier ts = rw e (argument_alike _ _ _ _ ts constants refl)
-looks_answer a_compound n e l earlier ts = rw e (argument_alike _ _ _ _ ts no_compounds refl)
-looks_answer a_ground n e l earlier ts = absurd (l.0 refl)
-looks_answer known n e l earlier ts = rw e refl
-looks_answer equal n e l earlier ts = absurd (l.1 refl)
-looks_answer otherwise n e l earlier ts = absurd (l.2 refl)
+looks_answer kinds.Integer earlier ts = argument_alike _ _ _ _ ts integers refl
+looks_answer kinds.Constant earlier ts = argument_alike _ _ _ _ ts constants refl
+looks_answer kinds.Compound earlier ts = argument_alike _ _ _ _ ts no_compounds refl
+looks_answer kinds.Any earlier ts = refl
+
+-- The tests by their numbers.
+numbered : ℕ → Test
+numbered zero = an_integer
+numbered (suc zero) = a_constant
+numbered (suc (suc zero)) = a_compound
+numbered (suc (suc (suc zero))) = a_ground
+numbered (suc (suc (suc (suc zero)))) = known
+numbered (suc (suc (suc (suc (suc zero))))) = equal
+numbered (suc (suc (suc (suc (suc (suc n)))))) = otherwise
+
+numbered_back : (t : Test) → numbered (test_number t) ≡ t
+unfolding numbered
+numbered_back an_integer = refl
+numbered_back a_constant = refl
+numbered_back a_compound = refl
+numbered_back a_ground = refl
+numbered_back known = refl
+numbered_back equal = refl
+numbered_back otherwise = refl
+
+pub same_test : (t u : Test) → test_number t ≡ test_number u → t ≡ u
+same_test t u e = sym (numbered_back t) ∙ ap numbered e ∙ numbered_back u
+
+pub test_small : (t : Test) → test_number t ≤ 6
+test_small an_integer = omega arith
+test_small a_constant = omega arith
+test_small a_compound = omega arith
+test_small a_ground = omega arith
+test_small known = omega arith
+test_small equal = omega arith
+test_small otherwise = omega arith
 
 -- How many arguments the rows have.
 abbrev pub arguments_of : Test → ℕ
 arguments_of test = (row_at guard_table (test_number test)).count
 
-pub looks_one : (test : Test) → Looks test → 0 < arguments_of test
+pub kind_one : (kind : Kind) → arguments_of (test_of kind) ≡ 1
 unfolding guard_table rows_before rows_between rows_alone row row_at
-looks_one an_integer l = omega arith
-looks_one a_constant l = omega arith
-looks_one a_compound l = omega arith
-looks_one a_ground l = omega arith
-looks_one known l = omega arith
-looks_one equal l = omega arith
-looks_one otherwise l = absurd (l.2 refl)
+kind_one kinds.Integer = refl
+kind_one kinds.Constant = refl
+kind_one kinds.Compound = refl
+kind_one kinds.Any = refl
 
 pub ground_one : arguments_of a_ground ≡ 1
 unfolding guard_table rows_before rows_between rows_alone row row_at

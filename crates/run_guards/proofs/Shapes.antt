@@ -1,11 +1,12 @@
 -- What the word of an argument shows of it, written out: a chain ends in a term that is the same on top, however many links are followed.
-use Prim.Native.Nat.{ℕ, zero, suc, ◌+◌, ◌*◌, ◌≤◌, ◌<◌}
+use Prim.Native.Nat.{ℕ, zero, suc, ◌+◌, ◌≤◌, ◌<◌}
 use mathlib.Core.Path.{◌≡◌, refl, ◌∙◌}
 use mathlib.Core.List.{List}
+use Rattle.std.specs.Prelude.{None}
 use mathlib.Core.Option.{Option, none, some}
 use native.Mathlib.Omega.{arith}
 use lib.ListN.{length, get_or}
-use Rattle.meaning.specs.Terms.{Half, writer, reader, Constant, Functor, Term, Terms, variable, constant, compound, replaced, all_replaced}
+use Rattle.meaning.specs.Terms.{Half, writer, reader, Constant, Term, Terms, variable, constant, compound, replaced}
 use Rattle.meaning.specs.State.{Values, value, applied}
 use Rattle.meaning.specs.Compare.{Assignment, followed}
 use Rattle.meaning.specs.Guards.{given_to}
@@ -18,8 +19,8 @@ use Rattle.term.specs.Words.{tag_in, rest_in}
 use Rattle.term.proofs.Chains.{followed_none, chains_end}
 use Rattle.run_chains.specs.Follow.{Reads, FollowedTo}
 use Rattle.run_compare.specs.Compare.{Template, item}
-use Rattle.run_asked.specs.Asking.{GaveAt, Asking}
-use Rattle.run_guards.specs.Single.{Argument, written, constant_tag, Shows}
+use Rattle.run_asked.specs.Asking.{GaveAt}
+use Rattle.run_guards.specs.Single.{Argument, written, Shows, IsRead}
 
 -- Two terms that are the same on top.
 abbrev Top : Term → Term → Type 0
@@ -133,12 +134,11 @@ module _ (s : List ℕ) (x : Setting) (y : Template) (given : List Assignment) (
   pub given_inside : trial_region + rest_in w < length s
   given_inside = omega (arith, own.0, a.asking.few_pairs, a.asking.values_behind, a.asking.marks_behind, a.asking.inside)
 
-  pub shows_nothing : get_or s (trial_region + rest_in w) 0 ≡ 0 → Shows x (written x given t) 0
+  pub shows_nothing : get_or s (trial_region + rest_in w) 0 ≡ 0 → IsRead x (written x given t) None
   shows_nothing e =
       let top = written_top x.values (length x.values) (variable writer (length x.values + rest_in w))
       (value_beyond x.values (length x.values + rest_in w) (omega arith)) in
-      let is : written x given t ≡ variable writer (length x.values + rest_in w) = own.1 ∙ rw (gave.nothing e) top in
-      rw is (omega arith)
+      (length x.values + rest_in w, own.1 ∙ rw (gave.nothing e) top)
 
   pub gift_reads : (v : ℕ) → v ≡ get_or s (trial_region + rest_in w) 0 → (v ≡ 0 → ⊥) → Reads s x values links gift v
   gift_reads v e h =

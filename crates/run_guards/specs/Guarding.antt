@@ -1,5 +1,5 @@
 -- What asking the guards of a clause in order asks and gives.
-use Rattle.std.specs.Prelude.{ℕ, ◌+◌, ◌*◌, ◌≤◌, ◌<◌, ◌≡◌, List, [], ◌∷◌, map, length}
+use Rattle.std.specs.Prelude.{ℕ, ◌+◌, ◌*◌, ◌≤◌, ◌<◌, ◌≡◌, List, [], ◌∷◌, map, length, Result as Outcome, Ok, Err}
 use Rattle.meaning.specs.Terms.{Guard, Clause}
 use Rattle.meaning.specs.Compare.{Assignment, Result, succeeds, waits, fails}
 use Rattle.meaning.specs.Table.{guard_table}
@@ -11,9 +11,9 @@ use Rattle.term.specs.Setting.{Setting, AllWithin, AllRanged}
 use Rattle.run_compare.specs.Compare.{Template}
 use Rattle.run_readers.specs.Readers.{Readers}
 use Rattle.run_asked.specs.Asking.{Asking, StampsFrom, Joined, AllBelow}
+use Rattle.run_asked.specs.declared.asking.Hindered.{Hindered}
+use Rattle.run_asked.specs.declared.asking.Hindered.TheVariants.{Waits, Fails}
 use Rattle.run_ground.specs.Seeking.{GroundsAdded}
-use Rattle.run_guards.specs.declared.guards.GuardResult.{GuardResult}
-use Rattle.run_guards.specs.declared.guards.GuardResult.TheVariants.{Succeeds, Waits, Fails}
 
 -- The guards' arguments are terms of the clause, and their rows are the table's.
 unfoldable pub GuardsFit : ℕ → ℕ → List Guard → Type 0
@@ -40,14 +40,14 @@ pub record Earlier (earlier : List ℕ) (met : ℕ) : Type 0 where
   pub none_met : met ≡ 0 → earlier ≡ []
   pub none : earlier ≡ [] → met ≡ 0
 
-abbrev pub GuardsTold : List ℕ → List ℕ → Setting → List Assignment → ℕ → ℕ → ℕ → Result → GuardResult → Type 0
-GuardsTold s s' x given at links met o Succeeds = (o ≡ succeeds given) × Joined s s' at links met [] met
-GuardsTold s s' x given at links met o (Waits m) =
+abbrev pub GuardsTold : List ℕ → List ℕ → Setting → List Assignment → ℕ → ℕ → ℕ → Result → Outcome Unit Hindered → Type 0
+GuardsTold s s' x given at links met o (Ok none) = (o ≡ succeeds given) × Joined s s' at links met [] met
+GuardsTold s s' x given at links met o (Err (Waits m)) =
     (readers : List ℕ) × (o ≡ waits readers) × AllBelow (length x.values) readers × Joined s s' at links met (map (λ p. x.places.pair p) readers) m
-GuardsTold s s' x given at links met o Fails = (o ≡ fails) × Joined s s' at links met [] met
+GuardsTold s s' x given at links met o (Err Fails) = (o ≡ fails) × Joined s s' at links met [] met
 
 -- The answer: only marks, readers and ranks have changed, and of the unit's marks those that newly tell a ground pair do so rightly.
-pub record GuardsAre (s s' : List ℕ) (x : Setting) (c : Clause) (earlier : List ℕ) (given : List Assignment) (marks links met stamp : ℕ) (r : GuardResult) : Type 0 where
+pub record GuardsAre (s s' : List ℕ) (x : Setting) (c : Clause) (earlier : List ℕ) (given : List Assignment) (marks links met stamp : ℕ) (r : Outcome Unit Hindered) : Type 0 where
   pub only : Only marks (marks + 3 * links) s s'
   pub stamps : StampsFrom s' marks x.pairs (stamp + 16)
   pub grounds : GroundsAdded x.places x.values marks x.pairs s s'

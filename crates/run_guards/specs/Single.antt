@@ -1,6 +1,6 @@
 -- What asking a single guard of a clause asks and tells, and what a word shows of the term that an argument is, written out.
-use Rattle.std.specs.Prelude.{ℕ, zero, suc, ◌+◌, ◌*◌, ◌≤◌, ◌<◌, ◌≡◌, Bool, true, not, List, [], eqb, length}
-use Rattle.meaning.specs.Terms.{writer, reader, Constant, Functor, Term, Terms, variable, constant, compound, Guard, count, replaced}
+use Rattle.std.specs.Prelude.{ℕ, ◌+◌, ◌*◌, ◌≤◌, ◌<◌, ◌≡◌, Bool, true, not, List, [], eqb, length, Option, Some, None, Result as Outcome}
+use Rattle.meaning.specs.Terms.{writer, reader, Constant, Term, variable, constant, compound, Guard, count, replaced}
 use Rattle.meaning.specs.State.{applied}
 use Rattle.meaning.specs.Compare.{Assignment, Result}
 use Rattle.meaning.specs.Table.{guard_table}
@@ -13,9 +13,11 @@ use Rattle.term.specs.Words.{tag_in, rest_in}
 use Rattle.run_compare.specs.Compare.{Template, item}
 use Rattle.run_readers.specs.Readers.{Readers}
 use Rattle.run_asked.specs.Asking.{Asking, Arguments, StampsFrom}
+use Rattle.run_asked.specs.declared.asking.Hindered.{Hindered}
 use Rattle.run_ground.specs.Seeking.{GroundsAdded}
 use Rattle.run_guards.specs.Guarding.{GuardsTold}
-use Rattle.run_guards.specs.declared.guards.GuardResult.{GuardResult}
+use Rattle.run_guards.specs.declared.guards.Kind.{Kind}
+use Rattle.run_guards.specs.declared.guards.Kind.TheVariants as kinds
 
 -- A guard of the clause, whose arguments stand behind a place. Stamps from this one on are unused.
 pub record GuardAt (s : List ℕ) (x : Setting) (y : Template) (given : List Assignment) (values marks links met stamp : ℕ) (g : Guard) (place : ℕ) : Type 0 where
@@ -31,7 +33,7 @@ pub record GuardAt (s : List ℕ) (x : Setting) (y : Template) (given : List Ass
   pub below : stamp + 1 < 1099511627776
 
 -- The answer to what the guard's test answers.
-pub record GuardIs (s s' : List ℕ) (x : Setting) (marks links met stamp : ℕ) (o : Result) (r : GuardResult) : Type 0 where
+pub record GuardIs (s s' : List ℕ) (x : Setting) (marks links met stamp : ℕ) (o : Result) (r : Outcome Unit Hindered) : Type 0 where
   pub only : Only marks (marks + 3 * links) s s'
   pub stamps : StampsFrom s' marks x.pairs (stamp + 1)
   pub grounds : GroundsAdded x.places x.values marks x.pairs s s'
@@ -58,9 +60,14 @@ Shows x (variable reader p) w = (tag_in w ≡ 2) × (rest_in w ≡ x.places.pair
 Shows x (constant k) w = tag_in w ≡ constant_tag k
 Shows x (compound n f ts) w = tag_in w ≡ 6
 
--- The kinds by the rows' numbers and the tags of terms that are no variables: integers; constants; compounds; any that is known.
-abbrev pub of_kind : ℕ → ℕ → Bool
-of_kind zero tag = eqb tag 3
-of_kind (suc zero) tag = not (eqb tag 6)
-of_kind (suc (suc zero)) tag = eqb tag 6
-of_kind (suc (suc (suc row))) tag = true
+-- What is read of an argument written out: a word that shows it, or nothing, of a writer alone.
+abbrev pub IsRead : Setting → Term → Option ℕ → Type 0
+IsRead x t (Some w) = Shows x t w
+IsRead x t None = (p : ℕ) × (t ≡ variable writer p)
+
+-- The kinds by the tags of terms that are no variables.
+abbrev pub of_kind : Kind → ℕ → Bool
+of_kind kinds.Integer tag = eqb tag 3
+of_kind kinds.Constant tag = not (eqb tag 6)
+of_kind kinds.Compound tag = eqb tag 6
+of_kind kinds.Any tag = true

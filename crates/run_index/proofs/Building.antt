@@ -12,7 +12,7 @@ use borrow.Author.Tests.{eqb-true, eqb-false}
 use Rattle.meaning.specs.Bytes.{when◌then◌else◌}
 use Rattle.term.specs.Words.{packed, tag_in, rest_in}
 use Rattle.term.specs.Layout.{index_from, clause_record, clause_head, procedure_slot, told_word}
-use Rattle.run_index.specs.Index.{kind_of, KindReads, functor_of, first_of, told_by, own_kind, own_key, IndexOnly}
+use Rattle.run_index.specs.Index.{kind_of, functor_of, first_of, told_by, own_kind, own_key, IndexOnly}
 use Rattle.run_index.specs.Building.{ReadsBehind, HeadReads, HeadsRead, OneRead, Alike}
 
 -- Which changes are such: none; one after another; a word of the index.
@@ -35,10 +35,6 @@ module _ (s : List ℕ) (k i v : ℕ) (number : k < 128) (low : index_from ≤ i
     clauses = λ c n h m. get_or-set_other s (clause_record k + i) (clause_record c + n) v 0 (λ e. omega arith);
     above = λ n h. get_or-set_other s (clause_record k + i) n v 0 (λ e. omega arith);
   }
-
--- A kind can be read where it can be behind the index.
-pub kind_reads : (s : List ℕ) (w : ℕ) → ReadsBehind s w → KindReads s w
-kind_reads s w reads e = ((reads e).1, (reads e).2)
 
 -- The kind of a term stays where its functor stays.
 pub kind_kept : (s s' : List ℕ) (w : ℕ) → (tag_in w ≡ 6 → get_or s' (rest_in w) 0 ≡ get_or s (rest_in w) 0) → kind_of s' w ≡ kind_of s w

@@ -4,6 +4,8 @@ use Prim.Native.Nat.{ℕ, zero, suc, ◌+◌, ◌≤◌, ◌<◌}
 use mathlib.Core.Path.{◌≡◌, refl}
 use native.Mathlib.Decide.{dec_lt, ℕ_discrete}
 use native.Mathlib.Omega.{arith}
+use Rattle.std.specs.Prelude.{Option, None, Some, IfSome}
+use Rattle.term.specs.Words.{link_to}
 use Rattle.run_index.specs.Index.{FirstOf}
 
 module _ (P : ℕ → Type 0) where
@@ -57,3 +59,8 @@ first_map P Q from to r there back f = record {
   none = λ e k low high q. f.none e k low high (back k high q);
   one = λ k e. let (low, high, p, before) = f.one k e in (low, high, there k high p, λ i l h q. before i l h (back i (omega arith) q));
 }
+
+-- A clause that is the first of some is one of them.
+pub first_few : (P : ℕ → Type 0) (from to : ℕ) (first : Option ℕ) → to ≤ 128 → FirstOf P from to (link_to first) → IfSome first (λ k. k < 128)
+first_few P from to None few f = tt
+first_few P from to (Some k) few f = let (low, high, own, other) = f.one k refl in omega arith

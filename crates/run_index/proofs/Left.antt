@@ -8,6 +8,7 @@ use native.Mathlib.Omega.{arith}
 use lib.ListN.{get_or}
 use Rattle.meaning.specs.Terms.{Clause}
 use Rattle.term.specs.Layout.{clause_stride, clause_record}
+use Rattle.term.specs.Words.{link_to}
 use Rattle.run_index.specs.Left.{Left, AllOut, Nearest, InOrder, FurtherIs}
 use Rattle.run_index.specs.declared.leads.Leads.{Leads}
 
@@ -49,43 +50,43 @@ module _ (s : List ℕ) (Out : ℕ → Type 0) (At : ℕ → Clause → Type 0) 
   left_none from (c ∷ cs) link other (k, h, at, inr (inr l)) = ((k, at, l.0), left_none (k + 1) cs link other l.1)
 
   -- The next clause to try, behind some that are out, and what is left behind it.
-  abbrev pub NextLeft : List Clause → Leads → Type 0
-  NextLeft cs l =
-      (skipped : List Clause) × (c : Clause) × (rest : List Clause) × (cs ≡ skipped ++ c ∷ rest) × AllOut Out At skipped × At (l.next - 1) c
-      × Left s Out At l.next rest (get_or s (clause_record (l.next - 1) + l.link) 0) l.link l.other l.onward
+  abbrev pub NextLeft : List Clause → Leads → ℕ → Type 0
+  NextLeft cs l n =
+      (skipped : List Clause) × (c : Clause) × (rest : List Clause) × (cs ≡ skipped ++ c ∷ rest) × AllOut Out At skipped × At n c
+      × Left s Out At (n + 1) rest (get_or s (clause_record n + l.link) 0) l.link (link_to l.other) l.onward
 
-  pub left_next : (from : ℕ) (cs : List Clause) (l : Leads) → Nearest l → l.next ≢ 0
-      → Left s Out At from cs l.next l.link l.other l.onward → NextLeft cs l
+  pub left_next : (from : ℕ) (cs : List Clause) (l : Leads) (n : ℕ) → Nearest l → link_to l.next ≡ n + 1
+      → Left s Out At from cs (link_to l.next) l.link (link_to l.other) l.onward → NextLeft cs l n
   unfolding Left AllOut
-  left_next from [] l near d left = absurd (d left.0)
-  left_next from (c ∷ cs) l near d (k, h, at, inl left) =
-      let number : l.next - 1 ≡ k = omega (arith, left.0) in
-      ([], c, cs, refl, tt, rw number at, rw (number, left.0) left.1)
-  left_next from (c ∷ cs) l near d (k, h, at, inr (inl left)) =
-      let later = left_from (k + 1) cs l.next l.link (get_or s (clause_record k + l.onward) 0) l.onward d left.1 in
+  left_next from [] l n near d left = absurd (omega (arith, left.0))
+  left_next from (c ∷ cs) l n near d (k, h, at, inl left) =
+      let number : n ≡ k = omega (arith, left.0) in
+      ([], c, cs, refl, tt, rw number at, rw number left.1)
+  left_next from (c ∷ cs) l n near d (k, h, at, inr (inl left)) =
+      let later = left_from (k + 1) cs (link_to l.next) l.link (get_or s (clause_record k + l.onward) 0) l.onward (λ e. omega arith) left.1 in
       absurd (omega (arith, left.0, near.before (λ e. omega (arith, left.0))))
-  left_next from (c ∷ cs) l near d (k, h, at, inr (inr left)) =
-      let (skipped, c', rest, e, out, at', left') = left_next (k + 1) cs l near d left.1 in
+  left_next from (c ∷ cs) l n near d (k, h, at, inr (inr left)) =
+      let (skipped, c', rest, e, out, at', left') = left_next (k + 1) cs l n near d left.1 in
       (c ∷ skipped, c', rest, ap (λ cs. c ∷ cs) e, ((k, at, left.0), out), at', left')
 
   -- Two chains in order.
   pub left_ordered : (from : ℕ) (cs : List Clause) (a link b other : ℕ) (r : Leads) → InOrder a link b other r → Left s Out At from cs a link b other
-      → Left s Out At from cs r.next r.link r.other r.onward
+      → Left s Out At from cs (link_to r.next) r.link (link_to r.other) r.onward
   left_ordered from cs a link b other r order left = go order.are
     where
-      go : ((r.next ≡ a) × (r.link ≡ link) × (r.other ≡ b) × (r.onward ≡ other)) ⊎ ((r.next ≡ b) × (r.link ≡ other) × (r.other ≡ a) × (r.onward ≡ link))
-          → Left s Out At from cs r.next r.link r.other r.onward
+      go : ((link_to r.next ≡ a) × (r.link ≡ link) × (link_to r.other ≡ b) × (r.onward ≡ other)) ⊎ ((link_to r.next ≡ b) × (r.link ≡ other) × (link_to r.other ≡ a) × (r.onward ≡ link))
+          → Left s Out At from cs (link_to r.next) r.link (link_to r.other) r.onward
       go (inl (e, f, g, h)) = rw (e, f, g, h) left
       go (inr (e, f, g, h)) = rw (e, f, g, h) (left_swap from cs a link b other left)
 
   -- What is left behind the next clause, in order.
-  pub left_further : (from : ℕ) (rest : List Clause) (l r : Leads) → Nearest l → FurtherIs s l r
-      → Left s Out At from rest (get_or s (clause_record (l.next - 1) + l.link) 0) l.link l.other l.onward
-      → Nearest r × Left s Out At from rest r.next r.link r.other r.onward
-  left_further from rest l r near further left =
-      let a = get_or s (clause_record (l.next - 1) + l.link) 0 in (
-        further.nearest near.link_inside near.other_inside (left_apart from rest a l.link l.other l.onward left),
-        left_ordered from rest a l.link l.other l.onward r further left,
+  pub left_further : (from : ℕ) (rest : List Clause) (l r : Leads) (n : ℕ) → Nearest l → FurtherIs s n l r
+      → Left s Out At from rest (get_or s (clause_record n + l.link) 0) l.link (link_to l.other) l.onward
+      → Nearest r × Left s Out At from rest (link_to r.next) r.link (link_to r.other) r.onward
+  left_further from rest l r n near further left =
+      let a = get_or s (clause_record n + l.link) 0 in (
+        further.nearest near.link_inside near.other_inside (left_apart from rest a l.link (link_to l.other) l.onward left),
+        left_ordered from rest a l.link (link_to l.other) l.onward r further left,
       )
 
 -- What is left stays so where the clauses do, with their records, and those that were out are out.

@@ -1,5 +1,5 @@
 -- What building the index reads of the clauses, and what each of its steps changes.
-use Rattle.std.specs.Prelude.{ℕ, ◌+◌, ◌-◌, ◌≤◌, ◌<◌, ◌≡◌, ◌≢◌, List, length, get_or}
+use Rattle.std.specs.Prelude.{ℕ, ◌+◌, ◌≤◌, ◌<◌, ◌≡◌, ◌≢◌, List, length, get_or, Option, None, Some}
 use Rattle.term.specs.Words.{tag_in, rest_in}
 use Rattle.term.specs.Layout.{
   queries_region,
@@ -48,6 +48,10 @@ pub record Alike (s : List ℕ) (k m : ℕ) : Type 0 where
   pub other_reads : HeadReads s m
   pub alike : functor_of s m ≡ functor_of s k
 
+-- An argument that the head of clause k has.
+abbrev pub ArgumentOf : List ℕ → ℕ → ℕ → Type 0
+ArgumentOf s k i = (1 ≤ i) × (i ≤ tag_in (functor_of s k))
+
 -- No clause's procedure is told apart by an argument that it does not have.
 abbrev pub ToldFits : List ℕ → ℕ → Type 0
 ToldFits s clauses = (k : ℕ) → k < clauses → told_by s (functor_of s k) ≤ tag_in (functor_of s k)
@@ -73,8 +77,9 @@ pub record Telling (s s' : List ℕ) (clauses : ℕ) : Type 0 where
   pub buckets : NoneFirst s → NoneFirst s'
 
 -- The next clause of the procedure of clause k, if there is one, is one of so many, and has the same functor.
-abbrev pub NextIs : List ℕ → ℕ → ℕ → ℕ → Type 0
-NextIs s clauses k r = r ≢ 0 → (r - 1 < clauses) × (functor_of s (r - 1) ≡ functor_of s k)
+abbrev pub NextIs : List ℕ → ℕ → ℕ → Option ℕ → Type 0
+NextIs s clauses k None = Unit {0}
+NextIs s clauses k (Some m) = (m < clauses) × (functor_of s m ≡ functor_of s k)
 
 -- Clause k has its words of the index, and is the first in bucket b; all other words stay.
 pub record Put (s s' : List ℕ) (k b own same opened : ℕ) : Type 0 where

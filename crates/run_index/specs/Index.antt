@@ -1,6 +1,6 @@
 -- The index of the clauses: each clause has a key, the functor of its head and the kind of one argument, by which its procedure is told apart; clauses with
 -- the same key are chained, and all clauses are found by their keys' buckets.
-use Rattle.std.specs.Prelude.{ℕ, ◌+◌, ◌-◌, ◌*◌, ◌/◌, ◌%◌, ◌≤◌, ◌<◌, ◌≡◌, List, eqb, length, get_or}
+use Rattle.std.specs.Prelude.{ℕ, ◌+◌, ◌-◌, ◌*◌, ◌/◌, ◌%◌, ◌≤◌, ◌<◌, ◌≡◌, List, eqb, length, get_or, Option, None, Some}
 use Rattle.meaning.specs.Bytes.{when◌then◌else◌}
 use Rattle.term.specs.Words.{packed, tag_in, rest_in}
 use Rattle.term.specs.Layout.{
@@ -55,6 +55,11 @@ own_kind s k = when eqb (told_by s (functor_of s k)) 0 then 0 else kind_of s (ge
 
 unfoldable pub own_key : List ℕ → ℕ → ℕ
 own_key s k = key_of (functor_of s k) (own_kind s k)
+
+-- A word says which argument a procedure is told apart by; 0 that it is by none.
+abbrev pub TellsApart : ℕ → Option ℕ → Type 0
+TellsApart w None = w ≡ 0
+TellsApart w (Some a) = (w ≡ a) × (1 ≤ a)
 
 -- r is one more than the first number from a number on and below another of which P holds; 0 if there is none.
 pub record FirstOf (P : ℕ → Type 0) (from to r : ℕ) : Type 0 where

@@ -3,7 +3,7 @@ use Rattle.std.specs.Prelude.{ℕ, ◌+◌, ◌-◌, ◌≤◌, ◌<◌, ◌≡�
 use Rattle.meaning.specs.Bytes.{Bytes}
 use Rattle.meaning.specs.Terms.{Named, named, Clause, Job, count}
 use Rattle.meaning.specs.Trial.{procedure}
-use Rattle.term.specs.Words.{tag_in}
+use Rattle.term.specs.Words.{link_to, tag_in}
 use Rattle.term.specs.Cells.{KnownName, functor_word}
 use Rattle.term.specs.Jobs.{places_from, EachFrom, ClauseAt, HoldsJob}
 use Rattle.term.specs.Layout.{procedure_slot, clause_stride, clause_record, clause_head, followed_part}
@@ -36,15 +36,15 @@ AllOut Out At (c ∷ cs) = ((k : ℕ) × At k c × Out k) × AllOut Out At cs
 
 -- The first chain has the next clause to try, if there is one.
 pub record Nearest (l : Leads) : Type 0 where
-  pub none : l.next ≡ 0 → l.other ≡ 0
-  pub before : l.other ≢ 0 → l.next < l.other
+  pub none : link_to l.next ≡ 0 → link_to l.other ≡ 0
+  pub before : link_to l.other ≢ 0 → link_to l.next < link_to l.other
   pub link_inside : l.link < clause_stride
   pub other_inside : l.onward < clause_stride
 
 -- The clauses of a goal's procedure that are left.
 abbrev pub LeftFor : List ℕ → List Bytes → ℕ → ℕ → List Clause → Leads → Type 0
 LeftFor s names functor from cs l =
-    Left s (Idle s functor) (ClauseAt s names) from cs l.next l.link l.other l.onward
+    Left s (Idle s functor) (ClauseAt s names) from cs (link_to l.next) l.link (link_to l.other) l.onward
 
 -- A goal whose arguments were followed: the first word of its compound, and the first clause of its procedure, plus one, or 0. The arguments' words are
 -- words of terms, and the job's clauses count from 1.
@@ -67,8 +67,9 @@ pub record LeadsAre (s : List ℕ) (names : List Bytes) (j : Job) (goal : Named)
 -- Two chains in order, and the chains behind the next clause.
 pub record InOrder (a link b other : ℕ) (l : Leads) : Type 0 where
   pub nearest : link < clause_stride → other < clause_stride → (a ≢ 0 → a ≢ b) → Nearest l
-  pub are : ((l.next ≡ a) × (l.link ≡ link) × (l.other ≡ b) × (l.onward ≡ other))
-      ⊎ ((l.next ≡ b) × (l.link ≡ other) × (l.other ≡ a) × (l.onward ≡ link))
+  pub are : ((link_to l.next ≡ a) × (l.link ≡ link) × (link_to l.other ≡ b) × (l.onward ≡ other))
+      ⊎ ((link_to l.next ≡ b) × (l.link ≡ other) × (link_to l.other ≡ a) × (l.onward ≡ link))
 
-abbrev pub FurtherIs : List ℕ → Leads → Leads → Type 0
-FurtherIs s l r = InOrder (get_or s (clause_record (l.next - 1) + l.link) 0) l.link l.other l.onward r
+-- What is left behind clause k, the next one.
+abbrev pub FurtherIs : List ℕ → ℕ → Leads → Leads → Type 0
+FurtherIs s k l r = InOrder (get_or s (clause_record k + l.link) 0) l.link (link_to l.other) l.onward r

@@ -1,12 +1,12 @@
 // The index of the clauses, built when the run begins.
-ghost use Rattle.std.specs.Prelude.{◌≡◌, ◌≢◌, List, ℕ, ◌+◌, ◌≤◌, ◌<◌, length, get_or, set};
+ghost use Rattle.std.specs.Prelude.{◌≡◌, ◌≢◌, List, ℕ, ◌+◌, ◌≤◌, ◌<◌, length, get_or, set, IfSome, None};
 ghost use Rattle.meaning.specs.Bytes.{Bytes};
 ghost use Rattle.meaning.specs.Terms.{Job};
-ghost use Rattle.term.specs.Words.{tag_in};
 ghost use Rattle.term.specs.Jobs.{HoldsJob};
+ghost use Rattle.term.specs.Words.{link_to};
 ghost use Rattle.term.specs.Layout.{compounds_region, clause_stride, clause_record, clause_head};
 ghost use Rattle.run_index.specs.Index.{kind_of, KindReads, bucket_of, functor_of as functor_of_meant, first_of, own_key, Indexed, IndexedFrom, IndexOnly};
-ghost use Rattle.run_index.specs.Building.{HeadReads, HeadsRead, OneRead, Alike, ToldFits, Begun, NextIs, Telling, Put, Entering, Entered};
+ghost use Rattle.run_index.specs.Building.{HeadReads, HeadsRead, OneRead, Alike, ArgumentOf, ToldFits, Begun, NextIs, Telling, Put, Entering, Entered};
 
 use crate::index::{bucket, find, key, kind, told};
 use term::layout::{
@@ -14,12 +14,12 @@ use term::layout::{
     CLAUSE_STRIDE, CLAUSE_TOLD, CLAUSES, ITEM_WORDS, ITEMS, PROCEDURES,
 };
 use term::scratch::{argument, count, set_at, word_at};
-use term::word::{index, word};
+use term::word::{index, link, linked, word};
 
 // How many clauses of a procedure are tried in a line, with no argument that tells them apart.
 const FEW: u64 = 8;
 
-// A word of the record of clause k, and setting it, also to a number.
+// A word of the record of clause k, and setting it.
 fn record_word(s: &[u64], k: usize, i: usize) -> u64
     requires { (k < 128) × (i < clause_stride) × (compounds_region ≤ length s.now) }
     ensures { result ≡ get_or s.now (clause_record k + i) 0 }
@@ -34,23 +34,14 @@ fn set_word(s: &mut [u64], k: usize, i: usize, w: u64)
     set_at(s, CLAUSES + CLAUSE_STRIDE * k, i, w);
 }
 
-fn set_number(s: &mut [u64], k: usize, i: usize, n: usize)
-    requires { (k < 128) × (i < clause_stride) × (compounds_region ≤ length s.old) }
-    ensures { s.new ≡ set s.old (clause_record k + i) n }
-{
-    set_word(s, k, i, word(n));
-}
-
 // Nothing is told apart yet, and no bucket has a clause.
 fn begin(s: &mut [u64])
     requires { compounds_region ≤ length s.old }
     ensures { Begun s.old s.new }
 {
-    let mut k = 0;
-    while k < 128 {
+    for k in 0..128 {
         set_word(s, k, CLAUSE_FIRST, 0);
         set_word(s, k, CLAUSE_TOLD, 0);
-        k += 1;
     }
 }
 
@@ -78,22 +69,19 @@ fn first_of(s: &[u64], k: usize) -> usize
     index(word_at(s, PROCEDURES - 8, index(functor_of(s, k)))) - 1
 }
 
-// The next clause of the procedure of clause k, plus one; 0 if there is none. Its number and its functor are looked at, so that nothing need be known of links.
-fn next_of(s: &[u64], k: usize, clauses: usize) -> usize
+// The next clause of the procedure of clause k. Its number and its functor are looked at, so that nothing need be known of links.
+fn next_of(s: &[u64], k: usize, clauses: usize) -> Option<usize>
     requires { (k < 128) × (clauses ≤ 128) × (compounds_region ≤ length s.now) }
     ensures { NextIs s.now clauses k result }
 {
-    let next = index(record_word(s, k, CLAUSE_NEXT));
-    if next == 0 {
-        return 0;
+    let next = linked(record_word(s, k, CLAUSE_NEXT))?;
+    if clauses <= next {
+        return None;
     }
-    if clauses < next {
-        return 0;
+    if functor_of(s, next) != functor_of(s, k) {
+        return None;
     }
-    if functor_of(s, next - 1) != functor_of(s, k) {
-        return 0;
-    }
-    next
+    Some(next)
 }
 
 // Whether the i-th argument tells the heads of two clauses apart: at neither a writer, and not the same.
@@ -103,46 +91,33 @@ fn apart(s: &[u64], k: usize, m: usize, i: usize) -> bool
 {
     let a = kind_at(s, k, i);
     let b = kind_at(s, m, i);
-    if a == 0 {
-        return false;
-    }
-    if b == 0 {
-        return false;
-    }
-    a != b
+    a != 0 && b != 0 && a != b
 }
 
-// The first argument that tells the heads of two clauses of one procedure apart; 0 if none does.
-fn first_apart(s: &[u64], k: usize, m: usize) -> usize
+// The first argument that tells the heads of two clauses of one procedure apart.
+fn first_apart(s: &[u64], k: usize, m: usize) -> Option<usize>
     requires { Alike s.now k m }
-    ensures { result ≤ tag_in (functor_of_meant s.now k) }
+    ensures { IfSome result (ArgumentOf s.now k) }
 {
-    let n = count(s, ITEMS + ITEM_WORDS * k);
-    let mut i = 1;
-    while i <= n {
+    for i in 1..=count(s, ITEMS + ITEM_WORDS * k) {
         if apart(s, k, m, i) {
-            return i;
+            return Some(i);
         }
-        i += 1;
     }
-    0
+    None
 }
 
 // The argument that tells two clauses of one procedure apart: the one by which the procedure is told apart so far, if it does; else the first that does, if any.
-fn telling(s: &[u64], k: usize, m: usize, known: usize) -> usize
-    requires { Alike s.now k m × (known ≤ tag_in (functor_of_meant s.now k)) }
-    ensures { result ≤ tag_in (functor_of_meant s.now k) }
+fn telling(s: &[u64], k: usize, m: usize, known: Option<usize>) -> Option<usize>
+    requires { Alike s.now k m × IfSome known (ArgumentOf s.now k) }
+    ensures { IfSome result (ArgumentOf s.now k) }
 {
-    if known != 0 {
-        if apart(s, k, m, known) {
+    if let Some(i) = known {
+        if apart(s, k, m, i) {
             return known;
         }
     }
-    let i = first_apart(s, k, m);
-    if i == 0 {
-        return known;
-    }
-    i
+    first_apart(s, k, m).or(known)
 }
 
 // The procedure of clauses k and m is told apart by an argument that tells these two apart, if there is one.
@@ -152,19 +127,20 @@ fn tell_apart(s: &mut [u64], k: usize, m: usize)
         → Telling s.old s.new clauses }
 {
     let first = first_of(s, k);
-    let i = telling(s, k, m, told(s, first));
-    set_number(s, first, CLAUSE_TOLD, i);
+    if let Some(i) = telling(s, k, m, told(s, first)) {
+        set_word(s, first, CLAUSE_TOLD, word(i));
+    }
 }
 
-// How many clauses of its procedure stand from a clause on, up to one more than FEW, if `next` is the next of them, plus one, or 0.
-fn many(s: &[u64], next: usize) -> u64
-    requires { (next ≤ 128) × (compounds_region ≤ length s.now) }
-    ensures { 8 < result → next ≢ 0 }
+// How many clauses of its procedure stand from a clause on, up to one more than FEW, if `next` is the next of them.
+fn many(s: &[u64], next: Option<usize>) -> u64
+    requires { IfSome next (λ k. k < 128) × (compounds_region ≤ length s.now) }
+    ensures { 8 < result → next ≢ None }
 {
-    if next == 0 {
+    let Some(k) = next else {
         return 1;
-    }
-    let n = record_word(s, next - 1, CLAUSE_MANY);
+    };
+    let n = record_word(s, k, CLAUSE_MANY);
     if n <= FEW { n + 1 } else { n }
 }
 
@@ -179,7 +155,9 @@ fn tell(s: &mut [u64], k: usize, clauses: usize)
     if n <= FEW {
         return;
     }
-    tell_apart(s, k, next - 1);
+    if let Some(m) = next {
+        tell_apart(s, k, m);
+    }
 }
 
 // From the last clause to the first.
@@ -187,9 +165,7 @@ fn tell_all(s: &mut [u64], clauses: usize)
     requires { HeadsRead s.old clauses × ToldFits s.old clauses }
     ensures { Telling s.old s.new clauses }
 {
-    let mut k = clauses;
-    while 0 < k {
-        k -= 1;
+    for k in (0..clauses).rev() {
         tell(s, k, clauses);
     }
 }
@@ -200,25 +176,24 @@ fn own_key(s: &[u64], k: usize) -> u64
     ensures { result ≡ own_key s.now k }
 {
     let functor = functor_of(s, k);
-    let a = told(s, first_of(s, k));
-    if a == 0 {
-        return key(functor, 0);
+    match told(s, first_of(s, k)) {
+        Some(a) => key(functor, kind_at(s, k, a)),
+        None => key(functor, 0),
     }
-    key(functor, kind_at(s, k, a))
 }
 
 // Clause k gets its words of the index, and is the first in its key's bucket.
-fn put(s: &mut [u64], k: usize, own: u64, same: usize, opened: usize)
-    requires { (k < 128) × (compounds_region ≤ length s.old) }
-    ensures { Put s.old s.new k (bucket_of own) own same opened }
+fn put(s: &mut [u64], k: usize, own: u64, same: Option<usize>, opened: Option<usize>)
+    requires { (k < 128) × IfSome same (λ c. c < 128) × IfSome opened (λ c. c < 128) × (compounds_region ≤ length s.old) }
+    ensures { Put s.old s.new k (bucket_of own) own (link_to same) (link_to opened) }
 {
     let b = bucket(own);
     let later = record_word(s, b, CLAUSE_FIRST);
     set_word(s, k, CLAUSE_KEY, own);
-    set_number(s, k, CLAUSE_SAME, same);
-    set_number(s, k, CLAUSE_OPEN, opened);
+    set_word(s, k, CLAUSE_SAME, link(same));
+    set_word(s, k, CLAUSE_OPEN, link(opened));
     set_word(s, k, CLAUSE_LATER, later);
-    set_number(s, b, CLAUSE_FIRST, k + 1);
+    set_word(s, b, CLAUSE_FIRST, link(Some(k)));
 }
 
 // Clause k joins the index, in which those behind it stand.
@@ -237,9 +212,7 @@ fn enter_all(s: &mut [u64], clauses: usize)
     requires { HeadsRead s.old clauses × IndexedFrom s.old clauses clauses }
     ensures { Entered s.old s.new clauses 0 }
 {
-    let mut k = clauses;
-    while 0 < k {
-        k -= 1;
+    for k in (0..clauses).rev() {
         enter(s, k);
     }
 }

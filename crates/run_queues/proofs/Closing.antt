@@ -1,5 +1,5 @@
 -- The log closed up place by place: the goals passed stand in order at its beginning, emptied places follow, and the rest is as it was.
-use Prim.Native.Nat.{ℕ, zero, suc, ◌+◌, ◌*◌, ◌-◌, ◌≤◌, ◌<◌}
+use Prim.Native.Nat.{ℕ, zero, suc, ◌+◌, ◌*◌, ◌≤◌, ◌<◌}
 use mathlib.Core.Path.{◌≡◌, refl, ap, sym, ◌∙◌}
 use mathlib.Core.Bool.{Bool, true, false, true≢false}
 use mathlib.Core.List.{List, [], ◌∷◌, ◌++◌}
@@ -10,14 +10,11 @@ use lib.ListN.{length, get_or, set, length-set, length-append, get_or-append}
 use lib.Seq.{get_or-set_same, get_or-set_other, get_or_at, set-set, set_comm}
 use borrow.Author.Tests.{ltb-true, ltb-false}
 use Rattle.meaning.specs.Bytes.{among}
-use Rattle.run_queues.specs.Log.{Slot, gone, waits, pairs_in, slot, SlotStands, LogOk, LogOnly, At, LogNow, Shifts, goal_of, present, Settles, SettledAs, Closed}
+use Rattle.run_queues.specs.Log.{Slot, gone, waits, pairs_in, slot, SlotStands, LogOk, LogNow, Shifts, goal_of, present, Settles, SettledAs, Closed}
 use Rattle.run_queues.proofs.Log.{by_place}
 use Rattle.run_queues.proofs.LogSteps.{log_only_same, log_only_then, same_slots}
 
 module _ (s : List ℕ) (log waiters sets pairs : ℕ) (slots : List Slot) (place to : ℕ) (a : Settles s log waiters sets pairs slots place to) where
-  pub settle_inside : log + 2 * place + 1 < length s
-  settle_inside = omega (arith, a.ok.inside, a.here)
-
   stands_as : (v : Slot) → slot slots place ≡ v → SlotStands s log waiters sets pairs place v
   stands_as v e = rw e at (a.ok.stands place a.here)
 

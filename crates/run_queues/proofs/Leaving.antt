@@ -1,11 +1,11 @@
 -- A goal's pairs leave its set, the first one each time, until none is left. The sum of all words falls with each.
-use Prim.Native.Nat.{ℕ, zero, suc, ◌+◌, ◌*◌, ◌-◌, ◌≤◌, ◌<◌}
-use mathlib.Core.Path.{◌≡◌, refl, ap, sym, ◌∙◌}
+use Prim.Native.Nat.{ℕ, zero, suc, ◌+◌, ◌*◌, ◌≤◌, ◌<◌}
+use mathlib.Core.Path.{◌≡◌, refl, ◌∙◌}
 use mathlib.Core.List.{List, [], ◌∷◌}
 use native.Mathlib.Omega.{arith}
 use lib.ListN.{length, get_or, set, length-set}
 use lib.Seq.{get_or-set_same, get_or-set_other, set-set}
-use Rattle.run_queues.specs.Log.{Slot, gone, waits, slot, link, Chain, SlotStands, LogOk, LogOnly, At, LogNow}
+use Rattle.run_queues.specs.Log.{Slot, gone, waits, link, Chain, SlotStands, At, LogNow}
 use Rattle.run_queues.proofs.Log.{pointed, pair_leaves}
 use Rattle.run_queues.proofs.LogSteps.{log_only_same, log_only_then, pointed_only, same_slots}
 
@@ -60,21 +60,21 @@ module _ (s₀ : List ℕ) (log waiters sets pairs : ℕ) (slots : List Slot) (p
         head = stands.2;
       }
 
-  module _ (s : List ℕ) (first : ℕ) where
-    pub leaving_ends : (rest : List ℕ) → Left s first rest → first ≡ 0 → LogNow s₀ s log waiters sets pairs (length slots) (set slots place (waits goal []))
-    leaving_ends [] l e = l.now
-    leaving_ends (p ∷ rest) l e = absurd (omega (arith, l.head))
+  pub leaving_ends : (s : List ℕ) (rest : List ℕ) → Left s 0 rest → LogNow s₀ s log waiters sets pairs (length slots) (set slots place (waits goal []))
+  leaving_ends s [] l = l.now
+  leaving_ends s (p ∷ rest) l = absurd (omega (arith, l.head))
 
-    -- The first pair that is left, at its place in the scratch.
+  -- The first pair that is left, at its place in the scratch.
+  module _ (s : List ℕ) (q : ℕ) where
     pub record First (p : ℕ) (rest : List ℕ) : Type 0 where
-      pub before : first ≡ p + 1
+      pub same : q ≡ p
       pub small : p < pairs
       pub space : log + 2 * place + 2 ≤ length s
       pub waiter : get_or s (waiters + p) 0 ≡ place + 1
       pub next : get_or s (sets + p) 0 ≡ link rest
       pub this : get_or s (log + 2 * place + 1) 0 ≡ p + 1
 
-    first_left : (p : ℕ) (rest : List ℕ) → Left s first (p ∷ rest) → First p rest
+    first_left : (p : ℕ) (rest : List ℕ) → Left s (q + 1) (p ∷ rest) → First p rest
     unfolding SlotStands Chain
     first_left p rest l =
         let v = waits goal (p ∷ rest) in
@@ -83,7 +83,7 @@ module _ (s₀ : List ℕ) (log waiters sets pairs : ℕ) (slots : List Slot) (p
         rw (get_or-set_same slots place v gone a.here) at (l.now.ok.stands place inside)
         in
         record {
-          before = l.head;
+          same = omega (arith, l.head);
           small = stands.3.0;
           space = omega (arith, l.now.ok.inside);
           waiter = stands.3.1;
@@ -91,43 +91,41 @@ module _ (s₀ : List ℕ) (log waiters sets pairs : ℕ) (slots : List Slot) (p
           this = stands.2;
         }
 
-    pub leaving_inside : (rest : List ℕ) → Left s first rest → 0 < first
-        → (waiters + (first - 1) < length s) × (sets + (first - 1) < length s) × (log + 2 * place + 1 < length s)
-    leaving_inside [] l h = absurd (omega (arith, l.head))
-    leaving_inside (p ∷ rest) l h =
+    pub leaving_inside : (rest : List ℕ) → Left s (q + 1) rest
+        → (waiters + q < length s) × (sets + q < length s) × (log + 2 * place + 1 < length s)
+    leaving_inside [] l = absurd (omega (arith, l.head))
+    leaving_inside (p ∷ rest) l =
         let f = first_left p rest l in
         (omega (arith, a.ok.waiters_first, a.ok.sets_next), omega (arith, a.ok.sets_next), omega arith)
 
-    pub leaving_less : (rest : List ℕ) → Left s first rest → 0 < first
-        → total (pointed s log waiters sets place (first - 1) 0 0 (get_or s (sets + (first - 1)) 0)) < total s
-    leaving_less [] l h = absurd (omega (arith, l.head))
-    leaving_less (p ∷ rest) l h =
+    pub leaving_less : (rest : List ℕ) → Left s (q + 1) rest
+        → total (pointed s log waiters sets place q 0 0 (get_or s (sets + q) 0)) < total s
+    leaving_less [] l = absurd (omega (arith, l.head))
+    leaving_less (p ∷ rest) l =
         let f = first_left p rest l in
-        let e : first - 1 ≡ p = omega arith in
-        rw e (pointed_less s log waiters sets pairs place p (get_or s (sets + p) 0) a.ok.waiters_first a.ok.sets_next f.small f.space f.waiter refl f.this)
+        rw f.same (pointed_less s log waiters sets pairs place p (get_or s (sets + p) 0) a.ok.waiters_first a.ok.sets_next f.small f.space f.waiter refl f.this)
 
-  pub leaving_on : (s : List ℕ) (first : ℕ) (rest : List ℕ) → Left s first rest → 0 < first
-      → (rest' : List ℕ) × Left (pointed s log waiters sets place (first - 1) 0 0 (get_or s (sets + (first - 1)) 0)) (get_or s (sets + (first - 1)) 0) rest'
-  leaving_on s first [] l h = absurd (omega (arith, l.head))
-  leaving_on s first (p ∷ rest) l h =
-      let v = waits goal (p ∷ rest) in
-      let f = first_left s first p rest l in
-      let e : first - 1 ≡ p = omega arith in
-      let inside : place < length (set slots place v) = omega (arith, length-set slots place v, a.here) in
-      let next = get_or s (sets + p) 0 in
-      let s' = pointed s log waiters sets place p 0 0 next in (
-        rest,
-        rw e
-            (record {
-              now = record {
-                ok =
-                    rw (set-set slots place v (waits goal rest)) at
-                    (pair_leaves s log waiters sets pairs (set slots place v) l.now.ok place inside goal p rest
-                    (get_or-set_same slots place v gone a.here));
-                only =
-                    log_only_then log waiters sets pairs (length slots) s₀ s s' l.now.only
-                    (pointed_only log waiters sets pairs (length slots) s place p 0 0 next a.ok.waiters_first a.ok.sets_next f.small f.space a.here);
-              };
-              head = f.next;
-            }),
-      )
+    pub leaving_on : (rest : List ℕ) → Left s (q + 1) rest
+        → (rest' : List ℕ) × Left (pointed s log waiters sets place q 0 0 (get_or s (sets + q) 0)) (get_or s (sets + q) 0) rest'
+    leaving_on [] l = absurd (omega (arith, l.head))
+    leaving_on (p ∷ rest) l =
+        let v = waits goal (p ∷ rest) in
+        let f = first_left p rest l in
+        let inside : place < length (set slots place v) = omega (arith, length-set slots place v, a.here) in
+        let next = get_or s (sets + p) 0 in
+        let s' = pointed s log waiters sets place p 0 0 next in (
+          rest,
+          rw f.same
+              (record {
+                now = record {
+                  ok =
+                      rw (set-set slots place v (waits goal rest)) at
+                      (pair_leaves s log waiters sets pairs (set slots place v) l.now.ok place inside goal p rest
+                      (get_or-set_same slots place v gone a.here));
+                  only =
+                      log_only_then log waiters sets pairs (length slots) s₀ s s' l.now.only
+                      (pointed_only log waiters sets pairs (length slots) s place p 0 0 next a.ok.waiters_first a.ok.sets_next f.small f.space a.here);
+                };
+                head = f.next;
+              }),
+        )

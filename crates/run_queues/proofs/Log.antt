@@ -1,7 +1,7 @@
 -- One place of the log changed: every other goal keeps its words, for its pairs are its own.
 -- Each small change of the log keeps it in order: a goal joins, a pair joins a goal's set or leaves it, a place is emptied.
-use Prim.Native.Nat.{ℕ, zero, suc, ◌+◌, ◌*◌, ◌-◌, ◌≤◌, ◌<◌}
-use mathlib.Core.Path.{◌≡◌, refl, ap, sym, ◌∙◌}
+use Prim.Native.Nat.{ℕ, ◌+◌, ◌*◌, ◌≤◌, ◌<◌}
+use mathlib.Core.Path.{◌≡◌, refl, sym, ◌∙◌}
 use mathlib.Core.Bool.{Bool, true, false, ◌||◌, true≢false}
 use mathlib.Core.List.{List, [], ◌∷◌, ◌++◌}
 use native.Mathlib.Omega.{arith}
@@ -9,8 +9,8 @@ use lib.Dec.{eqb}
 use lib.ListN.{length, get_or, set, length-set, length-append, get_or-append}
 use lib.Seq.{get_or-set_same, get_or-set_other, get_or_at}
 use borrow.Author.Tests.{eqb-true, eqb-false, eq-eqb}
-use Rattle.meaning.specs.Bytes.{among, when◌then◌else◌}
-use Rattle.run_queues.specs.Log.{Slot, gone, waits, pairs_in, slot, link, Chain, SlotStands, LogOk, LogOnly, Unclaimed, joined}
+use Rattle.meaning.specs.Bytes.{among}
+use Rattle.run_queues.specs.Log.{Slot, gone, waits, pairs_in, slot, Chain, SlotStands, LogOk}
 
 module _ (s s' : List ℕ) (log waiters sets pairs i : ℕ)
     (same : (q : ℕ) → q < pairs → get_or s (waiters + q) 0 ≡ i + 1

@@ -1,47 +1,16 @@
 -- The log's changes as its functions make them: a pair joins the set of a goal, several do, a goal begins to wait, a goal's pairs leave it.
 use Prim.Native.Nat.{ℕ, zero, suc, ◌+◌, ◌*◌, ◌-◌, ◌≤◌, ◌<◌}
 use mathlib.Core.Path.{◌≡◌, refl, ap, sym, ◌∙◌}
-use mathlib.Core.Bool.{Bool, true, false, ◌||◌, true≢false}
+use mathlib.Core.Bool.{Bool, true, false, true≢false}
 use mathlib.Core.List.{List, [], ◌∷◌, ◌++◌}
 use native.Mathlib.Omega.{arith}
 use native.Mathlib.Numerals.{add-one}
-use lib.Dec.{eqb}
 use lib.ListN.{length, get_or, set, length-set, length-append, get_or-append}
 use lib.Seq.{get_or-set_same, get_or-set_other, get_or_at, set-get_or, set-set, set_at}
 use Rattle.meaning.specs.Bytes.{among, when◌then◌else◌}
 use Rattle.term.specs.States.{listed}
-use Rattle.run_queues.specs.Log.{
-  Slot,
-  gone,
-  waits,
-  pairs_in,
-  slot,
-  link,
-  Chain,
-  SlotStands,
-  LogOk,
-  LogOnly,
-  Unclaimed,
-  joined,
-  gathered,
-  At,
-  Joins,
-  JoinsAll,
-  Waits,
-  LogNow,
-}
-use Rattle.run_queues.proofs.Log.{
-  chain_waiter,
-  by_place,
-  begun,
-  pointed,
-  pointed_size,
-  pointed_other,
-  pair_joins,
-  pair_leaves,
-  place_reset,
-  goal_joins,
-}
+use Rattle.run_queues.specs.Log.{Slot, gone, waits, pairs_in, slot, SlotStands, LogOnly, joined, gathered, At, Joins, JoinsAll, Waits, LogNow}
+use Rattle.run_queues.proofs.Log.{chain_waiter, by_place, begun, pointed, pointed_size, pointed_other, pair_joins, place_reset, goal_joins}
 
 module _ (log waiters sets pairs : ℕ) where
   pub log_only_same : (used : ℕ) (s : List ℕ) → LogOnly log waiters sets pairs used s s

@@ -10,8 +10,6 @@ use lib.Dec.{ltb}
 use lib.ListN.{length, get_or, set}
 use lib.Seq.{get_or-set_same, get_or-set_other}
 use borrow.Author.Tests.{ltb-true, ltb-false}
-use Rattle.meaning.specs.Bytes.{when◌then◌else◌}
-use Rattle.term.specs.Frames.{Only}
 use Rattle.term.proofs.Frames.{only_set}
 use Rattle.run_queues.specs.Ring.{RingOk, Pushed, Passed}
 use Rattle.term.specs.States.{round, ring}

@@ -1,14 +1,13 @@
 -- A goal moves with its set to an emptied place before it: its pairs' waiters are the new place, and every other goal keeps its words.
-use Prim.Native.Nat.{ℕ, zero, suc, ◌+◌, ◌*◌, ◌-◌, ◌≤◌, ◌<◌}
+use Prim.Native.Nat.{ℕ, ◌+◌, ◌*◌, ◌≤◌, ◌<◌}
 use mathlib.Core.Path.{◌≡◌, refl, ap, sym, ◌∙◌}
 use mathlib.Core.Bool.{Bool, true, false, true≢false}
 use mathlib.Core.List.{List, [], ◌∷◌}
 use native.Mathlib.Omega.{arith}
-use lib.Dec.{eqb}
 use lib.ListN.{length, get_or, set, length-set}
 use lib.Seq.{get_or-set_same, get_or-set_other}
 use Rattle.meaning.specs.Bytes.{among}
-use Rattle.run_queues.specs.Log.{Slot, gone, waits, pairs_in, slot, link, Chain, SlotStands, LogOk, LogOnly, At, LogNow, Turns, Turned, Shifts}
+use Rattle.run_queues.specs.Log.{Slot, gone, waits, pairs_in, slot, Chain, SlotStands, LogOk, At, LogNow, Turns, Turned, Shifts}
 use Rattle.run_queues.proofs.Log.{chain_waiter, slot_still, by_place, begun, among_this, among_behind}
 
 chain_turned : (s s' : List ℕ) (waiters sets pairs from to : ℕ) (ps : List ℕ)

@@ -1,6 +1,6 @@
 -- The pairs of a goal that moves learn its new place one by one along their chain; the sum of all words falls, as the new place is before the old.
-use Prim.Native.Nat.{ℕ, zero, suc, ◌+◌, ◌*◌, ◌-◌, ◌≤◌, ◌<◌}
-use mathlib.Core.Path.{◌≡◌, refl, ap, sym, ◌∙◌}
+use Prim.Native.Nat.{ℕ, ◌+◌, ◌<◌}
+use mathlib.Core.Path.{◌≡◌, refl, sym, ◌∙◌}
 use mathlib.Core.Bool.{Bool, true, false, true≢false}
 use mathlib.Core.List.{List, [], ◌∷◌}
 use native.Mathlib.Omega.{arith}
@@ -32,24 +32,24 @@ module _ (s₀ : List ℕ) (waiters sets pairs from waiter start : ℕ) (ps : Li
         other = λ x h. refl;
       }
 
-  pub turning_ends : (s : List ℕ) (first : ℕ) (rest : List ℕ) → Turning s first rest → first ≡ 0 → Turned s₀ s waiters waiter ps
+  pub turning_ends : (s : List ℕ) (rest : List ℕ) → Turning s 0 rest → Turned s₀ s waiters waiter ps
   unfolding among
-  turning_ends s first [] u e = record { size = u.size; turned = λ q h. u.turned q h refl; other = u.other }
-  turning_ends s first (p ∷ rest) u e = absurd (omega (arith, u.head))
+  turning_ends s [] u = record { size = u.size; turned = λ q h. u.turned q h refl; other = u.other }
+  turning_ends s (p ∷ rest) u = absurd (omega (arith, u.head))
 
-  pub turning_inside : (s : List ℕ) (first : ℕ) (rest : List ℕ) → Turning s first rest → 0 < first
-      → (waiters + (first - 1) < length s) × (sets + (first - 1) < length s)
+  pub turning_inside : (s : List ℕ) (r : ℕ) (rest : List ℕ) → Turning s (r + 1) rest
+      → (waiters + r < length s) × (sets + r < length s)
   unfolding Chain
-  turning_inside s first [] u h = absurd (omega (arith, u.head))
-  turning_inside s first (p ∷ rest) u h =
+  turning_inside s r [] u = absurd (omega (arith, u.head))
+  turning_inside s r (p ∷ rest) u =
       (omega (arith, u.head, u.chain.0, t.waiters_first, t.inside, u.size), omega (arith, u.head, u.chain.0, t.inside, u.size))
 
-  pub turning_less : (s : List ℕ) (first : ℕ) (rest : List ℕ) → Turning s first rest → 0 < first
-      → total (set s (waiters + (first - 1)) waiter) < total s
+  pub turning_less : (s : List ℕ) (r : ℕ) (rest : List ℕ) → Turning s (r + 1) rest
+      → total (set s (waiters + r) waiter) < total s
   unfolding Chain
-  turning_less s first [] u h = absurd (omega (arith, u.head))
-  turning_less s first (p ∷ rest) u h =
-      let e : first - 1 ≡ p = omega (arith, u.head) in
+  turning_less s r [] u = absurd (omega (arith, u.head))
+  turning_less s r (p ∷ rest) u =
+      let e : r ≡ p = omega (arith, u.head) in
       rw e
       (omega (
         arith,
@@ -58,12 +58,12 @@ module _ (s₀ : List ℕ) (waiters sets pairs from waiter start : ℕ) (ps : Li
         t.before,
       ))
 
-  pub turning_on : (s : List ℕ) (first : ℕ) (rest : List ℕ) → Turning s first rest → 0 < first
-      → (rest' : List ℕ) × Turning (set s (waiters + (first - 1)) waiter) (get_or s (sets + (first - 1)) 0) rest'
+  pub turning_on : (s : List ℕ) (r : ℕ) (rest : List ℕ) → Turning s (r + 1) rest
+      → (rest' : List ℕ) × Turning (set s (waiters + r) waiter) (get_or s (sets + r) 0) rest'
   unfolding Chain
-  turning_on s first [] u h = absurd (omega (arith, u.head))
-  turning_on s first (p ∷ rest) u h =
-      let e : first - 1 ≡ p = omega (arith, u.head) in
+  turning_on s r [] u = absurd (omega (arith, u.head))
+  turning_on s r (p ∷ rest) u =
+      let e : r ≡ p = omega (arith, u.head) in
       let s' = set s (waiters + p) waiter in
       let k = u.chain in
       let inside : waiters + p < length s = omega (arith, k.0, t.waiters_first, t.inside, u.size) in (

@@ -1,17 +1,15 @@
 -- From a pair to the goal that waits on it, and what other writes leave of the log: laws for the step.
 -- A set holds exactly the pairs of its readers; a pair without a waiter stands in no set.
-use Prim.Native.Nat.{ℕ, zero, suc, ◌+◌, ◌*◌, ◌-◌, ◌≤◌, ◌<◌}
+use Prim.Native.Nat.{ℕ, ◌+◌, ◌*◌, ◌≤◌, ◌<◌}
 use mathlib.Core.Path.{◌≡◌, refl, ap, sym, ◌∙◌}
 use mathlib.Core.Bool.{Bool, true, false, ◌||◌, true≢false}
-use mathlib.Core.List.{List, [], ◌∷◌, ◌++◌}
+use mathlib.Core.List.{List, [], ◌∷◌}
 use native.Mathlib.Omega.{arith}
 use lib.Dec.{eqb}
-use lib.ListN.{length, get_or, set}
+use lib.ListN.{length, get_or}
 use borrow.Author.Tests.{eqb-true}
 use Rattle.meaning.specs.Bytes.{among, when◌then◌else◌}
-use Rattle.term.specs.Frames.{Only}
-use Rattle.run_queues.specs.Log.{Slot, gone, waits, pairs_in, slot, link, Chain, SlotStands, LogOk, joined, gathered}
-use Rattle.term.specs.States.{listed}
+use Rattle.run_queues.specs.Log.{Slot, gone, waits, pairs_in, slot, SlotStands, LogOk, joined, gathered}
 use Rattle.run_queues.proofs.Log.{slot_still, chain_waiter}
 
 -- Only words outside the pairs' waiters and sets and outside the log differ.

@@ -1,7 +1,7 @@
 -- The waiting goals as a log: a place for each goal that began to wait, in that order, emptied when the goal is woken.
 -- A place has two words: the goal, and the first pair of its set plus one. A pair's waiter is its goal's place plus one; the pairs of
 -- one goal's set are a chain. So a pair leads to the goal that waits on it, and pairs of different goals are different.
-use Rattle.std.specs.Prelude.{ℕ, zero, suc, ◌+◌, ◌*◌, ◌≤◌, ◌<◌, ◌≡◌, Bool, true, false, List, [], ◌∷◌, ◌++◌, length, get_or, set}
+use Rattle.std.specs.Prelude.{ℕ, zero, suc, ◌+◌, ◌*◌, ◌≤◌, ◌<◌, ◌≡◌, true, false, List, [], ◌∷◌, ◌++◌, length, get_or, set}
 use Rattle.meaning.specs.Bytes.{among, when◌then◌else◌}
 use Rattle.term.specs.Frames.{Only}
 use Rattle.term.specs.States.{listed}

@@ -13,12 +13,10 @@ pub fn asks(s: &[u64], n: usize) -> bool
     requires { (woken_part ≤ length s.now) × (n ≤ 192) }
     ensures { result ≡ is_some (asked_in s.now n) }
 {
-    let mut i = 0;
-    while i < n {
+    for i in 0..n {
         if word_at(s, GIFTS + 1, 2 * i) == 0 {
             return true;
         }
-        i += 1;
     }
     false
 }
@@ -46,12 +44,10 @@ pub fn meet_all(s: &mut [u64], readers: usize, pairs: usize, first: usize, n: us
     ensures { Met s.old s.new readers pairs first (asked_in s.old n) result }
 {
     let mut met = first;
-    let mut i = 0;
-    while i < n {
+    for i in 0..n {
         if word_at(s, GIFTS + 1, 2 * i) == 0 {
             met = meet(s, readers, pairs, met, index(word_at(s, GIFTS, 2 * i)));
         }
-        i += 1;
     }
     met
 }

@@ -1,10 +1,10 @@
 -- A reduction that fits is the next step of the run; one that does not fit leaves the state as it was.
-use Prim.Native.Nat.{ℕ, ◌+◌, ◌-◌, ◌*◌, ◌≤◌, ◌<◌}
+use Prim.Native.Nat.{ℕ, ◌+◌, ◌-◌, ◌≤◌, ◌<◌}
 use mathlib.Core.Path.{◌≡◌, refl, sym, ap, ◌∙◌}
-use mathlib.Core.Bool.{Bool, true, false, not, true≢false, false≢true}
+use mathlib.Core.Bool.{Bool, true, false}
 use mathlib.Core.List.{List}
 use native.Mathlib.Omega.{arith}
-use lib.ListN.{length, get_or, set, length-set}
+use lib.ListN.{length, get_or, set}
 use Rattle.meaning.specs.Bytes.{Bytes}
 use Rattle.meaning.specs.Terms.{Named, Clause, Job}
 use Rattle.meaning.specs.State.{Room, Goal, State, number_of, unit_at}
@@ -13,11 +13,11 @@ use Rattle.meaning.specs.Trial.{reduces}
 use Rattle.meaning.specs.Step.{made_by, without_front}
 use Rattle.meaning.specs.Run.{within, fits, run}
 use Rattle.term.specs.Cells.{Places}
-use Rattle.term.specs.Layout.{values_region, waiters_region, sets_region, queue_region, waiting_region, clauses_region, items_region, compounds_region, query_tries_word, clause_goals_from}
+use Rattle.term.specs.Layout.{values_region, waiters_region, sets_region, queue_region, waiting_region, items_region, compounds_region, query_tries_word, clause_goals_from}
 use Rattle.term.specs.States.{Atlas}
 use Rattle.term.specs.Goals.{goal_mark}
 use Rattle.term.specs.declared.state.Standing.{Standing}
-use Rattle.run_between.specs.declared.stepped.Stepped.TheVariants.{Next, NoRoom}
+use Rattle.std.specs.Prelude.{Some, None}
 use Rattle.run_queues.specs.Log.{Slot}
 use Rattle.run_compare.specs.Gifts.{Entry}
 use Rattle.run_effects.specs.Build.{Item, Copies, total}
@@ -31,29 +31,9 @@ use Rattle.run_between.proofs.NextState.{Reduced, StandingAfter, WokenAre, runni
 use Rattle.run_between.proofs.NextUnits.{atlas_after}
 use Rattle.run_between.proofs.ReduceParts as parts
 
-pub not_true : (b : Bool) → not b ≡ true → b ≡ false
-not_true true e = absurd (false≢true e)
-not_true false e = refl
-
-pub not_false : (b : Bool) → not b ≡ false → b ≡ true
-not_false true e = refl
-not_false false e = absurd (true≢false e)
-
--- Sums that fit.
-pub small_pairs : (t : Standing) (b m : ℕ) → Counted t → b ≡ m → m ≤ 16 → t.pairs + b ≤ 2000000
-small_pairs t b m n e h = omega (arith, n.pairs)
-
-pub small_compounds : (t : Standing) (b m : ℕ) → Counted t → b ≡ m → m ≤ 32 → t.compounds + b ≤ 2000000
-small_compounds t b m n e h = omega (arith, n.compounds)
-
+-- A sum that fits.
 pub small_active : (t : Standing) (b m : ℕ) → Counted t → b ≡ m → m ≤ 8 → t.active - 1 + b ≤ 2000000
 small_active t b m n e h = omega (arith, n.goals)
-
-pub small_goals : (a b : ℕ) → a ≤ b → b ≤ 65535 → a ≤ 2000000
-small_goals a b h k = omega arith
-
-pub small_steps : (a : ℕ) → a < 1000000 → a + 1 ≤ 2000000
-small_steps a h = omega arith
 
 run_only_same : (figures : Room) (s : List ℕ) → RunOnly figures s s
 run_only_same figures s =
@@ -106,7 +86,7 @@ module _ {s : List ℕ} {text : Bytes} {names : List Bytes} {j : Job} {figures :
 
   module _ {query k n : ℕ} {c : Clause} {given : List Assignment} (red : Reducing s names j figures limit atlas g query k n c given) where
     pub reduction_stops : fits figures (reduces c given) (run j limit figures).state (without_front others (run j limit figures).state.goals) ≡ false
-        → StepIs s s text names j figures limit atlas g others t NoRoom
+        → StepIs s s text names j figures limit atlas g others t None
     reduction_stops fit = record { only = run_only_same figures s; told = (rw red.chosen fit, taken.running.state) }
 
     pub reduction_steps : (s' : List ℕ) (u : Standing) (cells' : ℕ) (y : Copies) (front : ℕ) (zs : List ℕ)
@@ -116,7 +96,7 @@ module _ {s : List ℕ} {text : Bytes} {names : List Bytes} {j : Job} {figures :
         front (t.active - 1)
         → StandingAfter t u c cells' front (length (hits zs 0 slots))
         → WokenAre atlas g.query given (run j limit figures).state.goals.waiting slots zs
-        → StepIs s s' text names j figures limit atlas g others t (Next u)
+        → StepIs s s' text names j figures limit atlas g others t (Some u)
     reduction_steps s' u cells' y front zs fit passed done after waked =
         record {
           only = done.only;
@@ -222,10 +202,7 @@ module _ {s : List ℕ} {text : Bytes} {names : List Bytes} {j : Job} {figures :
                     )
 
                     module _ (s₆ : List ℕ) (raw₆ : s₆ ≡ set s₅ (query_tries_word query) (get_or s₅ (query_tries_word query) 0 + 1)) where
-                      pub size_6 : length s₆ ≡ length s
-                      size_6 = ap length raw₆ ∙ length-set s₅ (query_tries_word query) (get_or s₅ (query_tries_word query) 0 + 1) ∙ size_5
-
-                      pub ends : (u : Standing) → StandingAfter t u c r₄ front r → StepIs s s₆ text names j figures limit atlas g others t (Next u)
+                      pub ends : (u : Standing) → StandingAfter t u c r₄ front r → StepIs s s₆ text names j figures limit atlas g others t (Some u)
                       ends u after =
                           rw (raw₆, red.query_is)
                           (reduction_steps taken red _ u _ _ front (entry_places s₂ n) fit passed

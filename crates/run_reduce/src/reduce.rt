@@ -10,11 +10,9 @@ ghost use Rattle.run_queues.specs.Log.{Slot};
 ghost use Rattle.run_between.specs.Running.{StepIs};
 ghost use Rattle.run_between.specs.Taking.{Taken, Reducing};
 
-use run_between::stepped::Stepped;
 use run_charges::charges::{count_try, fits, made};
 use run_effects::reduce::{add_goals, add_woken, assign_goal, assign_head, wake};
-use run_queues::goals::behind;
-use term::layout;
+use run_queues::goals::{Log, Ring, behind};
 use term::layout::{
     CLAUSE_BODY, CLAUSE_COMPOUNDS, CLAUSE_GOALS, CLAUSE_PAIRS, CLAUSE_STRIDE, CLAUSES, Room,
 };
@@ -22,8 +20,15 @@ use term::scratch::word_at;
 use term::state::Standing;
 use term::word::index;
 
-// The goal is reduced by clause k, with n of its pairs given a term.
-pub fn reduce(s: &mut [u64], room: Room, t: Standing, query: usize, k: usize, n: usize) -> Stepped
+// The goal is reduced by clause k, with n of its pairs given a term: the state after it, unless the reduction does not fit.
+pub fn reduce(
+    s: &mut [u64],
+    room: Room,
+    t: Standing,
+    query: usize,
+    k: usize,
+    n: usize,
+) -> Option<Standing>
     requires { (text : Bytes) × (names : List Bytes) × (j : Job) × (limit : ℕ) × (atlas : Atlas) × (slots : List Slot) × (g : Goal) × (others : List Goal) × (c : Clause) × (given : List Assignment)
         × Taken s.old text names j (figures room) limit atlas slots g others t
         × Reducing s.old names j (figures room) limit atlas g query k n c given }
@@ -37,19 +42,18 @@ pub fn reduce(s: &mut [u64], room: Room, t: Standing, query: usize, k: usize, n:
     let compounds = index(word_at(s, CLAUSES + CLAUSE_STRIDE * k, CLAUSE_COMPOUNDS));
     let body = index(word_at(s, CLAUSES + CLAUSE_STRIDE * k, CLAUSE_GOALS));
     if !fits(room, t, pairs, compounds, body) {
-        return Stepped::NoRoom;
+        return None;
     }
-    let front = behind(room.goals, t.front);
-    let active = t.active - 1;
-    assign_head(s, layout::values(room), t.pairs, pairs);
-    let free = assign_goal(s, layout::values(room), t.pairs, t.cells, n);
-    let woken = wake(
-        s,
-        layout::waiting(room),
-        layout::waiters(room),
-        layout::sets(room),
-        n,
-    );
+    let log = Log::of(room);
+    let queue = Ring {
+        start: room.queue(),
+        size: room.goals,
+        front: behind(room.goals, t.front),
+        active: t.active - 1,
+    };
+    assign_head(s, room.values(), t.pairs, pairs);
+    let free = assign_goal(s, room.values(), t.pairs, t.cells, n);
+    let woken = wake(s, log, n);
     let cells = add_goals(
         s,
         CLAUSES + CLAUSE_STRIDE * k + CLAUSE_BODY,
@@ -57,30 +61,22 @@ pub fn reduce(s: &mut [u64], room: Room, t: Standing, query: usize, k: usize, n:
         t.pairs,
         free,
         mark,
-        layout::queue(room),
-        room.goals,
-        front,
-        active,
+        queue,
     );
-    add_woken(
-        s,
-        layout::waiting(room),
-        woken,
-        layout::queue(room),
-        room.goals,
-        front,
-        active + body,
-    );
+    let longer = Ring {
+        active: queue.active + body,
+        ..queue
+    };
+    add_woken(s, log, woken, longer);
     count_try(s, query);
-    Stepped::Next(Standing {
+    Some(Standing {
         pairs: t.pairs + pairs,
         compounds: t.compounds + compounds,
         cells,
-        front,
-        active: active + body + woken,
-        log: t.log,
+        front: longer.front,
+        active: longer.active + woken,
         waiting: t.waiting - woken,
-        failed: t.failed,
         steps: t.steps + 1,
+        ..t
     })
 }

@@ -1,15 +1,11 @@
 -- A word looked at: what is seen is what the term is. Each case of a view gives the term back.
-use Prim.Native.Nat.{ℕ, ◌/◌, ◌%◌}
+use Prim.Native.Nat.{ℕ}
 use mathlib.Core.Path.{◌≡◌, refl}
-use mathlib.Core.List.{[], ◌∷◌}
 use native.Mathlib.Omega.{arith}
-use denote.Enum.Declared.{tag_of}
-use types.Run.{OneOf, miss}
-use Rattle.meaning.specs.Terms.{Half, writer, reader, Constant, Term}
-use Rattle.term.specs.Words.{Content, view, view_of, tag_in, rest_in}
+use Rattle.meaning.specs.Terms.{writer, reader, Constant, Term}
+use Rattle.term.specs.Words.{view, view_of, tag_in, rest_in}
 use Rattle.term.specs.Cells.{Places, content, term_word}
 use Rattle.term.specs.declared.word.View.{View}
-use Rattle.term.specs.contracts.word.View.{the_type}
 use Rattle.term.specs.declared.word.View.TheVariants.{Writer, Reader}
 use Rattle.term.proofs.Words.{view_word}
 
@@ -48,11 +44,3 @@ module _ (places : Places) where
       let h = seen_term places (Term.constant Constant.empty) w e in let z : ◌≡◌ {A = ℕ} 0 1 = cc in absurd (omega arith)
   seen_reader (Term.compound n f ts) w p e k =
       let h = seen_term places (Term.compound n f ts) w e in let z : ◌≡◌ {A = ℕ} 0 1 = cc in absurd (omega arith)
-
--- What is seen is no variable, by its tag.
-abbrev pub NoVariable : View → Type 0
-NoVariable v = OneOf (0 ∷ 3 ∷ 4 ∷ 5 ∷ 6 ∷ []) (tag_of the_type v)
-
-pub no_variable : (v : View) (h : Half) (p : ℕ) → v ≡ view_of (Content.variable h p) → NoVariable v → ⊥
-no_variable v writer p e k = miss (0 ∷ 3 ∷ 4 ∷ 5 ∷ 6 ∷ []) 1 tt (rw e at k)
-no_variable v reader p e k = miss (0 ∷ 3 ∷ 4 ∷ 5 ∷ 6 ∷ []) 2 tt (rw e at k)

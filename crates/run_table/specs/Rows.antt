@@ -1,5 +1,5 @@
 -- Document 01's table on words: what is seen of a head's word against what is seen of a goal's word.
-use Rattle.std.specs.Prelude.{ℕ, ◌+◌, ◌*◌, Bool, true, false, ◌≡◌, List, set}
+use Rattle.std.specs.Prelude.{ℕ, ◌+◌, Bool, true, false, ◌≡◌, List, set}
 use Rattle.term.specs.declared.word.View.{View}
 use Rattle.term.specs.declared.word.View.TheVariants.{Nothing, Writer, Reader, Integer, Name, Empty, Compound}
 use Rattle.term.specs.Layout.{trial_region, gift_pair, gift_term}

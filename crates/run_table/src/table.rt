@@ -77,12 +77,8 @@ fn against_constant(s: &mut [u64], h: u64, w: u64, n: usize) -> PlaceResult
     match look(w) {
         View::Writer(z) => PlaceResult::Noted(give(s, n, z, h)),
         View::Reader(z) => PlaceResult::Noted(ask(s, n, z)),
-        _ => {
-            if h == w {
-                return PlaceResult::Noted(n);
-            }
-            PlaceResult::Fails
-        }
+        _ if h == w => PlaceResult::Noted(n),
+        _ => PlaceResult::Fails,
     }
 }
 

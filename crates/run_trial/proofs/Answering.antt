@@ -19,8 +19,7 @@ use Rattle.term.specs.Cells.{Places}
 use Rattle.term.specs.Frames.{Only}
 use Rattle.term.specs.States.{setting, listed}
 use Rattle.term.specs.Layout.{trial_region, compounds_region, gifts_part, gift_pair, gift_term, woken_part}
-use Rattle.run_compare.specs.declared.compare.CompareResult.{CompareResult}
-use Rattle.run_compare.specs.declared.compare.CompareResult.TheVariants.{Noted, Fails}
+use Rattle.std.specs.Prelude.{Option, Some, None, Result as Outcome, Ok, Err}
 use Rattle.run_compare.specs.Notes.{asks_in}
 use Rattle.run_compare.proofs.Notes.{outcome_waits}
 use Rattle.run_circle.specs.Circle.{Tested}
@@ -30,10 +29,10 @@ use Rattle.run_readers.specs.Readers.{asked_in, all_met, Readers, Met}
 use Rattle.run_readers.proofs.AllMet.{all_met_not_none}
 use Rattle.run_readers.proofs.Ranks.{listed_length}
 use Rattle.run_asked.specs.Asking.{Asking, Joined}
-use Rattle.run_guards.specs.declared.guards.GuardResult.{GuardResult}
-use Rattle.run_guards.specs.declared.guards.GuardResult.TheVariants.{Succeeds as AllSucceed, Waits as OneWaits, Fails as OneFails}
+use Rattle.run_trial.specs.declared.choice.TrialResult.TheVariants as results
+use Rattle.run_asked.specs.declared.asking.Hindered.{Hindered}
+use Rattle.run_asked.specs.declared.asking.Hindered.TheVariants.{Waits, Fails}
 use Rattle.run_guards.specs.Guarding.{Guarded, Earlier, GuardsAre}
-use Rattle.run_trial.specs.declared.choice.TrialResult.TheVariants.{Succeeds, Waits as WaitsOn, Fails as FailsAll}
 use Rattle.run_trial.specs.Choosing.{unit_of, Trying, ArgumentsStand, TrialOnly, NewMarks, MarksBelow, Gathered, template, Candidate, TrialIs}
 use Rattle.run_trial.proofs.Asked.{asks_below, asked_at, mapped_below}
 use Rattle.run_trial.proofs.Heads.{clause_held, guards_fit, compared_is}
@@ -78,16 +77,16 @@ module _ {s s₁ : List ℕ} {text : Bytes} {names : List Bytes} {j : Job} {limi
   behind = omega (arith, t.values_behind, t.marks_behind)
 
   -- Behind the comparison: what `meet_all` asks, where no place fails.
-  compared_frame : {s₂ : List ℕ} (r : CompareResult) → trials.Comparison t f m begun s₂ r → TrialOnly woken_part marks figures.pairs s s₂
+  compared_frame : {s₂ : List ℕ} (r : Option ℕ) → trials.Comparison t f m begun s₂ r → TrialOnly woken_part marks figures.pairs s s₂
   compared_frame r told =
       trial_only_then (trial_only_region woken_part marks figures.pairs (omega arith) begun)
       (trial_only_region woken_part marks figures.pairs (omega arith) told.only)
 
-  compared_set : {s₂ : List ℕ} (r : CompareResult) → trials.Comparison t f m begun s₂ r
+  compared_set : {s₂ : List ℕ} (r : Option ℕ) → trials.Comparison t f m begun s₂ r
       → Joined s s₂ (marks + figures.pairs) figures.pairs readers [] readers
   compared_set r told = set_stays behind (trial_only_wider compounds_region (omega arith) (compared_frame r told)) met
 
-  pub meets : {s₂ : List ℕ} {n : ℕ} → trials.Comparison t f m begun s₂ (Noted n)
+  pub meets : {s₂ : List ℕ} {n : ℕ} → trials.Comparison t f m begun s₂ (Some n)
       → Readers s₂ (marks + links) links readers × (woken_part ≤ marks + links) × (n ≤ 192)
       × ((i : ℕ) → i < n → get_or s₂ (gift_term i) 0 ≡ 0 → get_or s₂ (gift_pair i) 0 < links)
   meets {s₂} {n} told =
@@ -96,12 +95,12 @@ module _ {s s₁ : List ℕ} {text : Bytes} {names : List Bytes} {j : Job} {limi
       mapped_below (length x.values) figures.pairs (λ p. at.pair p) t.unit.held.place (asks_in (trials.notes t f m begun told))
       (asks_below (trials.notes t f m begun told) s₁ x (template k c) 1 (trials.to t f m begun) told.told.1.held)
       (subst (λ l. In (get_or s₂ (gift_pair i) 0) l) (trials.asked_noted t f m begun told) (asked_at s₂ n i h z)) in
-      rw t.links_are ((compared_set (Noted n) told).ok, omega (arith, behind), trials.few_noted t f m begun told, small)
+      rw t.links_are ((compared_set (Some n) told).ok, omega (arith, behind), trials.few_noted t f m begun told, small)
 
   -- What `guards` asks, where the circle test finds none.
   module _ {s₂ s₃ : List ℕ} {n stamp : ℕ} {found : Bool} (new : MarksBelow s marks figures.pairs stamp) (fit : (1 < stamp) × (stamp + 256 < 1099511627776))
       (cleared : (a : ℕ) → a < c.pairs → get_or s₁ (trial_region + a) 0 ≡ 0)
-      (told : trials.Comparison t f m begun s₂ (Noted n)) (none_asked : asks_in told.told.1.notes ≡ [])
+      (told : trials.Comparison t f m begun s₂ (Some n)) (none_asked : asks_in told.told.1.notes ≡ [])
       (answer : Tested s₂ s₃ (trials.tried_as t f m begun new fit cleared told none_asked) marks n stamp found) where
     now : Trying s₃ text names j limit figures at g others values marks links goal
     now = trials.tested_trying t f m begun new fit cleared told none_asked answer
@@ -145,7 +144,7 @@ module _ {s s₁ : List ℕ} {text : Bytes} {names : List Bytes} {j : Job} {limi
     }
 
     -- "If the circle test fails it": there is a circle.
-    pub circle_fails : {earlier : List ℕ} → found ≡ true → TrialIs s s₃ j limit figures at g marks readers stamp k c earlier FailsAll
+    pub circle_fails : {earlier : List ℕ} → found ≡ true → TrialIs s s₃ j limit figures at g marks readers stamp k c earlier results.Fails
     unfolding when◌then◌else◌ guarded
     circle_fails {earlier} e = record {
       only = trial_only_more (3 * figures.pairs) (omega arith) (trials.whole_frame t f m begun new fit cleared told none_asked answer);
@@ -156,7 +155,7 @@ module _ {s s₁ : List ℕ} {text : Bytes} {names : List Bytes} {j : Job} {limi
     }
 
     -- "After the circle test, each guard in order."
-    module _ {s₄ : List ℕ} {earlier : List ℕ} {r : GuardResult} (no_circle : found ≡ false)
+    module _ {s₄ : List ℕ} {earlier : List ℕ} {r : Outcome Unit Hindered} (no_circle : found ≡ false)
         (asked : GuardsAre s₃ s₄ (setting figures at (unit_of j limit figures g)) c earlier (trials.given t f m begun new fit cleared told none_asked)
         marks links readers (stamp + 192) r) where
       changed : Only marks (marks + 3 * figures.pairs) s₃ s₄
@@ -187,7 +186,7 @@ module _ {s s₁ : List ℕ} {text : Bytes} {names : List Bytes} {j : Job} {limi
           → Joined s s₄ (marks + figures.pairs) figures.pairs readers ps l
       joined ps l h = joined_then tested_set (subst (λ n. Joined s₃ s₄ (marks + n) n readers ps l) t.links_are h)
 
-      pub guards_succeed : r ≡ AllSucceed → TrialIs s s₄ j limit figures at g marks readers stamp k c earlier (Succeeds n)
+      pub guards_succeed : r ≡ Ok tt → TrialIs s s₄ j limit figures at g marks readers stamp k c earlier (results.Succeeds n)
       guards_succeed e =
           let is = rw e at asked.told in
           record {
@@ -201,7 +200,7 @@ module _ {s s₁ : List ℕ} {text : Bytes} {names : List Bytes} {j : Job} {limi
             grounds = grounds_then;
           }
 
-      pub guards_wait : (l : ℕ) → r ≡ OneWaits l → TrialIs s s₄ j limit figures at g marks readers stamp k c earlier (WaitsOn l)
+      pub guards_wait : (l : ℕ) → r ≡ Err (Waits l) → TrialIs s s₄ j limit figures at g marks readers stamp k c earlier (results.Waits l)
       guards_wait l e =
           let is = rw e at asked.told in
           record {
@@ -211,27 +210,27 @@ module _ {s s₁ : List ℕ} {text : Bytes} {names : List Bytes} {j : Job} {limi
             grounds = grounds_then;
           }
 
-      pub guards_fail : r ≡ OneFails → TrialIs s s₄ j limit figures at g marks readers stamp k c earlier FailsAll
+      pub guards_fail : r ≡ Err Fails → TrialIs s s₄ j limit figures at g marks readers stamp k c earlier results.Fails
       guards_fail e =
           let is = rw e at asked.told in
           record { only = frame; marks_now = marks_then; told = (by_guards ∙ is.0, joined [] readers is.1); grounds = grounds_then }
 
   -- Where places wait, or one fails.
   module _ {s₂ : List ℕ} {stamp : ℕ} (new : MarksBelow s marks figures.pairs stamp) where
-    grounds_still : (r : CompareResult) → trials.Comparison t f m begun s₂ r → NewGrounds at (unit_of j limit figures g).values marks s s₂
+    grounds_still : (r : Option ℕ) → trials.Comparison t f m begun s₂ r → NewGrounds at (unit_of j limit figures g).values marks s s₂
     grounds_still r told =
         new_then at (unit_of j limit figures g).values marks s s₁ s₂ (trials.begun_grounds t f m begun)
         (grounds_stay at (unit_of j limit figures g).values marks (trials.marks_high t f m begun) told.only)
 
-    marks_still : (r : CompareResult) → trials.Comparison t f m begun s₂ r → MarksBelow s₂ marks figures.pairs (stamp + 256)
+    marks_still : (r : Option ℕ) → trials.Comparison t f m begun s₂ r → MarksBelow s₂ marks figures.pairs (stamp + 256)
     marks_still r told a l h =
         let still =
         marks_stay marks figures.pairs stamp (omega (arith, behind)) told.only
         (marks_stay marks figures.pairs stamp (omega (arith, behind)) begun new) a l h in
         omega (arith, still)
 
-    pub some_wait : (n : ℕ) (told : trials.Comparison t f m begun s₂ (Noted n)) → asks_in told.told.1.notes ≢ [] → {s₃ : List ℕ} {earlier : List ℕ} (l : ℕ)
-        → Met s₂ s₃ (marks + links) links readers (asked_in s₂ n) l → TrialIs s s₃ j limit figures at g marks readers stamp k c earlier (WaitsOn l)
+    pub some_wait : (n : ℕ) (told : trials.Comparison t f m begun s₂ (Some n)) → asks_in told.told.1.notes ≢ [] → {s₃ : List ℕ} {earlier : List ℕ} (l : ℕ)
+        → Met s₂ s₃ (marks + links) links readers (asked_in s₂ n) l → TrialIs s s₃ j limit figures at g marks readers stamp k c earlier (results.Waits l)
     unfolding trial tested guarded
     some_wait n told asked {s₃} l met_now =
         let x = setting figures at (unit_of j limit figures g) in
@@ -242,14 +241,14 @@ module _ {s s₁ : List ℕ} {text : Bytes} {names : List Bytes} {j : Job} {limi
         in
         record {
           only =
-              trial_only_then (trial_only_more (3 * figures.pairs) (omega arith) (compared_frame (Noted n) told))
+              trial_only_then (trial_only_more (3 * figures.pairs) (omega arith) (compared_frame (Some n) told))
               (trial_only_readers woken_part marks figures.pairs more.only);
-          marks_now = λ a l h. rw (more.only.below a (omega arith)) (marks_still (Noted n) told a l h);
+          marks_now = λ a l h. rw (more.only.below a (omega arith)) (marks_still (Some n) told a l h);
           told = (
             asks_in (trials.notes t f m begun told),
             rw (waits_is, tested, guarded) refl,
             asks_below (trials.notes t f m begun told) s₁ x (template k c) 1 (trials.to t f m begun) told.told.1.held,
-            joined_then (compared_set (Noted n) told)
+            joined_then (compared_set (Some n) told)
                 (record {
                   ok = more.ok;
                   list = more.list ∙ ap (all_met (listed s₂ (marks + figures.pairs) readers)) (trials.asked_noted t f m begun told);
@@ -257,18 +256,18 @@ module _ {s s₁ : List ℕ} {text : Bytes} {names : List Bytes} {j : Job} {limi
           );
           grounds =
               new_marks_then at (unit_of j limit figures g).values marks figures.pairs s s₂ s₃
-              (new_marks_of at (unit_of j limit figures g).values marks figures.pairs s s₂ (grounds_still (Noted n) told))
+              (new_marks_of at (unit_of j limit figures g).values marks figures.pairs s s₂ (grounds_still (Some n) told))
               (new_marks_same at (unit_of j limit figures g).values marks figures.pairs s₂ s₃
               (λ q h. more.only.below (marks + q) (omega arith)));
         }
 
-    pub place_fails : {earlier : List ℕ} → trials.Comparison t f m begun s₂ Fails → TrialIs s s₂ j limit figures at g marks readers stamp k c earlier FailsAll
+    pub place_fails : {earlier : List ℕ} → trials.Comparison t f m begun s₂ None → TrialIs s s₂ j limit figures at g marks readers stamp k c earlier results.Fails
     unfolding trial tested guarded
     place_fails told =
         let fails_is : compared c (unit_of j limit figures g) g.goal ≡ fails = compared_is t m ∙ told.told in
         record {
-          only = trial_only_more (3 * figures.pairs) (omega arith) (compared_frame Fails told);
-          marks_now = marks_still Fails told;
-          told = (rw (fails_is, tested, guarded) refl, compared_set Fails told);
-          grounds = new_marks_of at (unit_of j limit figures g).values marks figures.pairs s s₂ (grounds_still Fails told);
+          only = trial_only_more (3 * figures.pairs) (omega arith) (compared_frame None told);
+          marks_now = marks_still None told;
+          told = (rw (fails_is, tested, guarded) refl, compared_set None told);
+          grounds = new_marks_of at (unit_of j limit figures g).values marks figures.pairs s s₂ (grounds_still None told);
         }

@@ -1,6 +1,6 @@
 -- What stands in the trial's region of a trial's notes: the pairs whose readers it waits on are those beside which no term stands, in order, since a
 -- term's word is not 0. So whether a trial waits is told by its region alone.
-use Prim.Native.Nat.{ℕ, zero, suc, ◌+◌, ◌*◌, ◌≤◌, ◌<◌}
+use Prim.Native.Nat.{ℕ, zero, suc, ◌+◌, ◌≤◌, ◌<◌}
 use mathlib.Core.Path.{◌≡◌, refl, sym, ap, ◌∙◌}
 use mathlib.Core.Bool.{Bool, true, false}
 use mathlib.Core.Logic.{⊎_elim}
@@ -15,7 +15,7 @@ use Rattle.laws.proofs.Lists.Among.{In, here, in_cons_cases, in_none, in_append_
 use Rattle.term.specs.Cells.{Places, term_word}
 use Rattle.term.specs.Setting.{Setting}
 use Rattle.term.proofs.Cells.{word_positive}
-use Rattle.term.specs.Layout.{trial_region, gifts_part, gift_pair, gift_term, woken_part}
+use Rattle.term.specs.Layout.{trial_region, gift_pair, gift_term, woken_part}
 use Rattle.run_table.specs.Rows.{head_written, goal_written, asked_written}
 use Rattle.run_compare.specs.Gifts.{to_head, to_goal}
 use Rattle.run_compare.specs.Notes.{Note, given, asked, asks_in, noted, written}

@@ -1,6 +1,6 @@
 -- The walk over the clauses of a procedure: the clauses passed, those left, and the readers that they wait on so far, a set in the region of the
 -- readers.
-use Prim.Native.Nat.{ℕ, ◌+◌, ◌-◌, ◌*◌, ◌≤◌, ◌<◌}
+use Prim.Native.Nat.{ℕ, ◌+◌, ◌*◌, ◌≤◌, ◌<◌}
 use mathlib.Core.Path.{◌≡◌, refl, sym, subst, ap, ◌∙◌}
 use mathlib.Core.Bool.{Bool, ◌&&◌}
 use mathlib.Core.Logic.{◌⊎◌, inl, inr, ◌≢◌}
@@ -8,8 +8,6 @@ use mathlib.Core.List.{List, [], ◌∷◌, ◌++◌, map, map-append, append_as
 use native.Mathlib.Omega.{arith}
 use lib.Dec.{eqb}
 use lib.ListN.{length, get_or, length-append}
-use types.Run.{OneOf, miss}
-use denote.Enum.Declared.{tag_of}
 use Rattle.meaning.specs.Bytes.{Bytes, same}
 use Rattle.meaning.specs.Terms.{Clause, Job, count}
 use Rattle.meaning.specs.State.{Room, Goal}
@@ -27,11 +25,12 @@ use Rattle.run_asked.specs.Asking.{AllBelow}
 use Rattle.run_index.specs.declared.leads.Leads.{Leads}
 use Rattle.run_index.specs.Left.{Idle, AllOut, Nearest, LeftFor, LeadsAre, InOrder, FurtherIs}
 use Rattle.run_index.proofs.Left.{NextLeft, left_none, left_next, left_further}
+use Rattle.std.specs.Prelude.{Some, None, Ok, Err}
+use Rattle.term.specs.Words.{link_to}
 use Rattle.run_trial.specs.declared.choice.TrialResult.{TrialResult}
-use Rattle.run_trial.specs.declared.choice.TrialResult.TheVariants.{Succeeds, Waits, Fails}
-use Rattle.run_trial.specs.declared.choice.ChoiceResult.TheVariants.{Reduces, Waits as WaitsOn, Fails as FailsAll}
+use Rattle.run_trial.specs.declared.choice.TrialResult.TheVariants as results
+use Rattle.run_asked.specs.declared.asking.Hindered.TheVariants.{Waits, Fails}
 use Rattle.run_trial.specs.Choosing.{unit_of, Trying, ArgumentsStand, MarksBelow, NewMarks, TrialOnly, Gathered, Candidate, TrialIs, ChoiceIs}
-use Rattle.run_trial.specs.contracts.choice.TrialResult.{the_type}
 use Rattle.run_trial.proofs.Asked.{below_both}
 use Rattle.run_trial.proofs.Following.{Ready}
 use Rattle.run_trial.proofs.Idle.{first_word, idle_skipped}
@@ -52,14 +51,15 @@ none_long : (l : List ℕ) → length l ≡ 0 → l ≡ []
 none_long [] e = refl
 none_long (p ∷ l) e = absurd (omega arith)
 
+-- The third of three results.
+pub else_fails : (r : TrialResult) → ((n : ℕ) → r ≡ results.Succeeds n → ⊥) → ((n : ℕ) → r ≡ results.Waits n → ⊥) → r ≡ results.Fails
+else_fails (results.Succeeds n) s w = absurd (s n refl)
+else_fails (results.Waits n) s w = absurd (w n refl)
+else_fails results.Fails s w = refl
+
 -- A trial that does not succeed: it waits, and the step has met so many readers now; or it fails, and the step has met as many as before.
 abbrev pub Passed : ℕ → TrialResult → ℕ → Type 0
-Passed readers r readers' = ((n : ℕ) × (r ≡ Waits n) × (readers' ≡ n)) ⊎ ((r ≡ Fails) × (readers' ≡ readers))
-
-pub neither : (r : TrialResult) → OneOf (1 ∷ 2 ∷ []) (tag_of the_type r) → OneOf (0 ∷ 2 ∷ []) (tag_of the_type r) → r ≡ Fails
-neither (Succeeds n) a b = absurd (miss (1 ∷ 2 ∷ []) 0 tt a)
-neither (Waits n) a b = absurd (miss (0 ∷ 2 ∷ []) 1 tt b)
-neither Fails a b = refl
+Passed readers r readers' = ((n : ℕ) × (r ≡ results.Waits n) × (readers' ≡ n)) ⊎ ((r ≡ results.Fails) × (readers' ≡ readers))
 
 -- How far the choice has come. Behind the clauses that were passed, tried or idle, those that are left are as they were before the first.
 pub record Walk (s₀ s : List ℕ) (names : List Bytes) (j : Job) (limit : ℕ) (figures : Room) (at : Places) (g : Goal)
@@ -139,12 +139,12 @@ module _ {s₀ s : List ℕ} {text : Bytes} {names : List Bytes} {j : Job} {limi
   behind = omega (arith, t.values_behind, t.marks_behind)
 
   -- A clause is left to try, behind some that are idle.
-  module _ (some_left : l.next ≢ 0) where
+  module _ {k : ℕ} (some_left : l.next ≡ Some k) where
     abbrev pub Turn : Type 0
-    Turn = NextLeft s₀ (Idle s₀ (get_or s₀ goal 0)) (ClauseAt s₀ names) w.rest l
+    Turn = NextLeft s₀ (Idle s₀ (get_or s₀ goal 0)) (ClauseAt s₀ names) w.rest l k
 
     pub turn : Turn
-    turn = left_next s₀ (Idle s₀ (get_or s₀ goal 0)) (ClauseAt s₀ names) w.from w.rest l w.nearest some_left w.left
+    turn = left_next s₀ (Idle s₀ (get_or s₀ goal 0)) (ClauseAt s₀ names) w.from w.rest l k w.nearest (ap link_to some_left) w.left
 
     abbrev pub turn_clause : Clause
     turn_clause = turn.1
@@ -166,9 +166,9 @@ module _ {s₀ s : List ℕ} {text : Bytes} {names : List Bytes} {j : Job} {limi
         ∙ idle_skipped t stand w.waiting w.passed turn.0 (turn_clause ∷ rest_then) (w.whole ∙ ap (λ cs. w.passed ++ cs) turn.3) turn.4)
         ∙ w.same_choice
 
-    pub turn_candidate : Candidate s names j g (l.next - 1) turn_clause
+    pub turn_candidate : Candidate s names j g k turn_clause
     turn_candidate = record {
-      at = clause_stays marks (3 * figures.pairs) s₀ s walked behind names (l.next - 1) turn_clause turn.5;
+      at = clause_stays marks (3 * figures.pairs) s₀ s walked behind names k turn_clause turn.5;
       before = before;
       after = rest_then;
       in_procedure = whole_then;
@@ -185,7 +185,7 @@ module _ {s₀ s : List ℕ} {text : Bytes} {names : List Bytes} {j : Job} {limi
     turn_stamp = omega (arith, turn_few, passed_few, w.stamp_to)
 
     module _ {s₃ : List ℕ} {r : TrialResult}
-        (told : TrialIs s s₃ j limit figures at g marks readers stamp (l.next - 1) turn_clause w.waiting r) where
+        (told : TrialIs s s₃ j limit figures at g marks readers stamp k turn_clause w.waiting r) where
       tried_frame : TrialOnly woken_part marks (3 * figures.pairs) s₀ s₃
       tried_frame = trial_only_then w.only told.only
 
@@ -196,15 +196,15 @@ module _ {s₀ s : List ℕ} {text : Bytes} {names : List Bytes} {j : Job} {limi
       marks_tried a l h = omega (arith, told.marks_now a l h, turn_stamp)
 
       -- It succeeds: the goal is reduced.
-      pub turn_succeeds : (n : ℕ) → r ≡ Succeeds n → ChoiceIs s₀ s₃ names j limit figures at g marks first (Reduces (l.next - 1) n)
+      pub turn_succeeds : (n : ℕ) → r ≡ results.Succeeds n → ChoiceIs s₀ s₃ names j limit figures at g marks first (Ok (k, n))
       turn_succeeds n e = go (rw e at told)
         where
           taken : (given : List Assignment) → trial w.waiting turn_clause (unit_of j limit figures g) g.goal ≡ succeeds given
               → choice j.clauses (unit_of j limit figures g) g.goal ≡ reduces turn_clause given
           taken given q = sym same_then ∙ from_succeeds w.waiting turn_clause rest_then (unit_of j limit figures g) g.goal given q
 
-          go : TrialIs s s₃ j limit figures at g marks readers stamp (l.next - 1) turn_clause w.waiting (Succeeds n)
-              → ChoiceIs s₀ s₃ names j limit figures at g marks first (Reduces (l.next - 1) n)
+          go : TrialIs s s₃ j limit figures at g marks readers stamp k turn_clause w.waiting (results.Succeeds n)
+              → ChoiceIs s₀ s₃ names j limit figures at g marks first (Ok (k, n))
           go is = record {
             only = trial_only_wider compounds_region (omega arith) tried_frame;
             marks_now = marks_tried;
@@ -212,7 +212,7 @@ module _ {s₀ s : List ℕ} {text : Bytes} {names : List Bytes} {j : Job} {limi
               turn_clause,
               is.told.0,
               taken is.told.0 is.told.1,
-              clause_stays marks (3 * figures.pairs) s₀ s₃ (trial_only_wider compounds_region (omega arith) tried_frame) behind names (l.next - 1) turn_clause
+              clause_stays marks (3 * figures.pairs) s₀ s₃ (trial_only_wider compounds_region (omega arith) tried_frame) behind names k turn_clause
                   turn.5,
               is.told.2,
             );
@@ -227,18 +227,18 @@ module _ {s₀ s : List ℕ} {text : Bytes} {names : List Bytes} {j : Job} {limi
       whole_more = whole_then ∙ sym (append_assoc before (turn_clause ∷ []) rest_then)
 
       -- The clauses' words are those before the first trial.
-      further_before : (l' : Leads) → FurtherIs s₃ l l' → FurtherIs s₀ l l'
+      further_before : (l' : Leads) → FurtherIs s₃ k l l' → FurtherIs s₀ k l l'
       further_before l' f =
           let o : TrialOnly compounds_region marks (3 * figures.pairs) s₀ s₃ = trial_only_wider compounds_region (omega arith) tried_frame in
-          subst (λ v. InOrder v l.link l.other l.onward l')
-          (low_stays marks (3 * figures.pairs) s₀ s₃ o behind (clause_record (l.next - 1) + l.link) (omega (arith, turn.5.number, w.nearest.link_inside)))
+          subst (λ v. InOrder v l.link (link_to l.other) l.onward l')
+          (low_stays marks (3 * figures.pairs) s₀ s₃ o behind (clause_record k + l.link) (omega (arith, turn.5.number, w.nearest.link_inside)))
           f
 
-      further_left : (l' : Leads) → FurtherIs s₃ l l' → Nearest l' × LeftFor s₀ names (get_or s₀ goal 0) l.next rest_then l'
+      further_left : (l' : Leads) → FurtherIs s₃ k l l' → Nearest l' × LeftFor s₀ names (get_or s₀ goal 0) (k + 1) rest_then l'
       further_left l' f =
-          left_further s₀ (Idle s₀ (get_or s₀ goal 0)) (ClauseAt s₀ names) l.next rest_then l l' w.nearest (further_before l' f) turn.6
+          left_further s₀ (Idle s₀ (get_or s₀ goal 0)) (ClauseAt s₀ names) (k + 1) rest_then l l' k w.nearest (further_before l' f) turn.6
 
-      module _ {l' : Leads} (further : FurtherIs s₃ l l') where
+      module _ {l' : Leads} (further : FurtherIs s₃ k l l') where
         onward : (waiting : List ℕ) (readers' : ℕ) → Gathered s₃ at (marks + figures.pairs) figures.pairs readers' waiting
             → AllBelow (length (unit_of j limit figures g).values) waiting
             → choice_from w.waiting (turn_clause ∷ rest_then) (unit_of j limit figures g) g.goal
@@ -252,7 +252,7 @@ module _ {s₀ s : List ℕ} {text : Bytes} {names : List Bytes} {j : Job} {limi
               rest = rest_then;
               whole = whole_more;
               only = tried_frame;
-              from = l.next;
+              from = k + 1;
               nearest = left.0;
               left = left.1;
               stamp_from = omega (arith, w.stamp_from);
@@ -264,16 +264,16 @@ module _ {s₀ s : List ℕ} {text : Bytes} {names : List Bytes} {j : Job} {limi
               grounds = grounds_tried;
             }
 
-        turn_fails : r ≡ Fails → Walk s₀ s₃ names j limit figures at g marks goal first readers (stamp + 256) l'
+        turn_fails : r ≡ results.Fails → Walk s₀ s₃ names j limit figures at g marks goal first readers (stamp + 256) l'
         unfolding all_met
         turn_fails e =
-            let is : TrialIs s s₃ j limit figures at g marks readers stamp (l.next - 1) turn_clause w.waiting Fails = rw e at told in
+            let is : TrialIs s s₃ j limit figures at g marks readers stamp k turn_clause w.waiting results.Fails = rw e at told in
             onward w.waiting readers (record { ok = is.told.1.ok; words = is.told.1.list ∙ w.gathered.words }) w.below
             (from_fails w.waiting turn_clause rest_then (unit_of j limit figures g) g.goal is.told.0)
 
-        turn_waits : (n : ℕ) → r ≡ Waits n → Walk s₀ s₃ names j limit figures at g marks goal first n (stamp + 256) l'
+        turn_waits : (n : ℕ) → r ≡ results.Waits n → Walk s₀ s₃ names j limit figures at g marks goal first n (stamp + 256) l'
         turn_waits n e =
-            let is : TrialIs s s₃ j limit figures at g marks readers stamp (l.next - 1) turn_clause w.waiting (Waits n) = rw e at told in
+            let is : TrialIs s s₃ j limit figures at g marks readers stamp k turn_clause w.waiting (results.Waits n) = rw e at told in
             let others = is.told.0 in
             onward (w.waiting ++ others) n
             (record {
@@ -293,11 +293,11 @@ module _ {s₀ s : List ℕ} {text : Bytes} {names : List Bytes} {j : Job} {limi
         turn_passed readers' (inr (e, is)) = rw is (turn_fails e)
 
   -- No clause is left to try: all that were not passed are idle.
-  module _ (none_left : l.next ≡ 0) where
+  module _ (none_left : l.next ≡ None) where
     all_idle : AllOut (Idle s₀ (get_or s₀ goal 0)) (ClauseAt s₀ names) w.rest
     all_idle =
         left_none s₀ (Idle s₀ (get_or s₀ goal 0)) (ClauseAt s₀ names) w.from w.rest l.link l.onward
-        (rw (none_left, w.nearest.none none_left) at w.left)
+        (rw (ap link_to none_left, w.nearest.none (ap link_to none_left)) at w.left)
 
     all_passed : none_succeeds w.waiting ≡ choice j.clauses (unit_of j limit figures g) g.goal
     unfolding choice_from
@@ -314,7 +314,7 @@ module _ {s₀ s : List ℕ} {text : Bytes} {names : List Bytes} {j : Job} {limi
     as_many : length (all_met [] (map (λ p. at.pair p) w.waiting)) ≡ readers
     as_many = sym (ap length w.gathered.words) ∙ listed_length s (marks + figures.pairs) readers
 
-    pub all_fail : readers ≡ 0 → ChoiceIs s₀ s names j limit figures at g marks first FailsAll
+    pub all_fail : readers ≡ 0 → ChoiceIs s₀ s names j limit figures at g marks first (Err Fails)
     unfolding none_succeeds
     all_fail e = record { only = walked; marks_now = marks_passed; told = go w.waiting as_many all_passed; grounds = w.grounds }
       where
@@ -324,7 +324,7 @@ module _ {s₀ s : List ℕ} {text : Bytes} {names : List Bytes} {j : Job} {limi
         go [] q is = sym is
         go (p ∷ l) q is = absurd (all_met_not_none [] (at.pair p) (map (λ p. at.pair p) l) (none_long _ (q ∙ e)))
 
-    pub some_wait : readers ≢ 0 → ChoiceIs s₀ s names j limit figures at g marks first (WaitsOn readers)
+    pub some_wait : readers ≢ 0 → ChoiceIs s₀ s names j limit figures at g marks first (Err (Waits readers))
     unfolding none_succeeds all_met
     some_wait e = record {
       only = walked;
@@ -340,18 +340,18 @@ module _ {s₀ s : List ℕ} {text : Bytes} {names : List Bytes} {j : Job} {limi
         go (p ∷ l) q is = sym is
 
 -- The numbers of a turn.
-pub record Turning (s₀ s : List ℕ) (marks links first stamp : ℕ) (l : Leads) : Type 0 where
+pub record Turning (s₀ s : List ℕ) (marks links first stamp k : ℕ) (l : Leads) : Type 0 where
   pub large : compounds_region ≤ length s
   pub size : length s ≡ length s₀
   pub room : marks + 3 * links ≤ length s
-  pub number : l.next - 1 < 128
+  pub number : k < 128
   pub link : l.link < clause_stride
   pub stamps : stamp + 256 ≤ first + 32768
   pub stamps_fit : first + 32768 < 1099511627776
 
-pub turning : {s₀ s : List ℕ} {values marks links goal first readers stamp : ℕ} {l : Leads}
-    → Walking s₀ values marks links goal first s readers stamp l → Ready s₀ values marks links goal first → l.next ≢ 0
-    → Turning s₀ s marks links first stamp l
+pub turning : {s₀ s : List ℕ} {values marks links goal first readers stamp k : ℕ} {l : Leads}
+    → Walking s₀ values marks links goal first s readers stamp l → Ready s₀ values marks links goal first → l.next ≡ Some k
+    → Turning s₀ s marks links first stamp k l
 turning inv (text, names, j, limit, figures, at, g, others, t, stand, new, fit) left =
     let w = inv text names j limit figures at g others t stand new in
     record {

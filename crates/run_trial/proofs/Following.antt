@@ -12,7 +12,8 @@ use Rattle.term.specs.States.{setting}
 use Rattle.term.proofs.Frames.{only_wider}
 use Rattle.term.specs.Layout.{trial_region, compounds_region, followed_from, followed_end}
 use Rattle.run_chains.specs.Follow.{Follows, ArgumentsFollowed}
-use Rattle.run_trial.specs.declared.choice.ChoiceResult.{ChoiceResult}
+use Rattle.std.specs.Prelude.{Result as Outcome}
+use Rattle.run_asked.specs.declared.asking.Hindered.{Hindered}
 use Rattle.run_trial.specs.Choosing.{unit_of, Trying, ArgumentsStand, MarksBelow, NewMarks, TrialOnly, ChoiceIs}
 use Rattle.run_trial.proofs.Staying.{trial_only_then, trial_only_region, new_marks_then, new_marks_of, trying_stays, grounds_stay, marks_stay}
 
@@ -59,7 +60,7 @@ module _ {s : List ℕ} {text : Bytes} {names : List Bytes} {j : Job} {limit : �
     pub marks_then : (first : ℕ) → MarksBelow s marks figures.pairs first → MarksBelow s₀ marks figures.pairs first
     marks_then first = marks_stay marks figures.pairs first (omega (arith, t.values_behind, t.marks_behind)) region
 
-    pub choice_then : {s' : List ℕ} {first : ℕ} {r : ChoiceResult} → ChoiceIs s₀ s' names j limit figures at g marks first r
+    pub choice_then : {s' : List ℕ} {first : ℕ} {r : Outcome (ℕ × ℕ) Hindered} → ChoiceIs s₀ s' names j limit figures at g marks first r
         → ChoiceIs s s' names j limit figures at g marks first r
     choice_then {s'} c = record {
       only = trial_only_then frame c.only;

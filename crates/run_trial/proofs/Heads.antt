@@ -1,6 +1,6 @@
 -- A clause of the goal's procedure meets what comparing asks: its head's terms are those of an accepted text, numbered behind the head, and it has as
 -- many arguments as the goal. Comparing over more links than the unit has pairs tells the same.
-use Prim.Native.Nat.{ℕ, ◌+◌, ◌*◌, ◌≤◌}
+use Prim.Native.Nat.{ℕ, ◌≤◌}
 use mathlib.Core.Path.{◌≡◌, refl, sym, subst, ap, fun_ext, ◌∙◌}
 use mathlib.Core.Bool.{Bool, true, ◌&&◌}
 use mathlib.Core.Logic.{inr}

@@ -34,8 +34,7 @@ use Rattle.term.specs.Setting.{Setting, UnitTerm}
 use Rattle.term.specs.States.{setting}
 use Rattle.term.proofs.Cells.{word_positive}
 use Rattle.term.specs.Layout.{trial_region, compounds_region, gifts_part, woken_part, clause_head}
-use Rattle.run_compare.specs.declared.compare.CompareResult.{CompareResult}
-use Rattle.run_compare.specs.declared.compare.CompareResult.TheVariants.{Noted}
+use Rattle.std.specs.Prelude.{Option, Some}
 use Rattle.run_compare.specs.Gifts.{Gift, assignments, entries, recorded, Entry as GiftEntry, entries_of, EntriesAt}
 use Rattle.run_compare.specs.Notes.{Note, gifts_in, asks_in, noted, written}
 use Rattle.run_circle.specs.Circle.{Trial, Entry, Tried, Tested, entry_pair}
@@ -100,12 +99,12 @@ module _ {s s₁ : List ℕ} {text : Bytes} {names : List Bytes} {j : Job} {limi
       (arguments_stay t (trial_only_region woken_part marks (3 * figures.pairs) (omega arith) begun) f)
 
   -- What comparing tells.
-  abbrev pub Comparison : List ℕ → CompareResult → Type 0
+  abbrev pub Comparison : List ℕ → Option ℕ → Type 0
   Comparison s₂ r =
       Answers s₁ s₂ (setting figures at (unit_of j limit figures g)) (template k c) 0 1 to (count c.head.arguments)
       (places_outcome (setting figures at (unit_of j limit figures g)) links c.head.arguments g.goal.arguments) r
 
-  pub comparison : (s₂ : List ℕ) (r r' : CompareResult)
+  pub comparison : (s₂ : List ℕ) (r r' : Option ℕ)
       → ((x : Setting) (y : Template) (h : ℕ) (f : Functor) (us : Terms) (lo hi : ℕ) (ts : Terms)
       → HeadAgainst s₁ x y values links h f us lo hi ts (clause_head k)
       → Answers s₁ s₂ x y 0 lo hi (count us) (places_outcome x links us ts) r)
@@ -120,7 +119,7 @@ module _ {s s₁ : List ℕ} {text : Bytes} {names : List Bytes} {j : Job} {limi
   cleared_all cleared a h = cleared a (omega (arith, m.at.held.laid.few_pairs))
 
   -- Where no place fails.
-  module _ {s₂ : List ℕ} {n : ℕ} (told : Comparison s₂ (Noted n)) where
+  module _ {s₂ : List ℕ} {n : ℕ} (told : Comparison s₂ (Some n)) where
     abbrev pub notes : List Note
     notes = told.told.1.notes
 
@@ -152,7 +151,7 @@ module _ {s s₁ : List ℕ} {text : Bytes} {names : List Bytes} {j : Job} {limi
   -- Before the circle test, where all places agree.
   module _ {s₂ : List ℕ} {n stamp : ℕ} (new : MarksBelow s marks figures.pairs stamp) (fit : (1 < stamp) × (stamp + 256 < 1099511627776))
       (cleared : (a : ℕ) → a < c.pairs → get_or s₁ (trial_region + a) 0 ≡ 0)
-      (told : Comparison s₂ (Noted n)) (none_asked : asks_in told.told.1.notes ≡ []) where
+      (told : Comparison s₂ (Some n)) (none_asked : asks_in told.told.1.notes ≡ []) where
     abbrev pub x : Setting
     x = setting figures at (unit_of j limit figures g)
 

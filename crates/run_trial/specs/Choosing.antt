@@ -1,6 +1,6 @@
 -- What the trial of a clause and the choice of a clause ask and give. Both work for the goal in front, in a state of the run of the job that a
 -- text was read as: what the laws say of such states is what they lean on.
-use Rattle.std.specs.Prelude.{ℕ, ◌+◌, ◌*◌, ◌≤◌, ◌<◌, ◌≡◌, ◌⊎◌, List, [], ◌∷◌, ◌++◌, map, length, get_or}
+use Rattle.std.specs.Prelude.{ℕ, ◌+◌, ◌*◌, ◌≤◌, ◌<◌, ◌≡◌, ◌⊎◌, List, [], ◌∷◌, ◌++◌, map, length, get_or, Result as Outcome, Ok, Err}
 use Rattle.std.proofs.Math.Option.{Option}
 use Rattle.meaning.specs.Bytes.{Bytes}
 use Rattle.meaning.specs.Terms.{Clause, Job, as_term}
@@ -22,9 +22,9 @@ use Rattle.run_readers.specs.Readers.{Readers, all_met}
 use Rattle.run_asked.specs.Asking.{Joined, AllBelow}
 use Rattle.run_index.specs.Index.{Indexed}
 use Rattle.run_trial.specs.declared.choice.TrialResult.{TrialResult}
-use Rattle.run_trial.specs.declared.choice.TrialResult.TheVariants.{Succeeds, Waits, Fails}
-use Rattle.run_trial.specs.declared.choice.ChoiceResult.{ChoiceResult}
-use Rattle.run_trial.specs.declared.choice.ChoiceResult.TheVariants.{Reduces, Waits as WaitsOn, Fails as FailsAll}
+use Rattle.run_trial.specs.declared.choice.TrialResult.TheVariants as results
+use Rattle.run_asked.specs.declared.asking.Hindered.{Hindered}
+use Rattle.run_asked.specs.declared.asking.Hindered.TheVariants.{Waits, Fails}
 
 -- The unit of a goal's query, in the state after so many steps.
 abbrev pub unit_of : Job → ℕ → Room → Goal → QueryUnit
@@ -103,10 +103,10 @@ pub record Succeeded (s : List ℕ) (x : Setting) (k : ℕ) (c : Clause) (given 
 
 -- A trial in a step that has met so many readers, in a list from a word on: those that it waits on have joined them.
 abbrev pub TrialTold : List ℕ → List ℕ → Setting → ℕ → Clause → ℕ → ℕ → Result → TrialResult → Type 0
-TrialTold s s' x k c list met o (Succeeds n) = (given : List Assignment) × (o ≡ succeeds given) × Succeeded s' x k c given n
-TrialTold s s' x k c list met o (Waits n) =
+TrialTold s s' x k c list met o (results.Succeeds n) = (given : List Assignment) × (o ≡ succeeds given) × Succeeded s' x k c given n
+TrialTold s s' x k c list met o (results.Waits n) =
     (readers : List ℕ) × (o ≡ waits readers) × AllBelow (length x.values) readers × Joined s s' list x.pairs met (map (λ p. x.places.pair p) readers) n
-TrialTold s s' x k c list met o Fails = (o ≡ fails) × Joined s s' list x.pairs met [] met
+TrialTold s s' x k c list met o results.Fails = (o ≡ fails) × Joined s s' list x.pairs met [] met
 
 -- The answer of a trial, in a step that has met so many readers, those on which the earlier clauses wait.
 pub record TrialIs (s s' : List ℕ) (j : Job) (limit : ℕ) (figures : Room) (places : Places) (g : Goal) (marks met stamp k : ℕ) (c : Clause) (earlier : List ℕ)
@@ -118,16 +118,16 @@ pub record TrialIs (s s' : List ℕ) (j : Job) (limit : ℕ) (figures : Room) (p
   pub grounds : NewMarks places (unit_of j limit figures g).values marks figures.pairs s s'
 
 -- The readers that a goal waits on have their pairs' places in a list from a word on, each once.
-abbrev pub ChoiceTold : List ℕ → List Bytes → Setting → ℕ → Choice → ChoiceResult → Type 0
-ChoiceTold s names x list o (Reduces k n) =
+abbrev pub ChoiceTold : List ℕ → List Bytes → Setting → ℕ → Choice → Outcome (ℕ × ℕ) Hindered → Type 0
+ChoiceTold s names x list o (Ok (k, n)) =
     (c : Clause) × (given : List Assignment) × (o ≡ reduces c given) × ClauseAt s names k c × Succeeded s x k c given n
-ChoiceTold s names x list o (WaitsOn n) =
+ChoiceTold s names x list o (Err (Waits n)) =
     (readers : List ℕ) × (o ≡ joins_waiting readers) × (n ≤ x.pairs) × (listed s list n ≡ all_met [] (map (λ p. x.places.pair p) readers))
     × AllBelow (length x.values) readers
-ChoiceTold s names x list o FailsAll = o ≡ joins_failed
+ChoiceTold s names x list o (Err Fails) = o ≡ joins_failed
 
 -- The answer of the choice.
-pub record ChoiceIs (s s' : List ℕ) (names : List Bytes) (j : Job) (limit : ℕ) (figures : Room) (places : Places) (g : Goal) (marks stamp : ℕ) (r : ChoiceResult)
+pub record ChoiceIs (s s' : List ℕ) (names : List Bytes) (j : Job) (limit : ℕ) (figures : Room) (places : Places) (g : Goal) (marks stamp : ℕ) (r : Outcome (ℕ × ℕ) Hindered)
     : Type 0 where
   pub only : TrialOnly compounds_region marks (3 * figures.pairs) s s'
   pub marks_now : MarksBelow s' marks figures.pairs (stamp + 32768)

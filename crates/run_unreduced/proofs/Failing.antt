@@ -1,5 +1,5 @@
 -- The step when the goal in front fails: what the code asks, and the run's next state.
-use Prim.Native.Nat.{ℕ, ◌+◌, ◌-◌, ◌*◌, ◌≤◌, ◌<◌}
+use Prim.Native.Nat.{ℕ, ◌+◌, ◌*◌, ◌≤◌, ◌<◌}
 use mathlib.Core.Path.{◌≡◌, refl, ap, ◌∙◌}
 use mathlib.Core.Bool.{true}
 use mathlib.Core.List.{List, [], ◌∷◌, ◌++◌}
@@ -22,7 +22,7 @@ use Rattle.run_queues.specs.Log.{Slot, Failed}
 use Rattle.run_queues.specs.Ring.{Passed}
 use Rattle.run_between.specs.Running.{GroundMarks, Running, StepIs}
 use Rattle.run_between.specs.Taking.{Taken, JoiningFailed}
-use Rattle.run_between.specs.declared.stepped.Stepped.TheVariants.{Next}
+use Rattle.std.specs.Prelude.{Some}
 use Rattle.run_between.proofs.Frames.{units_set}
 use Rattle.run_between.proofs.GroundMarks.{grounds_alike}
 use Rattle.run_between.proofs.FramesRunning.{few_units, tries_below, front_stands}
@@ -163,7 +163,7 @@ module _ (s s₁ s' : List ℕ) (text : Bytes) (names : List Bytes) (j : Job) (f
             (unit_after joins_failed (unit_at g.query state.units)) refl refl);
       }
 
-  pub step_failed : StepIs s s' text names j figures limit atlas g others t (Next (failed_standing t front'))
+  pub step_failed : StepIs s s' text names j figures limit atlas g others t (Some (failed_standing t front'))
   step_failed = record {
     only = join_run_only figures g.query s s' its_kept;
     told = (its_fits, atlas, slots, refl, its_running);

@@ -11,7 +11,6 @@ use Rattle.meaning.specs.Terms.{Query}
 use Rattle.meaning.specs.State.{Room, QueryUnit, Goal, Waiting, State, unit_at, number_of}
 use Rattle.meaning.specs.Trial.{joins_waiting, joins_failed}
 use Rattle.meaning.specs.Step.{unit_after, goals_after, pairs_charged, compounds_charged, without_front, step}
-use Rattle.meaning.specs.Run.{fits}
 use Rattle.term.specs.Jobs.{EachFrom, JobKept}
 use Rattle.term.specs.Layout.{waiters_region, marks_region, queue_region, waiting_region, failed_region, need_of, queries_region, items_region, query_record, query_tries_word, query_stride, tries_at}
 use Rattle.term.specs.States.{Atlas, goal_word, ring, listed, logged, Lies, UnitsStand, FirstPair, GoalStands, AllStand, QueueStands, HoldsState}

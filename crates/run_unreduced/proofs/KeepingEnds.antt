@@ -1,5 +1,5 @@
 -- The goal in front waits, and the ends to which its arguments lead are kept: the state and all else stays as it was.
-use Prim.Native.Nat.{ℕ, ◌+◌, ◌*◌, ◌/◌, ◌≤◌, ◌<◌}
+use Prim.Native.Nat.{ℕ, ◌+◌, ◌*◌, ◌≤◌, ◌<◌}
 use mathlib.Core.Path.{◌≡◌, refl, ap, ◌∙◌}
 use mathlib.Core.Logic.{◌⊎◌, inl, inr}
 use mathlib.Core.List.{List}
@@ -21,7 +21,7 @@ use Rattle.run_queues.specs.Log.{Slot}
 use Rattle.run_queues.proofs.Listed.{listed_kept}
 use Rattle.run_between.specs.Running.{RunOnly, EndAt, AllEnds, StepIs}
 use Rattle.run_between.specs.Taking.{Taken, JoiningWaiting}
-use Rattle.run_between.specs.declared.stepped.Stepped.{Stepped}
+use Rattle.std.specs.Prelude.{Option}
 use Rattle.run_between.proofs.Ends.{end_at_alike, find}
 use Rattle.run_unreduced.proofs.Failing.{front_query, query_below}
 use Rattle.run_between.proofs.Frames.{cells_before, units_same}
@@ -132,7 +132,7 @@ module _ {s : List ℕ} {text : Bytes} {names : List Bytes} {j : Job} {figures :
       inside = joins.inside;
     }
 
-    pub step_kept : {s₂ : List ℕ} {answer : Stepped} → StepIs s' s₂ text names j figures limit atlas g others t answer
+    pub step_kept : {s₂ : List ℕ} {answer : Option Standing} → StepIs s' s₂ text names j figures limit atlas g others t answer
         → StepIs s s₂ text names j figures limit atlas g others t answer
     step_kept {s₂} is = record {
       only = run_only_then figures s s' s₂ only is.only;

@@ -1,5 +1,5 @@
 -- The step when the goal in front waits: what the code asks, and the run's next state.
-use Prim.Native.Nat.{ℕ, ◌+◌, ◌-◌, ◌*◌, ◌≤◌, ◌<◌}
+use Prim.Native.Nat.{ℕ, ◌+◌, ◌*◌, ◌≤◌, ◌<◌}
 use mathlib.Core.Path.{◌≡◌, refl, ap, ap₂, sym, ◌∙◌}
 use mathlib.Core.Bool.{true}
 use mathlib.Core.List.{List, [], ◌∷◌, ◌++◌, map}
@@ -22,7 +22,7 @@ use Rattle.run_queues.specs.Log.{Slot, waits, gathered, present, Waits, LogNow}
 use Rattle.run_queues.specs.Ring.{Passed}
 use Rattle.run_between.specs.Running.{slot_of, Running, StepIs}
 use Rattle.run_between.specs.Taking.{LogHere, FreePlace, Taken, JoiningWaiting}
-use Rattle.run_between.specs.declared.stepped.Stepped.TheVariants.{Next}
+use Rattle.std.specs.Prelude.{Some}
 use Rattle.run_unreduced.proofs.Failing.{front_query, query_below, tries_small, goals_fit, marks_after, grounds_after}
 use Rattle.run_between.proofs.FramesRunning.{few_units, front_place}
 use Rattle.run_unreduced.proofs.Gathering.{gathered_each_once}
@@ -196,7 +196,7 @@ module _ (s s₁ : List ℕ) (text : Bytes) (names : List Bytes) (j : Job) (figu
                 (unit_after (joins_waiting readers) (unit_at g.query state.units)) refl refl);
           }
 
-      pub step_waiting : StepIs s s' text names j figures limit atlas g others t (Next (waiting_standing t front' place))
+      pub step_waiting : StepIs s s' text names j figures limit atlas g others t (Some (waiting_standing t front' place))
       step_waiting = record {
         only = join_run_only figures g.query s s' kept;
         told = (its_fits, atlas, slots_next, refl, its_running);

@@ -12,7 +12,7 @@ use Rattle.meaning.specs.Bytes.{Bytes, same}
 use Rattle.meaning.specs.Terms.{Named, Clause, as_term}
 use Rattle.term.specs.Cells.{Places, term_word, number_of, Numbered, KnownName}
 use Rattle.term.specs.Holds.{Holds}
-use Rattle.term.specs.Jobs.{GoalsNumbered, ClauseLaid, HoldsGoals, Linked}
+use Rattle.term.specs.Jobs.{ClauseLaid, HoldsGoals, Linked}
 use Rattle.term.proofs.Numbers.{same_equal, number_apart}
 use Rattle.term.specs.Layout.{clause_record}
 

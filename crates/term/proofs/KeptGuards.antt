@@ -7,13 +7,13 @@ use native.Mathlib.Omega.{arith}
 use lib.ListN.{length, get_or}
 use Rattle.meaning.specs.Terms.{Test, an_integer, a_constant, a_compound, a_ground, known, equal, otherwise, Terms, end, more, Guard, count}
 use Rattle.meaning.specs.Bytes.{Bytes}
-use Rattle.term.specs.Cells.{Places, Numbered, AllNumbered}
-use Rattle.term.specs.Every.{Every, EveryOf}
+use Rattle.term.specs.Cells.{Places, AllNumbered}
+use Rattle.term.specs.Every.{EveryOf}
 use Rattle.term.specs.Holds.{HoldsFrom}
 use Rattle.term.specs.Guards.{TestNumbered, GuardsNumbered, GuardsKnown, HoldsGuards}
 use Rattle.term.specs.Layout.{item_place}
 use Rattle.term.proofs.Cells.{numbered_order, all_numbered_order}
-use Rattle.term.proofs.Holds.{every_map, numbered_every, all_numbered_every, holds_from_alike}
+use Rattle.term.proofs.Holds.{numbered_every, all_numbered_every, holds_from_alike}
 
 -- Between two numbers.
 abbrev pub Between : ℕ → ℕ → ℕ → Type 0

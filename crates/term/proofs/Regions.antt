@@ -1,6 +1,6 @@
 -- Frames over two regions: only words from a up to b and from c up to d differ, where the first region lies before the second.
 -- A change in one of them is such a frame; one such change after another is; wider regions are.
-use Prim.Native.Nat.{ℕ, ◌+◌, ◌≤◌, ◌<◌}
+use Prim.Native.Nat.{ℕ, ◌≤◌, ◌<◌}
 use mathlib.Core.Path.{◌≡◌, refl, ◌∙◌}
 use mathlib.Core.List.{List}
 use native.Mathlib.Omega.{arith}

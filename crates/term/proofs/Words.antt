@@ -1,8 +1,8 @@
 -- A word taken apart is what it was put together from: each tag is below 8, and division gives the rest.
-use Prim.Native.Nat.{ℕ, zero, suc, ◌+◌, ◌*◌, ◌/◌, ◌%◌, ◌<◌}
+use Prim.Native.Nat.{ℕ, zero, suc, ◌/◌, ◌%◌, ◌<◌}
 use mathlib.Core.Path.{◌≡◌, refl}
 use native.Mathlib.Omega.{arith}
-use Rattle.meaning.specs.Terms.{Half, writer, reader}
+use Rattle.meaning.specs.Terms.{writer, reader}
 use Rattle.term.specs.Words.{Content, nothing, variable, integer, name, empty, compound, word, view, view_of, packed}
 use Rattle.term.specs.declared.word.View.TheVariants.{Compound}
 

@@ -1,6 +1,6 @@
 -- A goal's word: its query, its compound's place and its origin, one above the other. No compound has a place of 1,048,576 or more, no clause a
 -- number of 256 or more.
-use Rattle.std.specs.Prelude.{ℕ, ◌+◌, ◌*◌, ◌/◌, ◌%◌, ◌≤◌, ◌<◌}
+use Rattle.std.specs.Prelude.{ℕ, ◌+◌, ◌*◌, ◌/◌, ◌%◌, ◌≤◌}
 use Rattle.meaning.specs.State.{Origin}
 use Rattle.term.specs.Words.{packed, rest_in}
 

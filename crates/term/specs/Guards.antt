@@ -1,28 +1,11 @@
 -- The guards of a clause in the scratch: each is one word, the number of its row in the table of guards and eight times the place of its compound, whose
 -- arguments stand behind that place. `otherwise` has no compound; its word has the item's first place.
-use Rattle.std.specs.Prelude.{ℕ, zero, suc, ◌+◌, ◌-◌, ◌*◌, ◌≤◌, ◌<◌, ◌≡◌, Bool, false, ◌&&◌, List, [], ◌∷◌, ◌++◌, map, eqb, length, get_or, replicate}
+use Rattle.std.specs.Prelude.{ℕ, zero, suc, ◌+◌, ◌≤◌, ◌≡◌, Bool, false, ◌&&◌, List, [], ◌∷◌, bytes_eq, nat_eq, nat_lt, if◌then◌else◌, eqb, length, get_or, Option, Some, None}
 use Rattle.meaning.specs.Bytes.{Bytes, same, when◌then◌else◌}
-use Rattle.meaning.specs.Terms.{
-  Test,
-  an_integer,
-  a_constant,
-  a_compound,
-  a_ground,
-  known,
-  equal,
-  otherwise,
-  Term,
-  Terms,
-  end,
-  more,
-  named,
-  Row,
-  Guard,
-  count,
-}
+use Rattle.meaning.specs.Terms.{Test, an_integer, a_constant, a_compound, a_ground, known, equal, otherwise, Terms, end, more, Row, Guard, count}
 use Rattle.term.specs.declared.guards.Row.{Row as Coded}
 use Rattle.term.specs.Words.{packed}
-use Rattle.term.specs.Cells.{Places, Numbered, AllNumbered, KnownName, AllKnown}
+use Rattle.term.specs.Cells.{Places, Numbered, AllNumbered, AllKnown}
 use Rattle.term.specs.Holds.{HoldsFrom}
 
 -- The rows of the table by their numbers.
@@ -85,6 +68,17 @@ row_at [] n = record { name = []; count = 0; test = otherwise; means_ground = fa
 row_at (r ∷ rows) zero = r
 row_at (r ∷ rows) (suc n) = row_at rows n
 
--- A row as the code has it: how long its name is, its name with dots behind it, its number of arguments, and whether success means ground.
-abbrev pub coded : Row → Coded
-coded r = (length r.name, r.name ++ replicate (9 - length r.name) 46, r.count, r.means_ground)
+-- The row's number, if there is one: there are seven.
+abbrev pub found_row : ℕ → Option ℕ
+found_row n = if nat_lt n 7 then Some n else None
+
+-- A row as the code has it.
+abbrev pub coded : Coded → Bytes × ℕ × Bool
+coded r = (r.name.now, r.count, r.means_ground)
+
+abbrev pub written : Row → Bytes × ℕ × Bool
+written r = (r.name, r.count, r.means_ground)
+
+-- Whether such a row has the name and so many arguments.
+abbrev pub has : Bytes → ℕ → Coded → Bool
+has f n r = bytes_eq r.name.now f && nat_eq r.count n

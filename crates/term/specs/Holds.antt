@@ -1,5 +1,5 @@
 -- What it is for the scratch to hold a term: each of its compounds stands at its place, with its functor and its arguments' words.
-use Rattle.std.specs.Prelude.{ℕ, ◌+◌, ◌*◌, ◌≤◌, ◌<◌, ◌≡◌, List, length, get_or}
+use Rattle.std.specs.Prelude.{ℕ, ◌+◌, ◌≤◌, ◌<◌, ◌≡◌, List, length, get_or}
 use Rattle.std.proofs.Math.Option.{Option, none, some}
 use Rattle.meaning.specs.Terms.{Functor, Term, Terms, end, more, count}
 use Rattle.meaning.specs.State.{Values, value}

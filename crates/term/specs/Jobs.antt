@@ -1,6 +1,6 @@
 -- What it is for the scratch to hold a job: the records and compounds of its clauses and queries, and each procedure's clauses linked in
 -- text order. Each part reads only the words of its own region.
-use Rattle.std.specs.Prelude.{ℕ, ◌+◌, ◌*◌, ◌≤◌, ◌<◌, ◌≡◌, false, ◌≢◌, List, [], ◌∷◌, length, get_or}
+use Rattle.std.specs.Prelude.{ℕ, ◌+◌, ◌≤◌, ◌<◌, ◌≡◌, false, ◌≢◌, List, [], ◌∷◌, length, get_or}
 use Rattle.meaning.specs.Bytes.{Bytes, same}
 use Rattle.meaning.specs.Terms.{Named, named, Clause, Query, Job, count, as_term}
 use Rattle.meaning.specs.Trial.{procedure}

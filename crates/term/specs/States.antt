@@ -2,10 +2,10 @@
 -- and the failed goals. Each part reads the words of its own region.
 use Rattle.std.specs.Prelude.{ℕ, zero, suc, ◌+◌, ◌-◌, ◌*◌, ◌≤◌, ◌<◌, ◌≡◌, true, ◌⊎◌, List, [], ◌∷◌, ◌++◌, map, ltb, length, get_or}
 use Rattle.meaning.specs.Bytes.{Bytes, when◌then◌else◌}
-use Rattle.meaning.specs.Terms.{Named, Query, Job, as_term}
+use Rattle.meaning.specs.Terms.{Query, Job, as_term}
 use Rattle.meaning.specs.Items.{job, reading}
-use Rattle.meaning.specs.State.{Room, QueryUnit, Goal, Waiting, Goals, State, unit_at, number_of}
-use Rattle.meaning.specs.Run.{Verdict, rest, budget, room, Ended, run, queries_fit}
+use Rattle.meaning.specs.State.{Room, QueryUnit, Goal, Waiting, State, unit_at, number_of}
+use Rattle.meaning.specs.Run.{Verdict, rest, budget, room, run, queries_fit}
 use Rattle.term.specs.Cells.{Places}
 use Rattle.term.specs.Jobs.{EachFrom, HoldsJob}
 use Rattle.term.specs.Spellings.{HoldsText}

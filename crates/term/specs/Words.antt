@@ -1,5 +1,5 @@
 -- The words of terms: a tag below 8, and what it is a term of, eight times over. 0 is the word of a pair that has no value.
-use Rattle.std.specs.Prelude.{ℕ, zero, suc, ◌+◌, ◌*◌, ◌/◌, ◌%◌}
+use Rattle.std.specs.Prelude.{ℕ, zero, suc, ◌+◌, ◌*◌, ◌/◌, ◌%◌, Option, None, Some}
 use Rattle.meaning.specs.Terms.{Half, writer, reader}
 use Rattle.term.specs.declared.word.View.{View}
 use Rattle.term.specs.declared.word.View.TheVariants.{Nothing, Writer, Reader, Integer, Name, Empty, Compound}
@@ -70,3 +70,8 @@ view (suc (suc (suc zero))) rest = Integer rest
 view (suc (suc (suc (suc zero)))) rest = Name rest
 view (suc (suc (suc (suc (suc zero))))) rest = Empty
 view (suc (suc (suc (suc (suc (suc tag)))))) rest = Compound rest
+
+-- The word that leads to something by its number, one more than that; 0 leads to nothing.
+abbrev pub link_to : Option ℕ → ℕ
+link_to None = 0
+link_to (Some n) = n + 1

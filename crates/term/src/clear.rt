@@ -7,11 +7,7 @@ pub fn clear(s: &mut [u64], n: usize)
     requires { n ≤ length s.old }
     ensures { s.new ≡ replicate n 0 ++ drop n s.old }
 {
-    let mut i = 0;
-    while i < n {
-        s[i] = 0;
-        i += 1;
-    }
+    s[..n].fill(0);
 }
 
 // So many words from one on are zero afterwards, and all others are as they were.
@@ -19,9 +15,5 @@ pub fn clear_part(s: &mut [u64], from: usize, n: usize)
     requires { from + n ≤ length s.old }
     ensures { s.new ≡ zeroed from n s.old }
 {
-    let mut i = 0;
-    while i < n {
-        s[from + i] = 0;
-        i += 1;
-    }
+    s[from..from + n].fill(0);
 }

@@ -33,7 +33,7 @@
 //
 // The report has waiters to readers as PAIR_FACTS = 4 words a pair for purposes of its own.
 
-ghost use Rattle.std.specs.Prelude.{◌≡◌};
+ghost use Rattle.std.specs.Prelude.{◌≡◌, ◌+◌, ◌*◌, ◌≤◌};
 ghost use Rattle.term.specs.Layout.{need_of, figures, InRange, values_region, waiters_region, sets_region, marks_region, readers_region, ends_region, queue_region, waiting_region, failed_region};
 
 pub const NAMES: usize = 0;
@@ -120,74 +120,84 @@ pub struct Room {
     pub goals: usize,
 }
 
-// How many words of the scratch a call needs.
-pub fn need(room: Room) -> usize
-    requires { InRange (figures room) }
-    ensures { result ≡ need_of (figures room) }
-{
-    COMPOUNDS + COMPOUND_WORDS * room.compounds + 7 * room.pairs + 6 * room.goals
-}
+impl Room {
+    // The first word behind the compounds, so many words a pair and so many a goal.
+    fn behind(self, pairs: usize, goals: usize) -> usize
+        requires { InRange (figures self) × (pairs ≤ 64) × (goals ≤ 6) }
+        ensures { result ≡ values_region (figures self) + pairs * self.pairs + goals * self.goals }
+    {
+        COMPOUNDS + COMPOUND_WORDS * self.compounds + pairs * self.pairs + goals * self.goals
+    }
 
-// The first words of the regions behind the compounds.
-pub fn values(room: Room) -> usize
-    requires { InRange (figures room) }
-    ensures { result ≡ values_region (figures room) }
-{
-    COMPOUNDS + COMPOUND_WORDS * room.compounds
-}
+    // How many words of the scratch a call needs.
+    pub fn need(self) -> usize
+        requires { InRange (figures self) }
+        ensures { result ≡ need_of (figures self) }
+    {
+        self.behind(7, 6)
+    }
 
-pub fn waiters(room: Room) -> usize
-    requires { InRange (figures room) }
-    ensures { result ≡ waiters_region (figures room) }
-{
-    COMPOUNDS + COMPOUND_WORDS * room.compounds + room.pairs
-}
+    // The first words of the regions behind the compounds.
+    pub fn values(self) -> usize
+        requires { InRange (figures self) }
+        ensures { result ≡ values_region (figures self) }
+    {
+        self.behind(0, 0)
+    }
 
-pub fn sets(room: Room) -> usize
-    requires { InRange (figures room) }
-    ensures { result ≡ sets_region (figures room) }
-{
-    COMPOUNDS + COMPOUND_WORDS * room.compounds + 2 * room.pairs
-}
+    pub fn waiters(self) -> usize
+        requires { InRange (figures self) }
+        ensures { result ≡ waiters_region (figures self) }
+    {
+        self.behind(1, 0)
+    }
 
-pub fn marks(room: Room) -> usize
-    requires { InRange (figures room) }
-    ensures { result ≡ marks_region (figures room) }
-{
-    COMPOUNDS + COMPOUND_WORDS * room.compounds + 3 * room.pairs
-}
+    pub fn sets(self) -> usize
+        requires { InRange (figures self) }
+        ensures { result ≡ sets_region (figures self) }
+    {
+        self.behind(2, 0)
+    }
 
-pub fn readers(room: Room) -> usize
-    requires { InRange (figures room) }
-    ensures { result ≡ readers_region (figures room) }
-{
-    COMPOUNDS + COMPOUND_WORDS * room.compounds + 4 * room.pairs
-}
+    pub fn marks(self) -> usize
+        requires { InRange (figures self) }
+        ensures { result ≡ marks_region (figures self) }
+    {
+        self.behind(3, 0)
+    }
 
-pub fn ends(room: Room) -> usize
-    requires { InRange (figures room) }
-    ensures { result ≡ ends_region (figures room) }
-{
-    COMPOUNDS + COMPOUND_WORDS * room.compounds + 6 * room.pairs
-}
+    pub fn readers(self) -> usize
+        requires { InRange (figures self) }
+        ensures { result ≡ readers_region (figures self) }
+    {
+        self.behind(4, 0)
+    }
 
-pub fn queue(room: Room) -> usize
-    requires { InRange (figures room) }
-    ensures { result ≡ queue_region (figures room) }
-{
-    COMPOUNDS + COMPOUND_WORDS * room.compounds + 7 * room.pairs
-}
+    pub fn ends(self) -> usize
+        requires { InRange (figures self) }
+        ensures { result ≡ ends_region (figures self) }
+    {
+        self.behind(6, 0)
+    }
 
-pub fn waiting(room: Room) -> usize
-    requires { InRange (figures room) }
-    ensures { result ≡ waiting_region (figures room) }
-{
-    COMPOUNDS + COMPOUND_WORDS * room.compounds + 7 * room.pairs + room.goals
-}
+    pub fn queue(self) -> usize
+        requires { InRange (figures self) }
+        ensures { result ≡ queue_region (figures self) }
+    {
+        self.behind(7, 0)
+    }
 
-pub fn failed(room: Room) -> usize
-    requires { InRange (figures room) }
-    ensures { result ≡ failed_region (figures room) }
-{
-    COMPOUNDS + COMPOUND_WORDS * room.compounds + 7 * room.pairs + 5 * room.goals
+    pub fn waiting(self) -> usize
+        requires { InRange (figures self) }
+        ensures { result ≡ waiting_region (figures self) }
+    {
+        self.behind(7, 1)
+    }
+
+    pub fn failed(self) -> usize
+        requires { InRange (figures self) }
+        ensures { result ≡ failed_region (figures self) }
+    {
+        self.behind(7, 5)
+    }
 }

@@ -31,5 +31,5 @@ pub fn argument(s: &[u64], p: usize, i: usize) -> u64
     requires { p + i < length s.now }
     ensures { result ≡ get_or s.now (p + i) 0 }
 {
-    s[p + i]
+    word_at(s, p, i)
 }

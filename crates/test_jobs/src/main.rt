@@ -8,12 +8,12 @@
 ghost use Rattle.std.specs.Prelude.{◌≡◌, ℕ, ◌≤◌, ◌<◌, length};
 ghost use Rattle.job.specs.Calling.{Within};
 
-use job::call::{Answer, call};
-use loader::refusal::{Refusal, rule_number};
+use job::call::{Unreported, call};
 use term::layout::{COMPOUND_WORDS, COMPOUNDS};
 
-fn told(number: u64, line: usize, size: usize, offset: usize) {
-    io::print_decimal(1, number);
+// Stay casts: Rust has no From between usize and u64.
+fn told(number: u32, line: usize, size: usize, offset: usize) {
+    io::print_decimal(1, u64::from(number));
     io::write_all(1, b" ");
     io::print_decimal(1, line as u64);
     io::write_all(1, b" ");
@@ -23,57 +23,27 @@ fn told(number: u64, line: usize, size: usize, offset: usize) {
     io::write_all(1, b"\n");
 }
 
-fn show(answer: Answer, buffer: &[u8])
+fn show(answer: Result<usize, Unreported>, buffer: &[u8])
     requires { Within answer buffer.now }
 {
     match answer {
-        Answer::Ran(n) => {
+        Ok(n) => {
             told(0, 0, n, 0);
             io::write_all(1, &buffer[..n]);
         }
-        Answer::OutOfRange => told(1, 0, 0, 0),
-        Answer::ScratchShort => told(2, 0, 0, 0),
-        Answer::TextLong => told(3, 0, 0, 0),
-        Answer::Refused(why) => match why {
-            Refusal::NoItems(line, offset) => told(4, line, 0, offset),
-            Refusal::GuardRefused(line) => told(11, line, 0, 0),
-            Refusal::OccurrenceBroken(rule, line, offset) => told(
-                rule_number(rule) as u64,
-                line,
-                0,
-                offset,
-            ),
-            Refusal::FigurePassed(line) => told(6, line, 0, 0),
-        },
-        Answer::QueriesPassRoom => told(7, 0, 0, 0),
-        Answer::ReportLong(n) => told(8, 0, n, 0),
+        Err(why) => told(why.number(), why.line(), why.length(), why.offset()),
     }
 }
 
-// One call over the whole scratch and the whole buffer.
-fn asked(
-    text: &[u8],
-    budget: usize,
-    pairs: usize,
-    compounds: usize,
-    goals: usize,
-    s: &mut [u64],
-    buffer: &mut [u8],
-) {
-    let answer = call(text, budget, pairs, compounds, goals, s, buffer);
-    show(answer, buffer);
-}
-
+// Stays beside the one of `test_loader`: a crate for one line is no plainer.
 fn digit(c: u8) -> usize
     ensures { result ≤ 9 }
 {
-    if c < b'0' {
-        return 0;
+    if c.is_ascii_digit() {
+        usize::from(c - b'0')
+    } else {
+        0
     }
-    if b'9' < c {
-        return 0;
-    }
-    (c - b'0') as usize
 }
 
 fn with_digit(n: usize, c: u8) -> usize
@@ -92,9 +62,8 @@ fn number(one: &mut [u8]) -> usize
     requires { 1 ≤ length one.old }
     ensures { result ≤ 1000000000 }
 {
-    let mut n: usize = 0;
-    let mut k: usize = 0;
-    while k < 22 {
+    let mut n = 0;
+    for _ in 0..22 {
         if io::read_full(0, one) < 1 {
             return 1000000000;
         }
@@ -103,7 +72,6 @@ fn number(one: &mut [u8]) -> usize
             return n;
         }
         n = with_digit(n, c);
-        k += 1;
     }
     n
 }
@@ -121,47 +89,7 @@ fn lent_words(
     ensures { result ≤ most }
 {
     let all = COMPOUNDS + COMPOUND_WORDS * compounds + 7 * pairs + 6 * goals + more;
-    if all < less {
-        return 0;
-    }
-    if most < all - less {
-        return most;
-    }
-    all - less
-}
-
-// A call over parts of the text, the scratch and the buffer.
-fn lent(
-    text: &[u8],
-    n: usize,
-    budget: usize,
-    pairs: usize,
-    compounds: usize,
-    goals: usize,
-    s: &mut [u64],
-    words: usize,
-    buffer: &mut [u8],
-    size: usize,
-)
-    requires { (n ≤ length text.now) × (words ≤ length s.old) × (size ≤ length buffer.old) }
-{
-    asked(
-        &text[..n],
-        budget,
-        pairs,
-        compounds,
-        goals,
-        &mut s[..words],
-        &mut buffer[..size],
-    );
-}
-
-// The text of a frame, and the LF behind it.
-fn text_read(text: &mut [u8], n: usize)
-    requires { n < length text.old }
-{
-    let m = n + 1;
-    io::read_full(0, &mut text[..m]);
+    all.saturating_sub(less).min(most)
 }
 
 // The numbers of a frame.
@@ -190,15 +118,21 @@ fn head(one: &mut [u8]) -> Figures
     let need = number(one);
     let n = number(one);
     Figures {
-        budget: budget,
-        pairs: pairs,
-        compounds: compounds,
-        goals: goals,
-        size: size,
-        scratch: scratch,
-        need: need,
-        n: n,
+        budget,
+        pairs,
+        compounds,
+        goals,
+        size,
+        scratch,
+        need,
+        n,
     }
+}
+
+// One call over the whole scratch and the whole buffer.
+fn asked(text: &[u8], h: Figures, s: &mut [u64], buffer: &mut [u8]) {
+    let answer = call(text, h.budget, h.pairs, h.compounds, h.goals, s, buffer);
+    show(answer, buffer);
 }
 
 // One frame, if there is one that fits: whether there was. At the end of the input every number of a frame is 1,000,000,000.
@@ -206,28 +140,12 @@ fn frame(one: &mut [u8], text: &mut [u8], s: &mut [u64], buffer: &mut [u8]) -> b
     requires { 1 ≤ length one.old }
 {
     let h = head(one);
-    let n = h.n;
-    let size = h.size;
-    if text.len() <= n {
+    if text.len() <= h.n || buffer.len() < h.size {
         return false;
     }
-    if buffer.len() < size {
-        return false;
-    }
-    text_read(text, n);
+    io::read_full(0, &mut text[..h.n + 1]);
     let words = lent_words(h.pairs, h.compounds, h.goals, h.scratch, h.need, s.len());
-    lent(
-        text,
-        n,
-        h.budget,
-        h.pairs,
-        h.compounds,
-        h.goals,
-        s,
-        words,
-        buffer,
-        size,
-    );
+    asked(&text[..h.n], h, &mut s[..words], &mut buffer[..h.size]);
     true
 }
 
@@ -235,12 +153,10 @@ fn frame(one: &mut [u8], text: &mut [u8], s: &mut [u64], buffer: &mut [u8]) -> b
 fn frames(one: &mut [u8], text: &mut [u8], s: &mut [u64], buffer: &mut [u8])
     requires { 1 ≤ length one.old }
 {
-    let mut k: usize = 0;
-    while k < 100000 {
+    for _ in 0..100000 {
         if !frame(one, text, s, buffer) {
             return;
         }
-        k += 1;
     }
 }
 

@@ -3,39 +3,35 @@
 // over the same scratch, so what one leaves behind must not matter to the next. More than once is for measuring.
 #![tactic(auto)]
 
-ghost use Rattle.std.specs.Prelude.{◌≡◌, ◌≤◌, ◌<◌, length};
-ghost use Rattle.term.specs.Layout.{need_for};
+ghost use Rattle.std.specs.Prelude.{◌≤◌, length};
 
-use loader::load::{Loaded, load};
-use loader::refusal::{Refusal, rule_number};
+use loader::load::load;
+use loader::refusal::Refusal;
 use term::layout::{COMPOUND_WORDS, COMPOUNDS, Room};
+
+// As many words as the smallest room needs.
+const NEED: usize = COMPOUNDS + COMPOUND_WORDS + 7 + 6;
 
 fn digit(c: u8) -> usize
     ensures { result ≤ 9 }
 {
-    if c < b'0' {
-        return 0;
+    match c {
+        b'0'..=b'9' => (c - b'0') as usize,
+        _ => 0,
     }
-    if b'9' < c {
-        return 0;
-    }
-    (c - b'0') as usize
 }
 
-// The number of six digits in front of the input, or a million at its end.
-fn number(line: &mut [u8]) -> usize
-    requires { 7 ≤ length line.old }
-    ensures { result ≤ 1000000 }
-{
+// The number of six digits in front of the input, unless it ends there.
+fn number(line: &mut [u8; 7]) -> Option<usize> {
     if io::read_full(0, line) < 7 {
-        return 1000000;
+        return None;
     }
     let high = digit(line[0]) * 100000 + digit(line[1]) * 10000 + digit(line[2]) * 1000;
-    high + digit(line[3]) * 100 + digit(line[4]) * 10 + digit(line[5])
+    Some(high + digit(line[3]) * 100 + digit(line[4]) * 10 + digit(line[5]))
 }
 
-fn once(text: &[u8], n: usize, s: &mut [u64]) -> Loaded
-    requires { (n ≤ length text.now) × (need_for 1 1 1 ≤ length s.old) }
+fn once(text: &[u8], n: usize, s: &mut [u64; NEED]) -> Result<(usize, usize), Refusal>
+    requires { n ≤ length text.now }
 {
     let room = Room {
         pairs: 1,
@@ -46,14 +42,12 @@ fn once(text: &[u8], n: usize, s: &mut [u64]) -> Loaded
 }
 
 // The first n bytes loaded so many times: the last answer.
-fn many(text: &[u8], n: usize, s: &mut [u64], times: usize) -> Loaded
-    requires { (n ≤ length text.now) × (need_for 1 1 1 ≤ length s.old) }
+fn many(text: &[u8], n: usize, s: &mut [u64; NEED], times: usize) -> Result<(usize, usize), Refusal>
+    requires { n ≤ length text.now }
 {
-    let mut answer = Loaded::Job(0, 0);
-    let mut k: usize = 0;
-    while k < times {
+    let mut answer = Ok((0, 0));
+    for _ in 0..times {
         answer = once(text, n, s);
-        k += 1;
     }
     answer
 }
@@ -67,65 +61,45 @@ fn told(number: u64, line: usize, offset: usize) {
     io::write_all(1, b"\n");
 }
 
-fn show(answer: Loaded) {
+fn show(answer: Result<(usize, usize), Refusal>) {
     match answer {
-        Loaded::Job(_, _) => told(0, 0, 0),
-        Loaded::Refused(why) => match why {
-            Refusal::NoItems(line, offset) => told(4, line, offset),
-            Refusal::GuardRefused(line) => told(11, line, 0),
-            Refusal::OccurrenceBroken(rule, line, offset) => told(
-                rule_number(rule) as u64,
-                line,
-                offset,
-            ),
-            Refusal::FigurePassed(line) => told(6, line, 0),
-        },
+        Ok(_) => told(0, 0, 0),
+        Err(why) => told(why.number() as u64, why.line(), why.offset()),
     }
 }
 
-// One frame, if there is one: whether there was.
-fn frame(line: &mut [u8], text: &mut [u8], s: &mut [u64]) -> bool
-    requires { (7 ≤ length line.old) × (20001 ≤ length text.old) × (need_for 1 1 1 ≤ length s.old) }
+// One frame, if there is one.
+fn frame(line: &mut [u8; 7], text: &mut [u8], s: &mut [u64; NEED]) -> Option<()>
+    requires { 20001 ≤ length text.old }
 {
-    let times = number(line);
-    let n = number(line);
+    let times = number(line)?;
+    let n = number(line)?;
     if 20000 < n {
-        return false;
+        return None;
     }
     let m = n + 1;
     if io::read_full(0, &mut text[..m]) < m {
-        return false;
+        return None;
     }
     show(many(text, n, s, times));
-    true
+    Some(())
 }
 
 // Up to a hundred thousand frames.
-fn frames(line: &mut [u8], text: &mut [u8], s: &mut [u64])
-    requires { (7 ≤ length line.old) × (20001 ≤ length text.old) × (need_for 1 1 1 ≤ length s.old) }
+fn frames(line: &mut [u8; 7], text: &mut [u8], s: &mut [u64; NEED])
+    requires { 20001 ≤ length text.old }
 {
-    let mut k: usize = 0;
-    while k < 100000 {
-        if !frame(line, text, s) {
+    for _ in 0..100000 {
+        if frame(line, text, s).is_none() {
             return;
         }
-        k += 1;
     }
-}
-
-// As many words as the smallest room needs.
-const NEED: usize = COMPOUNDS + COMPOUND_WORDS + 7 + 6;
-
-// Scratch that holds something already.
-fn scratch() -> [u64; NEED]
-    ensures { need_for 1 1 1 ≡ length result }
-{
-    [7; NEED]
 }
 
 fn main() {
     let mut line = [0u8; 7];
     let mut text = io::large_buffer();
-    let mut s = scratch();
+    // Scratch that holds something already.
+    let mut s = [7; NEED];
     frames(&mut line, &mut text, &mut s);
 }

@@ -12,10 +12,11 @@ use Rattle.report_pairs.specs.Facts.{Shows}
 use Rattle.report_pairs.specs.Walk.{StandsAt}
 use Rattle.report_pairs.proofs.Told.{seen as look}
 use Rattle.report_pairs.specs.Pairs.{NoCompound}
-use Rattle.report_pairs.proofs.Walking.{position_inside, position_shows}
+use Rattle.std.specs.Prelude.{None}
+use Rattle.report_pairs.proofs.Walking.{position_inside, position_shows, found_as}
 use Rattle.report_pairs.proofs.Wholes.{stands_opens}
 use Rattle.report_count.proofs.CountingWalk as walk
-use Rattle.report_count.proofs.counting.+count_arguments_count_compound.Goals.{count_arguments-in-Compound, count_arguments-in_default}
+use Rattle.report_count.proofs.counting.+count_arguments_count_compound.Goals.{count_arguments-in-Compound, count_arguments-in_default, count_arguments-Joined-look}
 use Rattle.report_count.proofs.counting.+count_arguments_count_compound.Goals as goal
 
 fall : (a b t : ℕ) → b ≡ t → a < b → a < t
@@ -55,11 +56,11 @@ shows t c o w e =
     rw e (position_shows l.s o.x l.p l.i W.j W.g W.u W.us W.position)
 
 -- The loop's head, from behind the argument that is read.
-abbrev head : (t : ℕ) → goal.count_arguments-Joined-look t → goal.count_arguments-At-loop-q t
+abbrev head : (t : ℕ) → count_arguments-Joined-look t → goal.count_arguments-At-loop-q t
 head t c = c.before.before.before.before.before.before.before
 
 -- The argument is counted, as a compound or as a leaf.
-turn : (t : ℕ) (c : goal.count_arguments-Joined-look t) (o : CountedThere t (head t c))
+turn : (t : ℕ) (c : count_arguments-Joined-look t) (o : CountedThere t (head t c))
     → walk.Turned c.args.s.now c.match-look.s o.text o.x c.args.facts
     o.seen (walk.order_of o.x o.seen (Term.compound o.n o.f o.ts)) (walk.whole_of o.x o.seen (Term.compound o.n o.f o.ts))
     c.args.at c.loop-q.p c.loop-q.i c.loop-q.to c.match-look.to
@@ -126,24 +127,31 @@ pub count_arguments-further-to-requires : goal.count_arguments-further-to-requir
 count_arguments-further-to-requires t c =
     let h = c.before.before.before.before.before.before.before.before.before.before.before.before in (walked t h (asked t h)).counts.low
 
-pub count_arguments-behind-requires : goal.count_arguments-behind-requires
-count_arguments-behind-requires t c =
+pub count_arguments-behind-next-requires : goal.count_arguments-behind-next-requires
+count_arguments-behind-next-requires t c =
     let o = asked t (head t c) in let T = turn t c o in
     (o.text, o.x, T.g, T.j, T.u, T.us, T.counts.readable, T.position)
 
--- Another argument.
-pub count_arguments-shape_of-s-then-to : goal.count_arguments-shape_of-s-then-to
-count_arguments-shape_of-s-then-to t c = let j = c.before.before.before in (turn t j (asked t (head t j))).changed.size
+-- The last one.
+pub count_arguments-further-requires : goal.count_arguments-further-requires
+count_arguments-further-requires t c = let j = c.before.before in (turn t j (asked t (head t j))).counts.low
 
+pub count_arguments-returns-in_default-next : goal.count_arguments-returns-in_default-next
+count_arguments-returns-in_default-next t c text x seen n f ts C low a =
+    let j = c.before.before.before in
+    let o : CountedThere t (head t j) = record { text = text; x = x; seen = seen; n = n; f = f; ts = ts; counts = C; low = low; stands = a } in
+    let T = turn t j o in let b = c.behind-next in
+    walk.walk_ends _ _ text x _ _ _ _ _ _ _ _ _ T b.result.0 _
+    (found_as _ x T.g T.j T.us b.result None c.in_default-next.is (b.ensures text x T.g T.j T.u T.us T.counts.readable T.position)) c.further.ensures
+
+-- Another argument.
 pub count_arguments-returns-then-to : goal.count_arguments-returns-then-to
 count_arguments-returns-then-to t c text x seen n f ts C low a =
     let j = c.before.before.before in
     let o : CountedThere t (head t j) = record { text = text; x = x; seen = seen; n = n; f = f; ts = ts; counts = C; low = low; stands = a } in
-    let T = turn t j o in
-    walk.walk_stops _ _ text x _ _ _ _ _ _ _ _ _ T _ _ _ (c.in-Goes.ensures text x T.g T.j T.u T.us T.counts.readable T.position) c.if-to.true
-
-pub count_arguments-overflow_add-to : goal.count_arguments-overflow_add-to
-count_arguments-overflow_add-to t c = omega (arith, c.if-to.false)
+    let T = turn t j o in let b = c.behind-next in
+    walk.walk_stops _ _ text x _ _ _ _ _ _ _ _ _ T b.result.0 _ _
+    (found_as _ x T.g T.j T.us b.result _ c.in-Some.is (b.ensures text x T.g T.j T.u T.us T.counts.readable T.position)) c.if-to.true
 
 pub count_arguments-loop-q-smaller : goal.count_arguments-loop-q-smaller
 count_arguments-loop-q-smaller t c =
@@ -154,34 +162,15 @@ pub count_arguments-loop-q-preserved : goal.count_arguments-loop-q-preserved
 count_arguments-loop-q-preserved t c text x seen n f ts C low a =
     let j = c.before.before.before.before in
     let o : CountedThere t (head t j) = record { text = text; x = x; seen = seen; n = n; f = f; ts = ts; counts = C; low = low; stands = a } in
-    let T = turn t j o in
-    walk.walk_on _ _ text x _ _ _ _ _ _ _ _ _ T _ _ _ (c.in-Goes.ensures text x T.g T.j T.u T.us T.counts.readable T.position) c.if-to.false
-
--- The last one.
-pub count_arguments-further-requires : goal.count_arguments-further-requires
-count_arguments-further-requires t c = let j = c.before.before in (turn t j (asked t (head t j))).counts.low
-
-pub count_arguments-shape_of-s-in-Ends : goal.count_arguments-shape_of-s-in-Ends
-count_arguments-shape_of-s-in-Ends t c = let j = c.before.before.before in (turn t j (asked t (head t j))).changed.size
-
-pub count_arguments-returns-in-Ends : goal.count_arguments-returns-in-Ends
-count_arguments-returns-in-Ends t c text x seen n f ts C low a =
-    let j = c.before.before.before in
-    let o : CountedThere t (head t j) = record { text = text; x = x; seen = seen; n = n; f = f; ts = ts; counts = C; low = low; stands = a } in
-    let T = turn t j o in
-    walk.walk_ends _ _ text x _ _ _ _ _ _ _ _ _ T _ _ (c.in-Ends.ensures text x T.g T.j T.u T.us T.counts.readable T.position) c.further.ensures
-
-pub count_compound-counted-n-requires : goal.count_compound-counted-n-requires
-count_compound-counted-n-requires t c = let (text, x, seen, u, counts, low, shows, leads) = c.requires in (text, x, u, counts.readable, shows)
+    let T = turn t j o in let b = c.behind-next in
+    walk.walk_on _ _ text x _ _ _ _ _ _ _ _ _ T b.result.0 _ _
+    (found_as _ x T.g T.j T.us b.result _ c.in-Some.is (b.ensures text x T.g T.j T.u T.us T.counts.readable T.position)) c.if-to.false
 
 -- The length is known.
-pub count_compound-further-requires : goal.count_compound-further-requires
-count_compound-further-requires t c = let (text, x, seen, u, counts, low, shows, leads) = c.requires in counts.low
-
-pub count_compound-returns-then-n-ne0 : goal.count_compound-returns-then-n-ne0
-count_compound-returns-then-n-ne0 t c text x seen u C low k D =
-    let S = c.args in let n = c.counted-n in
-    walk.count_known S.s.now text x S.facts seen u S.at S.w S.q C k D n.result c.further.result (n.ensures text x seen u C.readable C.counting k) c.if-n-ne0.true c.further.ensures
+pub count_compound-returns-in-Some : goal.count_compound-returns-in-Some
+count_compound-returns-in-Some t c text x seen u C low k D =
+    let S = c.args in
+    walk.count_known S.s.now text x S.facts seen u S.at S.w S.q C k D c.in-Some.n c.further.result (c.in-Some.ensures text x seen u C.readable C.counting k) c.further.ensures
 
 -- It is not.
 pub count_compound-count_arguments-to-requires : goal.count_compound-count_arguments-to-requires

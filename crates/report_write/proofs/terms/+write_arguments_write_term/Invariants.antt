@@ -19,9 +19,9 @@ decreases-write_term l = 2 * (length l.buffer.now - l.at)
 
 abbrev pub invariant-write_arguments-loop-q : goal.invariant-write_arguments-loop-q
 invariant-write_arguments-loop-q l =
-    (x : Setting) (order : List ℕ) (bs : Bytes) → Readable l.s l.text x l.facts → Before Nothing l.s x l.facts order l.first 1 bs
-    → Fits l.s x l.facts order l.at l.initial.buffer bs
-    → Going l.frames l.s x l.facts order bs l.initial.buffer l.buffer l.at l.p l.i l.depth l.to
+    (x : Setting) (order : List ℕ) (bs : Bytes) → Readable l.source.s.now l.source.text.now x l.source.facts → Before Nothing l.source.s.now x l.source.facts order l.first 1 bs
+    → Fits l.source.s.now x l.source.facts order l.at l.initial.buffer bs
+    → Going l.frames l.source.s.now x l.source.facts order bs l.initial.buffer l.buffer l.at l.p l.i l.depth l.to
 
 abbrev pub decreases-write_arguments-loop-q : goal.decreases-write_arguments-loop-q
 decreases-write_arguments-loop-q l = length l.initial.buffer + 1 - l.to

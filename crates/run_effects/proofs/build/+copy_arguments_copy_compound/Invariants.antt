@@ -1,5 +1,5 @@
 -- The measure is the depth of the compound, as its word tells it.
-use Rattle.std.proofs.Common.{◌+◌, ◌*◌, ◌-◌, length}
+use Rattle.std.proofs.Common.{◌+◌, ◌*◌, length}
 use Rattle.run_circle.proofs.Depth.{height}
 use Rattle.term.specs.Words.{compound_word}
 use Rattle.run_effects.proofs.CopyCalls as calls
@@ -13,6 +13,3 @@ decreases-copy_compound l = 2 * height (length l.s.now) l.s.now (compound_word l
 
 abbrev pub invariant-copy_arguments-loop-i : goal.invariant-copy_arguments-loop-i
 invariant-copy_arguments-loop-i l = calls.Walking l.initial.s l.pair l.to l.p l.k l.s l.free l.i
-
-abbrev pub decreases-copy_arguments-loop-i : goal.decreases-copy_arguments-loop-i
-decreases-copy_arguments-loop-i l = l.k + 1 - l.i

@@ -1,0 +1,21 @@
+-- `run_table::table::against_reader` meets its contract: a row for what is seen.
+use mathlib.Core.Path.{◌≡◌, refl, ◌∙◌, sym}
+use Rattle.term.specs.declared.word.View.TheVariants.{Writer}
+use Rattle.run_table.specs.Rows.{gives_goal, fails, writer_row, reader_row, constant_row, compound_row, equal_row, row, answer, behind}
+use Rattle.run_table.proofs.Seen.{seen}
+use Rattle.run_table.proofs.Rows.{reader_row_other, done_by}
+use Rattle.run_table.proofs.table.against_reader.Goals as goal
+
+pub returns-in-Writer : goal.returns-in-Writer
+unfolding writer_row reader_row constant_row compound_row equal_row row answer behind
+returns-in-Writer c =
+    let z = c.in-Writer.z in
+    let at : seen c.args.w ≡ Writer z = sym c.look.ensures ∙ c.in-Writer.is in
+    done_by c.args.s.now c.give.new.s c.args.n c.args.h c.args.w _ (gives_goal z) _
+    (rw at) (rw c.give.ensures.0) c.give.ensures.1
+
+pub returns-in_default : goal.returns-in_default
+unfolding writer_row reader_row constant_row compound_row equal_row row answer behind
+returns-in_default c =
+    done_by c.args.s.now c.args.s.now c.args.n c.args.h c.args.w _ (fails) _
+    (reader_row_other (seen c.args.w) (λ z e. c.in_default.not-Writer z (c.look.ensures ∙ e))) refl refl
