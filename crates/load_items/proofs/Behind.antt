@@ -258,6 +258,7 @@ module _ (k : ℕ) (few : k < 128) (text rest : Bytes) (from : ℕ) (known vars 
                   count_is = many ∙ sym guards_are;
                   few = omega (arith, gave.few);
                   bar_is = rw bar_so (refl, gave.stands.inside);
+                  bar_behind = rw bar_so gave.forward;
                   named = rw eN (still_named_guards known₂ (names_over qs known₂) base m gs named_so);
                   table_size = size_g;
                   counted = in_guards_so;

@@ -66,6 +66,7 @@ no_guards rest from names in_guards table b eg el ge be = record {
   count_is = refl;
   few = omega arith;
   bar_is = rw be tt;
+  bar_behind = tt;
   named = tt;
   table_size = rw eg (length-replicate {A = ℕ} 64 0);
   counted = λ h m l. rw (eg, ge) (none_at h m l);

@@ -1,5 +1,5 @@
 -- What reading a clause answers, up to its full stop, against the definitions' `body` and `rule`.
-use Rattle.std.specs.Prelude.{ℕ, ◌+◌, ◌≤◌, ◌<◌, min, ◌≡◌, Bool, true, false, List, [], ◌∷◌, map, length, get_or, set, Option, Some, Result, Ok, Err}
+use Rattle.std.specs.Prelude.{ℕ, ◌+◌, ◌≤◌, ◌<◌, min, ◌≡◌, Bool, true, false, List, [], ◌∷◌, map, length, get_or, set, Option, Some, Result, Ok, Err, IfSome}
 use Rattle.std.proofs.Math.Option.{none, some}
 use Rattle.meaning.specs.Bytes.{Bytes}
 use Rattle.meaning.specs.Terms.{
@@ -117,6 +117,7 @@ pub record GuardsAre (rest : Bytes) (from : ℕ) (names : List Bytes) (in_guards
   pub count_is : length gs ≡ guards
   pub few : guards ≤ 8
   pub bar_is : BarIs rest from bar b.behind
+  pub bar_behind : IfSome bar (λ place. 0 < place)
   pub named : GuardsNamed names gs
   pub table_size : length in_guards ≡ 64
   pub counted : (h : Half) (m : ℕ) → m < 16 → get_or in_guards (half_place h m) 0 ≡ min 2 (elements_occurrences h m b.guards)

