@@ -1,20 +1,34 @@
--- Those of a list that pass a test, as the library counts them.
-use Prim.Native.Nat.{ℕ, ◌+◌}
-use mathlib.Core.Path.{◌≡◌, refl}
-use mathlib.Core.Bool.{Bool, true, false, cond}
-use mathlib.Core.List.{List, ◌∷◌}
+-- How many of the first i elements pass a test, one element after the other.
+use Prim.Native.Nat.{ℕ, zero, suc, ◌+◌, ◌≤◌, ◌<◌}
+use mathlib.Core.Path.{◌≡◌, refl, ap, sym, ◌∙◌}
+use mathlib.Core.Bool.{Bool, true, false}
+use mathlib.Core.List.{List, [], ◌∷◌, ◌++◌}
 use native.Mathlib.Omega.{arith}
-use lib.ListN.{length}
-use Rattle.std.specs.List.{count_by}
-use Rattle.std.proofs.lemmas.List.Recursion.{is_count_by}
+use native.Mathlib.Numerals.{add-one}
+use lib.ListN.{length, get_or, take, length-append}
+use lib.Seq.{take-suc}
 use Rattle.meaning.specs.Bytes.{those, when◌then◌else◌}
+use Rattle.laws.proofs.Lists.Filters.{those_append}
 
-one_more : (test : ℕ → Bool) (x : ℕ) (xs : List ℕ) (b : Bool) → test x ≡ b
-    → length (those test (x ∷ xs)) ≡ cond b (1 + length (those test xs)) (length (those test xs))
+those_one : (test : ℕ → Bool) (x : ℕ) → test x ≡ true → length (those test (x ∷ [])) ≡ 1
 unfolding those when◌then◌else◌
-one_more test x xs true e = rw e (omega arith)
-one_more test x xs false e = rw e
+those_one test x h = rw h
 
-pub those_counted : (test : ℕ → Bool) (xs : List ℕ) → length (those test xs) ≡ count_by test xs
+those_no_one : (test : ℕ → Bool) (x : ℕ) → test x ≡ false → length (those test (x ∷ [])) ≡ 0
+unfolding those when◌then◌else◌
+those_no_one test x h = rw h
+
+module _ (test : ℕ → Bool) (l : List ℕ) (i : ℕ) (inside : i < length l) where
+  those_split : length (those test (take (i + 1) l)) ≡ length (those test (take i l)) + length (those test (get_or l i 0 ∷ []))
+  those_split =
+      rw (add-one i, take-suc l i 0 inside, those_append test (take i l) (get_or l i 0 ∷ []), length-append (those test (take i l)) (those test (get_or l i 0 ∷ [])))
+
+  pub those_passes : test (get_or l i 0) ≡ true → length (those test (take (i + 1) l)) ≡ length (those test (take i l)) + 1
+  those_passes h = rw (those_split, those_one test (get_or l i 0) h)
+
+  pub those_fails : test (get_or l i 0) ≡ false → length (those test (take (i + 1) l)) ≡ length (those test (take i l))
+  those_fails h = omega (arith, those_split, those_no_one test (get_or l i 0) h)
+
+pub those_none : (test : ℕ → Bool) (l : List ℕ) → length (those test (take 0 l)) ≡ 0
 unfolding those
-those_counted test = is_count_by (λ xs. length (those test xs)) test refl (λ x xs. one_more test x xs (test x) refl)
+those_none test l = refl

@@ -2,15 +2,15 @@
 -- A run is the part of the text up to its end.
 use Prim.Native.Nat.{ℕ, suc, ◌+◌, ◌≤◌, ◌<◌}
 use mathlib.Core.Path.{◌≡◌, refl, sym, ap, ◌∙◌}
-use mathlib.Core.Bool.{Bool, true, false, not, cond}
+use mathlib.Core.Bool.{Bool, true, false, cond}
 use mathlib.Core.List.{[], ◌∷◌}
 use native.Mathlib.Omega.{arith}
 use lib.Dec.{eqb}
 use lib.ListN.{length, take, drop, get_or, length-drop}
-use lib.Seq.{slice}
+use lib.Seq.{drop-length, slice}
 use Rattle.meaning.specs.Bytes.{Bytes, byte}
 use Rattle.meaning.specs.Tokens.{digit, in_run, run, remark}
-use Rattle.load_tokens.specs.Ends.{end_of_run}
+use Rattle.load_tokens.specs.Ends.{end_of_run, end_of_remark}
 use Rattle.std.specs.List.{prefix_len}
 use Rattle.std.proofs.lemmas.List.Recursion.{same_from_clauses}
 use Rattle.load_tokens.proofs.Parts.{drop_next, slice_next, take_drop}
@@ -31,7 +31,18 @@ remark_out : (c : ℕ) (cs : Bytes) → eqb c (byte "\n") ≡ true → remark (c
 unfolding remark
 remark_out c cs e = rw (e, remark)
 
--- As the library counts them.
+module _ (rest : Bytes) (i : ℕ) (h : i < length rest) where
+  pub remark_goes_on : eqb (get_or rest i 0) (byte "\n") ≡ false → end_of_remark rest i ≡ end_of_remark rest (i + 1)
+  remark_goes_on e = rw (drop_next rest i h, remark_in (get_or rest i 0) (drop (i + 1) rest) e) (omega arith)
+
+  pub remark_stops : eqb (get_or rest i 0) (byte "\n") ≡ true → end_of_remark rest i ≡ i
+  remark_stops e = rw (drop_next rest i h, remark_out (get_or rest i 0) (drop (i + 1) rest) e) (omega arith)
+
+pub remark_at_end : (rest : Bytes) → end_of_remark rest (length rest) ≡ length rest
+unfolding remark
+remark_at_end rest = rw (drop-length rest) (omega arith)
+
+-- As the library counts a run.
 run_step : (c : ℕ) (cs : Bytes) (b : Bool) → in_run c ≡ b → length (run (c ∷ cs)) ≡ cond b (1 + length (run cs)) 0
 run_step c cs true e = rw (run_in c cs e) (omega arith)
 run_step c cs false e = rw (run_out c cs e)
@@ -39,15 +50,6 @@ run_step c cs false e = rw (run_out c cs e)
 pub run_counted : (cs : Bytes) → length (run cs) ≡ prefix_len in_run cs
 unfolding run
 run_counted = same_from_clauses (λ cs. length (run cs)) (prefix_len in_run) (λ c n. cond (in_run c) (1 + n) 0) refl (λ c cs. run_step c cs (in_run c) refl) (λ c cs. refl)
-
-remark_step : (c : ℕ) (cs : Bytes) (b : Bool) → eqb c 10 ≡ b → remark (c ∷ cs) ≡ cond (not b) (1 + remark cs) 0
-unfolding byte
-remark_step c cs true e = remark_out c cs e
-remark_step c cs false e = rw (remark_in c cs e) (omega arith)
-
-pub remark_counted : (cs : Bytes) → remark cs ≡ prefix_len (λ c. not (eqb c 10)) cs
-unfolding remark
-remark_counted = same_from_clauses remark (prefix_len (λ c. not (eqb c 10))) (λ c n. cond (not (eqb c 10)) (1 + n) 0) refl (λ c cs. remark_step c cs (eqb c 10) refl) (λ c cs. refl)
 
 -- A run is as many of the first bytes as it has.
 first_bytes : (c : ℕ) (cs : Bytes) → run cs ≡ take (length (run cs)) cs → (b : Bool) → in_run c ≡ b → run (c ∷ cs) ≡ take (length (run (c ∷ cs))) (c ∷ cs)

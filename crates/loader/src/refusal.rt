@@ -1,4 +1,4 @@
-// Why a text is refused: 4, 11, 5, 9, 10 or 6, under the names of the definitions' `Answer`. One enum from the reading to the exported call.
+// Why a text is refused: 4, 11, 5, 9, 10 or 6, under the names of the definitions' `Answer`. One enum from the loader to the exported call.
 ghost use Rattle.std.specs.Prelude.{◌≡◌};
 ghost use Rattle.meaning.specs.Call.{rule_number as number_of_rule, number as number_of, line_of, offset_of};
 ghost use Rattle.load_faults.specs.Finding.{rule_of};

@@ -3,7 +3,7 @@
 // over the same scratch, so what one leaves behind must not matter to the next. More than once is for measuring.
 #![tactic(auto)]
 
-ghost use Rattle.std.specs.Prelude.{◌≤◌, length};
+ghost use Rattle.std.specs.Prelude.{◌≤◌, length, IfSome};
 
 use loader::load::load;
 use loader::refusal::Refusal;
@@ -22,7 +22,9 @@ fn digit(c: u8) -> usize
 }
 
 // The number of six digits in front of the input, unless it ends there.
-fn number(line: &mut [u8; 7]) -> Option<usize> {
+fn number(line: &mut [u8; 7]) -> Option<usize>
+    ensures { IfSome result (λ n. n ≤ 1000000) }
+{
     if io::read_full(0, line) < 7 {
         return None;
     }

@@ -1,13 +1,34 @@
--- The library counts the line feeds.
-use Rattle.std.proofs.Common.{◌≡◌, ◌-◌, min, eqb, length, take, count_by, rules, arith}
-use Rattle.meaning.specs.Bytes.{byte}
-use Rattle.meaning.specs.Items.{line}
-use Rattle.load_tokens.proofs.Counted.{those_counted}
+-- One byte after the other; in the end all before the place are counted.
+use Rattle.std.proofs.Common.{◌≡◌, ◌∙◌, ◌+◌, ◌-◌, ℕ, Bool, min, eqb, length, take, get_or, ap, sym, take_all, length-take, arith}
+use borrow.Author.Tests.{eq-eqb, ne_eqb}
+use Rattle.meaning.specs.Bytes.{byte, those}
+use Rattle.meaning.specs.Items.{line as line_of_place}
+use Rattle.load_tokens.proofs.Counted.{those_none, those_passes, those_fails}
 use Rattle.load_tokens.proofs.lines.line.Goals as goal
+use Rattle.load_tokens.proofs.lines.line.Goals.{then-c-eq10, else-c-eq10}
+
+pub loop-c-init : goal.loop-c-init
+loop-c-init c =
+    record { counted = ap (λ n. 1 + n) (sym (those_none (λ x. eqb x 10) (take c.min-end.result c.args.text.now))); few = omega arith }
+
+pub overflow_add-n : goal.overflow_add-n
+overflow_add-n c =
+    omega (arith, c.loop-c.invariant.few, c.loop-c-test.true, length-take c.min-end.result c.args.text.now, c.min-end.ensures, c.saturating_sub.ensures)
+
+pub loop-c-preserved : goal.loop-c-preserved
+loop-c-preserved c =
+    let feed = λ (x : ℕ). eqb x 10 in
+    let before = take c.min-end.result c.args.text.now in
+    let i = c.loop-c.c-index in
+    elim c.if-c-eq10.branch [
+      | then-c-eq10 w ↦ record { counted = omega (arith, c.loop-c.invariant.counted, those_passes feed before i c.loop-c-test.true (eq-eqb (get_or before i 0) 10 w.if-c-eq10.true)); few = omega (arith, c.loop-c.invariant.few) }
+      | else-c-eq10 w ↦ record { counted = omega (arith, c.loop-c.invariant.counted, those_fails feed before i c.loop-c-test.true (ne_eqb (get_or before i 0) 10 w.if-c-eq10.false)); few = omega (arith, c.loop-c.invariant.few) }
+    ]
 
 pub returns : goal.returns
-unfolding line byte
+unfolding line_of_place byte
 returns c =
-    let text = c.args.text.now in
-    let n : c.count.result ≡ count_by (λ x. eqb x 10) (take (min c.args.place (length c.args.text.now - 1)) c.args.text.now) = search rules in
-    omega (arith, those_counted (λ x. eqb x 10) (take (min c.args.place (length text - 1)) text))
+    let before = take c.min-end.result c.args.text.now in
+    let end : c.min-end.result ≡ min c.args.place (length c.args.text.now - 1) = omega (arith, c.min-end.ensures, c.saturating_sub.ensures) in
+    c.loop-c.invariant.counted
+    ∙ ap (λ l. 1 + length (those (λ x. eqb x 10) l)) (take_all c.loop-c.c-index before c.loop-c-test.false ∙ ap (λ n. take n c.args.text.now) end)

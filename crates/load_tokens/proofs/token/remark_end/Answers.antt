@@ -1,23 +1,27 @@
--- The library counts the bytes of the remark.
-use Rattle.std.proofs.Common.{◌≡◌, ◌∙◌, length, drop, not, eqb, length-drop, rules, tests, arith}
-use Rattle.std.specs.List.{prefix_len}
-use Rattle.std.proofs.lemmas.Iterator.{YieldsList-from_slice}
-use Rattle.std.proofs.lemmas.Iterator.Consumers.{count_from_yields_List}
-use Rattle.std.proofs.lemmas.Iterator.Search.{YieldsList-from_take_while}
-use Rattle.std.proofs.lemmas.List.Folds.{length-prefix_len}
-use Rattle.std.proofs.lemmas.List.Sums.{prefix_len-le-length}
-use Rattle.std.proofs.lemmas.Slice.{between_to_end}
-use Rattle.load_tokens.proofs.Ends.{remark_counted}
+use Rattle.std.proofs.Common.{◌≡◌, ◌∙◌, length, sym, refl, ap, arith}
+use borrow.Author.Tests.{eq-eqb, ne_eqb}
+use Rattle.meaning.specs.Bytes.{byte}
+use Rattle.load_tokens.specs.Ends.{end_of_remark}
+use Rattle.load_tokens.proofs.Ends.{remark_goes_on, remark_stops, remark_at_end}
 use Rattle.load_tokens.proofs.token.remark_end.Goals as goal
+
+pub loop-i-init : goal.loop-i-init
+loop-i-init c = record { inside = omega arith; same_end = refl }
+
+pub returns-then-rest-i-eq10 : goal.returns-then-rest-i-eq10
+unfolding byte
+returns-then-rest-i-eq10 c =
+    let stops = remark_stops c.args.rest.now c.loop-i.i (omega arith) (eq-eqb _ _ c.if-rest-i-eq10.true) in
+    (sym stops ∙ c.loop-i.invariant.same_end, omega arith)
+
+pub loop-i-preserved : goal.loop-i-preserved
+unfolding byte
+loop-i-preserved c =
+    let on = remark_goes_on c.args.rest.now c.loop-i.i (omega arith) (ne_eqb _ _ c.if-rest-i-eq10.false) in
+    record { inside = omega arith; same_end = sym on ∙ c.loop-i.invariant.same_end }
 
 pub returns : goal.returns
 returns c =
     let rest = c.args.rest.now in
-    let at = c.args.at in
-    let part : c.take_while.result.iter.rest.now ≡ drop at rest = cc (between_to_end rest at (length rest) (omega arith)) in
-    let n : c.count.result ≡ prefix_len (λ c. not (eqb c 10)) (drop at rest) =
-    count_from_yields_List c.take_while.result c.count.result c.count.ensures.ran
-    (YieldsList-from_take_while _ (λ c. not (eqb c 10)) (YieldsList-from_slice (drop at rest) part) c.take_while.ensures.closure c.take_while.ensures.done
-    (λ x b q k. search (rules, tests)))
-    ∙ length-prefix_len (λ c. not (eqb c 10)) (drop at rest) in
-    (omega (arith, remark_counted (drop at rest)), omega (arith, prefix_len-le-length (λ c. not (eqb c 10)) (drop at rest), length-drop at rest))
+    let all : c.loop-i.i ≡ length rest = omega (arith, c.loop-i.invariant.inside) in
+    (sym (remark_at_end rest) ∙ ap (end_of_remark rest) (sym all) ∙ c.loop-i.invariant.same_end, omega arith)
