@@ -8,7 +8,7 @@ pub fn line(text: &[u8], place: usize) -> usize
 {
     let end = place.min(text.len().saturating_sub(1));
     let before = &text[..end];
-    // Stays a loop that counts: `filter` and `count` branch at each byte, and take up to four times as long where lines are short.
+    // Stays a loop that counts: `filter` and `count` branch at each byte, and take up to five times as long where lines are short.
     let mut n = 1;
     for c in before {
         if *c == b'\n' {
