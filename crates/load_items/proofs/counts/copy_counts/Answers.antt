@@ -1,4 +1,4 @@
-use Rattle.std.proofs.Common.{◌≡◌, refl, ◌+◌, get_or, arith}
+use Rattle.std.proofs.Common.{refl, ◌+◌, get_or, arith}
 use Rattle.load_items.proofs.Halfway.{halfway_none, halfway_next}
 use Rattle.load_items.proofs.counts.copy_counts.Goals as goal
 

@@ -1,5 +1,5 @@
 -- One byte after the other; in the end all before the place are counted.
-use Rattle.std.proofs.Common.{◌≡◌, ◌∙◌, ◌+◌, ◌-◌, ℕ, Bool, min, eqb, length, take, get_or, ap, sym, take_all, length-take, arith}
+use Rattle.std.proofs.Common.{◌≡◌, ◌∙◌, ◌+◌, ◌-◌, ℕ, min, eqb, length, take, get_or, ap, sym, take_all, length-take, arith}
 use borrow.Author.Tests.{eq-eqb, ne_eqb}
 use Rattle.meaning.specs.Bytes.{byte, those}
 use Rattle.meaning.specs.Items.{line as line_of_place}
@@ -20,9 +20,15 @@ loop-c-preserved c =
     let feed = λ (x : ℕ). eqb x 10 in
     let before = take c.min-end.result c.args.text.now in
     let i = c.loop-c.c-index in
+    let byte = get_or before i 0 in
+    let so_far = c.loop-c.invariant in
     elim c.if-c-eq10.branch [
-      | then-c-eq10 w ↦ record { counted = omega (arith, c.loop-c.invariant.counted, those_passes feed before i c.loop-c-test.true (eq-eqb (get_or before i 0) 10 w.if-c-eq10.true)); few = omega (arith, c.loop-c.invariant.few) }
-      | else-c-eq10 w ↦ record { counted = omega (arith, c.loop-c.invariant.counted, those_fails feed before i c.loop-c-test.true (ne_eqb (get_or before i 0) 10 w.if-c-eq10.false)); few = omega (arith, c.loop-c.invariant.few) }
+      | then-c-eq10 w ↦
+          let more = those_passes feed before i c.loop-c-test.true (eq-eqb byte 10 w.if-c-eq10.true) in
+          record { counted = omega (arith, so_far.counted, more); few = omega (arith, so_far.few) }
+      | else-c-eq10 w ↦
+          let same = those_fails feed before i c.loop-c-test.true (ne_eqb byte 10 w.if-c-eq10.false) in
+          record { counted = omega (arith, so_far.counted, same); few = omega (arith, so_far.few) }
     ]
 
 pub returns : goal.returns
